@@ -1,0 +1,30 @@
+-- A set of keys as a strictly rising list: equal sets are equal lists.
+use mathlib.Core.Path.{_≡_}
+use mathlib.Core.Bool.{Bool, true, false, cond}
+use mathlib.Core.List.{List, [], _∷_}
+use Prim.Native.Nat.{ℕ, suc, _<_}
+use lib.Dec.{ltb, eqb}
+
+-- each element is above x
+abbrev pub Above : ℕ → List ℕ → Type 0
+Above x [] = Unit {0}
+Above x (y ∷ ys) = (x < y) × Above x ys
+
+-- strictly rising
+abbrev pub Rising : List ℕ → Type 0
+Rising [] = Unit {0}
+Rising (x ∷ xs) = Above x xs × Rising xs
+
+-- whether k is an element
+unfoldable pub member : ℕ → List ℕ → Bool
+member k [] = false
+member k (x ∷ xs) = cond (eqb x k) true (member k xs)
+
+-- k is an element
+abbrev pub In : ℕ → List ℕ → Type 0
+In k S = member k S ≡ true
+
+-- k put in its place in a rising list, once
+unfoldable pub insert : ℕ → List ℕ → List ℕ
+insert k [] = k ∷ []
+insert k (x ∷ xs) = cond (ltb x k) (x ∷ insert k xs) (cond (eqb x k) (x ∷ xs) (k ∷ x ∷ xs))
