@@ -8,6 +8,7 @@ use lib.IntN.{ℤ, pos}
 use lib.ListN.{length, getD}
 use Rattle.counting.specs.Counting.{sumTo}
 use Rattle.stream.specs.Commands.{commands}
+use Rattle.stream.specs.Operands.{number}
 use Rattle.polynomial.specs.Monomial.{degree, within, among}
 use Rattle.polynomial.specs.Terms.{Term, keysOf}
 use Rattle.problem.specs.Rules.{Problem, language}
@@ -53,8 +54,15 @@ unfoldable pub anyOf : (ℕ → Bool) → List ℕ → Bool
 anyOf test [] = false
 anyOf test (x ∷ xs) = test x || anyOf test xs
 
+-- whether the command at an offset is an 05, and whether it is one that names j
+abbrev pub isMember : List ℕ → ℕ → Bool
+isMember s at = eqb (getD s at 0) 5
+
+abbrev pub names : List ℕ → ℕ → ℕ → Bool
+names s j at = isMember s at && eqb (number 1 s (at + 1)) j
+
 unfoldable pub memberCommands : List ℕ → ℕ
-memberCommands s = countIf (λ at. eqb (getD s at 0) 5) (commands language s)
+memberCommands s = countIf (isMember s) (commands language s)
 
 unfoldable pub basesNamed : List ℕ → ℕ
-basesNamed s = sumTo 9 (λ j. cond (anyOf (λ at. eqb (getD s at 0) 5 && eqb (getD s (at + 1) 0) j) (commands language s)) 1 0)
+basesNamed s = sumTo 9 (λ j. cond (anyOf (names s j) (commands language s)) 1 0)
