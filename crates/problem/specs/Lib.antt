@@ -1,4 +1,5 @@
 pub mod Layout
 pub mod Rules
 pub mod Stored
+pub mod Bases
 pub mod Limits

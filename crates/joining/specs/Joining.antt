@@ -1,0 +1,45 @@
+-- The joining rule applied to a problem: its start, its result, and refusal 7.
+use mathlib.Core.Bool.{Bool}
+use mathlib.Core.List.{List, [], _∷_, map}
+use Prim.Native.Nat.{ℕ, _*_}
+use lib.Dec.{ltb}
+use lib.ListN.{length}
+use Rattle.counting.specs.Counting.{fromTo}
+use Rattle.polynomial.specs.Terms.{keysOf}
+use Rattle.problem.specs.Rules.{Problem}
+use Rattle.problem.specs.Bases.{basisOf, multiplierOf}
+use Rattle.support.specs.Sets.{insert}
+use Rattle.rounds.specs.Rounds.{Bases, Closing, blocksIn}
+use Rattle.rounds.specs.Rounds as Rounds
+
+-- the bases of a problem, each with its multiplier
+abbrev pub basesOf : Problem → Bases
+basesOf p = record { basis = basisOf p; multiplier = multiplierOf p }
+
+-- a set with every key of a list put in
+unfoldable pub insertAll : List ℕ → List ℕ → List ℕ
+insertAll [] S = S
+insertAll (k ∷ ks) S = insertAll ks (insert k S)
+
+-- each key times c. The key of 2b is twice the key of b
+abbrev pub multiples : ℕ → List ℕ → List ℕ
+multiples c ks = map (λ (k : ℕ). c * k) ks
+
+-- "S starts as all exponents of the objective and constraints, and 2b for each b in basis 0"
+unfoldable pub startSet : Problem → List ℕ
+startSet p = insertAll (multiples 2 (basisOf p 0)) (fromTo 1 9 (λ j. insertAll (multiplierOf p j)) (insertAll (keysOf (p .objective)) []))
+
+-- the blocks, S and the number of rounds when the joining rule has ended
+unfoldable pub closing : Problem → Closing
+closing p = Rounds.closing (basesOf p) (startSet p)
+
+abbrev pub closedSupport : Problem → List ℕ
+closedSupport p = closing p .state .support
+
+-- refusal 7: "The closed S with the zero exponent added may have at most 2,048 members"
+unfoldable pub tooLarge : Problem → Bool
+tooLarge p = ltb 2048 (length (insert 0 (closedSupport p)))
+
+-- the number of blocks, over all bases
+unfoldable pub blockTotal : Problem → ℕ
+blockTotal p = blocksIn (closing p .state .labels)
