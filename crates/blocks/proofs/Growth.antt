@@ -245,6 +245,9 @@ module _ (first : Bool) (T B L₀ : List ℕ) where
   pub filled-keeps : (S S′ : List ℕ) → Extends S S′ → Filled first T B L₀ S → Filled first T B L₀ S′
   filled-keeps S S′ x f = record { full = λ e. record { at = λ i k h u. record { at = λ q t m. x .keeps _ (f .full e .at i k h u .at q t m) } } }
 
+  pub filled-step : (S₀ S t : List ℕ) (n : ℕ) (t′ : List ℕ) → Grown S t n t′ → n ≤ 2048 → Extends S₀ S → Filled first T B L₀ S₀ → Filled first T B L₀ (take n t′)
+  filled-step S₀ S t n t′ g b x f = rw (grown-take S t n t′ g b) (filled-keeps S₀ S x f)
+
   -- a pair that was in one block then adds nothing
   pub pair-known : (L : List ℕ) (i k : ℕ) (S : List ℕ) → Filled first T B L₀ S → first ≡ false → i ≤ k → k < length B → getD L₀ i 0 ≡ getD L₀ k 0 → Rising S → S ≡ addPair T B L i k S
   pair-known L i k S f e h u q r = sym (one-done T B L i k S r (record { at = λ _. f .full e .at i k h u .at q }))

@@ -6,7 +6,7 @@ ghost use Prim.Native.Nat.{ℕ, _+_, _*_, _^_, _≤_, _<_};
 ghost use lib.ListN.{length, getD, take};
 ghost use Rattle.support.specs.Table.{Holds, Grown};
 ghost use Rattle.blocks.specs.Limits.{Bounded, OneBasis};
-ghost use Rattle.blocks.specs.Filled.{Filled};
+ghost use Rattle.blocks.specs.Filled.{Extending};
 ghost use Rattle.blocks.specs.Join.{linked, renamed, merged, joinPair, joinRow, join};
 ghost use Rattle.blocks.specs.Extend.{addTerms, addPair, addRow, extend, blockCount};
 
@@ -137,7 +137,7 @@ fn add_pair(
     i: usize,
     k: usize,
 ) -> usize
-    requires { ⌜ Holds (now table) len × OneBasis (now basis) (now exponents) (now labels) × (length (now old) ≡ length (now basis)) × Filled first (now exponents) (now basis) (now old) (take len (now table)) × (i ≤ k) × (k < length (now basis)) ⌝ }
+    requires { ⌜ Extending first (now table) len (now basis) (now exponents) (now labels) (now old) × (i ≤ k) × (k < length (now basis)) ⌝ }
     ensures { λ r. ⌜ Grown (addPair (now (exponents .entry)) (now (basis .entry)) (now (labels .entry)) i k (take len (now (table .entry)))) (now (table .entry)) r (now (table .exit)) ⌝ }
 {
     if labels[i] != labels[k] {
@@ -162,7 +162,7 @@ fn add_row(
     exponents: &[u64],
     i: usize,
 ) -> usize
-    requires { ⌜ Holds (now table) len × OneBasis (now basis) (now exponents) (now labels) × (length (now old) ≡ length (now basis)) × Filled first (now exponents) (now basis) (now old) (take len (now table)) × (i < length (now basis)) ⌝ }
+    requires { ⌜ Extending first (now table) len (now basis) (now exponents) (now labels) (now old) × (i < length (now basis)) ⌝ }
     ensures { λ r. ⌜ Grown (addRow (now (exponents .entry)) (now (basis .entry)) (now (labels .entry)) i (take len (now (table .entry)))) (now (table .entry)) r (now (table .exit)) ⌝ }
 {
     let mut n = len;
@@ -187,7 +187,7 @@ pub fn extend_pass(
     basis: &[u64],
     exponents: &[u64],
 ) -> usize
-    requires { ⌜ Holds (now table) len × OneBasis (now basis) (now exponents) (now labels) × (length (now old) ≡ length (now basis)) × Filled first (now exponents) (now basis) (now old) (take len (now table)) ⌝ }
+    requires { ⌜ Extending first (now table) len (now basis) (now exponents) (now labels) (now old) ⌝ }
     ensures { λ r. ⌜ Grown (extend (now (exponents .entry)) (now (basis .entry)) (now (labels .entry)) (take len (now (table .entry)))) (now (table .entry)) r (now (table .exit)) ⌝ }
 {
     let mut n = len;

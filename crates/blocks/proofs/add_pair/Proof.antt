@@ -1,69 +1,60 @@
+-- `blocks::add_pair` meets its contract: a pair in two blocks, a pair whose sums are in the support already, and any other.
 use borrow.Author.Needs.{needs}
 use native.Mathlib.Omega.{arith}
-use mathlib.Core.Path.{_≡_, refl, sym, ap, _∙_, subst}
-use Prim.Native.Nat.{ℕ, zero, suc, _+_, _-_, _*_, _≤_, _<_}
-use lib.ListN.{length, getD, take, drop, set, length-set}
+use borrow.Author.Tests.{not-true}
+use Rattle.blocks.proofs.Growth.{one-same, one-apart, grown-none, pair-known}
 use Rattle.blocks.proofs.add_pair.Statement.{statement}
 use Rattle.blocks.proofs.add_pair.Tie as tie
-use Rattle.blocks.proofs.add_pair.Reads as reads
-use Rattle.blocks.proofs.add_pair.Lts as lts
-use Rattle.blocks.proofs.add_terms.Reads as add-terms-reads
 
--- src/lib.rt:143:8
 shared-slice-read-if1 : tie.Need-shared-slice-read-if1
 shared-slice-read-if1 c = search needs
 
--- src/lib.rt:143:21
 shared-slice-read-if1-2 : tie.Need-shared-slice-read-if1-2
 shared-slice-read-if1-2 c = search needs
 
--- src/lib.rt:144:9
 returns : tie.Need-returns
-returns c = search needs
+returns c =
+    let s = c .before .before .before .before .before .before .before .before in
+    rw (← one-apart _ _ _ _ _ _ (c .if1 .taken)) (grown-none _ _ (s .pre .0 .support))
 
--- src/lib.rt:147:12
 shared-slice-read-if3 : tie.Need-shared-slice-read-if3
 shared-slice-read-if3 c = search needs
 
--- src/lib.rt:147:22
 shared-slice-read-if3-2 : tie.Need-shared-slice-read-if3-2
 shared-slice-read-if3-2 c = search needs
 
--- src/lib.rt:148:13
 returns-2 : tie.Need-returns-2
-returns-2 c = search needs
+returns-2 c =
+    let s = c .before .before .before .before .before .before .before .before .before .before .before .before in
+    rw (← pair-known (s .args .first) _ _ _ _ _ _ _ (s .pre .0 .filled) (not-true _ (c .before .before .before .if2 .taken)) (s .pre .1) (s .pre .2) (c .if3 .taken) (s .pre .0 .support .rising)) (grown-none _ _ (s .pre .0 .support))
 
--- src/lib.rt:151:38
 mul-add-terms : tie.Need-mul-add-terms
 mul-add-terms c = search needs
 
--- src/lib.rt:151:38
 shared-slice-read-add-terms : tie.Need-shared-slice-read-add-terms
 shared-slice-read-add-terms c = search needs
 
--- src/lib.rt:151:49
 mul-add-terms-2 : tie.Need-mul-add-terms-2
 mul-add-terms-2 c = search needs
 
--- src/lib.rt:151:49
 shared-slice-read-add-terms-2 : tie.Need-shared-slice-read-add-terms-2
 shared-slice-read-add-terms-2 c = search needs
 
--- src/lib.rt:151:38
 add-add-terms : tie.Need-add-add-terms
-add-add-terms c = search needs
+add-add-terms c =
+    let s = c .before .before .before .before .before .before .before .before .before .before .before .before in
+    omega (arith, s .pre .0 .basis .keys (s .args .i), s .pre .0 .basis .keys (s .args .k))
 
--- src/lib.rt:151:5
 add-terms-requires : tie.Need-add-terms-requires
-add-terms-requires c κs = search needs
+add-terms-requires c κs =
+    let s = c .before .before .before .before .before .before .before .before .before .before .before .before in
+    (s .pre .0 .support, s .pre .0 .basis .exponents, omega (arith, s .pre .0 .basis .keys (s .args .i), s .pre .0 .basis .keys (s .args .k)))
 
--- src/lib.rt:129:1
 same-length : tie.Need-same-length
 same-length c = search needs
 
--- src/lib.rt:129:1
 returns-3 : tie.Need-returns-3
-returns-3 c = search needs
+returns-3 c = rw (← one-same _ _ _ _ _ _ (c .before .before .before .before .before .before .before .if1 .left)) (c .before .before .add-terms .ensures)
 
 pub add-pair-spec : {M : Type 1} → statement M
 add-pair-spec =
