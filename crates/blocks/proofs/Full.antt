@@ -13,15 +13,8 @@ use Rattle.counting.specs.Counting.{fromTo}
 use Rattle.counting.proofs.Steps.{fromTo-keeps, fromTo-fixed, fromTo-reaches}
 use Rattle.blocks.specs.Extend.{addTerms, addPair, addRow, extend}
 use Rattle.support.specs.Sets.{In}
+use Rattle.blocks.specs.Filled.{FullAt, Full}
 use Rattle.blocks.proofs.Members.{add-keeps, add-in, add-full}
-
--- the terms of the keys i and k are in S, where the two are in one block
-pub record FullAt (T B L : List ℕ) (i k : ℕ) (S : List ℕ) : Type 0 where
-  pub at : getD L i 0 ≡ getD L k 0 → (t : ℕ) → In t T → In (t + (getD B i 0 + getD B k 0)) S
-
--- and so for all pairs
-pub record Full (T B L S : List ℕ) : Type 0 where
-  pub at : (i k : ℕ) → i ≤ k → k < length B → FullAt T B L i k S
 
 record Row (T B L : List ℕ) (i : ℕ) (S : List ℕ) : Type 0 where
   row : (k : ℕ) → i ≤ k → k < length B → FullAt T B L i k S
@@ -61,7 +54,7 @@ module _ (T B L : List ℕ) where
   }
 
   -- and then adds nothing more
-  one-done : (i k : ℕ) (S : List ℕ) → Rising S → FullAt T B L i k S → addPair T B L i k S ≡ S
+  pub one-done : (i k : ℕ) (S : List ℕ) → Rising S → FullAt T B L i k S → addPair T B L i k S ≡ S
   unfolding addPair
   one-done i k S r f = go (eqb (getD L i 0) (getD L k 0)) refl
     where

@@ -11,14 +11,15 @@ use lib.Seq.{drop-cons, take-at, drop-at, drop-drop, length-take-le, take-append
 use lib.Dec.{eqb, ltb, leb}
 use borrow.Author.Tests.{le-leb, lt-leb, leb-true, leb-false, eq-eqb, ne-eqb}
 use mathlib.Core.Bool.{cond}
-use Rattle.support.specs.Sets.{insert, Rising}
-use Rattle.support.specs.Table.{over}
-use Rattle.support.specs.Table.{Put}
+use Rattle.support.specs.Sets.{insert, Rising, In}
+use Rattle.support.specs.Table.{Holds, over, Put, Grown}
 use Rattle.support.proofs.Laws.{insert-rising}
 use Rattle.counting.specs.Counting.{fromTo}
 use Rattle.counting.proofs.Steps.{fromTo-keeps}
-use Rattle.support.specs.Table.{Grown}
 use Rattle.blocks.specs.Extend.{addTerms, addPair, addRow, extend}
+use Rattle.blocks.specs.Filled.{Filled, FullAt, Full}
+use Rattle.blocks.proofs.Members.{insert-keeps}
+use Rattle.blocks.proofs.Full.{one-done}
 
 -- ---- the set never shrinks, and stays in order
 
@@ -43,24 +44,26 @@ insert-same k (x ∷ xs) e = go (insert-same k xs) (ltb x k) (eqb x k) e
     go h false true e = refl
     go h false false e = absurd (omega arith)
 
--- S′ is S grown: in order where S is, and at least as long
+-- S′ is S grown: in order where S is, with all that S has, and at least as long
 pub record Extends (S S′ : List ℕ) : Type 0 where
   pub rising : Rising S → Rising S′
+  pub keeps : (x : ℕ) → In x S → In x S′
   pub more : length S ≤ length S′
   pub same : length S′ ≡ length S → S′ ≡ S
 
 pub extends-refl : (S : List ℕ) → Extends S S
-extends-refl S = record { rising = λ r. r; more = le-refl (length S); same = λ _. refl }
+extends-refl S = record { rising = λ r. r; keeps = λ x m. m; more = le-refl (length S); same = λ _. refl }
 
 pub extends-trans : (S S′ S″ : List ℕ) → Extends S S′ → Extends S′ S″ → Extends S S″
 extends-trans S S′ S″ a b = record {
   rising = λ r. b .rising (a .rising r);
+  keeps = λ x m. b .keeps x (a .keeps x m);
   more = le-trans (a .more) (b .more);
   same = λ e. b .same (omega (arith, a .more, b .more)) ∙ a .same (omega (arith, a .more, b .more));
 }
 
 pub insert-extends : (k : ℕ) (S : List ℕ) → Extends S (insert k S)
-insert-extends k S = record { rising = insert-rising k S; more = insert-grows k S; same = insert-same k S }
+insert-extends k S = record { rising = insert-rising k S; keeps = λ x m. insert-keeps x k S m; more = insert-grows k S; same = insert-same k S }
 
 pub add-extends : (T : List ℕ) (s : ℕ) (S : List ℕ) → Extends S (addTerms T s S)
 unfolding addTerms
@@ -75,9 +78,6 @@ module _ (T B L : List ℕ) where
   unfolding addPair
   one-extends i k S = go (eqb (getD L i 0) (getD L k 0))
     where
-      s : ℕ
-      s = getD B i 0 + getD B k 0
-
       go : (b : Bool) → Extends S (cond b (addTerms T (getD B i 0 + getD B k 0) S) S)
       go true = add-extends T (getD B i 0 + getD B k 0) S
       go false = extends-refl S
@@ -109,6 +109,15 @@ module _ (S t : List ℕ) where
 pub over-self : (n : ℕ) (t : List ℕ) → n ≤ length t → over (take n t) t ≡ t
 over-self n t h = rw (length-take-le n t h) (take-append-drop n t)
 
+-- ---- a table that has grown to hold S
+
+module _ (S t : List ℕ) (n : ℕ) (t′ : List ℕ) (g : Grown S t n t′) where
+  pub grown-length : n ≤ 2048 → length S ≡ n
+  grown-length b = omega (arith, g .count)
+
+  pub grown-take : n ≤ 2048 → take n t′ ≡ S
+  grown-take b = rw (g .table b, ← grown-length b) (take-over S t)
+
 -- ---- a loop that grows the set: what is left to do is f, and goal is what the set shall be
 
 pub record Held (t₀ goal : List ℕ) (f : List ℕ → List ℕ) (n : ℕ) (t : List ℕ) : Type 0 where
@@ -119,17 +128,20 @@ pub record Held (t₀ goal : List ℕ) (f : List ℕ → List ℕ) (n : ℕ) (t 
   pub todo : f (take n t) ≡ goal
 
 module _ (t₀ : List ℕ) (wide : 2048 ≤ length t₀) where
-  pub held-start : (f : List ℕ → List ℕ) (n : ℕ) → n ≤ 2048 → Rising (take n t₀) → Held t₀ (f (take n t₀)) f n t₀
-  held-start f n h r = record {
-    room = h;
+  pub held-start : (f : List ℕ → List ℕ) (n : ℕ) → Holds t₀ n → Held t₀ (f (take n t₀)) f n t₀
+  held-start f n h = record {
+    room = h .few;
     long = refl;
-    rising = r;
-    table = sym (over-self n t₀ (omega arith));
+    rising = h .rising;
+    table = sym (over-self n t₀ (omega (arith, h .few)));
     todo = refl;
   }
 
   module _ (goal : List ℕ) (f : List ℕ → List ℕ) (n : ℕ) (t : List ℕ) (h : Held t₀ goal f n t) where
-    count-held : length (take n t) ≡ n
+    pub held-holds : Holds t n
+    held-holds = record { few = h .room; room = omega (arith, h .long); rising = h .rising }
+
+    pub count-held : length (take n t) ≡ n
     count-held = length-take-le n t (omega (arith, h .room, h .long))
 
     rest-held : (m : ℕ) → n ≤ m → drop m t ≡ drop m t₀
@@ -146,14 +158,11 @@ module _ (t₀ : List ℕ) (wide : 2048 ≤ length t₀) where
         }
 
     module _ (S′ : List ℕ) (n′ : ℕ) (t′ : List ℕ) (g : Grown S′ t n′ t′) (f′ : List ℕ → List ℕ) (e : f (take n t) ≡ f′ S′) where
-      small : n′ ≤ 2048 → length S′ ≡ n′
-      small b = omega (arith, g .count)
-
       pub held-step : n′ ≤ 2048 → Extends (take n t) S′ → Held t₀ goal f′ n′ t′
       held-step b x =
-          let l : length S′ ≡ n′ = small b in
+          let l : length S′ ≡ n′ = grown-length S′ t n′ t′ g b in
           let u : t′ ≡ over S′ t = g .table b in
-          let v : take n′ t′ ≡ S′ = rw (u, ← l) (take-over S′ t) in
+          let v : take n′ t′ ≡ S′ = grown-take S′ t n′ t′ g b in
           let m : n ≤ length S′ = omega (arith, count-held, x .more) in
           record {
             room = b;
@@ -224,9 +233,21 @@ module _ (T B L : List ℕ) (i k : ℕ) (S : List ℕ) where
   unfolding addPair
   one-apart e = rw (ne-eqb _ _ e)
 
-pub grown-none : (n : ℕ) (t : List ℕ) → n ≤ 2048 → 2048 ≤ length t → Grown (take n t) t n t
-grown-none n t h w = let l : length (take n t) ≡ n = length-take-le n t (omega arith) in record {
-  count = omega arith;
-  table = λ _. sym (over-self n t (omega arith));
-  rest = refl;
-}
+pub grown-none : (n : ℕ) (t : List ℕ) → Holds t n → Grown (take n t) t n t
+grown-none n t h =
+    let f : n ≤ length t = omega (arith, h .few, h .room) in
+    let l : length (take n t) ≡ n = length-take-le n t f in
+    record { count = omega (arith, h .few); table = λ _. sym (over-self n t f); rest = refl }
+
+-- ---- a set that the round before has filled
+
+module _ (first : Bool) (T B L₀ : List ℕ) where
+  pub filled-keeps : (S S′ : List ℕ) → Extends S S′ → Filled first T B L₀ S → Filled first T B L₀ S′
+  filled-keeps S S′ x f = record { full = λ e. record { at = λ i k h u. record { at = λ q t m. x .keeps _ (f .full e .at i k h u .at q t m) } } }
+
+  pub filled-step : (S₀ S t : List ℕ) (n : ℕ) (t′ : List ℕ) → Grown S t n t′ → n ≤ 2048 → Extends S₀ S → Filled first T B L₀ S₀ → Filled first T B L₀ (take n t′)
+  filled-step S₀ S t n t′ g b x f = rw (grown-take S t n t′ g b) (filled-keeps S₀ S x f)
+
+  -- a pair that was in one block then adds nothing
+  pub pair-known : (L : List ℕ) (i k : ℕ) (S : List ℕ) → Filled first T B L₀ S → first ≡ false → i ≤ k → k < length B → getD L₀ i 0 ≡ getD L₀ k 0 → Rising S → S ≡ addPair T B L i k S
+  pair-known L i k S f e h u q r = sym (one-done T B L i k S r (record { at = λ _. f .full e .at i k h u .at q }))

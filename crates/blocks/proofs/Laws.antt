@@ -9,11 +9,13 @@ use native.Mathlib.Numerals.{add-one}
 use lib.ListN.{length, getD, take, drop, set, length-map, drop-of-length-le}
 use lib.Seq.{drop-cons, take-suc, set-append-seam, append-snoc}
 use lib.Dec.{eqb}
-use borrow.Author.Tests.{eqb-true}
+use borrow.Author.Tests.{eqb-true, eq-eqb, ne-eqb}
 use mathlib.Core.Bool.{cond}
 use Rattle.support.specs.Sets.{member}
 use Rattle.counting.specs.Counting.{fromTo}
+use Rattle.counting.proofs.Steps.{fromTo-keeps}
 use Rattle.blocks.specs.Join.{linked, renamed, merged, joinPair, joinRow, join}
+use Rattle.blocks.specs.Extend.{lowestFrom, blockCount}
 
 -- ---- a map in place
 
@@ -108,3 +110,49 @@ module _ (S T B L : List ℕ) (i k : ℕ) where
   pub join-apart : linked S T (getD B i 0 + getD B k 0) ≡ false → L ≡ joinPair S T B i k L
   unfolding joinPair
   join-apart e = rw e
+
+-- ---- joining keeps the number of indices
+
+module _ (S T B : List ℕ) where
+  pair-long : (i k : ℕ) (L : List ℕ) → length (joinPair S T B i k L) ≡ length L
+  unfolding joinPair merged
+  pair-long i k L = go (linked S T (getD B i 0 + getD B k 0))
+    where
+      go : (b : Bool) → length (cond b (merged (getD L i 0) (getD L k 0) L) L) ≡ length L
+      go true = length-map L _
+      go false = refl
+
+  row-long : (i : ℕ) (L : List ℕ) → length (joinRow S T B i L) ≡ length L
+  row-long i L = fromTo-keeps (λ (M : List ℕ). length M ≡ length L) (joinPair S T B i) (length B) (i + 1) (λ k M _ _ e. pair-long i k M ∙ e) L refl
+
+  pub join-long : (L : List ℕ) → length (join S T B L) ≡ length L
+  unfolding join
+  join-long L = fromTo-keeps (λ (M : List ℕ). length M ≡ length L) (joinRow S T B) (length B) 0 (λ i M _ _ e. row-long i M ∙ e) L refl
+
+-- ---- the number of blocks
+
+module _ (l : List ℕ) (i : ℕ) where
+  pub lowest-here : i < length l → getD l i 0 ≡ i → lowestFrom i (drop i l) ≡ 1 + lowestFrom (i + 1) (drop (i + 1) l)
+  unfolding lowestFrom
+  lowest-here h e = rw (add-one, drop-cons l i 0, lowestFrom, eq-eqb (getD l i 0) i e)
+
+  pub lowest-not : i < length l → (getD l i 0 ≡ i → ⊥) → lowestFrom i (drop i l) ≡ lowestFrom (i + 1) (drop (i + 1) l)
+  unfolding lowestFrom
+  lowest-not h e = rw (drop-cons l i 0 h, ne-eqb (getD l i 0) i e, add-one i) (omega arith)
+
+  pub lowest-done : length l ≤ i → lowestFrom i (drop i l) ≡ 0
+  unfolding lowestFrom
+  lowest-done h = rw (drop-of-length-le l h)
+
+lowest-few : (i : ℕ) (l : List ℕ) → lowestFrom i l ≤ length l
+unfolding lowestFrom
+lowest-few i [] = omega arith
+lowest-few i (x ∷ xs) = go (eqb x i) (lowest-few (suc i) xs)
+  where
+    go : (b : Bool) → lowestFrom (suc i) xs ≤ length xs → cond b 1 0 + lowestFrom (suc i) xs ≤ suc (length xs)
+    go true h = omega arith
+    go false h = omega arith
+
+-- there are at most as many as there are indices
+pub blocks-few : (l : List ℕ) → blockCount l ≤ length l
+blocks-few l = lowest-few 0 l

@@ -1,6 +1,5 @@
 pub mod Laws
 pub mod Growth
-pub mod Lower
 pub mod Members
 pub mod Least
 pub mod Joined

@@ -1,2 +1,4 @@
 pub mod Join
 pub mod Extend
+pub mod Filled
+pub mod Limits

@@ -1,1 +1,218 @@
-// tmp
+// The joining rule for one basis: `basis` has the keys of its monomials, `exponents` those of its multiplier, `labels` the
+// block number of each index, and the first `len` numbers of `table` are the support.
+ghost use mathlib.Core.Path.{_≡_};
+ghost use mathlib.Core.List.{map};
+ghost use Prim.Native.Nat.{ℕ, _+_, _*_, _^_, _≤_, _<_};
+ghost use lib.ListN.{length, getD, take};
+ghost use Rattle.support.specs.Table.{Holds, Grown};
+ghost use Rattle.blocks.specs.Limits.{Bounded, OneBasis};
+ghost use Rattle.blocks.specs.Filled.{Extending};
+ghost use Rattle.blocks.specs.Join.{linked, renamed, merged, joinPair, joinRow, join};
+ghost use Rattle.blocks.specs.Extend.{addTerms, addPair, addRow, extend, blockCount};
+
+// A block number, with one replaced by another.
+fn rename(x: u8, from: u8, to: u8) -> u8
+    ensures { λ r. ⌜ r ≡ renamed from to x ⌝ }
+{
+    if x == from { to } else { x }
+}
+
+// One block number replaced by another everywhere.
+fn relabel(labels: &mut [u8], from: u8, to: u8)
+    ensures { λ _. ⌜ now (labels .exit) ≡ map (renamed from to) (now (labels .entry)) ⌝ }
+{
+    for i in 0..labels.len() {
+        let x = labels[i];
+        labels[i] = rename(x, from, to);
+    }
+}
+
+// Two blocks made one, under the lower number.
+fn merge(labels: &mut [u8], a: u8, b: u8)
+    ensures { λ _. ⌜ now (labels .exit) ≡ merged a b (now (labels .entry)) ⌝ }
+{
+    if a < b {
+        relabel(labels, b, a);
+    } else {
+        relabel(labels, a, b);
+    }
+}
+
+// Whether t + s is in the support for some exponent t of the multiplier.
+fn is_linked(table: &[u64], len: usize, exponents: &[u64], s: u64) -> bool
+    requires { ⌜ Holds (now table) len × Bounded (16 * 2 ^ 56) (now exponents) × (s ≤ 16 * 2 ^ 56) ⌝ }
+    ensures { λ r. ⌜ r ≡ linked (take len (now (table .entry))) (now (exponents .entry)) s ⌝ }
+{
+    let mut i = 0;
+    while i < exponents.len() {
+        if support::contains(table, len, exponents[i] + s) {
+            return true;
+        }
+        i += 1;
+    }
+    false
+}
+
+// The blocks of the indices i and k made one, where the pair is linked. A pair in one block needs no look at the support.
+fn join_pair(
+    labels: &mut [u8],
+    basis: &[u64],
+    exponents: &[u64],
+    table: &[u64],
+    len: usize,
+    i: usize,
+    k: usize,
+)
+    requires { ⌜ Holds (now table) len × OneBasis (now basis) (now exponents) (now labels) × (i < length (now basis)) × (k < length (now basis)) ⌝ }
+    ensures { λ _. ⌜ now (labels .exit) ≡ joinPair (take len (now (table .entry))) (now (exponents .entry)) (now (basis .entry)) i k (now (labels .entry)) ⌝ }
+{
+    let a = labels[i];
+    let b = labels[k];
+    if a == b {
+        return;
+    }
+    if is_linked(table, len, exponents, basis[i] + basis[k]) {
+        merge(labels, a, b);
+    }
+}
+
+// Index i with each index after it.
+fn join_row(
+    labels: &mut [u8],
+    basis: &[u64],
+    exponents: &[u64],
+    table: &[u64],
+    len: usize,
+    i: usize,
+)
+    requires { ⌜ Holds (now table) len × OneBasis (now basis) (now exponents) (now labels) × (i < length (now basis)) ⌝ }
+    ensures { λ _. ⌜ now (labels .exit) ≡ joinRow (take len (now (table .entry))) (now (exponents .entry)) (now (basis .entry)) i (now (labels .entry)) ⌝ }
+{
+    let mut k = i + 1;
+    while k < basis.len() {
+        join_pair(labels, basis, exponents, table, len, i, k);
+        k += 1;
+    }
+}
+
+// Every pair of the basis.
+pub fn join_pass(labels: &mut [u8], basis: &[u64], exponents: &[u64], table: &[u64], len: usize)
+    requires { ⌜ Holds (now table) len × OneBasis (now basis) (now exponents) (now labels) ⌝ }
+    ensures { λ _. ⌜ now (labels .exit) ≡ join (take len (now (table .entry))) (now (exponents .entry)) (now (basis .entry)) (now (labels .entry)) ⌝ }
+{
+    let mut i = 0;
+    while i < basis.len() {
+        join_row(labels, basis, exponents, table, len, i);
+        i += 1;
+    }
+}
+
+// The support with t + s for each exponent t of the multiplier, and the number of its keys: 2,049 where it has more than 2,048.
+fn add_terms(table: &mut [u64], len: usize, exponents: &[u64], s: u64) -> usize
+    requires { ⌜ Holds (now table) len × Bounded (16 * 2 ^ 56) (now exponents) × (s ≤ 16 * 2 ^ 56) ⌝ }
+    ensures { λ r. ⌜ Grown (addTerms (now (exponents .entry)) s (take len (now (table .entry)))) (now (table .entry)) r (now (table .exit)) ⌝ }
+{
+    let mut n = len;
+    let mut i = 0;
+    while i < exponents.len() {
+        n = support::put(table, n, exponents[i] + s);
+        if 2048 < n {
+            return n;
+        }
+        i += 1;
+    }
+    n
+}
+
+// The same for the indices i and k, where they are in one block. `old` has the blocks of the round before: after the first
+// round, what a pair of one of those adds is in the support already.
+fn add_pair(
+    table: &mut [u64],
+    len: usize,
+    labels: &[u8],
+    old: &[u8],
+    first: bool,
+    basis: &[u64],
+    exponents: &[u64],
+    i: usize,
+    k: usize,
+) -> usize
+    requires { ⌜ Extending first (now table) len (now basis) (now exponents) (now labels) (now old) × (i ≤ k) × (k < length (now basis)) ⌝ }
+    ensures { λ r. ⌜ Grown (addPair (now (exponents .entry)) (now (basis .entry)) (now (labels .entry)) i k (take len (now (table .entry)))) (now (table .entry)) r (now (table .exit)) ⌝ }
+{
+    if labels[i] != labels[k] {
+        return len;
+    }
+    if !first {
+        if old[i] == old[k] {
+            return len;
+        }
+    }
+    add_terms(table, len, exponents, basis[i] + basis[k])
+}
+
+// Index i with itself and each index after it.
+fn add_row(
+    table: &mut [u64],
+    len: usize,
+    labels: &[u8],
+    old: &[u8],
+    first: bool,
+    basis: &[u64],
+    exponents: &[u64],
+    i: usize,
+) -> usize
+    requires { ⌜ Extending first (now table) len (now basis) (now exponents) (now labels) (now old) × (i < length (now basis)) ⌝ }
+    ensures { λ r. ⌜ Grown (addRow (now (exponents .entry)) (now (basis .entry)) (now (labels .entry)) i (take len (now (table .entry)))) (now (table .entry)) r (now (table .exit)) ⌝ }
+{
+    let mut n = len;
+    let mut k = i;
+    while k < basis.len() {
+        n = add_pair(table, n, labels, old, first, basis, exponents, i, k);
+        if 2048 < n {
+            return n;
+        }
+        k += 1;
+    }
+    n
+}
+
+// Every pair of the basis.
+pub fn extend_pass(
+    table: &mut [u64],
+    len: usize,
+    labels: &[u8],
+    old: &[u8],
+    first: bool,
+    basis: &[u64],
+    exponents: &[u64],
+) -> usize
+    requires { ⌜ Extending first (now table) len (now basis) (now exponents) (now labels) (now old) ⌝ }
+    ensures { λ r. ⌜ Grown (extend (now (exponents .entry)) (now (basis .entry)) (now (labels .entry)) (take len (now (table .entry)))) (now (table .entry)) r (now (table .exit)) ⌝ }
+{
+    let mut n = len;
+    let mut i = 0;
+    while i < basis.len() {
+        n = add_row(table, n, labels, old, first, basis, exponents, i);
+        if 2048 < n {
+            return n;
+        }
+        i += 1;
+    }
+    n
+}
+
+// How many blocks there are: how many indices are their own block's number.
+pub fn count_blocks(labels: &[u8]) -> usize
+    ensures { λ r. ⌜ r ≡ blockCount (now (labels .entry)) ⌝ }
+{
+    let mut n = 0;
+    let mut i = 0;
+    while i < labels.len() {
+        if labels[i] as usize == i {
+            n += 1;
+        }
+        i += 1;
+    }
+    n
+}

@@ -1,0 +1,28 @@
+-- A support that holds all that an extension would add. S, T, B and L are as in Join.antt.
+use mathlib.Core.Path.{_≡_}
+use mathlib.Core.Bool.{Bool, false}
+use mathlib.Core.List.{List}
+use Prim.Native.Nat.{ℕ, _+_, _≤_, _<_}
+use lib.ListN.{length, getD, take}
+use Rattle.support.specs.Sets.{In}
+use Rattle.support.specs.Table.{Holds}
+use Rattle.blocks.specs.Limits.{OneBasis}
+
+-- every t + b + b' of the indices i and k is in S, where the two are in one block
+pub record FullAt (T B L : List ℕ) (i k : ℕ) (S : List ℕ) : Type 0 where
+  pub at : getD L i 0 ≡ getD L k 0 → (t : ℕ) → In t T → In (t + (getD B i 0 + getD B k 0)) S
+
+-- and so for all pairs
+pub record Full (T B L S : List ℕ) : Type 0 where
+  pub at : (i k : ℕ) → i ≤ k → k < length B → FullAt T B L i k S
+
+-- after the first round, S is full for the blocks of the round before
+pub record Filled (first : Bool) (T B L S : List ℕ) : Type 0 where
+  pub full : first ≡ false → Full T B L S
+
+-- what an extension asks: the support in its table, a basis with its blocks L, and the blocks L₀ of the round before
+pub record Extending (first : Bool) (t : List ℕ) (len : ℕ) (B T L L₀ : List ℕ) : Type 0 where
+  pub support : Holds t len
+  pub basis : OneBasis B T L
+  pub before : length L₀ ≡ length B
+  pub filled : Filled first T B L₀ (take len t)
