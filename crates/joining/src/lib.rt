@@ -1,1 +1,101 @@
-// tmp
+// The joining rule applied to a problem: from its start to the closed support and the blocks. Basis j stands from place 64j on
+// in `keys`, the exponents of its multiplier from place 32j on in `exponents`, as in the crate rounds. The first `len` numbers of
+// `table` are the support.
+ghost use mathlib.Core.Path.{_≡_};
+ghost use mathlib.Core.List.{[]};
+ghost use Prim.Native.Nat.{ℕ, _+_, _*_, _^_, _≤_, _<_};
+ghost use lib.ListN.{length, getD, take};
+ghost use Rattle.counting.specs.Counting.{fromTo};
+ghost use Rattle.support.specs.Table.{Holds, Grown};
+ghost use Rattle.blocks.specs.Limits.{Bounded};
+ghost use Rattle.rounds.specs.Bytes.{part};
+ghost use Rattle.joining.specs.Tables.{Multipliers};
+ghost use Rattle.rounds.specs.Bytes.{basesIn};
+ghost use Rattle.rounds.specs.Arrays.{Arrays};
+ghost use Rattle.polynomial.specs.Terms.{keysOf, objectiveTerms};
+ghost use Rattle.joining.specs.Joining.{insertAll, multiples, startFrom};
+use polynomial::Objective;
+
+// The support with each key times `factor` put in; 2,049 where it has too many.
+fn put_keys(table: &mut [u64], len: usize, keys: &[u64], factor: u64) -> usize
+    requires { ⌜ Holds (now table) len × Bounded (32 * 2 ^ 56) (now keys) × (factor ≤ 2) ⌝ }
+    ensures { λ r. ⌜ Grown (insertAll (multiples factor (now (keys .entry))) (take len (now (table .entry)))) (now (table .entry)) r (now (table .exit)) ⌝ }
+{
+    let mut n = len;
+    let mut i = 0;
+    while i < keys.len() {
+        n = support::put(table, n, factor * keys[i]);
+        if 2048 < n {
+            return n;
+        }
+        i += 1;
+    }
+    n
+}
+
+// The exponents of multiplier j put in.
+fn put_multiplier(
+    table: &mut [u64],
+    len: usize,
+    exponents: &[u64],
+    counts: &[usize],
+    j: usize,
+) -> usize
+    requires { ⌜ Holds (now table) len × Multipliers (now exponents) (now counts) × (j < 9) ⌝ }
+    ensures { λ r. ⌜ Grown (insertAll (part 32 (now (counts .entry)) (now (exponents .entry)) j) (take len (now (table .entry)))) (now (table .entry)) r (now (table .exit)) ⌝ }
+{
+    let a = 32 * j;
+    let e = a + counts[j];
+    put_keys(table, len, &exponents[a..e], 1)
+}
+
+// The exponents of every constraint put in.
+fn put_constraints(table: &mut [u64], len: usize, exponents: &[u64], counts: &[usize]) -> usize
+    requires { ⌜ Holds (now table) len × Multipliers (now exponents) (now counts) ⌝ }
+    ensures { λ r. ⌜ Grown (fromTo 1 9 (λ j. insertAll (part 32 (now (counts .entry)) (now (exponents .entry)) j)) (take len (now (table .entry)))) (now (table .entry)) r (now (table .exit)) ⌝ }
+{
+    let mut n = len;
+    let mut j = 1;
+    while j < 9 {
+        n = put_multiplier(table, n, exponents, counts, j);
+        if 2048 < n {
+            return n;
+        }
+        j += 1;
+    }
+    n
+}
+
+// The exponents of the objective alone.
+fn put_objective(q: Objective, table: &mut [u64]) -> usize
+    requires { ⌜ (2048 ≤ length (now table)) × (q .count ≤ 256) × Bounded (32 * 2 ^ 56) (q .keys) ⌝ }
+    ensures { λ r. ⌜ Grown (insertAll (keysOf (objectiveTerms q)) []) (now (table .entry)) r (now (table .exit)) ⌝ }
+{
+    let keys = q.keys;
+    let n = q.count;
+    put_keys(table, 0, &keys[..n], 1)
+}
+
+// The start of the support: the exponents of the objective and of the constraints, and twice those of basis 0.
+fn seed(
+    q: Objective,
+    keys: &[u64],
+    sizes: &[usize],
+    exponents: &[u64],
+    counts: &[usize],
+    table: &mut [u64],
+) -> usize
+    requires { ⌜ (2048 ≤ length (now table)) × (q .count ≤ 256) × Bounded (32 * 2 ^ 56) (q .keys) × Arrays (now keys) (now sizes) (now exponents) (now counts) ⌝ }
+    ensures { λ r. ⌜ Grown (startFrom (keysOf (objectiveTerms q)) (basesIn (now (keys .entry)) (now (sizes .entry)) (now (exponents .entry)) (now (counts .entry)))) (now (table .entry)) r (now (table .exit)) ⌝ }
+{
+    let a = put_objective(q, table);
+    if 2048 < a {
+        return a;
+    }
+    let b = put_constraints(table, a, exponents, counts);
+    if 2048 < b {
+        return b;
+    }
+    let n = sizes[0];
+    put_keys(table, b, &keys[..n], 2)
+}

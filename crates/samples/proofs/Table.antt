@@ -18,7 +18,7 @@ use Rattle.blocks.specs.Extend.{addTerms, addPair, extend, lowestFrom}
 use Rattle.rounds.specs.Rounds.{singles, start, joinAll, extendAll, round, same, sameAll, sameState, closeFrom, blocksIn}
 use Rattle.rounds.specs.Rounds as Rounds
 use Rattle.rounds.specs.Bytes.{blockBytes}
-use Rattle.joining.specs.Joining.{insertAll, startSet, closing, tooLarge, blockTotal}
+use Rattle.joining.specs.Joining.{insertAll, startFrom, startSet, closing, tooLarge, blockTotal}
 use Rattle.checker.specs.Verdict.{noRefusal, refusedBlocks, blocksOf, blocksVerdict, bytesOf, bytesLeft}
 use Rattle.checker.specs.declared.BlocksVerdict.{BlocksVerdict}
 use Rattle.samples.specs.Streams.{problemA, problemC, problemD, problemE, problemF}
@@ -44,5 +44,5 @@ pub samples :
     ∷ found 2 2 (0 ∷ 0 ∷ 255 ∷ []) (0 ∷ [])
     ∷ record { verdict = refusedBlocks 2 0; zero = 7 ∷ 7 ∷ 7 ∷ []; one = 7 ∷ [] }
     ∷ []
-unfolding listed fromTo sumTo number signed firstRefusal run readWhole degreeOf degree within among keysOf commandOf appendAt fitting applied verdict next readProblem basisOf multiplierOf member insert linked merged joinPair join addTerms addPair extend lowestFrom singles start joinAll extendAll round same sameAll sameState closeFrom blocksIn Rounds.closing blockBytes insertAll startSet closing tooLarge blockTotal blocksOf blocksVerdict bytesOf bytesLeft
+unfolding listed fromTo sumTo number signed firstRefusal run readWhole degreeOf degree within among keysOf commandOf appendAt fitting applied verdict next readProblem basisOf multiplierOf member insert linked merged joinPair join addTerms addPair extend lowestFrom singles start joinAll extendAll round same sameAll sameState closeFrom blocksIn Rounds.closing blockBytes insertAll startFrom startSet closing tooLarge blockTotal blocksOf blocksVerdict bytesOf bytesLeft
 samples = refl

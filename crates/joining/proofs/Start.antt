@@ -1,0 +1,95 @@
+-- Laws of the start of S: what putting keys into a set gives.
+use mathlib.Core.Path.{_≡_, refl, ap, sym, _∙_}
+use mathlib.Core.List.{List, [], _∷_, _++_, map, map-append}
+use lib.IntN.{ℤ, pos}
+use Prim.Native.Nat.{ℕ, zero, suc, _+_, _-_, _*_, _^_, _≤_, _<_}
+use native.Mathlib.Numerals.{add-one}
+use native.Mathlib.Omega.{arith}
+use lib.ListN.{length, take, drop, getD, drop-of-length-le}
+use lib.Seq.{drop-cons, getD-drop}
+use Rattle.support.specs.Sets.{insert, Rising}
+use Rattle.blocks.specs.Limits.{Bounded}
+use Rattle.rounds.specs.Bytes.{part}
+use Rattle.blocks.proofs.Growth.{Extends, extends-refl, extends-trans, insert-extends, fromTo-extends, grown-take, drop-over}
+use Rattle.counting.specs.Counting.{listed, fromTo}
+use Rattle.counting.proofs.Listed.{listed-take}
+use Rattle.counting.proofs.Steps.{fromTo-same}
+use Rattle.polynomial.specs.Terms.{term, keysOf, termsIn}
+use Rattle.support.specs.Table.{over, Grown}
+use Rattle.rounds.specs.Rounds.{Bases}
+use Rattle.joining.specs.Joining.{insertAll, multiples, startFrom}
+
+-- ---- one key after another
+module _ (c : ℕ) (ks S : List ℕ) where
+  pub insert-next : (i : ℕ) → i < length ks → insertAll (multiples c (drop i ks)) S ≡ insertAll (multiples c (drop (i + 1) ks)) (insert (c * getD ks i 0) S)
+  unfolding insertAll
+  insert-next i h = rw (add-one, drop-cons ks i 0)
+
+  pub insert-done : (i : ℕ) → length ks ≤ i → insertAll (multiples c (drop i ks)) S ≡ S
+  unfolding insertAll
+  insert-done i h = ap (λ (l : List ℕ). insertAll (multiples c l) S) (drop-of-length-le ks h)
+
+pub insertAll-extends : (ks S : List ℕ) → Extends S (insertAll ks S)
+unfolding insertAll
+insertAll-extends [] S = extends-refl S
+insertAll-extends (k ∷ ks) S = extends-trans S _ _ (insert-extends k S) (insertAll-extends ks (insert k S))
+
+pub multiples-one : (ks : List ℕ) → multiples 1 ks ≡ ks
+multiples-one [] = refl
+multiples-one (k ∷ ks) = let e : 1 * k ≡ k = omega arith in rw (e, multiples-one ks)
+
+-- a key of degree at most 32, and twice one, fit 64 bits
+pub product-fits : (c k : ℕ) → c ≤ 2 → k ≤ 32 * 2 ^ 56 → c * k < 2 ^ 64
+product-fits zero k h b = omega arith
+product-fits (suc zero) k h b = omega arith
+product-fits (suc (suc zero)) k h b = omega arith
+product-fits (suc (suc (suc c))) k h b = absurd (omega arith)
+
+-- a part of a list that has no number above m has none
+pub first-low : (m n : ℕ) (l : List ℕ) → Bounded m l → Bounded m (take n l)
+first-low m zero l h i = omega arith
+first-low m (suc n) [] h i = omega arith
+first-low m (suc n) (x ∷ l) h zero = h 0
+first-low m (suc n) (x ∷ l) h (suc i) = first-low m n l (λ k. h (suc k)) i
+
+pub part-low : (m w : ℕ) (counts l : List ℕ) (j : ℕ) → Bounded m l → Bounded m (part w counts l j)
+part-low m w counts l j h i = first-low m (getD counts j 0) (drop (w * j) l) (λ k. rw (getD-drop (w * j) l k 0) (h (w * j + k))) i
+
+-- ---- the objective's keys
+pub keys-listed : (n : ℕ) (keys : List ℕ) (coefficients : List ℤ) → keysOf (termsIn n keys coefficients) ≡ listed n (λ i. getD keys i 0)
+unfolding keysOf termsIn listed
+keys-listed zero keys cs = refl
+keys-listed (suc n) keys cs = map-append _ (listed n (λ i. term (getD keys i 0) (getD cs i (pos 0)))) (term (getD keys n 0) (getD cs n (pos 0)) ∷ []) ∙ ap (λ (l : List ℕ). l ++ (getD keys n 0 ∷ [])) (keys-listed n keys cs)
+
+pub first-keys : (n : ℕ) (keys : List ℕ) (coefficients : List ℤ) → n ≤ length keys → take n keys ≡ keysOf (termsIn n keys coefficients)
+first-keys n keys cs h = sym (keys-listed n keys cs ∙ listed-take n keys 0 h)
+
+-- ---- one growth of the table after another
+module _ (S t : List ℕ) (n : ℕ) (t₁ : List ℕ) (g : Grown S t n t₁) where
+  -- a set that is too large stays so
+  pub grown-over : 2048 < n → (S′ : List ℕ) → length S ≤ length S′ → Grown S′ t n t₁
+  grown-over b S′ x = record { count = omega (arith, g .count); table = λ q. absurd (omega arith); rest = g .rest }
+
+  pub grown-then : n ≤ 2048 → (f : List ℕ → List ℕ) → length S ≤ length (f S) → (r : ℕ) (t₂ : List ℕ) → Grown (f (take n t₁)) t₁ r t₂ → Grown (f S) t r t₂
+  grown-then b f x r t₂ k =
+      let k′ : Grown (f S) t₁ r t₂ = rw (grown-take S t n t₁ g b) at k in
+      record {
+        count = k′ .count;
+        table = λ q. k′ .table q ∙ ap (λ (l : List ℕ). f S ++ l) (ap (drop (length (f S))) (g .table b) ∙ drop-over S t (length (f S)) x);
+        rest = k′ .rest ∙ g .rest;
+      }
+
+-- ---- the start
+pub start-rising : (objective : List ℕ) (g : Bases) → Rising (startFrom objective g)
+unfolding startFrom
+start-rising objective g =
+    insertAll-extends (multiples 2 (g .basis 0)) _ .rising
+    (fromTo-extends (λ j. insertAll (g .multiplier j)) (λ j X. insertAll-extends (g .multiplier j) X) 1 9 _ .rising
+    (insertAll-extends objective [] .rising tt))
+
+-- bases that agree have the same start
+pub start-same : (objective : List ℕ) (g h : Bases) → ((j : ℕ) → j < 9 → g .basis j ≡ h .basis j) → ((j : ℕ) → j < 9 → g .multiplier j ≡ h .multiplier j) → startFrom objective g ≡ startFrom objective h
+unfolding startFrom
+start-same objective g h b m =
+    ap (λ (l : List ℕ). insertAll (multiples 2 l) (fromTo 1 9 (λ j. insertAll (g .multiplier j)) (insertAll objective []))) (b 0 (omega arith))
+    ∙ ap (insertAll (multiples 2 (h .basis 0))) (fromTo-same (λ j. insertAll (g .multiplier j)) (λ j. insertAll (h .multiplier j)) 9 1 (λ j S _ l. ap (λ (ks : List ℕ). insertAll ks S) (m j l)) _)
