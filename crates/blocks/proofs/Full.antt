@@ -27,29 +27,29 @@ record Row (T B L : List ℕ) (i : ℕ) (S : List ℕ) : Type 0 where
   row : (k : ℕ) → i ≤ k → k < length B → FullAt T B L i k S
 
 module _ (T B L : List ℕ) where
-  pub one-keeps : (x i k : ℕ) (S : List ℕ) → In x S → In x (addPair T B L i k S)
+  pub pair-keeps : (x i k : ℕ) (S : List ℕ) → In x S → In x (addPair T B L i k S)
   unfolding addPair
-  one-keeps x i k S m = go (eqb (getD L i 0) (getD L k 0))
+  pair-keeps x i k S m = go (eqb (getD L i 0) (getD L k 0))
     where
       go : (b : Bool) → In x (cond b (addTerms T (getD B i 0 + getD B k 0) S) S)
       go true = add-keeps x T (getD B i 0 + getD B k 0) S m
       go false = m
 
   row-keeps : (x i : ℕ) (S : List ℕ) → In x S → In x (addRow T B L i S)
-  row-keeps x i S m = fromTo-keeps (In x) (addPair T B L i) (length B) i (λ k S′ _ _ m′. one-keeps x i k S′ m′) S m
+  row-keeps x i S m = fromTo-keeps (In x) (addPair T B L i) (length B) i (λ k S′ _ _ m′. pair-keeps x i k S′ m′) S m
 
   pub extend-keeps : (x : ℕ) (S : List ℕ) → In x S → In x (extend T B L S)
   unfolding extend
   extend-keeps x S m = fromTo-keeps (In x) (addRow T B L) (length B) 0 (λ i S′ _ _ m′. row-keeps x i S′ m′) S m
 
-  one-fills : (i k : ℕ) (S : List ℕ) → FullAt T B L i k (addPair T B L i k S)
+  pair-fills : (i k : ℕ) (S : List ℕ) → FullAt T B L i k (addPair T B L i k S)
   unfolding addPair
-  one-fills i k S = record { at = λ e t h. rw (eq-eqb (getD L i 0) (getD L k 0) e) (add-in T (getD B i 0 + getD B k 0) S t h) }
+  pair-fills i k S = record { at = λ e t h. rw (eq-eqb (getD L i 0) (getD L k 0) e) (add-in T (getD B i 0 + getD B k 0) S t h) }
 
   row-fills : (i k : ℕ) (S : List ℕ) → i ≤ k → k < length B → FullAt T B L i k (addRow T B L i S)
   row-fills i k S h u =
-      fromTo-reaches (λ _. Unit {0}) (λ k S′. FullAt T B L i k S′) (addPair T B L i) (length B) i (λ _ _ _ _ _. tt) (λ k S′ _ _ _. one-fills i k S′)
-      (λ k x S′ _ _ _ f. record { at = λ e t m. one-keeps _ i x S′ (f .at e t m) }) k h u S tt
+      fromTo-reaches (λ _. Unit {0}) (λ k S′. FullAt T B L i k S′) (addPair T B L i) (length B) i (λ _ _ _ _ _. tt) (λ k S′ _ _ _. pair-fills i k S′)
+      (λ k x S′ _ _ _ f. record { at = λ e t m. pair-keeps _ i x S′ (f .at e t m) }) k h u S tt
 
   -- the extension fills
   pub extend-full : (S : List ℕ) → Full T B L (extend T B L S)
@@ -61,9 +61,9 @@ module _ (T B L : List ℕ) where
   }
 
   -- and then adds nothing more
-  one-done : (i k : ℕ) (S : List ℕ) → Rising S → FullAt T B L i k S → addPair T B L i k S ≡ S
+  pair-done : (i k : ℕ) (S : List ℕ) → Rising S → FullAt T B L i k S → addPair T B L i k S ≡ S
   unfolding addPair
-  one-done i k S r f = go (eqb (getD L i 0) (getD L k 0)) refl
+  pair-done i k S r f = go (eqb (getD L i 0) (getD L k 0)) refl
     where
       go : (b : Bool) → eqb (getD L i 0) (getD L k 0) ≡ b → cond b (addTerms T (getD B i 0 + getD B k 0) S) S ≡ S
       go true e = add-full T (getD B i 0 + getD B k 0) S r (f .at (eqb-true (getD L i 0) (getD L k 0) e))
@@ -72,4 +72,4 @@ module _ (T B L : List ℕ) where
   pub extend-done : (S : List ℕ) → Rising S → Full T B L S → extend T B L S ≡ S
   unfolding extend
   extend-done S r f =
-      fromTo-fixed (addRow T B L) (length B) 0 S (λ i _ hi. fromTo-fixed (addPair T B L i) (length B) i S (λ k h u. one-done i k S r (f .at i k h u)))
+      fromTo-fixed (addRow T B L) (length B) 0 S (λ i _ hi. fromTo-fixed (addPair T B L i) (length B) i S (λ k h u. pair-done i k S r (f .at i k h u)))

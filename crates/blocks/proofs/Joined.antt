@@ -13,7 +13,7 @@ use Rattle.counting.proofs.Steps.{fromTo-keeps, fromTo-reaches}
 use Rattle.blocks.specs.Join.{linked, renamed, merged, joinPair, joinRow, join}
 use Rattle.blocks.proofs.Laws.{merged-up, merged-down, merged-same}
 use Rattle.blocks.proofs.Least.{getD-map-in}
-use Rattle.blocks.proofs.Roots.{Falls, one-falls, row-falls}
+use Rattle.blocks.proofs.Lowest.{Falls, pair-falls, row-falls}
 
 -- keys with one label keep one label through a map
 map-equal : (g : ℕ → ℕ) (L : List ℕ) (x y : ℕ) → x < length L → y < length L → getD L x 0 ≡ getD L y 0 → getD (map g L) x 0 ≡ getD (map g L) y 0
@@ -57,29 +57,29 @@ record Long (B L : List ℕ) : Type 0 where
   long : length L ≡ length B
 
 module _ (S T B : List ℕ) where
-  one-equal : (x y i k : ℕ) (L : List ℕ) → x < length L → y < length L → getD L x 0 ≡ getD L y 0 → getD (joinPair S T B i k L) x 0 ≡ getD (joinPair S T B i k L) y 0
+  pair-equal : (x y i k : ℕ) (L : List ℕ) → x < length L → y < length L → getD L x 0 ≡ getD L y 0 → getD (joinPair S T B i k L) x 0 ≡ getD (joinPair S T B i k L) y 0
   unfolding joinPair
-  one-equal x y i k L hx hy e = go (linked S T (getD B i 0 + getD B k 0))
+  pair-equal x y i k L hx hy e = go (linked S T (getD B i 0 + getD B k 0))
     where
       go : (b : Bool) → getD (cond b (merged (getD L i 0) (getD L k 0) L) L) x 0 ≡ getD (cond b (merged (getD L i 0) (getD L k 0) L) L) y 0
       go true = merged-equal (getD L i 0) (getD L k 0) L x y hx hy e
       go false = e
 
-  one-joins : (i k : ℕ) (L : List ℕ) → i < length L → k < length L → JoinedAt S T B i k (joinPair S T B i k L)
+  pair-joins : (i k : ℕ) (L : List ℕ) → i < length L → k < length L → JoinedAt S T B i k (joinPair S T B i k L)
   unfolding joinPair
-  one-joins i k L hi hk = record { at = λ e. rw e (merged-one L i k hi hk) }
+  pair-joins i k L hi hk = record { at = λ e. rw e (merged-one L i k hi hk) }
 
   row-equal : (x y i : ℕ) (L : List ℕ) → i < length B → x < length B → y < length B → length L ≡ length B → getD L x 0 ≡ getD L y 0 → getD (joinRow S T B i L) x 0 ≡ getD (joinRow S T B i L) y 0
   row-equal x y i L hi hx hy l e =
       fromTo-keeps (λ L′. (length L′ ≡ length B) × (getD L′ x 0 ≡ getD L′ y 0)) (joinPair S T B i) (length B) (i + 1)
-      (λ k L′ _ hk q. (one-falls S T B i k L′ hi hk (q .0) .long ∙ q .0, one-equal x y i k L′ (omega (arith, q .0)) (omega (arith, q .0)) (q .1))) L (l, e) .1
+      (λ k L′ _ hk q. (pair-falls S T B i k L′ hi hk (q .0) .long ∙ q .0, pair-equal x y i k L′ (omega (arith, q .0)) (omega (arith, q .0)) (q .1))) L (l, e) .1
 
   row-joins : (i k : ℕ) (L : List ℕ) → i < k → k < length B → length L ≡ length B → JoinedAt S T B i k (joinRow S T B i L)
   row-joins i k L h u l =
       fromTo-reaches (Long B) (λ k L′. k < length B → JoinedAt S T B i k L′) (joinPair S T B i) (length B) (i + 1)
-      (λ k L′ _ b q. record { long = one-falls S T B i k L′ (omega arith) b (q .long) .long ∙ q .long })
-      (λ k L′ _ b q _. one-joins i k L′ (omega (arith, q .long)) (omega (arith, q .long)))
-      (λ k x L′ _ b q j m. record { at = λ e. one-equal i k i x L′ (omega (arith, q .long)) (omega (arith, q .long)) (j m .at e) }) k (omega arith) u L (record { long = l }) u
+      (λ k L′ _ b q. record { long = pair-falls S T B i k L′ (omega arith) b (q .long) .long ∙ q .long })
+      (λ k L′ _ b q _. pair-joins i k L′ (omega (arith, q .long)) (omega (arith, q .long)))
+      (λ k x L′ _ b q j m. record { at = λ e. pair-equal i k i x L′ (omega (arith, q .long)) (omega (arith, q .long)) (j m .at e) }) k (omega arith) u L (record { long = l }) u
 
   pub join-equal : (x y : ℕ) (L : List ℕ) → x < length B → y < length B → length L ≡ length B → getD L x 0 ≡ getD L y 0 → getD (join S T B L) x 0 ≡ getD (join S T B L) y 0
   unfolding join

@@ -75,9 +75,9 @@ module _ (R : ℕ → ℕ → Type 0) (eq : Equivalence R) (n : ℕ) where
 
 module _ (Q : ℕ → Type 0) (R : ℕ → ℕ → Type 0) (eq : Equivalence R) (T B : List ℕ) (c : ClosedFor Q R T B) where
   module _ (S : List ℕ) (w : Within Q S) where
-    one-inside : (i k : ℕ) (L : List ℕ) → i < length B → k < length B → Inside R (length B) L → Inside R (length B) (joinPair S T B i k L)
+    pair-inside : (i k : ℕ) (L : List ℕ) → i < length B → k < length B → Inside R (length B) L → Inside R (length B) (joinPair S T B i k L)
     unfolding joinPair
-    one-inside i k L hi hk s = go (linked S T (getD B i 0 + getD B k 0)) refl
+    pair-inside i k L hi hk s = go (linked S T (getD B i 0 + getD B k 0)) refl
       where
         go : (b : Bool) → linked S T (getD B i 0 + getD B k 0) ≡ b → Inside R (length B) (cond b (merged (getD L i 0) (getD L k 0) L) L)
         go true e = merged-inside R eq (length B) L i k hi hk (linked-from S T (getD B i 0 + getD B k 0) (λ t h m. c .joins i k t hi hk h (w .at _ m)) e) s
@@ -88,12 +88,12 @@ module _ (Q : ℕ → Type 0) (R : ℕ → ℕ → Type 0) (eq : Equivalence R) 
     unfolding join
     join-inside L s =
         fromTo-keeps (Inside R (length B)) (joinRow S T B) (length B) 0
-        (λ i L′ _ hi s′. fromTo-keeps (Inside R (length B)) (joinPair S T B i) (length B) (i + 1) (λ k L″ _ hk s″. one-inside i k L″ hi hk s″) L′ s′) L s
+        (λ i L′ _ hi s′. fromTo-keeps (Inside R (length B)) (joinPair S T B i) (length B) (i + 1) (λ k L″ _ hk s″. pair-inside i k L″ hi hk s″) L′ s′) L s
 
   module _ (L : List ℕ) (s : Inside R (length B) L) where
-    one-within : (i k : ℕ) (S : List ℕ) → i < length B → k < length B → Within Q S → Within Q (addPair T B L i k S)
+    pair-within : (i k : ℕ) (S : List ℕ) → i < length B → k < length B → Within Q S → Within Q (addPair T B L i k S)
     unfolding addPair
-    one-within i k S hi hk w = go (eqb (getD L i 0) (getD L k 0)) refl
+    pair-within i k S hi hk w = go (eqb (getD L i 0) (getD L k 0)) refl
       where
         go : (b : Bool) → eqb (getD L i 0) (getD L k 0) ≡ b → Within Q (cond b (addTerms T (getD B i 0 + getD B k 0) S) S)
         go true e = record {
@@ -106,4 +106,4 @@ module _ (Q : ℕ → Type 0) (R : ℕ → ℕ → Type 0) (eq : Equivalence R) 
     unfolding extend
     extend-within S w =
         fromTo-keeps (Within Q) (addRow T B L) (length B) 0
-        (λ i S′ _ hi w′. fromTo-keeps (Within Q) (addPair T B L i) (length B) i (λ k S″ _ hk w″. one-within i k S″ hi hk w″) S′ w′) S w
+        (λ i S′ _ hi w′. fromTo-keeps (Within Q) (addPair T B L i) (length B) i (λ k S″ _ hk w″. pair-within i k S″ hi hk w″) S′ w′) S w

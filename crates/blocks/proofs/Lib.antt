@@ -5,4 +5,4 @@ pub mod Members
 pub mod Least
 pub mod Joined
 pub mod Full
-pub mod Roots
+pub mod Lowest

@@ -9,13 +9,10 @@ use lib.ListN.{length, getD}
 use lib.Dec.{eqb, ltb}
 use borrow.Author.Tests.{eqb-true, eqb-false, eq-eqb, ne-eqb}
 use mathlib.Core.Bool.{cond}
-use Rattle.support.specs.Sets.{Rising, member, insert}
+use Rattle.support.specs.Sets.{Rising, In, member, insert}
 use Rattle.support.proofs.Laws.{insert-member}
 use Rattle.blocks.specs.Join.{linked}
 use Rattle.blocks.specs.Extend.{addTerms}
-
-abbrev pub In : ℕ → List ℕ → Type 0
-In x S = member x S ≡ true
 
 pub not-nil : (x : ℕ) {P : Type 0} → In x [] → P
 unfolding member

@@ -10,7 +10,8 @@ use lib.ListN.{length, getD, length-map}
 use lib.Dec.{eqb, ltb}
 use borrow.Author.Tests.{eqb-true, eqb-false, eq-eqb, ne-eqb, ltb-true, ltb-false}
 use mathlib.Core.Bool.{cond}
-use Rattle.counting.specs.Counting.{fromTo}
+use Rattle.counting.specs.Counting.{fromTo, listed}
+use Rattle.counting.proofs.Listed.{listed-length, listed-at}
 use Rattle.counting.proofs.Steps.{fromTo-keeps}
 use Rattle.blocks.specs.Extend.{lowestFrom, blockCount}
 use Rattle.blocks.specs.Join.{linked, renamed, merged, joinPair, joinRow, join}
@@ -18,9 +19,9 @@ use Rattle.blocks.proofs.Laws.{merged-up, merged-down, merged-same}
 use Rattle.blocks.proofs.Least.{getD-map-in}
 
 -- a label is an index that is at most its own, and has itself as its label
-pub record Rooted (L : List ℕ) : Type 0 where
-  pub low : (x : ℕ) → x < length L → getD L x 0 ≤ x
-  pub root : (x : ℕ) → x < length L → getD L (getD L x 0) 0 ≡ getD L x 0
+pub record Numbered (L : List ℕ) : Type 0 where
+  pub lowest : (x : ℕ) → x < length L → getD L x 0 ≤ x
+  pub own : (x : ℕ) → x < length L → getD L (getD L x 0) 0 ≡ getD L x 0
 
 -- ---- one label replaced
 
@@ -57,22 +58,22 @@ module _ (a b : ℕ) (ne : a ≡ b → ⊥) where
 
 pub record Falls (L L′ : List ℕ) : Type 0 where
   pub long : length L′ ≡ length L
-  pub rooted : Rooted L → Rooted L′
-  pub less : Rooted L → blockCount L′ ≤ blockCount L
-  pub same : Rooted L → blockCount L′ ≡ blockCount L → L′ ≡ L
+  pub numbered : Numbered L → Numbered L′
+  pub less : Numbered L → blockCount L′ ≤ blockCount L
+  pub same : Numbered L → blockCount L′ ≡ blockCount L → L′ ≡ L
 
 pub falls-refl : (L : List ℕ) → Falls L L
-falls-refl L = record { long = refl; rooted = λ r. r; less = λ _. le-refl (blockCount L); same = λ _ _. refl }
+falls-refl L = record { long = refl; numbered = λ r. r; less = λ _. le-refl (blockCount L); same = λ _ _. refl }
 
 pub falls-trans : (L L′ L″ : List ℕ) → Falls L L′ → Falls L′ L″ → Falls L L″
 falls-trans L L′ L″ a b = record {
   long = b .long ∙ a .long;
-  rooted = λ r. b .rooted (a .rooted r);
-  less = λ r. le-trans (b .less (a .rooted r)) (a .less r);
+  numbered = λ r. b .numbered (a .numbered r);
+  less = λ r. le-trans (b .less (a .numbered r)) (a .less r);
   same = λ r e.
       let u = a .less r in
-      let v = b .less (a .rooted r) in
-      b .same (a .rooted r) (omega arith) ∙ a .same r (omega arith);
+      let v = b .less (a .numbered r) in
+      b .same (a .numbered r) (omega arith) ∙ a .same r (omega arith);
 }
 
 module _ (L : List ℕ) (i k : ℕ) (hi : i < length L) (hk : k < length L) where
@@ -80,7 +81,7 @@ module _ (L : List ℕ) (i k : ℕ) (hi : i < length L) (hk : k < length L) wher
   up : getD L i 0 < getD L k 0 → Falls L (map (renamed (getD L k 0) (getD L i 0)) L)
   up lt = record {
     long = length-map L (renamed (getD L k 0) (getD L i 0));
-    rooted = keeps;
+    numbered = keeps;
     less = λ r. omega (arith, strict r);
     same = λ r e. absurd (omega (arith, strict r));
   }
@@ -89,33 +90,33 @@ module _ (L : List ℕ) (i k : ℕ) (hi : i < length L) (hk : k < length L) wher
       g = renamed (getD L k 0) (getD L i 0)
 
       -- i's label is a root, so it is not k's
-      other : Rooted L → (x : ℕ) → x < length L → getD L x 0 ≡ getD L k 0 → 0 + x ≡ getD L i 0 → ⊥
+      other : Numbered L → (x : ℕ) → x < length L → getD L x 0 ≡ getD L k 0 → 0 + x ≡ getD L i 0 → ⊥
       other r x hx e q =
           let w : x ≡ getD L i 0 = omega arith in
-          let u : getD L x 0 ≡ getD L i 0 = ap (λ (z : ℕ). getD L z 0) w ∙ r .root i hi in
+          let u : getD L x 0 ≡ getD L i 0 = ap (λ (z : ℕ). getD L z 0) w ∙ r .own i hi in
           omega arith
 
-      strict : Rooted L → blockCount (map (renamed (getD L k 0) (getD L i 0)) L) < blockCount L
+      strict : Numbered L → blockCount (map (renamed (getD L k 0) (getD L i 0)) L) < blockCount L
       strict r =
-          less (getD L i 0) (getD L k 0) (λ e. omega arith) 0 L (other r) (getD L k 0) (omega (arith, r .low k hk)) (omega arith) (r .root k hk)
+          less (getD L i 0) (getD L k 0) (λ e. omega arith) 0 L (other r) (getD L k 0) (omega (arith, r .lowest k hk)) (omega arith) (r .own k hk)
 
       at : (x : ℕ) → x < length L → getD (map (renamed (getD L k 0) (getD L i 0)) L) x 0 ≡ renamed (getD L k 0) (getD L i 0) (getD L x 0)
       at x hx = getD-map-in (renamed (getD L k 0) (getD L i 0)) L x hx
 
-      keeps : Rooted L → Rooted (map (renamed (getD L k 0) (getD L i 0)) L)
+      keeps : Numbered L → Numbered (map (renamed (getD L k 0) (getD L i 0)) L)
       keeps r = record {
-        low = λ x hx. let h : x < length L = omega (arith, length-map L (renamed (getD L k 0) (getD L i 0))) in rw (at x h) (lower x h (eqb (getD L x 0) (getD L k 0)) refl);
-        root = λ x hx. let h : x < length L = omega (arith, length-map L (renamed (getD L k 0) (getD L i 0))) in rw (at x h) (fixed x h (eqb (getD L x 0) (getD L k 0)) refl);
+        lowest = λ x hx. let h : x < length L = omega (arith, length-map L (renamed (getD L k 0) (getD L i 0))) in rw (at x h) (lower x h (eqb (getD L x 0) (getD L k 0)) refl);
+        own = λ x hx. let h : x < length L = omega (arith, length-map L (renamed (getD L k 0) (getD L i 0))) in rw (at x h) (fixed x h (eqb (getD L x 0) (getD L k 0)) refl);
       }
         where
           lower : (x : ℕ) → x < length L → (d : Bool) → eqb (getD L x 0) (getD L k 0) ≡ d → cond d (getD L i 0) (getD L x 0) ≤ x
-          lower x h true e = omega (arith, r .low x h, eqb-true (getD L x 0) (getD L k 0) e)
-          lower x h false e = r .low x h
+          lower x h true e = omega (arith, r .lowest x h, eqb-true (getD L x 0) (getD L k 0) e)
+          lower x h false e = r .lowest x h
 
           fixed : (x : ℕ) → x < length L → (d : Bool) → eqb (getD L x 0) (getD L k 0) ≡ d
               → getD (map (renamed (getD L k 0) (getD L i 0)) L) (cond d (getD L i 0) (getD L x 0)) 0 ≡ cond d (getD L i 0) (getD L x 0)
-          fixed x h true e = at (getD L i 0) (omega (arith, r .low i hi)) ∙ rw (r .root i hi, ne-eqb (getD L i 0) (getD L k 0) (λ q. omega arith))
-          fixed x h false e = at (getD L x 0) (omega (arith, r .low x h)) ∙ rw (r .root x h, e)
+          fixed x h true e = at (getD L i 0) (omega (arith, r .lowest i hi)) ∙ rw (r .own i hi, ne-eqb (getD L i 0) (getD L k 0) (λ q. omega arith))
+          fixed x h false e = at (getD L x 0) (omega (arith, r .lowest x h)) ∙ rw (r .own x h, e)
 
 pub merged-falls : (L : List ℕ) (i k : ℕ) → i < length L → k < length L → Falls L (merged (getD L i 0) (getD L k 0) L)
 merged-falls L i k hi hk = go (ltb (getD L i 0) (getD L k 0)) refl (ltb (getD L k 0) (getD L i 0)) refl
@@ -128,9 +129,9 @@ merged-falls L i k hi hk = go (ltb (getD L i 0) (getD L k 0)) refl (ltb (getD L 
         rw (q, merged-same (getD L k 0) L) (falls-refl L)
 
 module _ (S T B : List ℕ) where
-  pub one-falls : (i k : ℕ) (L : List ℕ) → i < length B → k < length B → length L ≡ length B → Falls L (joinPair S T B i k L)
+  pub pair-falls : (i k : ℕ) (L : List ℕ) → i < length B → k < length B → length L ≡ length B → Falls L (joinPair S T B i k L)
   unfolding joinPair
-  one-falls i k L hi hk e = go (linked S T (getD B i 0 + getD B k 0))
+  pair-falls i k L hi hk e = go (linked S T (getD B i 0 + getD B k 0))
     where
       go : (b : Bool) → Falls L (cond b (merged (getD L i 0) (getD L k 0) L) L)
       go true = merged-falls L i k (omega arith) (omega arith)
@@ -139,7 +140,7 @@ module _ (S T B : List ℕ) where
   pub row-falls : (i : ℕ) (L : List ℕ) → i < length B → length L ≡ length B → Falls L (joinRow S T B i L)
   row-falls i L hi e =
       fromTo-keeps (Falls L) (joinPair S T B i) (length B) (i + 1)
-      (λ k L′ _ hk f. falls-trans L L′ (joinPair S T B i k L′) f (one-falls i k L′ hi hk (f .long ∙ e))) L (falls-refl L)
+      (λ k L′ _ hk f. falls-trans L L′ (joinPair S T B i k L′) f (pair-falls i k L′ hi hk (f .long ∙ e))) L (falls-refl L)
 
   pub join-falls : (L : List ℕ) → length L ≡ length B → Falls L (join S T B L)
   unfolding join
@@ -149,7 +150,25 @@ module _ (S T B : List ℕ) where
 
 -- ---- a basis that is not empty has a block
 
-pub blockCount-some : (L : List ℕ) → Rooted L → 0 < length L → 1 ≤ blockCount L
+pub blockCount-some : (L : List ℕ) → Numbered L → 0 < length L → 1 ≤ blockCount L
 unfolding lowestFrom
 blockCount-some [] r h = absurd (not-suc-le-zero h)
-blockCount-some (x ∷ xs) r h = let e : eqb x 0 ≡ true = eq-eqb x 0 (omega (arith, r .low 0 h)) in rw e (omega arith)
+blockCount-some (x ∷ xs) r h = let e : eqb x 0 ≡ true = eq-eqb x 0 (omega (arith, r .lowest 0 h)) in rw e (omega arith)
+
+-- ---- every index its own block
+
+pub singles-numbered : (n : ℕ) → Numbered (listed n (λ i. i))
+singles-numbered n = let e = listed-length n (λ i. i) in record {
+  lowest = λ x h. rw (listed-at n (λ i. i) x 0 (omega arith)) (le-refl x);
+  own = λ x h. rw (listed-at n (λ i. i) x 0 (omega arith)) (listed-at n (λ i. i) x 0 (omega arith));
+}
+
+all-lowest : (i : ℕ) (l : List ℕ) → ((x : ℕ) → x < length l → getD l x 0 ≡ i + x) → lowestFrom i l ≡ length l
+unfolding lowestFrom
+all-lowest i [] h = refl
+all-lowest i (x ∷ xs) h =
+    let e : eqb x i ≡ true = eq-eqb x i (h 0 (omega arith) ∙ omega arith) in
+    rw e (omega (arith, all-lowest (suc i) xs (λ y b. h (suc y) (omega arith) ∙ omega arith)))
+
+pub singles-count : (n : ℕ) → blockCount (listed n (λ i. i)) ≡ n
+singles-count n = let e = listed-length n (λ i. i) in all-lowest 0 (listed n (λ i. i)) (λ x h. listed-at n (λ i. i) x 0 (omega arith) ∙ omega arith) ∙ e
