@@ -1,0 +1,156 @@
+-- The closing is the state after its number of rounds: no round before the last leaves the state as it is, and the fuel of
+-- the definition never runs out. With N monomials in B bases there are at most N − B + 2 rounds.
+use mathlib.Core.Path.{_≡_, refl, sym, ap, _∙_}
+use mathlib.Core.Logic.{_⊎_, inl, inr, ⊎-elim}
+use mathlib.Core.Bool.{Bool, true, false, cond}
+use mathlib.Core.List.{List, [], _∷_}
+use Prim.Native.Nat.{ℕ, zero, suc, _+_, _-_, _≤_, _<_, zero-le}
+use native.Mathlib.Numerals.{add-one}
+use native.Mathlib.Nat.{eq-or-lt-of-le, le-of-suc-le-suc}
+use native.Mathlib.Omega.{arith}
+use lib.ListN.{length, getD}
+use lib.Dec.{ltb}
+use borrow.Author.Tests.{ltb-true, ltb-false}
+use Rattle.support.specs.Sets.{Rising, In}
+use Rattle.counting.specs.Counting.{sumTo}
+use Rattle.counting.proofs.Sums.{sumTo-le}
+use Rattle.blocks.proofs.Growth.{Extends}
+use Rattle.rounds.specs.Rounds.{Bases, State, Closing, start, round, after, sameState, closeFrom, closing, blocksIn, monomials, nonempty}
+use Rattle.rounds.specs.Meaning.{TakesRounds}
+use Rattle.rounds.proofs.Same.{sameState-refl, sameState-true, close-next}
+use Rattle.rounds.proofs.Rounds.{Shaped, AllNumbered, AllFull, after-keeps, round-extends, round-numbered, round-fewer, round-blocks, round-full, round-still, nonempty-few, start-numbered, start-blocks, after-shaped, after-numbered}
+
+module _ (g : Bases) (s : State) where
+  -- round k + 1 changes a block or S
+  abbrev pub Moves : ℕ → Type 0
+  Moves k = after g s (suc k) ≡ after g s k → ⊥
+
+  -- o is what at most m rounds after c leave: the rounds before the last all change something, and the last nothing, or it is number m + c
+  pub record Ran (m c : ℕ) (o : Closing) : Type 0 where
+    pub state : o .state ≡ after g s (o .rounds)
+    pub moves : (k : ℕ) → k + 1 < o .rounds → Moves k
+    pub ended : ((0 < o .rounds) × (after g s (o .rounds) ≡ after g s (o .rounds - 1))) ⊎ ((o .rounds ≡ m + c) × ((k : ℕ) → k < o .rounds → Moves k))
+
+  next : (c : ℕ) → after g s (c + 1) ≡ round g (after g s c)
+  unfolding after
+  next c = rw (add-one c)
+
+  -- a round that the test does not find the same changes something
+  changes : (c : ℕ) → sameState (after g s c) (round g (after g s c)) ≡ false → (k : ℕ) → k ≡ c → Moves k
+  unfolding after
+  changes c e k q w =
+      let u : round g (after g s c) ≡ after g s c = rw q at w in
+      let t : sameState (after g s c) (round g (after g s c)) ≡ true = rw (u, sameState-refl (after g s c)) in
+      let z : _≡_ {A = ℕ} 0 1 = cc in
+      omega arith
+
+  pub ran : (m c : ℕ) → ((k : ℕ) → k < c → Moves k) → Ran m c (closeFrom g m (after g s c) c)
+  unfolding closeFrom
+  ran zero c h = record { state = refl; moves = λ k b. h k (omega arith); ended = inr (omega arith, h) }
+  ran (suc m) c h = rw (close-next g m (after g s c) c) (go (sameState (after g s c) (round g (after g s c))) refl (ran m (c + 1)))
+    where
+      go : (b : Bool) → sameState (after g s c) (round g (after g s c)) ≡ b
+          → (((k : ℕ) → k < c + 1 → Moves k) → Ran m (c + 1) (closeFrom g m (after g s (c + 1)) (c + 1)))
+          → Ran (suc m) c (cond b (record { state = round g (after g s c); rounds = c + 1 }) (closeFrom g m (round g (after g s c)) (c + 1)))
+      go true e f =
+          let z : c + 1 - 1 ≡ c = omega arith in
+          record { state = sym (next c); moves = λ k b. h k (omega arith); ended = inl (omega arith, rw z (next c ∙ sym (sameState-true _ _ e))) }
+      go false e f =
+          let r : Ran m (c + 1) (closeFrom g m (round g (after g s c)) (c + 1)) =
+          rw (next c) at (f (λ k b. ⊎-elim (λ q. changes c e k q) (λ l. h k l) (eq-or-lt-of-le {n = k} {m = c} (omega arith)))) in
+          record { state = r .state; moves = r .moves; ended = ⊎-elim (λ w. inl w) (λ w. inr (omega (arith, w .0), w .1)) (r .ended) }
+
+module _ (g : Bases) (S₀ : List ℕ) where
+  closing-ran : Ran g (start g S₀) 578 0 (closing g S₀)
+  unfolding closing after
+  closing-ran = ran g (start g S₀) 578 0 (λ k b. absurd (omega arith))
+
+  -- the closing's state is the state after its number of rounds
+  pub closing-state : closing g S₀ .state ≡ after g (start g S₀) (closing g S₀ .rounds)
+  closing-state = closing-ran .state
+
+  -- what the state after any number of rounds has, the closing's has
+  pub closing-has : (P : State → Type 0) → ((k : ℕ) → P (after g (start g S₀) k)) → P (closing g S₀ .state)
+  closing-has P h = rw closing-state (h (closing g S₀ .rounds))
+
+  pub closing-shaped : Shaped g (closing g S₀ .state .labels)
+  closing-shaped = closing-has (λ s. Shaped g (s .labels)) (after-shaped g S₀)
+
+  pub closing-numbered : AllNumbered g (closing g S₀ .state .labels)
+  closing-numbered = closing-has (λ s. AllNumbered g (s .labels)) (after-numbered g S₀)
+
+  start-support : start g S₀ .support ≡ S₀
+  unfolding start
+  start-support = refl
+
+  module _ (rising : Rising S₀) where
+    pub after-rising : (k : ℕ) → Rising (after g (start g S₀) k .support)
+    after-rising k = after-keeps g (λ s. Rising (s .support)) (λ s r. round-extends g s .rising r) (start g S₀) (rw start-support rising) k
+
+    -- S stays in order
+    pub closing-rising : Rising (closing g S₀ .state .support)
+    closing-rising = closing-has (λ s. Rising (s .support)) after-rising
+
+    -- after the first round, a round that changes something makes one block of two
+    fewer : (k : ℕ) → Moves g (start g S₀) (suc k) → blocksIn (after g (start g S₀) (suc (suc k)) .labels) < blocksIn (after g (start g S₀) (suc k) .labels)
+    unfolding after
+    fewer k m =
+        let s = round g (after g (start g S₀) k) in
+        let n : AllNumbered g (s .labels) = round-numbered g _ (after-numbered g S₀ k) in
+        ⊎-elim
+        (λ e. absurd (m (round-still g s (round-extends g _ .rising (after-rising k)) (round-full g (after g (start g S₀) k)) (round-blocks g s n e))))
+        (λ l. l)
+        (eq-or-lt-of-le (round-fewer g s n))
+
+    -- k rounds after the first that all change something leave at most N − k blocks
+    blocks-left : (k : ℕ) → ((i : ℕ) → i < suc k → Moves g (start g S₀) i) → blocksIn (after g (start g S₀) (suc k) .labels) + k ≤ monomials g
+    unfolding after
+    blocks-left zero h = omega (arith, round-fewer g (start g S₀) (start-numbered g S₀), start-blocks g S₀)
+    blocks-left (suc k) h = omega (arith, fewer k (h (suc k) (omega arith)), blocks-left k (λ i b. h i (omega arith)))
+
+    -- N monomials in B bases: at most N − B + 2 rounds
+    pub few-rounds : closing g S₀ .rounds + nonempty g ≤ monomials g + 2
+    few-rounds = go (ltb (closing g S₀ .rounds) 2) refl
+      where
+        go : (b : Bool) → ltb (closing g S₀ .rounds) 2 ≡ b → closing g S₀ .rounds + nonempty g ≤ monomials g + 2
+        go true e = omega (arith, ltb-true (closing g S₀ .rounds) 2 e, nonempty-few g (start g S₀ .labels) (start-numbered g S₀), start-blocks g S₀)
+        go false e =
+            let b : 2 ≤ closing g S₀ .rounds = ltb-false (closing g S₀ .rounds) 2 e in
+            omega (
+              arith,
+              blocks-left (closing g S₀ .rounds - 2) (λ i l. closing-ran .moves i (omega arith)),
+              nonempty-few g (after g (start g S₀) (suc (closing g S₀ .rounds - 2)) .labels) (after-numbered g S₀ (suc (closing g S₀ .rounds - 2))),
+            )
+
+    module _ (sizes : (j : ℕ) → length (g .basis j) ≤ 64) where
+      monomials-few : monomials g ≤ 576
+      unfolding monomials sumTo
+      monomials-few = sumTo-le 9 (λ j. length (g .basis j)) (λ _. 64) (λ j _. sizes j)
+
+      last : (0 < closing g S₀ .rounds) × (after g (start g S₀) (closing g S₀ .rounds) ≡ after g (start g S₀) (closing g S₀ .rounds - 1))
+      last =
+          ⊎-elim
+          (λ e. e)
+          (λ e. absurd (omega (arith, e .0, blocks-left 577 (λ i b. e .1 i (omega (arith, e .0))), monomials-few)))
+          (closing-ran .ended)
+
+      -- the number of rounds is that of the first round that changes neither a block nor S
+      pub closing-rounds : TakesRounds g S₀ (closing g S₀ .rounds)
+      closing-rounds = record { some = last .0; still = last .1; first = first }
+        where
+          first : (k : ℕ) → 1 ≤ k → k < closing g S₀ .rounds → after g (start g S₀) k ≡ after g (start g S₀) (k - 1) → ⊥
+          first k a b e =
+              let z : k ≡ suc (k - 1) = omega arith in
+              closing-ran .moves (k - 1) (omega arith) (ap (after g (start g S₀)) (sym z) ∙ e)
+
+      -- the fuel never runs out: a further round leaves the closing's state as it is
+      pub fuel-enough : round g (closing g S₀ .state) ≡ closing g S₀ .state
+      unfolding after
+      fuel-enough =
+          let r = closing g S₀ .rounds in
+          let z : r ≡ suc (r - 1) = omega (arith, last .0) in
+          let e : after g (start g S₀) r ≡ round g (after g (start g S₀) (r - 1)) = ap (after g (start g S₀)) z in
+          rw closing-state (ap (round g) (last .1) ∙ sym e)
+
+      pub closing-full : AllFull g (closing g S₀ .state)
+      closing-full = rw fuel-enough at (round-full g (closing g S₀ .state))
