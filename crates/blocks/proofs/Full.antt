@@ -3,10 +3,11 @@ use mathlib.Core.Path.{_≡_, refl, sym, ap, _∙_}
 use mathlib.Core.Bool.{Bool, true, false}
 use mathlib.Core.List.{List, [], _∷_, _++_}
 use Prim.Native.Nat.{ℕ, zero, suc, _+_, _-_, _≤_, _<_}
+use native.Mathlib.Nat.{add-comm}
 use native.Mathlib.Omega.{arith}
 use lib.ListN.{length, getD}
-use lib.Dec.{eqb}
-use borrow.Author.Tests.{eqb-true, eqb-false, eq-eqb}
+use lib.Dec.{eqb, ltb}
+use borrow.Author.Tests.{eqb-true, eqb-false, eq-eqb, ltb-true, ltb-false}
 use mathlib.Core.Bool.{cond}
 use Rattle.support.specs.Sets.{Rising}
 use Rattle.counting.specs.Counting.{fromTo}
@@ -73,3 +74,11 @@ module _ (T B L : List ℕ) where
   unfolding extend
   extend-done S r f =
       fromTo-fixed (addRow T B L) (length B) 0 S (λ i _ hi. fromTo-fixed (addPair T B L i) (length B) i S (λ k h u. pair-done i k S r (f .at i k h u)))
+
+-- in any order
+pub full-any : (T B L S : List ℕ) → Full T B L S → (i k t : ℕ) → i < length B → k < length B → getD L i 0 ≡ getD L k 0 → In t T → In (t + (getD B i 0 + getD B k 0)) S
+full-any T B L S f i k t hi hk e m = go (ltb k i) refl
+  where
+    go : (b : Bool) → ltb k i ≡ b → In (t + (getD B i 0 + getD B k 0)) S
+    go true q = rw (add-comm (getD B i 0) (getD B k 0)) (f .at k i (omega (arith, ltb-true k i q)) hi .at (sym e) t m)
+    go false q = f .at i k (ltb-false k i q) hk .at e t m

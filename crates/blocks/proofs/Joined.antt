@@ -3,6 +3,7 @@ use mathlib.Core.Path.{_≡_, refl, sym, ap, _∙_}
 use mathlib.Core.Bool.{Bool, true, false}
 use mathlib.Core.List.{List, [], _∷_, _++_, map}
 use Prim.Native.Nat.{ℕ, zero, suc, _+_, _-_, _≤_, _<_}
+use native.Mathlib.Nat.{add-comm}
 use native.Mathlib.Omega.{arith}
 use lib.ListN.{length, getD}
 use lib.Dec.{eqb, ltb}
@@ -97,3 +98,12 @@ module _ (S T B : List ℕ) where
         (λ i L′ _ b q. record { row = λ k h u. row-joins i k L′ h u (q .long) })
         (λ i x L′ _ b q j. record { row = λ k h u. record { at = λ e. row-equal i k x L′ b (omega arith) u (q .long) (j .row k h u .at e) } }) i (omega arith) (omega arith) L (record { long = l }) .row k h u;
   }
+
+-- in any order
+pub joined-any : (S T B L : List ℕ) → Joined S T B L → (i k : ℕ) → i < length B → k < length B → linked S T (getD B i 0 + getD B k 0) ≡ true → getD L i 0 ≡ getD L k 0
+joined-any S T B L j i k hi hk e = go (ltb i k) refl (ltb k i) refl
+  where
+    go : (b : Bool) → ltb i k ≡ b → (d : Bool) → ltb k i ≡ d → getD L i 0 ≡ getD L k 0
+    go true p d q = j .at i k (ltb-true i k p) hk .at e
+    go false p true q = sym (j .at k i (ltb-true k i q) hi .at (rw (add-comm (getD B k 0) (getD B i 0)) e))
+    go false p false q = ap (λ (x : ℕ). getD L x 0) (omega (arith, ltb-false i k p, ltb-false k i q))

@@ -11,7 +11,8 @@ use lib.Dec.{eqb, ltb}
 use borrow.Author.Tests.{eqb-true, eqb-false, ltb-true, ltb-false}
 use mathlib.Core.Bool.{cond}
 use Rattle.support.specs.Sets.{member}
-use Rattle.counting.specs.Counting.{fromTo}
+use Rattle.counting.specs.Counting.{fromTo, listed}
+use Rattle.counting.proofs.Listed.{listed-length, listed-at}
 use Rattle.counting.proofs.Steps.{fromTo-keeps}
 use Rattle.blocks.specs.Join.{linked, renamed, merged, joinPair, joinRow, join}
 use Rattle.blocks.specs.Extend.{addTerms, addPair, addRow, extend}
@@ -21,9 +22,9 @@ use Rattle.blocks.proofs.Members.{linked-from, add-from}
 
 -- blocks as a relation: an equivalence
 pub record Equivalence (R : ℕ → ℕ → Type 0) : Type 0 where
-  pub self : (x : ℕ) → R x x
-  pub turn : (x y : ℕ) → R x y → R y x
-  pub chain : (x y z : ℕ) → R x y → R y z → R x z
+  pub reflexive : (x : ℕ) → R x x
+  pub symmetric : (x y : ℕ) → R x y → R y x
+  pub transitive : (x y z : ℕ) → R x y → R y z → R x z
 
 -- blocks R and a set Q are closed under the steps of a basis B with the multiplier's exponents T
 pub record ClosedFor (Q : ℕ → Type 0) (R : ℕ → ℕ → Type 0) (T B : List ℕ) : Type 0 where
@@ -61,8 +62,8 @@ module _ (R : ℕ → ℕ → Type 0) (eq : Equivalence R) (n : ℕ) where
     at = λ x y hx hy e.
         renamed-equal (getD L p 0) (getD L q 0) (getD L x 0) (getD L y 0)
         (λ f. s .at x y hx hy f)
-        (λ f g. eq .chain x p y (s .at x p hx hp f) (eq .chain p q y r (s .at q y hq hy (sym g))))
-        (λ f g. eq .chain x q y (s .at x q hx hq f) (eq .chain q p y (eq .turn p q r) (s .at p y hp hy (sym g))))
+        (λ f g. eq .transitive x p y (s .at x p hx hp f) (eq .transitive p q y r (s .at q y hq hy (sym g))))
+        (λ f g. eq .transitive x q y (s .at x q hx hq f) (eq .transitive q p y (eq .symmetric p q r) (s .at p y hp hy (sym g))))
         (sym (getD-map-in _ L x (omega (arith, s .long))) ∙ e ∙ getD-map-in _ L y (omega (arith, s .long)));
   }
 
@@ -70,7 +71,7 @@ module _ (R : ℕ → ℕ → Type 0) (eq : Equivalence R) (n : ℕ) where
   merged-inside L i k hi hk r s = go (ltb (getD L i 0) (getD L k 0)) refl
     where
       go : (b : Bool) → ltb (getD L i 0) (getD L k 0) ≡ b → Inside R n (merged (getD L i 0) (getD L k 0) L)
-      go true e = rw (← merged-up (getD L i 0) (getD L k 0) L (ltb-true _ _ e)) (renamed-inside L k i hk hi (eq .turn i k r) s)
+      go true e = rw (← merged-up (getD L i 0) (getD L k 0) L (ltb-true _ _ e)) (renamed-inside L k i hk hi (eq .symmetric i k r) s)
       go false e = rw (← merged-down (getD L i 0) (getD L k 0) L (ltb-false _ _ e)) (renamed-inside L i k hi hk r s)
 
 module _ (Q : ℕ → Type 0) (R : ℕ → ℕ → Type 0) (eq : Equivalence R) (T B : List ℕ) (c : ClosedFor Q R T B) where
@@ -107,3 +108,10 @@ module _ (Q : ℕ → Type 0) (R : ℕ → ℕ → Type 0) (eq : Equivalence R) 
     extend-within S w =
         fromTo-keeps (Within Q) (addRow T B L) (length B) 0
         (λ i S′ _ hi w′. fromTo-keeps (Within Q) (addPair T B L i) (length B) i (λ k S″ _ hk w″. pair-within i k S″ hi hk w″) S′ w′) S w
+
+-- every index its own block
+pub singles-inside : (R : ℕ → ℕ → Type 0) → Equivalence R → (n : ℕ) → Inside R n (listed n (λ i. i))
+singles-inside R eq n = record {
+  long = listed-length n (λ i. i);
+  at = λ x y hx hy e. let q : x ≡ y = sym (listed-at n (λ i. i) x 0 hx) ∙ e ∙ listed-at n (λ i. i) y 0 hy in rw q (eq .reflexive y);
+}

@@ -11,14 +11,25 @@ use native.Mathlib.Omega.{arith}
 use lib.ListN.{length, getD}
 use lib.Dec.{ltb}
 use borrow.Author.Tests.{ltb-true, ltb-false}
-use Rattle.support.specs.Sets.{Rising, In}
+use Rattle.support.specs.Sets.{Rising, In, member, insert}
+use Rattle.support.proofs.Laws.{insert-member, length-insert-new}
 use Rattle.counting.specs.Counting.{sumTo}
 use Rattle.counting.proofs.Sums.{sumTo-le}
-use Rattle.blocks.proofs.Growth.{Extends}
+use Rattle.blocks.proofs.Growth.{Extends, insert-grows}
 use Rattle.rounds.specs.Rounds.{Bases, State, Closing, start, round, after, sameState, closeFrom, closing, blocksIn, monomials, nonempty}
 use Rattle.rounds.specs.Meaning.{TakesRounds}
 use Rattle.rounds.proofs.Same.{sameState-refl, sameState-true, close-next}
-use Rattle.rounds.proofs.Rounds.{Shaped, AllNumbered, AllFull, after-keeps, round-extends, round-numbered, round-fewer, round-blocks, round-full, round-still, nonempty-few, start-numbered, start-blocks, after-shaped, after-numbered}
+use Rattle.rounds.proofs.Rounds.{Shaped, AllNumbered, AllFull, after-keeps, after-extends, after-in, round-extends, round-numbered, round-fewer, round-blocks, round-full, round-still, nonempty-few, start-numbered, start-blocks, after-shaped, after-numbered}
+
+-- a set that grows has no fewer members with k added
+pub insert-more : (k : ℕ) (S S′ : List ℕ) → Rising S → Extends S S′ → length (insert k S) ≤ length (insert k S′)
+insert-more k S S′ r x = go (member k S) refl (member k S′) refl
+  where
+    go : (b : Bool) → member k S ≡ b → (d : Bool) → member k S′ ≡ d → length (insert k S) ≤ length (insert k S′)
+    go true e d f = rw (insert-member k S r e) (omega (arith, x .more, insert-grows k S′))
+    go false e true f =
+        ⊎-elim (λ q. absurd (let w : S′ ≡ S = x .same (sym q) in let z : _≡_ {A = ℕ} 0 1 = cc in omega arith)) (λ l. omega (arith, length-insert-new k S e, insert-grows k S′)) (eq-or-lt-of-le (x .more))
+    go false e false f = omega (arith, length-insert-new k S e, length-insert-new k S′ f, x .more)
 
 module _ (g : Bases) (s : State) where
   -- round k + 1 changes a block or S
@@ -65,6 +76,10 @@ module _ (g : Bases) (S₀ : List ℕ) where
   unfolding closing after
   closing-ran = ran g (start g S₀) 578 0 (λ k b. absurd (omega arith))
 
+  start-support : start g S₀ .support ≡ S₀
+  unfolding start
+  start-support = refl
+
   -- the closing's state is the state after its number of rounds
   pub closing-state : closing g S₀ .state ≡ after g (start g S₀) (closing g S₀ .rounds)
   closing-state = closing-ran .state
@@ -79,9 +94,22 @@ module _ (g : Bases) (S₀ : List ℕ) where
   pub closing-numbered : AllNumbered g (closing g S₀ .state .labels)
   closing-numbered = closing-has (λ s. AllNumbered g (s .labels)) (after-numbered g S₀)
 
-  start-support : start g S₀ .support ≡ S₀
-  unfolding start
-  start-support = refl
+  -- there is a last round
+  closing-last : closing g S₀ .rounds ≡ suc (closing g S₀ .rounds - 1)
+  closing-last = ⊎-elim (λ e. omega (arith, e .0)) (λ e. omega (arith, e .0)) (closing-ran .ended)
+
+  -- so S has every sum of two monomials in one block
+  pub closing-full : AllFull g (closing g S₀ .state)
+  unfolding after
+  closing-full = rw (closing-state, closing-last) (round-full g (after g (start g S₀) (closing g S₀ .rounds - 1)))
+
+  -- S has all that it had at the start and after any of the rounds
+  pub closing-in : (x k : ℕ) → k ≤ closing g S₀ .rounds → In x (after g (start g S₀) k .support) → In x (closing g S₀ .state .support)
+  closing-in x k h m = rw closing-state (after-in g x (start g S₀) k (closing g S₀ .rounds) h m)
+
+  pub closing-starts : (x : ℕ) → In x S₀ → In x (closing g S₀ .state .support)
+  unfolding after
+  closing-starts x m = closing-in x 0 zero-le (rw start-support m)
 
   module _ (rising : Rising S₀) where
     pub after-rising : (k : ℕ) → Rising (after g (start g S₀) k .support)
@@ -90,6 +118,12 @@ module _ (g : Bases) (S₀ : List ℕ) where
     -- S stays in order
     pub closing-rising : Rising (closing g S₀ .state .support)
     closing-rising = closing-has (λ s. Rising (s .support)) after-rising
+
+    -- once S with the zero exponent has more than 2,048 members, the closed S with it has
+    pub closing-grows : (k : ℕ) → k ≤ closing g S₀ .rounds → 2048 < length (insert 0 (after g (start g S₀) k .support)) → 2048 < length (insert 0 (closing g S₀ .state .support))
+    closing-grows k h b =
+        rw closing-state
+        (omega (arith, insert-more 0 _ _ (after-rising k) (after-extends g (start g S₀) k (closing g S₀ .rounds) h)))
 
     -- after the first round, a round that changes something makes one block of two
     fewer : (k : ℕ) → Moves g (start g S₀) (suc k) → blocksIn (after g (start g S₀) (suc (suc k)) .labels) < blocksIn (after g (start g S₀) (suc k) .labels)
@@ -151,6 +185,3 @@ module _ (g : Bases) (S₀ : List ℕ) where
           let z : r ≡ suc (r - 1) = omega (arith, last .0) in
           let e : after g (start g S₀) r ≡ round g (after g (start g S₀) (r - 1)) = ap (after g (start g S₀)) z in
           rw closing-state (ap (round g) (last .1) ∙ sym e)
-
-      pub closing-full : AllFull g (closing g S₀ .state)
-      closing-full = rw fuel-enough at (round-full g (closing g S₀ .state))

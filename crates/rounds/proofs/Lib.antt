@@ -1,3 +1,4 @@
 pub mod Same
 pub mod Rounds
 pub mod Closing
+pub mod Meaning

@@ -4,7 +4,7 @@ use mathlib.Core.Logic.{⊎-elim}
 use mathlib.Core.Bool.{Bool, true, false, cond}
 use mathlib.Core.List.{List, [], _∷_}
 use Prim.Native.Nat.{ℕ, zero, suc, _+_, _-_, _≤_, _<_, zero-le}
-use native.Mathlib.Nat.{le-trans, eq-or-lt-of-le}
+use native.Mathlib.Nat.{eq-or-lt-of-le, le-of-suc-le-suc}
 use native.Mathlib.Omega.{arith}
 use lib.ListN.{length, getD}
 use lib.Dec.{ltb}
@@ -42,6 +42,13 @@ module _ (g : Bases) where
   unfolding after
   after-keeps P h s p zero = p
   after-keeps P h s p (suc k) = h (after g s k) (after-keeps P h s p k)
+
+  -- what holds of a state and itself, and goes on to the state after a round, holds of every state and each later one
+  pub after-later : (P : State → State → Type 0) → ((s : State) → P s s) → ((s t : State) → P s t → P s (round g t)) → (s : State) (k m : ℕ) → k ≤ m → P (after g s k) (after g s m)
+  unfolding after
+  after-later P self on s k zero h = let e : k ≡ 0 = omega arith in rw e (self s)
+  after-later P self on s k (suc m) h =
+      ⊎-elim (λ e. rw e (self (round g (after g s m)))) (λ l. on _ _ (after-later P self on s k m (le-of-suc-le-suc l))) (eq-or-lt-of-le h)
 
   -- ---- the blocks of a round
 
@@ -94,6 +101,13 @@ module _ (g : Bases) where
   round-keeps x s m =
       fromTo-keeps (In x) _ 9 0 (λ j S _ _ m′. extend-keeps (g .multiplier j) (g .basis j) (getD (joinAll g (s .support) (s .labels)) j []) x S m′) (s .support) m
 
+  -- every state's S is contained in each later one's
+  pub after-extends : (s : State) (k m : ℕ) → k ≤ m → Extends (after g s k .support) (after g s m .support)
+  after-extends = after-later (λ s t. Extends (s .support) (t .support)) (λ s. extends-refl (s .support)) (λ s t e. extends-trans (s .support) (t .support) (round g t .support) e (round-extends t))
+
+  pub after-in : (x : ℕ) (s : State) (k m : ℕ) → k ≤ m → In x (after g s k .support) → In x (after g s m .support)
+  after-in x = after-later (λ s t. In x (s .support) → In x (t .support)) (λ s m. m) (λ s t f m. round-keeps x t (f m))
+
   -- after a round S has every sum of two monomials in one block
   pub round-full : (s : State) → AllFull g (round g s)
   unfolding round extendAll
@@ -124,7 +138,7 @@ module _ (g : Bases) where
       go j h false e = zero-le
 
   module _ (S : List ℕ) where
-    start-labels : (j : ℕ) → j < 9 → getD (start g S .labels) j [] ≡ listed (length (g .basis j)) (λ i. i)
+    pub start-labels : (j : ℕ) → j < 9 → getD (start g S .labels) j [] ≡ listed (length (g .basis j)) (λ i. i)
     unfolding start singles
     start-labels j h = listed-at 9 _ j [] h
 
