@@ -1,6 +1,8 @@
 pub mod Laws
 pub mod Growth
 pub mod Lower
+pub mod Pairs
+pub mod Labels
 pub mod Members
 pub mod Least
 pub mod Joined

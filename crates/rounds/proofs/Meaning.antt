@@ -10,7 +10,7 @@ use Rattle.counting.specs.Counting.{fromTo}
 use Rattle.counting.proofs.Steps.{fromTo-keeps}
 use Rattle.blocks.proofs.Members.{linked-by}
 use Rattle.blocks.proofs.Least.{Equivalence, ClosedFor, Inside, Within, join-inside, extend-within, singles-inside}
-use Rattle.blocks.proofs.Joined.{Joined, joined-any}
+use Rattle.blocks.proofs.Joined.{Joined}
 use Rattle.blocks.proofs.Full.{full-any}
 use Rattle.rounds.specs.Rounds.{Bases, State, start, joinAll, extendAll, round, after, closing}
 use Rattle.rounds.specs.Meaning.{sumOf, Pair, Closed, Other, Least, Lowest}
@@ -28,7 +28,7 @@ module _ (g : Bases) (S₀ : List ℕ) where
   pub closing-closed : Rising S₀ → ((j : ℕ) → length (g .basis j) ≤ 64) → Closed g S₀ (labelOf g S₀) (closing g S₀ .state .support)
   closing-closed rising sizes = record {
     starts = closing-starts g S₀;
-    joins = λ j i k t p q. joined-any _ _ _ _ (joined j (p .basis)) i k (p .first) (p .second) (linked-by (closing g S₀ .state .support) (g .multiplier j) _ t (p .exponent) q);
+    joins = λ j i k t p q. joined j (p .basis) .at i k (p .first) (p .second) (linked-by (closing g S₀ .state .support) (g .multiplier j) _ t (p .exponent) q);
     adds = λ j i k t p e. full-any _ _ _ _ (closing-full g S₀ .at j (p .basis)) i k t (p .first) (p .second) e (p .exponent);
   }
     where

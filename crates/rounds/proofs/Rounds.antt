@@ -17,6 +17,7 @@ use Rattle.counting.proofs.Sums.{sumTo-le, sumTo-same, sumTo-equal}
 use Rattle.blocks.specs.Join.{join}
 use Rattle.blocks.specs.Extend.{extend, blockCount}
 use Rattle.blocks.proofs.Growth.{Extends, extends-refl, extends-trans, fromTo-extends, extend-extends}
+use Rattle.blocks.proofs.Labels.{join-long}
 use Rattle.blocks.proofs.Lowest.{Numbered, Falls, join-falls, blockCount-some, singles-numbered, singles-count}
 use Rattle.blocks.proofs.Joined.{Joined, join-joined}
 use Rattle.blocks.proofs.Full.{Full, extend-keeps, extend-full, extend-done}
@@ -57,23 +58,26 @@ module _ (g : Bases) where
   unfolding round joinAll
   round-labels s j h = listed-at 9 _ j [] h
 
-  round-falls : (s : State) → Shaped g (s .labels) → (j : ℕ) → j < 9 → Falls (getD (s .labels) j []) (getD (round g s .labels) j [])
-  round-falls s f j h = rw (round-labels s j h) (join-falls (s .support) (g .multiplier j) (g .basis j) (getD (s .labels) j []) (f .long j h))
-
   round-nine : (s : State) → length (round g s .labels) ≡ 9
   unfolding round joinAll
   round-nine s = listed-length 9 _
 
   pub round-shaped : (s : State) → Shaped g (s .labels) → Shaped g (round g s .labels)
-  round-shaped s f = record { nine = round-nine s; long = λ j h. round-falls s f j h .long ∙ f .long j h }
+  round-shaped s f = record {
+    nine = round-nine s;
+    long = λ j h. rw (round-labels s j h) (join-long (s .support) (g .multiplier j) (g .basis j) (getD (s .labels) j []) ∙ f .long j h);
+  }
+
+  round-falls : (s : State) → AllNumbered g (s .labels) → (j : ℕ) → j < 9 → Falls (getD (s .labels) j []) (getD (round g s .labels) j [])
+  round-falls s n j h = rw (round-labels s j h) (join-falls (s .support) (g .multiplier j) (g .basis j) (getD (s .labels) j []) (n .shape .long j h) (n .at j h))
 
   pub round-numbered : (s : State) → AllNumbered g (s .labels) → AllNumbered g (round g s .labels)
-  round-numbered s n = record { shape = round-shaped s (n .shape); at = λ j h. round-falls s (n .shape) j h .numbered (n .at j h) }
+  round-numbered s n = record { shape = round-shaped s (n .shape); at = λ j h. round-falls s n j h .numbered }
 
   -- a round never has more blocks, and with as many blocks it has the same
   pub round-fewer : (s : State) → AllNumbered g (s .labels) → blocksIn (round g s .labels) ≤ blocksIn (s .labels)
   unfolding blocksIn
-  round-fewer s n = sumTo-le 9 _ _ (λ j h. round-falls s (n .shape) j h .less (n .at j h))
+  round-fewer s n = sumTo-le 9 _ _ (λ j h. round-falls s n j h .less)
 
   all-listed : (L : List (List ℕ)) → length L ≡ 9 → listed 9 (λ j. getD L j []) ≡ L
   all-listed L e = ap (λ (m : ℕ). listed m (λ j. getD L j [])) (sym e) ∙ listed-all L []
@@ -82,7 +86,7 @@ module _ (g : Bases) where
   unfolding blocksIn
   round-blocks s n e =
       sym (all-listed (round g s .labels) (round-nine s))
-      ∙ listed-same 9 _ _ (λ j h. round-falls s (n .shape) j h .same (n .at j h) (sumTo-equal 9 _ _ (λ i b. round-falls s (n .shape) i b .less (n .at i b)) e j h))
+      ∙ listed-same 9 _ _ (λ j h. round-falls s n j h .same (sumTo-equal 9 _ _ (λ i b. round-falls s n i b .less) e j h))
       ∙ all-listed (s .labels) (n .shape .nine)
 
   -- linked indices are in one block
