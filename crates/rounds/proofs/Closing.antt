@@ -1,35 +1,21 @@
--- The closing is the state after its number of rounds: no round before the last leaves the state as it is, and the fuel of
--- the definition never runs out. With N monomials in B bases there are at most N − B + 2 rounds.
-use mathlib.Core.Path.{_≡_, refl, sym, ap, _∙_}
+-- The closing is the state after its number of rounds, and has what the state after every number of rounds has.
+use mathlib.Core.Path.{_≡_, refl, sym, _∙_}
 use mathlib.Core.Logic.{_⊎_, inl, inr, ⊎-elim}
 use mathlib.Core.Bool.{Bool, true, false, cond}
-use mathlib.Core.List.{List, [], _∷_}
+use mathlib.Core.List.{List}
 use Prim.Native.Nat.{ℕ, zero, suc, _+_, _-_, _≤_, _<_, zero-le}
 use native.Mathlib.Numerals.{add-one}
-use native.Mathlib.Nat.{eq-or-lt-of-le, le-of-suc-le-suc}
+use native.Mathlib.Nat.{eq-or-lt-of-le}
 use native.Mathlib.Omega.{arith}
-use lib.ListN.{length, getD}
-use lib.Dec.{ltb}
-use borrow.Author.Tests.{ltb-true, ltb-false}
+use lib.ListN.{length}
 use Rattle.support.specs.Sets.{Rising, In, member, insert}
 use Rattle.support.proofs.Laws.{insert-member, length-insert-new}
-use Rattle.counting.specs.Counting.{sumTo}
-use Rattle.counting.proofs.Sums.{sumTo-le}
 use Rattle.blocks.proofs.Growth.{Extends, insert-grows}
-use Rattle.rounds.specs.Rounds.{Bases, State, Closing, start, round, after, sameState, closeFrom, closing, blocksIn, monomials, nonempty}
-use Rattle.rounds.specs.Meaning.{TakesRounds}
+use Rattle.rounds.specs.Rounds.{Bases, State, Closing, start, round, after, sameState, closeFrom, closing}
 use Rattle.rounds.proofs.Same.{sameState-refl, sameState-true, close-next}
-use Rattle.rounds.proofs.Rounds.{Shaped, AllNumbered, AllFull, after-keeps, after-extends, after-in, round-extends, round-numbered, round-fewer, round-blocks, round-full, round-still, nonempty-few, start-numbered, start-blocks, after-shaped, after-numbered}
+use Rattle.rounds.proofs.Rounds.{Shaped, AllNumbered, AllFull, after-keeps, after-extends, after-in, round-extends, round-full, after-shaped, after-numbered}
 
--- a set that grows has no fewer members with k added
-pub insert-more : (k : ℕ) (S S′ : List ℕ) → Rising S → Extends S S′ → length (insert k S) ≤ length (insert k S′)
-insert-more k S S′ r x = go (member k S) refl (member k S′) refl
-  where
-    go : (b : Bool) → member k S ≡ b → (d : Bool) → member k S′ ≡ d → length (insert k S) ≤ length (insert k S′)
-    go true e d f = rw (insert-member k S r e) (omega (arith, x .more, insert-grows k S′))
-    go false e true f =
-        ⊎-elim (λ q. absurd (let w : S′ ≡ S = x .same (sym q) in let z : _≡_ {A = ℕ} 0 1 = cc in omega arith)) (λ l. omega (arith, length-insert-new k S e, insert-grows k S′)) (eq-or-lt-of-le (x .more))
-    go false e false f = omega (arith, length-insert-new k S e, length-insert-new k S′ f, x .more)
+-- ---- the rounds of the definition, one by one
 
 module _ (g : Bases) (s : State) where
   -- round k + 1 changes a block or S
@@ -71,8 +57,18 @@ module _ (g : Bases) (s : State) where
           rw (next c) at (f (λ k b. ⊎-elim (λ q. changes c e k q) (λ l. h k l) (eq-or-lt-of-le {n = k} {m = c} (omega arith)))) in
           record { state = r .state; moves = r .moves; ended = ⊎-elim (λ w. inl w) (λ w. inr (omega (arith, w .0), w .1)) (r .ended) }
 
+-- a set that grows has no fewer members with k added
+pub insert-more : (k : ℕ) (S S′ : List ℕ) → Rising S → Extends S S′ → length (insert k S) ≤ length (insert k S′)
+insert-more k S S′ r x = go (member k S) refl (member k S′) refl
+  where
+    go : (b : Bool) → member k S ≡ b → (d : Bool) → member k S′ ≡ d → length (insert k S) ≤ length (insert k S′)
+    go true e d f = rw (insert-member k S r e) (omega (arith, x .more, insert-grows k S′))
+    go false e true f =
+        ⊎-elim (λ q. absurd (let w : S′ ≡ S = x .same (sym q) in let z : _≡_ {A = ℕ} 0 1 = cc in omega arith)) (λ l. omega (arith, length-insert-new k S e, insert-grows k S′)) (eq-or-lt-of-le (x .more))
+    go false e false f = omega (arith, length-insert-new k S e, length-insert-new k S′ f, x .more)
+
 module _ (g : Bases) (S₀ : List ℕ) where
-  closing-ran : Ran g (start g S₀) 578 0 (closing g S₀)
+  pub closing-ran : Ran g (start g S₀) 578 0 (closing g S₀)
   unfolding closing after
   closing-ran = ran g (start g S₀) 578 0 (λ k b. absurd (omega arith))
 
@@ -103,7 +99,7 @@ module _ (g : Bases) (S₀ : List ℕ) where
   unfolding after
   closing-full = rw (closing-state, closing-last) (round-full g (after g (start g S₀) (closing g S₀ .rounds - 1)))
 
-  -- S has all that it had at the start and after any of the rounds
+  -- S has all that it had after any of the rounds, and so all of S₀
   pub closing-in : (x k : ℕ) → k ≤ closing g S₀ .rounds → In x (after g (start g S₀) k .support) → In x (closing g S₀ .state .support)
   closing-in x k h m = rw closing-state (after-in g x (start g S₀) k (closing g S₀ .rounds) h m)
 
@@ -124,64 +120,3 @@ module _ (g : Bases) (S₀ : List ℕ) where
     closing-grows k h b =
         rw closing-state
         (omega (arith, insert-more 0 _ _ (after-rising k) (after-extends g (start g S₀) k (closing g S₀ .rounds) h)))
-
-    -- after the first round, a round that changes something makes one block of two
-    fewer : (k : ℕ) → Moves g (start g S₀) (suc k) → blocksIn (after g (start g S₀) (suc (suc k)) .labels) < blocksIn (after g (start g S₀) (suc k) .labels)
-    unfolding after
-    fewer k m =
-        let s = round g (after g (start g S₀) k) in
-        let n : AllNumbered g (s .labels) = round-numbered g _ (after-numbered g S₀ k) in
-        ⊎-elim
-        (λ e. absurd (m (round-still g s (round-extends g _ .rising (after-rising k)) (round-full g (after g (start g S₀) k)) (round-blocks g s n e))))
-        (λ l. l)
-        (eq-or-lt-of-le (round-fewer g s n))
-
-    -- k rounds after the first that all change something leave at most N − k blocks
-    blocks-left : (k : ℕ) → ((i : ℕ) → i < suc k → Moves g (start g S₀) i) → blocksIn (after g (start g S₀) (suc k) .labels) + k ≤ monomials g
-    unfolding after
-    blocks-left zero h = omega (arith, round-fewer g (start g S₀) (start-numbered g S₀), start-blocks g S₀)
-    blocks-left (suc k) h = omega (arith, fewer k (h (suc k) (omega arith)), blocks-left k (λ i b. h i (omega arith)))
-
-    -- N monomials in B bases: at most N − B + 2 rounds
-    pub few-rounds : closing g S₀ .rounds + nonempty g ≤ monomials g + 2
-    few-rounds = go (ltb (closing g S₀ .rounds) 2) refl
-      where
-        go : (b : Bool) → ltb (closing g S₀ .rounds) 2 ≡ b → closing g S₀ .rounds + nonempty g ≤ monomials g + 2
-        go true e = omega (arith, ltb-true (closing g S₀ .rounds) 2 e, nonempty-few g (start g S₀ .labels) (start-numbered g S₀), start-blocks g S₀)
-        go false e =
-            let b : 2 ≤ closing g S₀ .rounds = ltb-false (closing g S₀ .rounds) 2 e in
-            omega (
-              arith,
-              blocks-left (closing g S₀ .rounds - 2) (λ i l. closing-ran .moves i (omega arith)),
-              nonempty-few g (after g (start g S₀) (suc (closing g S₀ .rounds - 2)) .labels) (after-numbered g S₀ (suc (closing g S₀ .rounds - 2))),
-            )
-
-    module _ (sizes : (j : ℕ) → length (g .basis j) ≤ 64) where
-      monomials-few : monomials g ≤ 576
-      unfolding monomials sumTo
-      monomials-few = sumTo-le 9 (λ j. length (g .basis j)) (λ _. 64) (λ j _. sizes j)
-
-      last : (0 < closing g S₀ .rounds) × (after g (start g S₀) (closing g S₀ .rounds) ≡ after g (start g S₀) (closing g S₀ .rounds - 1))
-      last =
-          ⊎-elim
-          (λ e. e)
-          (λ e. absurd (omega (arith, e .0, blocks-left 577 (λ i b. e .1 i (omega (arith, e .0))), monomials-few)))
-          (closing-ran .ended)
-
-      -- the number of rounds is that of the first round that changes neither a block nor S
-      pub closing-rounds : TakesRounds g S₀ (closing g S₀ .rounds)
-      closing-rounds = record { some = last .0; still = last .1; first = first }
-        where
-          first : (k : ℕ) → 1 ≤ k → k < closing g S₀ .rounds → after g (start g S₀) k ≡ after g (start g S₀) (k - 1) → ⊥
-          first k a b e =
-              let z : k ≡ suc (k - 1) = omega arith in
-              closing-ran .moves (k - 1) (omega arith) (ap (after g (start g S₀)) (sym z) ∙ e)
-
-      -- the fuel never runs out: a further round leaves the closing's state as it is
-      pub fuel-enough : round g (closing g S₀ .state) ≡ closing g S₀ .state
-      unfolding after
-      fuel-enough =
-          let r = closing g S₀ .rounds in
-          let z : r ≡ suc (r - 1) = omega (arith, last .0) in
-          let e : after g (start g S₀) r ≡ round g (after g (start g S₀) (r - 1)) = ap (after g (start g S₀)) z in
-          rw closing-state (ap (round g) (last .1) ∙ sym e)

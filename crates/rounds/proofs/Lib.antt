@@ -1,4 +1,5 @@
 pub mod Same
 pub mod Rounds
 pub mod Closing
+pub mod Bound
 pub mod Meaning

@@ -15,7 +15,8 @@ use Rattle.blocks.proofs.Full.{full-any}
 use Rattle.rounds.specs.Rounds.{Bases, State, start, joinAll, extendAll, round, after, closing}
 use Rattle.rounds.specs.Meaning.{sumOf, Pair, Closed, Other, Least, Lowest}
 use Rattle.rounds.proofs.Rounds.{after-keeps, round-labels, round-joined, start-labels}
-use Rattle.rounds.proofs.Closing.{closing-has, closing-shaped, closing-numbered, closing-full, closing-starts, fuel-enough}
+use Rattle.rounds.proofs.Closing.{closing-has, closing-shaped, closing-numbered, closing-full, closing-starts}
+use Rattle.rounds.proofs.Bound.{fuel-enough}
 
 -- the block number of index i of basis j, in the closing from S₀
 abbrev pub labelOf : Bases → List ℕ → ℕ → ℕ → ℕ
