@@ -3,13 +3,13 @@ use mathlib.Core.Path.{_≡_, refl, sym, ap, _∙_}
 use mathlib.Core.Logic.{inl, inr}
 use mathlib.Core.Bool.{Bool, true, false, cond}
 use mathlib.Core.List.{List}
-use Prim.Native.Nat.{ℕ, _+_, _≤_, _<_}
+use Prim.Native.Nat.{ℕ, _+_, _<_}
 use native.Mathlib.Nat.{add-comm}
 use native.Mathlib.Omega.{arith}
 use lib.ListN.{length, getD}
 use lib.Dec.{ltb}
 use borrow.Author.Tests.{ltb-true, ltb-false}
-use Rattle.blocks.specs.Join.{linked, merged, joinPair, joinRow, join}
+use Rattle.blocks.specs.Join.{linked, merged, joinPair, join}
 use Rattle.blocks.proofs.Pairs.{pairs-reach}
 use Rattle.blocks.proofs.Labels.{inOne, merged-at, two-low, pair-long}
 

@@ -1,15 +1,15 @@
 -- The block numbers through a merge and through a joining: how many there are, and the number at an index.
-use mathlib.Core.Path.{_≡_, refl, sym, ap, _∙_}
+use mathlib.Core.Path.{_≡_, refl, _∙_}
 use mathlib.Core.Logic.{_⊎_, inl, inr, ⊎-elim}
 use mathlib.Core.Bool.{Bool, true, false, cond}
 use mathlib.Core.List.{List, [], _∷_, map}
-use Prim.Native.Nat.{ℕ, zero, suc, _+_, _≤_, _<_, min, max}
+use Prim.Native.Nat.{ℕ, zero, suc, _+_, _<_, min, max}
 use native.Mathlib.Nat.{le-of-suc-le-suc, not-suc-le-zero}
 use native.Mathlib.Omega.{arith}
 use lib.ListN.{length, getD, length-map}
 use lib.Dec.{eqb}
 use borrow.Author.Tests.{eqb-true, eqb-false, ne-eqb}
-use Rattle.blocks.specs.Join.{linked, renamed, merged, joinPair, joinRow, join}
+use Rattle.blocks.specs.Join.{linked, renamed, merged, joinPair, join}
 use Rattle.blocks.proofs.Pairs.{pairs-keep}
 
 map-at : (f : ℕ → ℕ) (l : List ℕ) (x : ℕ) → x < length l → getD (map f l) x 0 ≡ f (getD l x 0)

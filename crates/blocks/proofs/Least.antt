@@ -3,7 +3,7 @@ use mathlib.Core.Path.{_≡_, refl, sym, _∙_}
 use mathlib.Core.Logic.{_⊎_, inl, inr, ⊎-elim}
 use mathlib.Core.Bool.{Bool, true, false, cond}
 use mathlib.Core.List.{List}
-use Prim.Native.Nat.{ℕ, _+_, _≤_, _<_, min}
+use Prim.Native.Nat.{ℕ, _+_, _<_}
 use native.Mathlib.Omega.{arith}
 use lib.ListN.{length, getD}
 use lib.Dec.{eqb}
@@ -11,8 +11,8 @@ use borrow.Author.Tests.{eqb-true}
 use Rattle.support.specs.Sets.{In}
 use Rattle.counting.specs.Counting.{listed}
 use Rattle.counting.proofs.Listed.{listed-length, listed-at}
-use Rattle.blocks.specs.Join.{linked, merged, joinPair, joinRow, join}
-use Rattle.blocks.specs.Extend.{addTerms, addPair, addRow, extend}
+use Rattle.blocks.specs.Join.{linked, merged, joinPair, join}
+use Rattle.blocks.specs.Extend.{addTerms, addPair, extend}
 use Rattle.blocks.proofs.Pairs.{pairs-keep}
 use Rattle.blocks.proofs.Labels.{InOne, merged-long, merged-at, in-one}
 use Rattle.blocks.proofs.Labels.InOne.{two, other}

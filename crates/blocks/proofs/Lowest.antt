@@ -11,7 +11,7 @@ use lib.Dec.{eqb, leb}
 use borrow.Author.Tests.{eqb-true, eqb-false, eq-eqb, ne-eqb, leb-true, leb-false}
 use Rattle.counting.specs.Counting.{listed}
 use Rattle.counting.proofs.Listed.{listed-length, listed-at}
-use Rattle.blocks.specs.Join.{linked, renamed, merged, joinPair, joinRow, join}
+use Rattle.blocks.specs.Join.{linked, renamed, merged, joinPair, join}
 use Rattle.blocks.specs.Extend.{lowestFrom, blockCount}
 use Rattle.blocks.proofs.Laws.{merged-same}
 use Rattle.blocks.proofs.Pairs.{pairs-keep}

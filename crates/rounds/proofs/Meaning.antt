@@ -1,19 +1,18 @@
 -- What the joining rule's result means: it is closed, it is least, and a block's number is its lowest index.
-use mathlib.Core.Path.{_≡_, refl, sym, ap, _∙_}
+use mathlib.Core.Path.{_≡_}
 use mathlib.Core.Bool.{Bool, true}
 use mathlib.Core.List.{List, []}
-use Prim.Native.Nat.{ℕ, zero, suc, _+_, _≤_, _<_, zero-le}
+use Prim.Native.Nat.{ℕ, _≤_, _<_}
 use native.Mathlib.Omega.{arith}
 use lib.ListN.{length, getD}
-use Rattle.support.specs.Sets.{Rising, In}
-use Rattle.counting.specs.Counting.{fromTo}
+use Rattle.support.specs.Sets.{Rising}
 use Rattle.counting.proofs.Steps.{fromTo-keeps}
 use Rattle.blocks.proofs.Members.{linked-by}
 use Rattle.blocks.proofs.Least.{Equivalence, ClosedFor, Inside, Within, join-inside, extend-within, singles-inside}
 use Rattle.blocks.proofs.Joined.{Joined}
 use Rattle.blocks.proofs.Full.{full-any}
-use Rattle.rounds.specs.Rounds.{Bases, State, start, joinAll, extendAll, round, after, closing}
-use Rattle.rounds.specs.Meaning.{sumOf, Pair, Closed, Other, Least, Lowest}
+use Rattle.rounds.specs.Rounds.{Bases, State, start, joinAll, extendAll, round, closing}
+use Rattle.rounds.specs.Meaning.{Closed, Other, Least, Lowest}
 use Rattle.rounds.proofs.Rounds.{after-keeps, round-labels, round-joined, start-labels}
 use Rattle.rounds.proofs.Closing.{closing-has, closing-shaped, closing-numbered, closing-full, closing-starts}
 use Rattle.rounds.proofs.Bound.{fuel-enough}

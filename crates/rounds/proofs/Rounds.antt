@@ -2,20 +2,20 @@
 use mathlib.Core.Path.{_≡_, refl, sym, ap, ap₂, _∙_}
 use mathlib.Core.Logic.{⊎-elim}
 use mathlib.Core.Bool.{Bool, true, false, cond}
-use mathlib.Core.List.{List, [], _∷_}
-use Prim.Native.Nat.{ℕ, zero, suc, _+_, _-_, _≤_, _<_, zero-le}
+use mathlib.Core.List.{List, []}
+use Prim.Native.Nat.{ℕ, zero, suc, _-_, _≤_, _<_, zero-le}
 use native.Mathlib.Nat.{eq-or-lt-of-le, le-of-suc-le-suc}
 use native.Mathlib.Omega.{arith}
 use lib.ListN.{length, getD}
 use lib.Dec.{ltb}
 use borrow.Author.Tests.{ltb-true}
 use Rattle.support.specs.Sets.{Rising, In}
-use Rattle.counting.specs.Counting.{listed, fromTo, sumTo}
+use Rattle.counting.specs.Counting.{listed}
 use Rattle.counting.proofs.Steps.{fromTo-keeps, fromTo-fixed, fromTo-reaches}
 use Rattle.counting.proofs.Listed.{listed-length, listed-at, listed-same, listed-all}
 use Rattle.counting.proofs.Sums.{sumTo-le, sumTo-same, sumTo-equal}
 use Rattle.blocks.specs.Join.{join}
-use Rattle.blocks.specs.Extend.{extend, blockCount}
+use Rattle.blocks.specs.Extend.{blockCount}
 use Rattle.blocks.proofs.Growth.{Extends, extends-refl, extends-trans, fromTo-extends, extend-extends}
 use Rattle.blocks.proofs.Labels.{join-long}
 use Rattle.blocks.proofs.Lowest.{Numbered, Falls, join-falls, blockCount-some, singles-numbered, singles-count}

@@ -1,18 +1,14 @@
 -- The tests of the definitions say whether two lists, two lists of lists and two states are the same; and the closing
 -- depends only on S and on what the nine bases and multipliers are.
-use mathlib.Core.Path.{_≡_, refl, sym, ap, ap₂, _∙_}
+use mathlib.Core.Path.{_≡_, refl, ap, ap₂}
 use mathlib.Core.Bool.{Bool, true, false, cond, _&&_}
 use mathlib.Core.List.{List, [], _∷_}
 use Prim.Native.Nat.{ℕ, zero, suc, _+_, _<_}
 use native.Mathlib.Omega.{arith}
-use lib.ListN.{length, getD}
 use lib.Dec.{eqb}
 use borrow.Author.Tests.{eqb-true, eq-eqb}
-use Rattle.counting.specs.Counting.{listed, fromTo}
 use Rattle.counting.proofs.Steps.{fromTo-same}
 use Rattle.counting.proofs.Listed.{listed-same}
-use Rattle.blocks.specs.Join.{join}
-use Rattle.blocks.specs.Extend.{extend}
 use Rattle.rounds.specs.Rounds.{Bases, State, Closing, singles, start, joinAll, extendAll, round, same, sameAll, sameState, closeFrom, closing}
 
 pub same-refl : (l : List ℕ) → same l l ≡ true
