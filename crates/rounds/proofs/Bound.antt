@@ -18,7 +18,7 @@ use Rattle.rounds.specs.Meaning.{TakesRounds}
 use Rattle.rounds.proofs.Rounds.{AllNumbered, round-extends, round-numbered, round-fewer, round-blocks, round-full, round-still, nonempty-few, start-numbered, start-blocks, after-numbered}
 use Rattle.rounds.proofs.Closing.{Moves, closing-ran, closing-state, after-rising}
 
--- there is one such number
+-- there is only one number of rounds
 pub takes-once : (g : Bases) (S₀ : List ℕ) (r r′ : ℕ) → TakesRounds g S₀ r → TakesRounds g S₀ r′ → r ≡ r′
 takes-once g S₀ r r′ t t′ = go (ltb r r′) refl (ltb r′ r) refl
   where
@@ -28,7 +28,7 @@ takes-once g S₀ r r′ t t′ = go (ltb r r′) refl (ltb r′ r) refl
     go false e false f = omega (arith, ltb-false r r′ e, ltb-false r′ r f)
 
 module _ (g : Bases) (S₀ : List ℕ) (rising : Rising S₀) where
-  -- after the first round, a round that changes something makes one block of two
+  -- After the first round S has every sum of a pair in one block, so a round that changes something joins two blocks.
   fewer : (k : ℕ) → Moves g (start g S₀) (suc k) → blocksIn (after g (start g S₀) (suc (suc k)) .labels) < blocksIn (after g (start g S₀) (suc k) .labels)
   unfolding after
   fewer k m =
@@ -39,13 +39,13 @@ module _ (g : Bases) (S₀ : List ℕ) (rising : Rising S₀) where
       (λ l. l)
       (eq-or-lt-of-le (round-fewer g s n))
 
-  -- k rounds after the first that all change something leave at most N − k blocks
+  -- There are N blocks at the start. Where the first round and k more all change something, at most N − k are left.
   blocks-left : (k : ℕ) → ((i : ℕ) → i < suc k → Moves g (start g S₀) i) → blocksIn (after g (start g S₀) (suc k) .labels) + k ≤ monomials g
   unfolding after
   blocks-left zero h = omega (arith, round-fewer g (start g S₀) (start-numbered g S₀), start-blocks g S₀)
   blocks-left (suc k) h = omega (arith, fewer k (h (suc k) (omega arith)), blocks-left k (λ i b. h i (omega arith)))
 
-  -- N monomials in B bases: at most N − B + 2 rounds
+  -- At most N − B + 2 rounds: B blocks are always left, one for each basis that has a monomial.
   pub few-rounds : closing g S₀ .rounds + nonempty g ≤ monomials g + 2
   few-rounds = go (ltb (closing g S₀ .rounds) 2) refl
     where
@@ -74,7 +74,7 @@ module _ (g : Bases) (S₀ : List ℕ) (rising : Rising S₀) where
         (λ e. absurd (omega (arith, e .0, blocks-left 577 (λ i b. e .1 i (omega (arith, e .0))), monomials-few)))
         (closing-ran g S₀ .ended)
 
-    -- the number of rounds is that of the first round that changes neither a block nor S
+    -- "Rounds repeat until one changes neither a block nor S; that one counts too": the number of rounds is that round's
     pub closing-rounds : TakesRounds g S₀ (closing g S₀ .rounds)
     closing-rounds = record { some = last .0; still = last .1; first = first }
       where
@@ -83,7 +83,7 @@ module _ (g : Bases) (S₀ : List ℕ) (rising : Rising S₀) where
             let z : k ≡ suc (k - 1) = omega arith in
             closing-ran g S₀ .moves (k - 1) (omega arith) (ap (after g (start g S₀)) (sym z) ∙ e)
 
-    -- the fuel never runs out: a further round leaves the closing's state as it is
+    -- The fuel of the definition never runs out: a further round leaves the closing's state as it is.
     pub fuel-enough : round g (closing g S₀ .state) ≡ closing g S₀ .state
     unfolding after
     fuel-enough =

@@ -18,11 +18,12 @@ use Rattle.rounds.proofs.Rounds.{Shaped, AllNumbered, AllFull, after-ke
 -- ---- the rounds of the definition, one by one
 
 module _ (g : Bases) (s : State) where
-  -- round k + 1 changes a block or S
+  -- round k + 1 changes a block, or S
   abbrev pub Moves : ℕ → Type 0
   Moves k = after g s (suc k) ≡ after g s k → ⊥
 
-  -- o is what at most m rounds after c leave: the rounds before the last all change something, and the last nothing, or it is number m + c
+  -- o is what at most m rounds after the first c leave. Each round before the last changes something. The last changes nothing;
+  -- or it is number m + c and changes something, and the fuel has run out.
   pub record Ran (m c : ℕ) (o : Closing) : Type 0 where
     pub state : o .state ≡ after g s (o .rounds)
     pub moves : (k : ℕ) → k + 1 < o .rounds → Moves k
@@ -41,6 +42,7 @@ module _ (g : Bases) (s : State) where
       let z : _≡_ {A = ℕ} 0 1 = cc in
       omega arith
 
+  -- the definition's rounds, where the first c all change something
   pub ran : (m c : ℕ) → ((k : ℕ) → k < c → Moves k) → Ran m c (closeFrom g m (after g s c) c)
   unfolding closeFrom
   ran zero c h = record { state = refl; moves = λ k b. h k (omega arith); ended = inr (omega arith, h) }
@@ -115,8 +117,10 @@ module _ (g : Bases) (S₀ : List ℕ) where
     pub closing-rising : Rising (closing g S₀ .state .support)
     closing-rising = closing-has (λ s. Rising (s .support)) after-rising
 
-    -- once S with the zero exponent has more than 2,048 members, the closed S with it has
+    -- with the zero exponent added, S has no more members after any of the rounds than the closed S has
+    pub closing-more : (k : ℕ) → k ≤ closing g S₀ .rounds → length (insert 0 (after g (start g S₀) k .support)) ≤ length (insert 0 (closing g S₀ .state .support))
+    closing-more k h = rw closing-state (insert-more 0 _ _ (after-rising k) (after-extends g (start g S₀) k (closing g S₀ .rounds) h))
+
+    -- so once it has more than 2,048, "the closed S with the zero exponent added" has
     pub closing-grows : (k : ℕ) → k ≤ closing g S₀ .rounds → 2048 < length (insert 0 (after g (start g S₀) k .support)) → 2048 < length (insert 0 (closing g S₀ .state .support))
-    closing-grows k h b =
-        rw closing-state
-        (omega (arith, insert-more 0 _ _ (after-rising k) (after-extends g (start g S₀) k (closing g S₀ .rounds) h)))
+    closing-grows k h b = omega (arith, closing-more k h)

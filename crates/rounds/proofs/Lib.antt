@@ -3,3 +3,4 @@ pub mod Rounds
 pub mod Closing
 pub mod Bound
 pub mod Meaning
+pub mod Only

@@ -24,7 +24,8 @@ labelOf g S₀ j i = getD (getD (closing g S₀ .state .labels) j []) i 0
 module _ (g : Bases) (S₀ : List ℕ) where
   -- ---- closed
 
-  -- the closing contains the start and is closed under the steps of a round
+  -- The closing contains the start. Where some exponent t of g_j has t + b + b' in its S, b and b' are in one block; and where
+  -- b and b' are in one block, its S has every t + b + b'.
   pub closing-closed : Rising S₀ → ((j : ℕ) → length (g .basis j) ≤ 64) → Closed g S₀ (labelOf g S₀) (closing g S₀ .state .support)
   closing-closed rising sizes = record {
     starts = closing-starts g S₀;
@@ -56,12 +57,13 @@ module _ (g : Bases) (S₀ : List ℕ) where
     unfolding start
     start-within w = record { blocks = λ j h. rw (start-labels g S₀ j h) (singles-inside (R j) (eq j) (length (g .basis j))); set = w }
 
-    -- the closing is within any blocks R and set Q, as predicates, that contain the start and are closed under the steps
+    -- The closing is within any blocks R and any set Q that contain the start and are closed under the steps: R and Q are
+    -- predicates, with no test for them.
     pub closing-within : Within Q S₀ → AllWithin R Q (closing g S₀ .state)
     closing-within w =
         closing-has g S₀ (AllWithin R Q) (after-keeps g (AllWithin R Q) (λ s v. record { blocks = round-inside s v; set = round-set s v }) (start g S₀) (start-within w))
 
-  -- the same with tests: any other blocks and set have unions of these blocks and contain this S
+  -- "any other blocks and set that contain the start and are closed under these steps have unions of these blocks and contain this S"
   pub closing-least : Least g S₀ (labelOf g S₀) (closing g S₀ .state .support)
   closing-least = record { blocks = λ R Q o j i k h a b. within R Q o .blocks j h .at i k a b; set = λ R Q o. within R Q o .set .at }
     where
@@ -77,7 +79,7 @@ module _ (g : Bases) (S₀ : List ℕ) where
 
   -- ---- the numbers
 
-  -- a block's number is its lowest index
+  -- "A block's number is its lowest index"
   pub closing-lowest : Lowest g (labelOf g S₀)
   closing-lowest = record {
     within = λ j i h b. omega (arith, low j i h b);

@@ -53,7 +53,7 @@ module _ (g : Bases) where
 
   -- ---- the blocks of a round
 
-  -- every basis joins on the same S
+  -- the blocks of basis j are those of basis j joined: every basis joins on the same S
   pub round-labels : (s : State) (j : ℕ) → j < 9 → getD (round g s .labels) j [] ≡ join (s .support) (g .multiplier j) (g .basis j) (getD (s .labels) j [])
   unfolding round joinAll
   round-labels s j h = listed-at 9 _ j [] h
@@ -89,30 +89,32 @@ module _ (g : Bases) where
       ∙ listed-same 9 _ _ (λ j h. round-falls s n j h .same (sumTo-equal 9 _ _ (λ i b. round-falls s n i b .less) e j h))
       ∙ all-listed (s .labels) (n .shape .nine)
 
-  -- linked indices are in one block
+  -- after a round, b and b' are in one block when some exponent t of g_j has t + b + b' in the S before it
   pub round-joined : (s : State) → Shaped g (s .labels) → (j : ℕ) → j < 9 → Joined (s .support) (g .multiplier j) (g .basis j) (getD (round g s .labels) j [])
   round-joined s f j h = rw (round-labels s j h) (join-joined (s .support) (g .multiplier j) (g .basis j) (getD (s .labels) j []) (f .long j h))
 
   -- ---- the support of a round
 
+  -- S stays in order and never has fewer members; with as many members it is the same
   pub round-extends : (s : State) → Extends (s .support) (round g s .support)
   unfolding round extendAll
   round-extends s = fromTo-extends _ (λ j S. extend-extends (g .multiplier j) (g .basis j) (getD (joinAll g (s .support) (s .labels)) j []) S) 0 9 (s .support)
 
-  -- S only grows
+  -- a round takes nothing out of S
   pub round-keeps : (x : ℕ) (s : State) → In x (s .support) → In x (round g s .support)
   unfolding round extendAll
   round-keeps x s m =
       fromTo-keeps (In x) _ 9 0 (λ j S _ _ m′. extend-keeps (g .multiplier j) (g .basis j) (getD (joinAll g (s .support) (s .labels)) j []) x S m′) (s .support) m
 
-  -- every state's S is contained in each later one's
+  -- the same from the S after k rounds to the S after more rounds
   pub after-extends : (s : State) (k m : ℕ) → k ≤ m → Extends (after g s k .support) (after g s m .support)
   after-extends = after-later (λ s t. Extends (s .support) (t .support)) (λ s. extends-refl (s .support)) (λ s t e. extends-trans (s .support) (t .support) (round g t .support) e (round-extends t))
 
+  -- every state's S is contained in each later one's
   pub after-in : (x : ℕ) (s : State) (k m : ℕ) → k ≤ m → In x (after g s k .support) → In x (after g s m .support)
   after-in x = after-later (λ s t. In x (s .support) → In x (t .support)) (λ s m. m) (λ s t f m. round-keeps x t (f m))
 
-  -- after a round S has every sum of two monomials in one block
+  -- after a round, S has every t + b + b' with b, b' in one block of the same j
   pub round-full : (s : State) → AllFull g (round g s)
   unfolding round extendAll
   round-full s = record {
