@@ -19,7 +19,7 @@ use Rattle.counting.proofs.Steps.{fromTo-keeps}
 use Rattle.blocks.specs.Extend.{addTerms, addPair, addRow, extend}
 use Rattle.blocks.specs.Filled.{Filled, FullAt, Full}
 use Rattle.blocks.proofs.Members.{insert-keeps}
-use Rattle.blocks.proofs.Full.{one-done}
+use Rattle.blocks.proofs.Full.{pair-done}
 
 -- ---- the set never shrinks, and stays in order
 
@@ -250,4 +250,4 @@ module _ (first : Bool) (T B L₀ : List ℕ) where
 
   -- a pair that was in one block then adds nothing
   pub pair-known : (L : List ℕ) (i k : ℕ) (S : List ℕ) → Filled first T B L₀ S → first ≡ false → i ≤ k → k < length B → getD L₀ i 0 ≡ getD L₀ k 0 → Rising S → S ≡ addPair T B L i k S
-  pair-known L i k S f e h u q r = sym (one-done T B L i k S r (record { at = λ _. f .full e .at i k h u .at q }))
+  pair-known L i k S f e h u q r = sym (pair-done T B L i k S r (record { at = λ _. f .full e .at i k h u .at q }))

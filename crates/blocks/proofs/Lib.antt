@@ -1,7 +1,9 @@
 pub mod Laws
 pub mod Growth
+pub mod Pairs
+pub mod Labels
 pub mod Members
 pub mod Least
 pub mod Joined
 pub mod Full
-pub mod Roots
+pub mod Lowest

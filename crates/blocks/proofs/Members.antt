@@ -1,21 +1,20 @@
--- Members of a set through insertion and extension.
-use mathlib.Core.Path.{_≡_, refl, sym, ap, _∙_}
+-- The elements of a set: what an insertion adds, what a link comes from, and what an extension by the sums of one pair adds.
+use mathlib.Core.Path.{_≡_, refl}
 use mathlib.Core.Logic.{_⊎_, inl, inr, ⊎-elim}
-use mathlib.Core.Bool.{Bool, true, false}
-use mathlib.Core.List.{List, [], _∷_, _++_}
-use Prim.Native.Nat.{ℕ, zero, suc, _+_, _-_, _≤_, _<_}
+use mathlib.Core.Bool.{Bool, true, false, cond}
+use mathlib.Core.List.{List, [], _∷_}
+use Prim.Native.Nat.{ℕ, _+_}
 use native.Mathlib.Omega.{arith}
-use lib.ListN.{length, getD}
 use lib.Dec.{eqb, ltb}
-use borrow.Author.Tests.{eqb-true, eqb-false, eq-eqb, ne-eqb}
-use mathlib.Core.Bool.{cond}
-use Rattle.support.specs.Sets.{Rising, member, insert}
+use borrow.Author.Tests.{eqb-true, eq-eqb}
+use Rattle.support.specs.Sets.{Rising, In, member, insert}
 use Rattle.support.proofs.Laws.{insert-member}
 use Rattle.blocks.specs.Join.{linked}
 use Rattle.blocks.specs.Extend.{addTerms}
 
-abbrev pub In : ℕ → List ℕ → Type 0
-In x S = member x S ≡ true
+either : (b : Bool) → cond b true true ≡ true
+either true = refl
+either false = refl
 
 pub not-nil : (x : ℕ) {P : Type 0} → In x [] → P
 unfolding member
@@ -35,13 +34,9 @@ in-here x y ys e = rw (eq-eqb y x e)
 
 pub in-there : (x y : ℕ) (ys : List ℕ) → In x ys → In x (y ∷ ys)
 unfolding member
-in-there x y ys e = rw e (go (eqb y x))
-  where
-    go : (b : Bool) → cond b true true ≡ true
-    go true = refl
-    go false = refl
+in-there x y ys e = rw e (either (eqb y x))
 
--- ---- insertion adds the key, and nothing else
+-- ---- an insertion adds the one number, and nothing else
 
 pub in-insert : (x k : ℕ) (S : List ℕ) → In x (insert k S) → (k ≡ x) ⊎ In x S
 unfolding insert
@@ -73,9 +68,8 @@ insert-keeps x k (y ∷ ys) e = go (insert-keeps x k ys) (ltb y k) (eqb y k)
     go h false true = e
     go h false false = in-there x k (y ∷ ys) e
 
--- ---- links and terms
+-- ---- "some exponent t of g_j has t + b + b' in S": a link comes from an exponent, and each such exponent makes one
 
--- a link comes from an exponent
 pub linked-from : {P : Type 0} (S T : List ℕ) (s : ℕ) → ((t : ℕ) → In t T → In (t + s) S → P) → linked S T s ≡ true → P
 unfolding linked
 linked-from {P} S [] s h e = let z : _≡_ {A = ℕ} 0 1 = cc in absurd (omega arith)
@@ -88,11 +82,13 @@ linked-from {P} S (t ∷ ts) s h e = go (linked-from S ts s (λ u i m. h u (in-t
 pub linked-by : (S T : List ℕ) (s t : ℕ) → In t T → In (t + s) S → linked S T s ≡ true
 unfolding linked
 linked-by S [] s t i m = not-nil t i
-linked-by S (u ∷ us) s t i m = ⊎-elim (λ q. let m′ : member (u + s) S ≡ true = rw q m in ap (λ (b : Bool). cond b true (linked S us s)) m′) (λ j. ap (λ (b : Bool). cond (member (u + s) S) true b) (linked-by S us s t j m) ∙ go (member (u + s) S)) (in-cons t u us i)
-  where
-    go : (b : Bool) → cond b true true ≡ true
-    go true = refl
-    go false = refl
+linked-by S (u ∷ us) s t i m =
+    ⊎-elim
+    (λ q. let h : member (u + s) S ≡ true = rw q m in rw h)
+    (λ j. rw (linked-by S us s t j m) (either (member (u + s) S)))
+    (in-cons t u us i)
+
+-- ---- the sums t + s, for the exponents t in T, added to S: they, and nothing else
 
 pub add-from : (x : ℕ) {P : Type 0} (T : List ℕ) (s : ℕ) (S : List ℕ) → ((t : ℕ) → In t T → t + s ≡ x → P) → (In x S → P) → In x (addTerms T s S) → P
 unfolding addTerms
@@ -111,7 +107,7 @@ add-in [] s S t i = not-nil t i
 add-in (u ∷ us) s S t i =
     ⊎-elim (λ q. add-keeps (t + s) us s (insert (u + s) S) (rw q (insert-in (t + s) S))) (λ j. add-in us s (insert (u + s) S) t j) (in-cons t u us i)
 
--- where all is there already, nothing is added
+-- where S has them all, nothing is added
 pub add-full : (T : List ℕ) (s : ℕ) (S : List ℕ) → Rising S → ((t : ℕ) → In t T → In (t + s) S) → addTerms T s S ≡ S
 unfolding addTerms
 add-full [] s S r h = refl
