@@ -76,7 +76,7 @@ distinct-more (y ∷ ks) x h e = go (distinct-more ks x (h .1)) (eqb y x) refl e
     go f false q e = (among-more y x ks (h .0) (λ r. eqb-false y x q (sym r)), f e)
 
 -- ---- monomials and terms: one more
-monomials-none : (n d most : ℕ) → Monomials n d most []
+pub monomials-none : (n d most : ℕ) → Monomials n d most []
 unfolding All Distinct
 monomials-none n d most = record { count = omega arith; degrees = tt; variables = tt; distinct = tt }
 
