@@ -49,7 +49,7 @@ module _ (T B L : List ℕ) where
         (λ i k x y S′ _ _ _ _ _ f. record { at = λ e t m. pair-keeps _ x y S′ (f .at e t m) }) i k (omega arith) h u S tt;
   }
 
-  pair-done : (i k : ℕ) (S : List ℕ) → Rising S → FullAt T B L i k S → addPair T B L i k S ≡ S
+  pub pair-done : (i k : ℕ) (S : List ℕ) → Rising S → FullAt T B L i k S → addPair T B L i k S ≡ S
   unfolding addPair
   pair-done i k S r f = go (eqb (getD L i 0) (getD L k 0)) refl
     where
