@@ -54,7 +54,8 @@ module _ (S T B : List ℕ) where
   pub join-joined : (L : List ℕ) → length L ≡ length B → Joined S T B (join S T B L)
   join-joined L l = record { at = λ i k hi hk e. go i k hi hk e (ltb i k) refl (ltb k i) refl }
     where
-      go : (i k : ℕ) → i < length B → k < length B → linked S T (getD B i 0 + getD B k 0) ≡ true → (b : Bool) → ltb i k ≡ b → (d : Bool) → ltb k i ≡ d → getD (join S T B L) i 0 ≡ getD (join S T B L) k 0
+      go : (i k : ℕ) → i < length B → k < length B → linked S T (getD B i 0 + getD B k 0) ≡ true → (b : Bool) → ltb i k ≡ b → (d : Bool) → ltb k i ≡ d
+          → getD (join S T B L) i 0 ≡ getD (join S T B L) k 0
       go i k hi hk e true p d q = in-order L l i k (ltb-true i k p) hk e
       go i k hi hk e false p true q = sym (in-order L l k i (ltb-true k i q) hi (rw (add-comm (getD B k 0) (getD B i 0)) e))
       go i k hi hk e false p false q = ap (λ (x : ℕ). getD (join S T B L) x 0) (omega (arith, ltb-false i k p, ltb-false k i q))

@@ -48,7 +48,7 @@ unfolding lowestFrom
 blockCount-some [] n h = absurd (not-suc-le-zero h)
 blockCount-some (x ∷ xs) n h = let e : eqb x 0 ≡ true = eq-eqb x 0 (omega (arith, n .lowest 0 h)) in rw e (omega arith)
 
--- ---- block b renamed to a: where the index a is not in block b, no index becomes its block's lowest; and the index b is it no more
+-- ---- Block b renamed to a, where index a is not in block b: no index becomes the number of its block, and index b, where it was, is not any more
 
 module _ (a b : ℕ) (ne : a ≡ b → ⊥) where
   renamed-one : (x i : ℕ) → (x ≡ b → i ≡ a → ⊥) → cond (eqb (renamed b a x) i) 1 0 ≤ cond (eqb x i) 1 0
@@ -96,8 +96,9 @@ falls-trans L L′ L″ a b = record {
   same = λ e. b .same (omega (arith, a .less, b .less)) ∙ a .same (omega (arith, a .less, b .less));
 }
 
-either : (a b : ℕ) → ((min a b ≡ a) × (max a b ≡ b)) ⊎ ((min a b ≡ b) × (max a b ≡ a))
-either a b = go (leb a b) refl
+-- of two numbers one is the lower and the other the upper
+lower-upper : (a b : ℕ) → ((min a b ≡ a) × (max a b ≡ b)) ⊎ ((min a b ≡ b) × (max a b ≡ a))
+lower-upper a b = go (leb a b) refl
   where
     go : (d : Bool) → leb a b ≡ d → ((min a b ≡ a) × (max a b ≡ b)) ⊎ ((min a b ≡ b) × (max a b ≡ a))
     go true e = let l = leb-true a b e in inl (omega arith, omega arith)
@@ -106,10 +107,10 @@ either a b = go (leb a b) refl
 -- a and b are the numbers of two blocks
 module _ (L : List ℕ) (n : Numbered L) (a b : ℕ) (ha : a < length L) (hb : b < length L) (oa : getD L a 0 ≡ a) (ob : getD L b 0 ≡ b) where
   lower-own : getD L (min a b) 0 ≡ min a b
-  lower-own = ⊎-elim (λ e. rw (e .0) oa) (λ e. rw (e .0) ob) (either a b)
+  lower-own = ⊎-elim (λ e. rw (e .0) oa) (λ e. rw (e .0) ob) (lower-upper a b)
 
   upper-own : getD L (max a b) 0 ≡ max a b
-  upper-own = ⊎-elim (λ e. rw (e .1) ob) (λ e. rw (e .1) oa) (either a b)
+  upper-own = ⊎-elim (λ e. rw (e .1) ob) (λ e. rw (e .1) oa) (lower-upper a b)
 
   merged-numbered : Numbered (merged a b L)
   merged-numbered = record {
@@ -123,7 +124,7 @@ module _ (L : List ℕ) (n : Numbered L) (a b : ℕ) (ha : a < length L) (hb : b
 
       own : (x : ℕ) → x < length L → {r : ℕ} → InOne a b (getD L x 0) r → getD (merged a b L) r 0 ≡ r
       own x l (two h) =
-          merged-at a b L (min a b) (omega arith) ∙ ap (inOne a b) lower-own ∙ two-low a b (min a b) (⊎-elim (λ e. inl (e .0)) (λ e. inr (e .0)) (either a b))
+          merged-at a b L (min a b) (omega arith) ∙ ap (inOne a b) lower-own ∙ two-low a b (min a b) (⊎-elim (λ e. inl (e .0)) (λ e. inr (e .0)) (lower-upper a b))
       own x l (other p q) = merged-at a b L (getD L x 0) (omega (arith, n .lowest x l)) ∙ ap (inOne a b) (n .own x l) ∙ other-same a b (getD L x 0) p q
 
   -- one block fewer
