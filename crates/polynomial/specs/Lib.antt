@@ -1,2 +1,4 @@
 pub mod Monomial
 pub mod Terms
+pub mod Algebra
+pub mod Point
