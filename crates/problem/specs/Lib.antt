@@ -1,4 +1,5 @@
 pub mod Layout
 pub mod Rules
+pub mod Checks
 pub mod Stored
 pub mod Limits
