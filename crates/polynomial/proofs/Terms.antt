@@ -40,12 +40,16 @@ low-none d zero i = zero-le
 low-none d (suc n) zero = zero-le
 low-none d (suc n) (suc i) = low-none d n i
 
+-- a store keeps what holds at each place
+pub set-all : {A : Type 0} (P : ℕ → A → Type 0) (l : List A) (i : ℕ) (a d : A) → ((j : ℕ) → P j (getD l j d)) → P i a → (j : ℕ) → P j (getD (set l i a) j d)
+set-all P [] i a d h p j = h j
+set-all P (x ∷ l) zero a d h p zero = p
+set-all P (x ∷ l) zero a d h p (suc j) = h (suc j)
+set-all P (x ∷ l) (suc i) a d h p zero = h zero
+set-all P (x ∷ l) (suc i) a d h p (suc j) = set-all (λ k. P (suc k)) l i a d (λ k. h (suc k)) p j
+
 pub low-set : (d : ℕ) (keys : List ℕ) (n k : ℕ) → Low d keys → k ≤ d * 2 ^ 56 → Low d (set keys n k)
-low-set d [] n k h l i = zero-le
-low-set d (x ∷ keys) zero k h l zero = l
-low-set d (x ∷ keys) zero k h l (suc i) = h (suc i)
-low-set d (x ∷ keys) (suc n) k h l zero = h zero
-low-set d (x ∷ keys) (suc n) k h l (suc i) = low-set d keys n k (λ j. h (suc j)) l i
+low-set d keys n k h l = set-all (λ _ x. x ≤ d * 2 ^ 56) keys n k 0 h l
 
 pub filled-none : (d most : ℕ) → Filled d most (replicate most 0) (replicate most (pos 0)) 0
 filled-none d most =
