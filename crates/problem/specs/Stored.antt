@@ -37,15 +37,21 @@ problemOf p = record {
 unfoldable pub outcomeOf : Reading → Outcome Problem
 outcomeOf r = cond (eqb (r .number) 0) (given (problemOf (r .problem))) (refused (r .number) (r .place))
 
--- what a reading's problem always keeps, also one that is refused: the arrays' lengths, the counts within them, and the keys so
--- small that the sum of an exponent of the objective or a constraint and two of a basis fits a machine word
+-- ---- what the problem of every reading keeps, also of one that is refused: the arrays' lengths, the counts within them, and
+-- keys so small that the sum of three exponents fits a machine word
+pub record KeptConstraints (n : ℕ) (qs : List Polynomial) : Type 0 where
+  pub count-low : n ≤ 8
+  pub places : length qs ≡ 8
+  pub each : (j : ℕ) → j < 8 → Filled 16 32 (getD qs j noTerms .keys) (getD qs j noTerms .coefficients) (getD qs j noTerms .count)
+
+pub record KeptBases (sizes keys : List ℕ) : Type 0 where
+  pub sizes-length : length sizes ≡ 9
+  pub sizes-low : (j : ℕ) → getD sizes j 0 ≤ 64
+  pub keys-length : length keys ≡ 576
+  pub keys-low : Low 8 keys
+
 pub record Kept (p : StoredProblem) : Type 0 where
-  pub variables : p .variables ≤ 8
+  pub variables-low : p .variables ≤ 8
   pub objective : Filled 32 256 (p .objective .keys) (p .objective .coefficients) (p .objective .count)
-  pub count : p .count ≤ 8
-  pub constraints-length : length (p .constraints) ≡ 8
-  pub constraints : (j : ℕ) → j < 8 → Filled 16 32 (getD (p .constraints) j noTerms .keys) (getD (p .constraints) j noTerms .coefficients) (getD (p .constraints) j noTerms .count)
-  pub keys-length : length (p .keys) ≡ 576
-  pub sizes-length : length (p .sizes) ≡ 9
-  pub keys-low : Low 8 (p .keys)
-  pub sizes : (j : ℕ) → getD (p .sizes) j 0 ≤ 64
+  pub constraints : KeptConstraints (p .count) (p .constraints)
+  pub bases : KeptBases (p .sizes) (p .keys)
