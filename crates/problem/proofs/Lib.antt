@@ -1,2 +1,3 @@
 pub mod Checks
 pub mod Stored
+pub mod Steps

@@ -38,7 +38,7 @@ listed-append n f g j x h other here =
 -- the checks 5 and 6 of the keys in an array are those of the terms that it holds
 pub terms-room : (n most k : ℕ) (keys : List ℕ) (coefficients : List ℤ) → n ≤ length keys
     → firstRefusal true true true (among k (take n keys)) (leb most n)
-      ≡ firstRefusal true true true (among k (keysOf (termsIn n keys coefficients))) (leb most (length (termsIn n keys coefficients)))
+    ≡ firstRefusal true true true (among k (keysOf (termsIn n keys coefficients))) (leb most (length (termsIn n keys coefficients)))
 terms-room n most k keys coefficients h = rw (terms-keys n keys coefficients h, terms-length n keys coefficients)
 
 -- ---- the constraints
@@ -89,9 +89,9 @@ module _ (sizes keys : List ℕ) where
     apart i d =
         ⊎-elim
         (λ p.
-          let e : at ≡ 64 * i + (at - 64 * i) = omega arith in
-          let b = k .sizes-low i in
-          rw e (rw (drop-set-add (64 * i) keys (at - 64 * i) x) (take-set-le (getD sizes i 0) (drop (64 * i) keys) (at - 64 * i) x (omega arith))))
+        let e : at ≡ 64 * i + (at - 64 * i) = omega arith in
+        let b = k .sizes-low i in
+        rw e (rw (drop-set-add (64 * i) keys (at - 64 * i) x) (take-set-le (getD sizes i 0) (drop (64 * i) keys) (at - 64 * i) x (omega arith))))
         (λ p. let l : at < 64 * i = omega arith in rw (drop-set-lt (64 * i) keys at x l))
         (before-or-after i j d)
 
