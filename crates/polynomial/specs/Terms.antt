@@ -1,8 +1,9 @@
 -- A polynomial is a list of terms; the arrays of the code stand for such a list.
+use mathlib.Core.Path.{_≡_}
 use mathlib.Core.List.{List, map}
-use Prim.Native.Nat.{ℕ}
+use Prim.Native.Nat.{ℕ, _*_, _^_, _≤_}
 use lib.IntN.{ℤ, pos}
-use lib.ListN.{getD}
+use lib.ListN.{getD, length}
 use Rattle.counting.specs.Counting.{listed}
 use Rattle.polynomial.specs.declared.Objective.{Objective}
 use Rattle.polynomial.specs.declared.Polynomial.{Polynomial}
@@ -27,3 +28,14 @@ objectiveTerms q = termsIn (q .count) (q .keys) (q .coefficients)
 
 abbrev pub terms : Polynomial → List Term
 terms q = termsIn (q .count) (q .keys) (q .coefficients)
+
+-- no number of a list is above d × 256^7, as no key of a monomial of degree at most d is
+abbrev pub Low : ℕ → List ℕ → Type 0
+Low d keys = (i : ℕ) → getD keys i 0 ≤ d * 2 ^ 56
+
+-- arrays of `most` places that hold `count` terms of degree at most d
+pub record Filled (d most : ℕ) (keys : List ℕ) (coefficients : List ℤ) (count : ℕ) : Type 0 where
+  pub count-low : count ≤ most
+  pub keys-length : length keys ≡ most
+  pub coefficients-length : length coefficients ≡ most
+  pub keys-low : Low d keys
