@@ -1,3 +1,4 @@
 pub mod Rounds
 pub mod Bytes
 pub mod Meaning
+pub mod Arrays
