@@ -7,21 +7,53 @@ use Prim.Native.Nat.{ℕ, zero, suc, _+_, _-_, _*_, _/_, _%_, _≤_, _<_, min}
 use native.Mathlib.Nat.{add-sub-cancel-left}
 use native.Mathlib.Omega.{arith}
 use lib.Dec.{ltb}
-use borrow.Author.Tests.{ltb-true, ltb-false}
-use lib.ListN.{length, getD, take, drop, set, length-append, length-take, length-drop, length-set, List·getD-append, List·getD-eq-default}
+use borrow.Author.Tests.{ltb-true, ltb-false, lt-ltb, le-ltb}
+use lib.ListN.{length, getD, take, drop, set, replicate, length-replicate, getD-replicate, length-append, length-take, length-drop, length-set, List·getD-append, List·getD-eq-default}
 use lib.Seq.{length-take-le, getD-take, getD-drop, getD-append-add, getD-set-same, getD-set-other, ext-getD}
 use Rattle.counting.specs.Counting.{listed}
-use Rattle.counting.proofs.Listed.{same-or-not, listed-length, listed-same, listed-at, listed-all}
+use Rattle.counting.proofs.Listed.{same-or-not, listed-length, listed-same, listed-at, listed-all, listed-set}
 use Rattle.blocks.specs.Limits.{Bounded}
 use Rattle.rounds.specs.Bytes.{blockBytes, part, labelsIn}
 use Rattle.rounds.specs.Arrays.{Sizes, Labelled}
 
-pub lt-or-le : (a b : ℕ) → (a < b) ⊎ (b ≤ a)
+lt-or-le : (a b : ℕ) → (a < b) ⊎ (b ≤ a)
 lt-or-le a b = go (ltb a b) refl
   where
     go : (d : Bool) → ltb a b ≡ d → (a < b) ⊎ (b ≤ a)
     go true e = inl (ltb-true a b e)
     go false e = inr (ltb-false a b e)
+
+-- ---- nine that are replaced one by one: those before i are f's, the others h's
+
+unfoldable pub turned : {A : Type 0} → (ℕ → A) → (ℕ → A) → ℕ → List A
+turned f h i = listed 9 (λ j. cond (ltb j i) (f j) (h j))
+
+module _ {A : Type 0} (f h : ℕ → A) where
+  abbrev turn : ℕ → ℕ → A
+  turn i j = cond (ltb j i) (f j) (h j)
+
+  pub turned-long : (i : ℕ) → length (turned f h i) ≡ 9
+  unfolding turned
+  turned-long i = listed-length 9 (turn i)
+
+  pub turned-none : turned f h 0 ≡ listed 9 h
+  unfolding turned
+  turned-none = listed-same 9 (turn 0) h (λ j _. rw (le-ltb j 0 (omega arith)))
+
+  pub turned-at : (i : ℕ) → i < 9 → (d : A) → getD (turned f h i) i d ≡ h i
+  unfolding turned
+  turned-at i b d = listed-at 9 (turn i) i d b ∙ rw (le-ltb i i (omega arith))
+
+  pub turned-more : (i : ℕ) → set (turned f h i) i (f i) ≡ turned f h (i + 1)
+  unfolding turned
+  turned-more i = sym (listed-set 9 (turn i) (turn (i + 1)) i (f i) (λ k _ d. rw (same-test k d)) (λ _. rw (lt-ltb i (i + 1) (omega arith))))
+    where
+      same-test : (k : ℕ) → (k ≡ i → ⊥) → ltb k (i + 1) ≡ ltb k i
+      same-test k d = ⊎-elim (λ b. lt-ltb k (i + 1) (omega arith) ∙ sym (lt-ltb k i b)) (λ b. le-ltb k (i + 1) (omega arith) ∙ sym (le-ltb k i b)) (lt-or-le k i)
+
+  pub turned-all : turned f h 9 ≡ listed 9 f
+  unfolding turned
+  turned-all = listed-same 9 (turn 9) f (λ j b. rw (lt-ltb j 9 b))
 
 -- ---- n elements from place a on, replaced by m
 
@@ -59,6 +91,14 @@ bytes-from L j i h b =
     let q : (64 * j + i) / 64 ≡ j = omega arith in
     let r : (64 * j + i) % 64 ≡ i = omega arith in
     bytes-at L (64 * j + i) (omega arith) ∙ rw (q, r)
+
+-- empty lists leave 255 everywhere
+pub bytes-none : (L : List (List ℕ)) → ((j : ℕ) → j < 9 → getD L j [] ≡ []) → blockBytes L ≡ replicate 576 255
+bytes-none L h =
+    let k = bytes-long L in
+    let r = length-replicate {A = ℕ} 576 255 in
+    ext-getD 255 _ _ (k ∙ sym r)
+    (λ x b. let c : x < 576 = omega arith in bytes-at L x c ∙ ap (λ (l : List ℕ). getD l (x % 64) 255) (h (x / 64) (omega arith)) ∙ sym (getD-replicate 576 x 255 255 c))
 
 -- a part of the bytes replaced is a list replaced
 module _ (L : List (List ℕ)) (nine : length L ≡ 9) (m : List ℕ) (j n : ℕ) (h : j < 9) (e : length m ≡ n) (small : n ≤ 64) (less : length (getD L j []) ≤ n) where

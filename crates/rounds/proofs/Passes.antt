@@ -1,30 +1,29 @@
 -- Laws of the two halves of a round, basis by basis, on the flat arrays.
 use mathlib.Core.Path.{_≡_, refl, sym, ap, _∙_}
-use mathlib.Core.Logic.{⊎-elim}
 use mathlib.Core.Bool.{Bool, true, false, cond}
 use mathlib.Core.List.{List, [], _∷_, _++_}
 use Prim.Native.Nat.{ℕ, zero, suc, _+_, _-_, _*_, _≤_, _<_}
 use native.Mathlib.Nat.{add-sub-cancel-left}
 use native.Mathlib.Omega.{arith}
+use native.Mathlib.Numerals.{add-one}
 use lib.Dec.{ltb}
-use borrow.Author.Tests.{lt-ltb, le-ltb}
-use lib.ListN.{length, getD, take, drop, set, length-drop}
+use lib.ListN.{length, getD, take, drop, set, replicate, length-drop}
 use lib.Seq.{getD-take, getD-drop, length-take-le}
-use Rattle.counting.specs.Counting.{listed, fromTo}
-use Rattle.counting.proofs.Listed.{listed-length, listed-same, listed-at, listed-all, listed-set}
+use Rattle.counting.specs.Counting.{listed, fromTo, sumTo}
+use Rattle.counting.proofs.Listed.{listed-length, listed-at, listed-all}
 use Rattle.counting.proofs.Steps.{fromTo-reaches}
 use Rattle.support.specs.Table.{Grown}
 use Rattle.blocks.specs.Join.{join}
-use Rattle.blocks.specs.Extend.{extend}
+use Rattle.blocks.specs.Extend.{extend, blockCount}
 use Rattle.blocks.specs.Limits.{Bounded}
-use Rattle.blocks.specs.Filled.{Full}
-use Rattle.blocks.proofs.Laws.{join-long}
+use Rattle.blocks.specs.Filled.{Full, Filled}
+use Rattle.blocks.proofs.Laws.{join-long, blocks-few}
 use Rattle.blocks.proofs.Full.{extend-full}
 use Rattle.blocks.proofs.Growth.{Extends, fromTo-extends, extend-extends, full-keeps, filled-keeps, grown-take}
 use Rattle.rounds.specs.Rounds.{Bases, joinAll, extendAll}
 use Rattle.rounds.specs.Bytes.{blockBytes, part, basesIn, labelsIn}
 use Rattle.rounds.specs.Arrays.{Sizes, Labelled, joinAt, extendAt, FilledAll}
-use Rattle.rounds.proofs.Flat.{lt-or-le, bytes-long, bytes-set, Shaped, labels-at, labels-shaped, labels-of, labelled-of}
+use Rattle.rounds.proofs.Flat.{turned, turned-long, turned-at, turned-none, turned-more, turned-all, bytes-long, bytes-none, bytes-set, Shaped, labels-at, labels-shaped, labels-of, labelled-of}
 
 -- ---- a part, whose length the machine has as a + n - a
 
@@ -45,40 +44,32 @@ taken-bounded m a n l b = bounded-take m n (drop a l) (λ i. rw getD-drop (b (a 
 pub labelled-long : {sizes l : List ℕ} → Labelled sizes l → length l ≡ 576
 labelled-long {sizes} {l} w = ap length (w .bytes) ∙ bytes-long (labelsIn sizes l)
 
--- basis by basis: those before i have joined
+-- those before basis i have joined
 unfoldable pub joinedTo : Bases → List ℕ → List (List ℕ) → ℕ → List (List ℕ)
-joinedTo g S L i = listed 9 (λ j. cond (ltb j i) (join S (g .multiplier j) (g .basis j) (getD L j [])) (getD L j []))
+joinedTo g S L i = turned (λ j. join S (g .multiplier j) (g .basis j) (getD L j [])) (λ j. getD L j []) i
 
 module _ (g : Bases) (S : List ℕ) (L : List (List ℕ)) where
   abbrev joined : ℕ → List ℕ
   joined j = join S (g .multiplier j) (g .basis j) (getD L j [])
 
-  abbrev turn : ℕ → ℕ → List ℕ
-  turn i j = cond (ltb j i) (join S (g .multiplier j) (g .basis j) (getD L j [])) (getD L j [])
+  abbrev held : ℕ → List ℕ
+  held j = getD L j []
 
   joined-none : length L ≡ 9 → joinedTo g S L 0 ≡ L
   unfolding joinedTo
-  joined-none e =
-      listed-same 9 (turn 0) (λ j. getD L j []) (λ j _. rw (le-ltb j 0 (omega arith)))
-      ∙ ap (λ (n : ℕ). listed n (λ j. getD L j [])) (sym e) ∙ listed-all L []
+  joined-none e = turned-none joined held ∙ ap (λ (n : ℕ). listed n held) (sym e) ∙ listed-all L []
 
   joined-more : (i : ℕ) → i < 9 → joinAt g S i (joinedTo g S L i) ≡ joinedTo g S L (i + 1)
   unfolding joinedTo joinAt
-  joined-more i h =
-      let q : getD (listed 9 (turn i)) i [] ≡ getD L i [] = listed-at 9 (turn i) i [] h ∙ rw (le-ltb i i (omega arith)) in
-      rw q
-      (sym (listed-set 9 (turn i) (turn (i + 1)) i (joined i) (λ k _ d. rw (same-test k d)) (λ _. rw (lt-ltb i (i + 1) (omega arith)))))
-    where
-      same-test : (k : ℕ) → (k ≡ i → ⊥) → ltb k (i + 1) ≡ ltb k i
-      same-test k d = ⊎-elim (λ b. lt-ltb k (i + 1) (omega arith) ∙ sym (lt-ltb k i b)) (λ b. le-ltb k (i + 1) (omega arith) ∙ sym (le-ltb k i b)) (lt-or-le k i)
+  joined-more i h = rw (turned-at joined held i h []) (turned-more joined held i)
 
   joined-all : joinedTo g S L 9 ≡ joinAll g S L
   unfolding joinedTo joinAll
-  joined-all = listed-same 9 (turn 9) joined (λ j h. rw (lt-ltb j 9 h))
+  joined-all = turned-all joined held
 
   joined-shaped : (sizes : List ℕ) (i : ℕ) → Shaped sizes L → Shaped sizes (joinedTo g S L i)
-  unfolding joinedTo
-  joined-shaped sizes i p = record { nine = listed-length 9 (turn i); long = λ j h. ap length (listed-at 9 (turn i) j [] h) ∙ go j (ltb j i) ∙ p .long j h }
+  unfolding joinedTo turned
+  joined-shaped sizes i p = record { nine = listed-length 9 _; long = λ j h. ap length (listed-at 9 _ j [] h) ∙ go j (ltb j i) ∙ p .long j h }
     where
       go : (j : ℕ) (b : Bool) → length (cond b (join S (g .multiplier j) (g .basis j) (getD L j [])) (getD L j [])) ≡ length (getD L j [])
       go j true = join-long S (g .multiplier j) (g .basis j) (getD L j [])
@@ -120,6 +111,67 @@ module _ (keys sizes exponents counts : List ℕ) (s : Sizes sizes) (j : ℕ) (h
       let p = add-sub-cancel-left (64 * j) (getD sizes j 0) in
       let q = add-sub-cancel-left (32 * j) (getD counts j 0) in
       rw (labels-at sizes l j h) (rw (p, q) at g)
+
+  pub filled-at : (first : Bool) (l S : List ℕ) → FilledAll first (basesIn keys sizes exponents counts) (labelsIn sizes l) S
+      → Filled first (take (32 * j + getD counts j 0 - 32 * j) (drop (32 * j) exponents)) (take (64 * j + getD sizes j 0 - 64 * j) (drop (64 * j) keys)) (take (64 * j + getD sizes j 0 - 64 * j) (drop (64 * j) l)) S
+  unfolding basesIn
+  filled-at first l S f =
+      let p = add-sub-cancel-left (64 * j) (getD sizes j 0) in
+      let q = add-sub-cancel-left (32 * j) (getD counts j 0) in
+      rw (p, q) (rw (labels-at sizes l j h) at (f .at j h))
+
+-- ---- the start
+
+-- those before basis i are numbered
+unfoldable pub numberedTo : List ℕ → ℕ → List (List ℕ)
+numberedTo sizes i = turned (λ j. listed (getD sizes j 0) (λ i. i)) (λ _. []) i
+
+module _ (sizes : List ℕ) where
+  abbrev numbered : ℕ → List ℕ
+  numbered j = listed (getD sizes j 0) (λ i. i)
+
+  abbrev none : ℕ → List ℕ
+  none j = []
+
+  pub numbering-start : replicate 576 255 ≡ blockBytes (numberedTo sizes 0)
+  unfolding numberedTo
+  numbering-start = rw (turned-none numbered none) (sym (bytes-none (listed 9 none) (λ j h. listed-at 9 none j [] h)))
+
+  module _ (s : Sizes sizes) (i : ℕ) (l : List ℕ) (e : l ≡ blockBytes (numberedTo sizes i)) where
+    pub numbering-long : length l ≡ 576
+    numbering-long = ap length e ∙ bytes-long (numberedTo sizes i)
+
+    pub numbering-turn : (m : List ℕ) → i < 9 → m ≡ listed (length (take (64 * i + getD sizes i 0 - 64 * i) (drop (64 * i) l))) (λ i. i)
+        → take (64 * i) l ++ (m ++ drop (64 * i + getD sizes i 0 - 64 * i) (drop (64 * i) l)) ≡ blockBytes (numberedTo sizes (i + 1))
+    unfolding numberedTo
+    numbering-turn m h f =
+        let z = s .small i in
+        let k : length (take (64 * i + getD sizes i 0 - 64 * i) (drop (64 * i) l)) ≡ getD sizes i 0 = taken-long (64 * i) (getD sizes i 0) l (omega (arith, numbering-long)) in
+        let q : m ≡ numbered i = f ∙ ap (λ (n : ℕ). listed n (λ i. i)) k in
+        let n : length m ≡ getD sizes i 0 = ap length q ∙ listed-length (getD sizes i 0) (λ i. i) in
+        let d : getD (numberedTo sizes i) i [] ≡ [] = turned-at numbered none i h [] in
+        rw (add-sub-cancel-left (64 * i) (getD sizes i 0), e)
+        (bytes-set (numberedTo sizes i) (turned-long numbered none i) m i (getD sizes i 0) h n z (omega (arith, ap length d)) ∙ rw (q, turned-more numbered none i))
+
+    pub numbering-end : i ≡ 9 → l ≡ blockBytes (listed 9 (λ j. listed (getD sizes j 0) (λ i. i)))
+    unfolding numberedTo
+    numbering-end q = e ∙ ap blockBytes (ap (numberedTo sizes) q ∙ turned-all numbered none)
+
+-- ---- the number of blocks
+
+module _ (sizes l : List ℕ) (s : Sizes sizes) (j : ℕ) (h : j < 9) (r : ℕ) (e : r ≡ blockCount (take (64 * j + getD sizes j 0 - 64 * j) (drop (64 * j) l))) where
+  pub counted-at : r ≡ blockCount (getD (labelsIn sizes l) j [])
+  counted-at = rw (labels-at sizes l j h) (rw (add-sub-cancel-left (64 * j) (getD sizes j 0)) at e)
+
+  pub counted-few : length l ≡ 576 → r ≤ 64
+  counted-few k =
+      let z = s .small j in
+      let n : length (take (64 * j + getD sizes j 0 - 64 * j) (drop (64 * j) l)) ≡ getD sizes j 0 = taken-long (64 * j) (getD sizes j 0) l (omega arith) in
+      omega (arith, blocks-few (take (64 * j + getD sizes j 0 - 64 * j) (drop (64 * j) l)))
+
+pub sum-more : (f : ℕ → ℕ) (n : ℕ) → sumTo (n + 1) f ≡ sumTo n f + f n
+unfolding sumTo
+sum-more f n = rw (add-one n)
 
 -- ---- extension
 
