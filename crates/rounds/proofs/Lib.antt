@@ -1,3 +1,4 @@
 pub mod Flat
 pub mod Passes
 pub mod Same
+pub mod Rounding

@@ -10,7 +10,7 @@ use lib.Dec.{ltb}
 use lib.ListN.{length, getD, take, drop, set, replicate, length-drop}
 use lib.Seq.{getD-take, getD-drop, length-take-le}
 use Rattle.counting.specs.Counting.{listed, fromTo, sumTo}
-use Rattle.counting.proofs.Listed.{listed-length, listed-at, listed-all}
+use Rattle.counting.proofs.Listed.{listed-length, listed-same, listed-at, listed-all}
 use Rattle.counting.proofs.Steps.{fromTo-reaches}
 use Rattle.support.specs.Table.{Grown}
 use Rattle.blocks.specs.Join.{join}
@@ -20,10 +20,10 @@ use Rattle.blocks.specs.Filled.{Full, Filled}
 use Rattle.blocks.proofs.Laws.{join-long, blocks-few}
 use Rattle.blocks.proofs.Full.{extend-full}
 use Rattle.blocks.proofs.Growth.{Extends, fromTo-extends, extend-extends, full-keeps, filled-keeps, grown-take}
-use Rattle.rounds.specs.Rounds.{Bases, joinAll, extendAll}
+use Rattle.rounds.specs.Rounds.{Bases, singles, joinAll, extendAll}
 use Rattle.rounds.specs.Bytes.{blockBytes, part, basesIn, labelsIn}
-use Rattle.rounds.specs.Arrays.{Sizes, Labelled, joinAt, extendAt, FilledAll}
-use Rattle.rounds.proofs.Flat.{turned, turned-long, turned-at, turned-none, turned-more, turned-all, bytes-long, bytes-none, bytes-set, Shaped, labels-at, labels-shaped, labels-of, labelled-of}
+use Rattle.rounds.specs.Arrays.{Sizes, Arrays, Labelled, joinAt, extendAt, FilledAll}
+use Rattle.rounds.proofs.Flat.{turned, turned-long, turned-at, turned-none, turned-more, turned-all, bytes-long, bytes-none, bytes-set, Shaped, part-long, labels-at, labels-shaped, labels-of, labelled-of}
 
 -- ---- a part, whose length the machine has as a + n - a
 
@@ -87,6 +87,20 @@ module _ (g : Bases) (S : List ℕ) (L : List (List ℕ)) where
 
   pub joining-start : (sizes l : List ℕ) → Sizes sizes → Labelled sizes l → labelsIn sizes l ≡ L → l ≡ blockBytes (joinedTo g S L 0)
   joining-start sizes l s w e = w .bytes ∙ ap blockBytes (e ∙ sym (joined-none (rw (← e) (labels-shaped sizes s l (labelled-long w) .nine))))
+
+  module _ (sizes l : List ℕ) (s : Sizes sizes) (w : Labelled sizes l) (e : labelsIn sizes l ≡ L) (l′ : List ℕ) (f : l′ ≡ blockBytes (joinAll g S L)) where
+    shaped : Shaped sizes (joinAll g S L)
+    shaped = rw (← joined-all) (joined-shaped sizes 9 (rw (← e) (labels-shaped sizes s l (labelled-long w))))
+
+    -- the bytes after the joining of every basis, and their lists
+    pub joined-labelled : Labelled sizes l′
+    joined-labelled = rw f (labelled-of sizes s (joinAll g S L) shaped)
+
+    pub joined-labels : labelsIn sizes l′ ≡ joinAll g S L
+    joined-labels = rw f (labels-of sizes s (joinAll g S L) shaped)
+
+pub labelled-same : {sizes l l′ : List ℕ} → Labelled sizes l → Labelled sizes l′ → labelsIn sizes l ≡ labelsIn sizes l′ → l ≡ l′
+labelled-same w w′ e = w .bytes ∙ ap blockBytes e ∙ sym (w′ .bytes)
 
 module _ (keys sizes exponents counts : List ℕ) (s : Sizes sizes) (j : ℕ) (h : j < 9) where
   pub joined-at : (S l m : List ℕ) → Labelled sizes l
@@ -156,6 +170,23 @@ module _ (sizes : List ℕ) where
     pub numbering-end : i ≡ 9 → l ≡ blockBytes (listed 9 (λ j. listed (getD sizes j 0) (λ i. i)))
     unfolding numberedTo
     numbering-end q = e ∙ ap blockBytes (ap (numberedTo sizes) q ∙ turned-all numbered none)
+
+module _ (keys sizes exponents counts : List ℕ) (p : Arrays keys sizes exponents counts) where
+  -- single blocks, by the sizes
+  pub singles-sized : singles (basesIn keys sizes exponents counts) ≡ listed 9 (λ j. listed (getD sizes j 0) (λ i. i))
+  unfolding singles basesIn
+  singles-sized =
+      listed-same 9 _ _ (λ j h. ap (λ (n : ℕ). listed n (λ i. i)) (part-long 64 sizes keys j (omega (arith, p .sized .small j, p .keys-long))))
+
+  singles-shaped : Shaped sizes (singles (basesIn keys sizes exponents counts))
+  singles-shaped = rw singles-sized (record { nine = listed-length 9 _; long = λ j h. ap length (listed-at 9 _ j [] h) ∙ listed-length (getD sizes j 0) _ })
+
+  module _ (l : List ℕ) (e : l ≡ blockBytes (singles (basesIn keys sizes exponents counts))) where
+    pub singles-labelled : Labelled sizes l
+    singles-labelled = rw e (labelled-of sizes (p .sized) _ singles-shaped)
+
+    pub singles-labels : labelsIn sizes l ≡ singles (basesIn keys sizes exponents counts)
+    singles-labels = rw e (labels-of sizes (p .sized) _ singles-shaped)
 
 -- ---- the number of blocks
 
