@@ -1,5 +1,5 @@
 -- Laws of the tests whether two lists, two lists of lists and two states are the same.
-use mathlib.Core.Path.{_≡_, refl, sym}
+use mathlib.Core.Path.{_≡_, refl, sym, _∙_}
 use mathlib.Core.Bool.{Bool, true, false, cond, _&&_}
 use mathlib.Core.List.{List, [], _∷_}
 use Prim.Native.Nat.{ℕ, suc, _+_, _≤_, _<_}
@@ -29,6 +29,9 @@ same-true (x ∷ xs) (y ∷ ys) e = go (same-true xs ys) (eqb x y) refl e
     go : (same xs ys ≡ true → xs ≡ ys) → (b : Bool) → eqb x y ≡ b → cond b (same xs ys) false ≡ true → x ∷ xs ≡ y ∷ ys
     go h true f e = let p = eqb-true x y f in let q = h e in cc
     go h false f e = never e
+
+pub same-apart : (l m : List ℕ) → same l m ≡ false → l ≡ m → ⊥
+same-apart l m e q = never (sym e ∙ rw q (same-refl m))
 
 pub sameAll-refl : (l : List (List ℕ)) → sameAll l l ≡ true
 unfolding sameAll

@@ -128,7 +128,18 @@ fn extend_all(
     let mut n = len;
     let mut j = 0;
     while j < 9 {
-        n = extend_at(table, n, labels, old, first, keys, sizes, exponents, counts, j);
+        n = extend_at(
+            table,
+            n,
+            labels,
+            old,
+            first,
+            keys,
+            sizes,
+            exponents,
+            counts,
+            j,
+        );
         if 2048 < n {
             return n;
         }
@@ -179,18 +190,40 @@ pub fn close(
         let old = labels;
         let few = n;
         join_all(&mut labels, keys, sizes, exponents, counts, table, n);
-        n = extend_all(table, n, &labels, &old, rounds == 0, keys, sizes, exponents, counts);
+        n = extend_all(
+            table,
+            n,
+            &labels,
+            &old,
+            rounds == 0,
+            keys,
+            sizes,
+            exponents,
+            counts,
+        );
         rounds += 1;
         if 2048 < n {
-            return Closed { labels, len: n, rounds };
+            return Closed {
+                labels,
+                len: n,
+                rounds,
+            };
         }
         if n == few {
             if is_same(&old, &labels) {
-                return Closed { labels, len: n, rounds };
+                return Closed {
+                    labels,
+                    len: n,
+                    rounds,
+                };
             }
         }
     }
-    Closed { labels, len: n, rounds }
+    Closed {
+        labels,
+        len: n,
+        rounds,
+    }
 }
 
 // The number of blocks of all bases.

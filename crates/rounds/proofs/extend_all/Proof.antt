@@ -29,14 +29,16 @@ loop-holds c =
 extend-at-requires : tie.Need-extend-at-requires Inv-loop μ-loop
 extend-at-requires c κs =
     let l = c .before .before in
-    let s = l .before .before .before .before .before .before .before .before in
-    (record {
-      support = held-holds _ (s .pre .support .room) _ _ _ _ (l .loop .inv .1);
-      arrays = s .pre .arrays;
-      labels = s .pre .labels;
-      before = s .pre .before;
-      filled = l .loop .inv .2;
-    }, omega arith)
+    let s = l .before .before .before .before .before .before .before .before in (
+      record {
+        support = held-holds _ (s .pre .support .room) _ _ _ _ (l .loop .inv .1);
+        arrays = s .pre .arrays;
+        labels = s .pre .labels;
+        before = s .pre .before;
+        filled = l .loop .inv .2;
+      },
+      omega arith,
+    )
 
 same-length : tie.Need-same-length Inv-loop μ-loop
 same-length c = c .before .before .before .extend-at .kept .0 ∙ c .before .before .before .before .before .before .loop .inv .1 .long

@@ -73,12 +73,14 @@ join-pass-requires c κs =
     let a = 64 * s .args .j in
     let n = getD (s .args .sizes .now) (s .args .j) 0 in
     let b = 32 * s .args .j in
-    let m = getD (s .args .counts .now) (s .args .j) 0 in
-    (s .pre .0, record {
-      keys = taken-bounded _ a (a + n - a) (s .args .keys .now) (p .keys-low);
-      exponents = taken-bounded _ b (b + m - b) (s .args .exponents .now) (p .exponents-low);
-      labels = taken-long a n (s .args .labels .now) (omega (arith, labelled-long (s .pre .2))) ∙ sym (taken-long a n (s .args .keys .now) (omega (arith, p .keys-long)));
-    })
+    let m = getD (s .args .counts .now) (s .args .j) 0 in (
+      s .pre .0,
+      record {
+        keys = taken-bounded _ a (a + n - a) (s .args .keys .now) (p .keys-low);
+        exponents = taken-bounded _ b (b + m - b) (s .args .exponents .now) (p .exponents-low);
+        labels = taken-long a n (s .args .labels .now) (omega (arith, labelled-long (s .pre .2))) ∙ sym (taken-long a n (s .args .keys .now) (omega (arith, p .keys-long)));
+      },
+    )
 
 same-length : tie.Need-same-length
 same-length c = search needs
