@@ -139,3 +139,9 @@ module _ (p : Problem) (s : List ℕ) (at : ℕ) (i : Instruction) (next : ℕ) 
   pub passes-on : getD s at 0 ≡ 6 → I.End ≡ i
   unfolding commandOf
   passes-on e = rw e at (t .instruction)
+
+  pub passes-longer : at < next
+  passes-longer = let e = t .step in let z = passes-size in omega arith
+
+  pub passes-as : (j : Instruction) → i ≡ j → Passes p s at j next
+  passes-as j e = rw e at t

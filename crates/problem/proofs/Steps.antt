@@ -2,29 +2,33 @@
 use mathlib.Core.Path.{_≡_, refl, ap, sym, _∙_}
 use mathlib.Core.List.{List, [], _∷_, _++_}
 use mathlib.Core.Bool.{Bool, true, false, _&&_}
-use Prim.Native.Nat.{ℕ, zero, suc, _+_, _-_, _*_, _^_, _≤_, _<_}
+use Prim.Native.Nat.{ℕ, zero, suc, _+_, _-_, _*_, _^_, _≤_, _<_, zero-le}
+use native.Mathlib.Nat.{le-trans}
 use native.Mathlib.Omega.{arith}
 use lib.Dec.{eqb, leb, ltb}
 use lib.IntN.{ℤ, pos}
-use lib.ListN.{length, take, drop, set, getD, length-drop}
+use lib.ListN.{length, take, drop, set, getD, replicate, length-drop, length-replicate, getD-replicate}
 use lib.Seq.{length-take-le}
 use borrow.Author.Tests.{ne-eqb, le-leb, lt-leb, leb-true, leb-false, ltb-true}
 use Rattle.stream.specs.Commands.{Outcome, refused, given, firstRefusal}
 use Rattle.stream.proofs.Run.{Left, left-start, left-end, left-refused, left-extra, left-given, left-next}
+use Rattle.counting.specs.Counting.{listed}
 use Rattle.polynomial.specs.Monomial.{degree, within, among}
 use Rattle.polynomial.specs.Terms.{Term, term, keysOf, termsIn, objectiveTerms, terms, Filled}
 use Rattle.polynomial.specs.declared.Objective.{Objective}
 use Rattle.polynomial.specs.declared.Polynomial.{Polynomial}
 use Rattle.polynomial.proofs.Monomials.{key-low}
-use Rattle.polynomial.proofs.Terms.{terms-length, terms-more, filled-more}
+use Rattle.polynomial.proofs.Terms.{low-none, terms-more, filled-more}
 use Rattle.problem.specs.declared.Command.{Command}
 use Rattle.problem.specs.declared.Command.the-variants as C
 use Rattle.problem.specs.declared.Instruction.{Instruction}
 use Rattle.problem.specs.declared.Instruction.the-variants as I
+use Rattle.problem.specs.declared.Checked.{Checked}
 use Rattle.problem.specs.declared.StoredProblem.{StoredProblem}
 use Rattle.problem.specs.declared.Reading.{Reading}
 use Rattle.problem.specs.Layout.{commandOf, size, decode}
-use Rattle.problem.specs.Rules.{Problem, placed, fitting, nonzero, repeated, full, applied, commandAt, verdict, next, language, readProblem}
+use Rattle.problem.specs.Rules.{Problem, placed, fitting, nonzero, repeated, full, applied, commandAt, verdict, next, language, nothing, readProblem}
+use Rattle.problem.specs.Checks.{checked}
 use Rattle.problem.specs.Stored.{noTerms, constraintsOf, basesOf, problemOf, outcomeOf, KeptConstraints, KeptBases, Kept}
 use Rattle.problem.proofs.Checks.{Passes, passes-size, passes-end, passes-on}
 use Rattle.problem.proofs.Stored.{terms-room, constraints-count, last-stored, constraint-begun, term-added, constraints-kept, basis-stored, member-added, bases-kept}
@@ -96,6 +100,24 @@ module _ (s : List ℕ) (p : StoredProblem) (number at : ℕ) (g : Going s p num
       unfolding outcomeOf
       complete m = (left-given language s _ _ at (g .left) h none (passes-end _ s at I.End after t refl) (rw last-byte at m), g .kept)
 
+-- before the first command
+pub starting : (s : List ℕ) (o : Objective) (q : Polynomial) → Filled 32 256 (o .keys) (o .coefficients) (o .count) × (o .count ≡ 0)
+    → Filled 16 32 (q .keys) (q .coefficients) (q .count) × (q .count ≡ 0) → Going s (stored 0 o (replicate 8 q) 0 (replicate 576 0) (replicate 9 0)) 2 0
+unfolding problemOf constraintsOf basesOf termsIn listed readProblem
+starting s o q f e =
+    record {
+      undecided = refl;
+      reached = zero-le;
+      kept =
+          record {
+            variables-low = zero-le;
+            objective = f .0;
+            constraints = record { count-low = zero-le; places = refl; each = λ j h. rw (getD-replicate 8 j q noTerms h) (e .0) };
+            bases = record { sizes-length = refl; sizes-low = λ j. le-trans (low-none 0 9 j) zero-le; keys-length = length-replicate {A = ℕ} 576 0; keys-low = low-none 8 576 };
+          };
+      left = rw (f .1) (left-start language s nothing);
+    }
+
 -- ---- what each command stores
 and-left : (a b : Bool) → (a && b) ≡ true → a ≡ true
 and-left true b h = refl
@@ -111,6 +133,9 @@ unfolding firstRefusal
 not-full false false h = refl
 not-full false true h = absurd (omega arith)
 not-full true f h = absurd (omega arith)
+
+pub space : (a : Bool) (most n : ℕ) → firstRefusal true true true a (leb most n) ≡ 0 → n < most
+space a most n h = leb-false most n (not-full a (leb most n) h)
 
 -- a 04 stands after a 03
 term-placed : (p : Problem) (s : List ℕ) (at : ℕ) (w : Command) (k : ℕ) (c : ℤ) → placed p at w ≡ true → decode w s at ≡ I.Term k c → 0 < length (p .constraints)
@@ -135,6 +160,11 @@ module _ (s : List ℕ) (v : ℕ) (o : Objective) (qs : List Polynomial) (n : �
 
   abbrev kept : Kept here
   kept = g .kept
+
+  -- what the first checks say of these numbers, they say of this problem
+  pub first-checks : (r : Checked) → ((p : Problem) → p .variables ≡ v → length (p .constraints) ≡ n → r ≡ checked p s at) → r ≡ checked (problemOf here) s at
+  unfolding problemOf
+  first-checks r e = e (problemOf here) refl (constraints-count n qs)
 
   pub after-variables : (m : ℕ) → Passes (problemOf here) s at (I.Variables m) after → Going s (stored m o qs n keys sizes) number after
   unfolding problemOf applied firstRefusal

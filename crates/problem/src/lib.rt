@@ -7,8 +7,9 @@ ghost use lib.ListN.{length, take, drop};
 ghost use Rattle.stream.specs.Commands.{firstRefusal};
 ghost use Rattle.polynomial.specs.Monomial.{among};
 ghost use Rattle.problem.specs.Layout.{commandOf, size, decode};
-ghost use Rattle.problem.specs.Rules.{Problem, placed, fitting, nonzero, allowed};
+ghost use Rattle.problem.specs.Rules.{Problem, placed, fitting, nonzero, allowed, readProblem};
 ghost use Rattle.problem.specs.Checks.{checked};
+ghost use Rattle.problem.specs.Stored.{outcomeOf, Kept};
 use polynomial::Objective;
 use polynomial::Polynomial;
 
@@ -187,4 +188,97 @@ fn check_room(keys: &[u64], from: usize, count: usize, key: u64, limit: usize) -
         return 6;
     }
     0
+}
+
+// Reads a problem stream. The arrays are stored to in place; number is 2, as of a stream that ends here, until it is decided.
+pub fn read(s: &[u8]) -> Reading
+    ensures { λ r. ⌜ (outcomeOf r ≡ readProblem (now (s .entry))) × Kept (r .problem) ⌝ }
+{
+    let mut variables = 0;
+    let mut objective = Objective::empty();
+    let mut constraints = [Polynomial::empty(); 8];
+    let mut count = 0;
+    let mut keys: [u64; 576] = [0; 576];
+    let mut sizes: [usize; 9] = [0; 9];
+    let mut number: u8 = 2;
+    let mut at = 0;
+    while at < s.len() {
+        match check_at(variables, count, s, at) {
+            Checked::Refused(found) => {
+                number = found;
+                break;
+            }
+            Checked::Passed(instruction, next) => {
+                match instruction {
+                    Instruction::Variables(n) => {
+                        variables = n;
+                    }
+                    Instruction::Objective(key, c) => {
+                        let n = objective.count;
+                        let found = check_room(&objective.keys, 0, n, key, 256);
+                        if 0 < found {
+                            number = found;
+                            break;
+                        }
+                        objective.keys[n] = key;
+                        objective.coefficients[n] = c;
+                        objective.count = n + 1;
+                    }
+                    Instruction::Constraint => {
+                        if 8 <= count {
+                            number = 6;
+                            break;
+                        }
+                        constraints[count] = Polynomial::empty();
+                        count += 1;
+                    }
+                    Instruction::Term(key, c) => {
+                        let last = count - 1;
+                        let mut q = constraints[last];
+                        let n = q.count;
+                        let found = check_room(&q.keys, 0, n, key, 32);
+                        if 0 < found {
+                            number = found;
+                            break;
+                        }
+                        q.keys[n] = key;
+                        q.coefficients[n] = c;
+                        q.count = n + 1;
+                        constraints[last] = q;
+                    }
+                    Instruction::Member(j, key) => {
+                        let n = sizes[j];
+                        let found = check_room(&keys, 64 * j, n, key, 64);
+                        if 0 < found {
+                            number = found;
+                            break;
+                        }
+                        keys[64 * j + n] = key;
+                        sizes[j] = n + 1;
+                    }
+                    Instruction::End => {
+                        if next < s.len() {
+                            at = next;
+                        } else {
+                            number = 0;
+                        }
+                        break;
+                    }
+                }
+                at = next;
+            }
+        }
+    }
+    Reading {
+        number,
+        place: at,
+        problem: StoredProblem {
+            variables,
+            objective,
+            constraints,
+            count,
+            keys,
+            sizes,
+        },
+    }
 }
