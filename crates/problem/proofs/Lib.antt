@@ -1,2 +1,5 @@
+pub mod Checks
+pub mod Stored
+pub mod Steps
 pub mod Limits
 pub mod Counts
