@@ -46,5 +46,4 @@ fn fill(run: &mut [u8], n: usize) -> bool
     io::read_full(STDIN_FILENO, &mut run[..n]) == n
 }
 
-fn main() {
-}
+fn main() {}
