@@ -1,3 +1,4 @@
 pub mod Checks
 pub mod Stored
 pub mod Steps
+pub mod Bases
