@@ -76,6 +76,10 @@ module _ (n : ℕ) (qs : List Polynomial) where
 
 -- ---- the bases
 module _ (sizes keys : List ℕ) where
+  pub bases-count : length (basesOf sizes keys) ≡ 9
+  unfolding basesOf
+  bases-count = listed-length 9 (λ j. take (getD sizes j 0) (drop (64 * j) keys))
+
   pub basis-stored : (j : ℕ) → j < 9 → getD (basesOf sizes keys) j [] ≡ take (getD sizes j 0) (drop (64 * j) keys)
   unfolding basesOf
   basis-stored j h = listed-at 9 (λ i. take (getD sizes i 0) (drop (64 * i) keys)) j [] h

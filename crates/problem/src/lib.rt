@@ -9,7 +9,8 @@ ghost use Rattle.polynomial.specs.Monomial.{among};
 ghost use Rattle.problem.specs.Layout.{commandOf, size, decode};
 ghost use Rattle.problem.specs.Rules.{Problem, placed, fitting, nonzero, allowed, readProblem};
 ghost use Rattle.problem.specs.Checks.{checked};
-ghost use Rattle.problem.specs.Stored.{outcomeOf, Kept};
+ghost use Rattle.problem.specs.Stored.{outcomeOf, constraintsOf, KeptConstraints, Kept};
+ghost use Rattle.problem.specs.Bases.{Flat};
 use polynomial::Objective;
 use polynomial::Polynomial;
 
@@ -54,6 +55,12 @@ pub struct Reading {
     pub number: u8,
     pub place: usize,
     pub problem: StoredProblem,
+}
+
+// The exponents of the multipliers: g_j has counts[j], from place 32 j of keys on.
+pub struct Multipliers {
+    pub keys: [u64; 288],
+    pub counts: [usize; 9],
 }
 
 fn command_of(byte: u8) -> Command
@@ -281,4 +288,33 @@ pub fn read(s: &[u8]) -> Reading
             sizes,
         },
     }
+}
+
+fn copy_all(to: &mut [u64], from: &[u64])
+    requires { ⌜ length (now to) ≡ length (now from) ⌝ }
+    ensures { λ _. ⌜ now (to .exit) ≡ now (from .entry) ⌝ }
+{
+    let mut i = 0;
+    while i < from.len() {
+        to[i] = from[i];
+        i += 1;
+    }
+}
+
+// The multipliers of a problem's bases, so that parts of one array can be lent: each constraint is copied once.
+pub fn multipliers_of(constraints: [Polynomial; 8], count: usize) -> Multipliers
+    requires { ⌜ KeptConstraints count constraints ⌝ }
+    ensures { λ r. ⌜ ((p : Problem) → p .constraints ≡ constraintsOf count constraints → Flat p r) ⌝ }
+{
+    let mut keys: [u64; 288] = [0; 288];
+    let mut counts: [usize; 9] = [0; 9];
+    counts[0] = 1;
+    let mut j = 0;
+    while j < count {
+        let q = constraints[j];
+        j += 1;
+        counts[j] = q.count;
+        copy_all(&mut keys[32 * j..32 * j + 32], &q.keys);
+    }
+    Multipliers { keys, counts }
 }
