@@ -1,7 +1,7 @@
 -- A product wider than 64 bits, by a cut of one factor at the root: a = ah · root + al, ah · b = yh · root + yl, and
 -- a · b = yh · base + (yl · root + al · b). What is known after each step, and that each step fits 64 bits.
-use mathlib.Core.Path.{_≡_, ap, sym, _∙_}
-use Prim.Native.Nat.{ℕ, _+_, _*_, _^_, _<_, _≤_}
+use mathlib.Core.Path.{_≡_, sym, _∙_}
+use Prim.Native.Nat.{ℕ, _*_, _^_, _≤_}
 use native.Mathlib.Omega.{arith}
 use lib.IntN.{ℤ, pos, natAbs, _+ℤ_, _*ℤ_, +ℤ-assoc, *ℤ-comm}
 use mir.Syntax.{w64}
@@ -73,15 +73,15 @@ module _ {a b ah yh : ℤ} {al yl : ℕ} (k : Two a b ah yh al yl) where
   pub m-fits : SFits w64 (pos yl *ℤ pos root)
   m-fits = abs-fits (omega (arith, m-small))
 
-  z-small : natAbs (pos yl *ℤ pos root +ℤ pos al *ℤ b) ≤ 8 * base
+  z-small : natAbs (pos yl *ℤ pos root +ℤ pos al *ℤ b) ≤ 3 * base
   z-small = omega (arith, abs-sum (pos yl *ℤ pos root) (pos al *ℤ b), m-small, t-small (k .one))
 
   pub z-fits : SFits w64 (pos yl *ℤ pos root +ℤ pos al *ℤ b)
-  z-fits = abs-fits (omega (arith, abs-sum (pos yl *ℤ pos root) (pos al *ℤ b), m-small, t-small (k .one)))
+  z-fits = abs-fits (omega (arith, z-small))
 
 module _ {a b ah yh ph : ℤ} {al yl pl : ℕ} (k : Three a b ah yh ph al yl pl) where
-  ph-small : natAbs ph ≤ 8
-  ph-small = high-small (k .parted) 8 (z-small (k .two))
+  ph-small : natAbs ph ≤ 3
+  ph-small = high-small (k .parted) 3 (z-small (k .two))
 
   pub ph-fits : SFits w64 ph
   ph-fits = abs-fits (omega (arith, ph-small))

@@ -1,13 +1,14 @@
 // Exact sums in two lent tables: the number at a place is hi[at] * 2^60 + lo[at].
 //
-// The parts meet at 2^60: two low parts and a carry stay far below 2^63, so no addition of low parts wraps and a low part fits a signed
-// number too; and the tables hold numbers to 2^120, wide enough for products with factors of 32 bits and sums of them to 2^117.
+// The parts meet at 2^60 because two low parts, with a carry, then stay below 2^63, so that nothing wraps and a low part is also a signed
+// number; and two tables hold 2^120, wide enough for factors of 32 bits and sums to 2^117.
 ghost use mathlib.Core.Path.{_≡_};
 ghost use lib.IntN.{pos, _*ℤ_};
 ghost use Rattle.sums.specs.Sums.{base, root, value, Parted, Addend, Factors, Room, Added, Sums, First};
 
 const BASE: i64 = 1 << 60;
 
+// The base's root, where a factor of a wide product is cut.
 const ROOT: i64 = 1 << 30;
 
 // A high and a low part of a number.
@@ -16,7 +17,8 @@ pub struct Parts {
     pub lo: u64,
 }
 
-// A number cut at 2^60. `>>` on a signed number rounds down (floor division), so the low part is never negative: -1 is -1 and 2^60 - 1.
+// A number cut at the base. `>>` on a signed number rounds down (floor division), so the low part is never negative: the parts of -1 are
+// -1 and 2^60 - 1.
 pub fn split(x: i64) -> Parts
     ensures { λ r. ⌜ Parted base x (r .hi) (r .lo) ⌝ }
 {
@@ -25,7 +27,7 @@ pub fn split(x: i64) -> Parts
     Parts { hi, lo: lo as u64 }
 }
 
-// A number cut at 2^30, the base's root, in the same way.
+// A number cut at the root, in the same way.
 pub fn halves(x: i64) -> Parts
     ensures { λ r. ⌜ Parted root x (r .hi) (r .lo) ⌝ }
 {
@@ -34,7 +36,7 @@ pub fn halves(x: i64) -> Parts
     Parts { hi, lo: lo as u64 }
 }
 
-// Adds the number with the parts h and l to the one at a place. What the low parts have too much, one or nothing, is carried.
+// Adds the number with the parts h and l to the one at a place. The low parts may reach the base: then 1 is carried to the high part.
 pub fn add_parts(hi: &mut [i64], lo: &mut [u64], at: usize, h: i64, l: u64)
     requires { ⌜ Room (now hi) (now lo) at ⌝ }
     requires { ⌜ Addend h l ⌝ }
@@ -58,7 +60,7 @@ pub fn add_number(hi: &mut [i64], lo: &mut [u64], at: usize, x: i64)
     add_parts(hi, lo, at, h, l);
 }
 
-// A weight times two factors times a coefficient: below 2^61 in absolute value.
+// A weight times two factors times a coefficient: at most 2^61 in absolute value.
 pub fn product(w: u16, l: i16, m: i16, g: i16) -> i64
     ensures { λ r. ⌜ r ≡ pos w *ℤ l *ℤ m *ℤ g ⌝ }
 {
@@ -73,8 +75,8 @@ pub fn add_product(hi: &mut [i64], lo: &mut [u64], at: usize, w: u16, l: i16, m:
     add_number(hi, lo, at, product(w, l, m, g));
 }
 
-// The parts of a product that may be wider than 64 bits. With a = ah * 2^30 + al and ah * b = yh * 2^30 + yl,
-// a * b = yh * 2^60 + (yl * 2^30 + al * b), and what stands in brackets fits.
+// The parts of a product that may be wider than 64 bits. With a = ah * ROOT + al and ah * b = yh * ROOT + yl,
+// a * b = yh * BASE + (yl * ROOT + al * b), and what stands in brackets fits.
 pub fn mul_parts(a: i64, b: i64) -> Parts
     requires { ⌜ Factors a b ⌝ }
     ensures { λ r. ⌜ Parted base (a *ℤ b) (r .hi) (r .lo) ⌝ }
