@@ -1,2 +1,3 @@
 pub mod Start
 pub mod Settled
+pub mod Laid

@@ -16,7 +16,10 @@ ghost use Rattle.rounds.specs.Bytes.{basesIn};
 ghost use Rattle.rounds.specs.Arrays.{Arrays};
 ghost use Rattle.polynomial.specs.Terms.{keysOf, objectiveTerms};
 ghost use Rattle.joining.specs.Joining.{insertAll, multiples, startFrom};
+ghost use Rattle.problem.specs.Stored.{problemOf, Kept};
+ghost use Rattle.joining.specs.Joining as J;
 use polynomial::Objective;
+use problem::StoredProblem;
 
 // The support with each key times `factor` put in; 2,049 where it has too many.
 fn put_keys(table: &mut [u64], len: usize, keys: &[u64], factor: u64) -> usize
@@ -158,4 +161,19 @@ pub fn settle(
         blocks: rounds::count(&labels, sizes),
         len,
     }
+}
+
+// The joining rule of a stored problem.
+pub fn join(p: StoredProblem, table: &mut [u64]) -> Joined
+    requires { ⌜ (2048 ≤ length (now table)) × Kept p ⌝ }
+    ensures { λ r. ⌜ Joining (J.closing (problemOf p)) (now (table .entry)) r (now (table .exit)) ⌝ }
+{
+    let constraints = p.constraints;
+    let m = problem::multipliers_of(constraints, p.count);
+    let q = p.objective;
+    let keys = p.keys;
+    let sizes = p.sizes;
+    let exponents = m.keys;
+    let counts = m.counts;
+    settle(q, &keys, &sizes, &exponents, &counts, table)
 }
