@@ -1,3 +1,4 @@
 pub mod Blocks
 pub mod Reach
 pub mod Difference
+pub mod Bounds
