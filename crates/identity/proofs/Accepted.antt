@@ -1,5 +1,5 @@
 -- A certificate is accepted exactly when its stream gives it, its rows keep to blocks and the identity holds.
-use mathlib.Core.Path.{_≡_, refl, sym, ap, _∙_}
+use mathlib.Core.Path.{_≡_, refl, ap, _∙_}
 use mathlib.Core.List.{List}
 use mathlib.Core.Option.{Option, none, some}
 use Prim.Native.Nat.{ℕ}
@@ -10,7 +10,7 @@ use Rattle.problem.specs.Rules.{Problem}
 use Rattle.problem.specs.Limits.{Limits}
 use Rattle.certificate.specs.Rules.{Certificate, shapeOf, readCertificate}
 use Rattle.identity.specs.Identity.{claim, squares, Identity, KeepsBlocks}
-use Rattle.identity.specs.Judgement.{splitPlace, differenceKey, Judgement, refused, accepted, byIdentity, byBlocks, judgeRead, judgeOutcome, judge, Smallest, Accepted}
+use Rattle.identity.specs.Judgement.{splitPlace, differenceKey, refused, accepted, byIdentity, byBlocks, judgeRead, judgeOutcome, judge, Smallest, Accepted}
 use Rattle.identity.proofs.Blocks.{split-none, split-kept}
 use Rattle.identity.proofs.Difference.{identity-none, none-identity, difference-smallest}
 use Rattle.identity.proofs.Fits.{read-fits}

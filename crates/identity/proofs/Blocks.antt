@@ -1,5 +1,5 @@
 -- Refusal 8 is given exactly where a row has entries in two blocks.
-use mathlib.Core.Path.{_≡_, refl, sym, ap, _∙_}
+use mathlib.Core.Path.{_≡_, refl}
 use mathlib.Core.Bool.{Bool, true, false, cond}
 use mathlib.Core.List.{List, [], _∷_}
 use mathlib.Core.Option.{Option, none, some}
@@ -10,7 +10,7 @@ use borrow.Author.Tests.{eqb-true, eq-eqb}
 use Rattle.problem.specs.Rules.{Problem}
 use Rattle.problem.specs.Limits.{All}
 use Rattle.certificate.specs.Rules.{Entry, Row}
-use Rattle.identity.specs.Identity.{blockOf, OneBlock, KeepsBlocks}
+use Rattle.identity.specs.Identity.{blockOf, KeepsBlocks}
 use Rattle.identity.specs.Judgement.{firstOutside, rowSplit, orElse, splitPlace}
 
 -- none is not some

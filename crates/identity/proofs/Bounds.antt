@@ -1,16 +1,16 @@
 -- The identity bounds the objective at every allowed point, and two bounds give the gap.
-use mathlib.Core.Path.{_≡_, refl, sym, ap, _∙_, subst}
-use mathlib.Core.List.{List, [], _∷_, _++_}
-use Prim.Native.Nat.{ℕ, zero, suc, _+_, _*_, _≤_, _^_}
+use mathlib.Core.Path.{_≡_, sym, ap, _∙_, subst}
+use mathlib.Core.List.{List, [], _∷_}
+use Prim.Native.Nat.{ℕ, zero, suc, _*_, _≤_, _^_}
 use native.Mathlib.Omega.{arith}
 use lib.Dec.{lit≤}
-use lib.ListN.{length, getD}
+use lib.ListN.{length}
 use lib.IntN.{ℤ, pos, negℤ, _+ℤ_, _-ℤ_, _*ℤ_, +ℤ-comm, negℤ-negℤ}
 use lib.Signed.{_≤ℤ_}
 use Rattle.integers.proofs.Ring.{negℤ-*ℤ, ≤ℤ-of-sub, nonneg-pos, nonneg-+, nonneg-*, nonneg-square, nonneg-cancel, cross}
 use Rattle.polynomial.specs.Monomial.{degreeOf, degree}
-use Rattle.polynomial.specs.Terms.{Term, term, keysOf}
-use Rattle.polynomial.specs.Algebra.{scale, _⊗_, Keys}
+use Rattle.polynomial.specs.Terms.{Term}
+use Rattle.polynomial.specs.Algebra.{scale, _⊗_}
 use Rattle.polynomial.specs.Point.{Point, value}
 use Rattle.polynomial.proofs.Products.{Degree, degree-⊗}
 use Rattle.polynomial.proofs.Values.{value-append, value-scale, same-values, value-constant, value-⊗}

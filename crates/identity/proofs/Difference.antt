@@ -6,7 +6,6 @@ use mathlib.Core.List.{List, [], _∷_}
 use mathlib.Core.Option.{Option, none, some}
 use Prim.Native.Nat.{ℕ, _<_}
 use native.Mathlib.Omega.{arith}
-use lib.Dec.{eqb}
 use lib.IntN.{ℤ, pos, negsuc}
 use borrow.Author.Tests.{eqb-true, eq-eqb}
 use Rattle.polynomial.specs.Terms.{Term}
@@ -14,11 +13,10 @@ use Rattle.polynomial.specs.Algebra.{coefficient}
 use Rattle.problem.specs.Rules.{Problem}
 use Rattle.problem.specs.Limits.{Limits}
 use Rattle.support.specs.Sets.{In, Above, Rising, member}
-use Rattle.blocks.proofs.Members.{in-here, in-there, in-cons, not-nil}
+use Rattle.blocks.proofs.Members.{in-cons, not-nil}
 use Rattle.certificate.specs.Rules.{Certificate}
 use Rattle.identity.specs.Identity.{squares, claim, Identity, KeepsBlocks, RowsFit}
 use Rattle.identity.specs.Judgement.{sameNumber, firstDifference, comparedKeys, differenceKey, Smallest}
-use Rattle.identity.proofs.Blocks.{never}
 use Rattle.identity.proofs.Reach.{compared-rising, claim-outside, squares-outside}
 
 -- ---- one comparison

@@ -1,10 +1,10 @@
 -- The rows that a stream gives are on bases of the problem.
-use mathlib.Core.Path.{_≡_, refl, sym, ap, _∙_, subst}
-use mathlib.Core.Bool.{Bool, true, false, _&&_}
-use mathlib.Core.List.{List, [], _∷_, _++_}
+use mathlib.Core.Path.{_≡_, subst}
+use mathlib.Core.Bool.{true}
+use mathlib.Core.List.{List, [], _∷_}
 use Prim.Native.Nat.{ℕ, _≤_, _<_}
 use native.Mathlib.Omega.{arith}
-use lib.Dec.{leb, ltb}
+use lib.Dec.{leb}
 use lib.ListN.{length, getD}
 use borrow.Author.Tests.{leb-true, ltb-true}
 use Rattle.counting.specs.Counting.{listed}
@@ -14,12 +14,12 @@ use Rattle.stream.proofs.Run.{passes, read-induction}
 use Rattle.problem.specs.Rules.{Problem, nonzero}
 use Rattle.problem.specs.Bases.{basisOf}
 use Rattle.problem.specs.Limits.{All, Limits}
-use Rattle.problem.proofs.Limits.{and-left, and-right, all-more, all-set, all-at}
+use Rattle.problem.proofs.Limits.{and-left, all-more, all-set, all-at}
 use Rattle.certificate.specs.Rules.{Entry, Row, Certificate, nothing, shapeOf, noRow, lastRow, withEntry, progressOf, allowed, applied, instructionAt, progressVerdict, verdict, next, language, readCertificate}
 use Rattle.certificate.specs.declared.Shape.{Shape}
 use Rattle.certificate.specs.declared.Instruction.{Instruction}
 use Rattle.certificate.specs.declared.Instruction.the-variants as I
-use Rattle.identity.specs.Identity.{RowFits, RowsFit}
+use Rattle.identity.specs.Identity.{RowsFit}
 
 -- a row that the checks of refusal 4 let pass
 record Passed (h : Shape) (r : Row) : Type 0 where

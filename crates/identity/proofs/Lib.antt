@@ -5,3 +5,4 @@ pub mod Fits
 pub mod Accepted
 pub mod Bounds
 pub mod Worked
+pub mod Gram

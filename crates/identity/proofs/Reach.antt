@@ -1,17 +1,17 @@
 -- Which monomials the two sides of the identity have: rows that keep to blocks reach only monomials of the closed S, and the claim
 -- only those and the zero exponent. So outside the compared keys both coefficients are 0.
-use mathlib.Core.Path.{_≡_, refl, sym, ap, _∙_, subst}
+use mathlib.Core.Path.{_≡_, refl, sym, _∙_, subst}
 use mathlib.Core.Logic.{⊎-elim}
 use mathlib.Core.List.{List, [], _∷_, _++_}
-use Prim.Native.Nat.{ℕ, zero, suc, _+_, _≤_, _<_}
+use Prim.Native.Nat.{ℕ, zero, suc, _+_, _<_}
 use native.Mathlib.Nat.{add-comm}
 use native.Mathlib.Omega.{arith}
-use lib.IntN.{ℤ, pos, negℤ}
+use lib.IntN.{pos, negℤ}
 use lib.ListN.{length, getD}
 use Rattle.polynomial.specs.Terms.{Term, term, keysOf}
 use Rattle.polynomial.specs.Algebra.{coefficient, scale, _⊗_, Keys}
 use Rattle.polynomial.proofs.Sums.{coefficient-none}
-use Rattle.polynomial.proofs.Products.{keys-append, keys-scale, keys-⊗, keys-map}
+use Rattle.polynomial.proofs.Products.{keys-append, keys-scale, keys-⊗}
 use Rattle.problem.specs.Rules.{Problem}
 use Rattle.problem.specs.Bases.{basisOf, multiplierOf}
 use Rattle.problem.specs.Limits.{All, Limits}
@@ -20,11 +20,10 @@ use Rattle.support.proofs.Laws.{insert-rising}
 use Rattle.blocks.proofs.Members.{in-here, in-there, in-cons, not-nil, insert-in, insert-keeps}
 use Rattle.blocks.proofs.Growth.{fromTo-extends}
 use Rattle.blocks.proofs.Full.{full-any}
-use Rattle.counting.specs.Counting.{fromTo}
 use Rattle.rounds.proofs.Closing.{closing-full, closing-starts, closing-rising}
 use Rattle.joining.specs.Joining.{basesOf, insertAll, multiples, startFrom, startSet, closing, closedSupport}
 use Rattle.joining.proofs.Start.{insertAll-extends, start-rising}
-use Rattle.certificate.specs.Rules.{Entry, Row, Certificate}
+use Rattle.certificate.specs.Rules.{Entry, Row}
 use Rattle.certificate.specs.declared.Header.{Header}
 use Rattle.identity.specs.Identity.{multiplier, combination, square, squares, turned, claim, blockOf, OneBlock, KeepsBlocks, RowFits, RowsFit}
 use Rattle.identity.specs.Judgement.{comparedKeys}

@@ -1,11 +1,11 @@
 -- Values at points, worked out: the definitions give them by computing.
 use mathlib.Core.Path.{_≡_, refl}
 use mathlib.Core.List.{List, [], _∷_}
-use Prim.Native.Nat.{ℕ, _+_, _*_, _^_}
-use lib.IntN.{ℤ, pos, negsuc, pow, one}
+use Prim.Native.Nat.{_+_, _*_, _^_}
+use lib.IntN.{pos, negsuc, pow, one}
 use Rattle.polynomial.specs.Monomial.{degreeOf, degree}
 use Rattle.polynomial.specs.Terms.{Term, term}
-use Rattle.polynomial.specs.Point.{Point, monomialValue, value}
+use Rattle.polynomial.specs.Point.{monomialValue, value}
 
 -- case A's objective, x² − 2x + 3: at 5/3 it is 25/9 − 10/3 + 3 = 22/9, and 22/9 × 3^32 = 22 × 3^30
 abbrev pub caseA : List Term

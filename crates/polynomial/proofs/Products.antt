@@ -1,11 +1,11 @@
 -- Which monomials a sum, a multiple and a product have, and the degree of a product.
-use mathlib.Core.Path.{_≡_, refl, sym, ap, _∙_}
+use mathlib.Core.Path.{_≡_, refl}
 use mathlib.Core.List.{List, [], _∷_, _++_}
 use Prim.Native.Nat.{ℕ, zero, suc, _+_, _/_, _%_, _≤_}
 use native.Mathlib.Omega.{arith}
 use lib.IntN.{ℤ}
 use Rattle.polynomial.specs.Monomial.{degreeOf, degree}
-use Rattle.polynomial.specs.Terms.{Term, term}
+use Rattle.polynomial.specs.Terms.{Term}
 use Rattle.polynomial.specs.Algebra.{scale, shift, _⊗_, Keys}
 
 -- ---- monomials

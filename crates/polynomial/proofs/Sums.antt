@@ -10,7 +10,7 @@ use lib.Dec.{T, eqb, eqb→eq, eqb-refl}
 use lib.ListN.{length}
 use lib.IntN.{ℤ, pos, negsuc, _+ℤ_, _*ℤ_, +ℤ-idl, +ℤ-assoc, *ℤ-zero, zero-*ℤ}
 use Rattle.integers.proofs.Ring.{view, diffs, ⊖-eq, *ℤ-assoc, *ℤ-+ℤ, to-zero, from-zero}
-use Rattle.polynomial.specs.Terms.{Term, term}
+use Rattle.polynomial.specs.Terms.{Term}
 use Rattle.polynomial.specs.Algebra.{sum, match, coefficient, scale, shift, _⊗_, Keys}
 
 -- ---- the operations

@@ -1,7 +1,7 @@
 -- The value at a point keeps sums, multiples and, within the degrees, products.
-use mathlib.Core.Path.{_≡_, refl, sym, ap, _∙_}
+use mathlib.Core.Path.{_≡_, refl, sym}
 use mathlib.Core.List.{List, [], _∷_, _++_}
-use Prim.Native.Nat.{ℕ, zero, suc, _+_, _-_, _*_, _/_, _%_, _^_, _≤_}
+use Prim.Native.Nat.{ℕ, zero, suc, _+_, _-_, _/_, _%_, _^_, _≤_}
 use native.Mathlib.Nat.{add-zero, add-suc, sub-zero, one-mul}
 use native.Mathlib.Omega.{arith}
 use lib.ListN.{length}
@@ -10,7 +10,7 @@ use lib.IntN.{ℤ, pos, _+ℤ_, _*ℤ_, pow, one, *ℤ-one, *ℤ-zero, zero-*ℤ
 use Rattle.integers.proofs.Ring.{*ℤ-assoc, *ℤ-pairs, *ℤ-+ℤ, +ℤ-*ℤ}
 use Rattle.polynomial.specs.Monomial.{degreeOf, degree}
 use Rattle.polynomial.specs.Terms.{Term, term}
-use Rattle.polynomial.specs.Algebra.{sum, coefficient, scale, shift, _⊗_}
+use Rattle.polynomial.specs.Algebra.{coefficient, scale, shift, _⊗_}
 use Rattle.polynomial.specs.Point.{Point, powers, monomialValue, value}
 use Rattle.polynomial.proofs.Sums.{sum-append, sum-scale, same-sums}
 use Rattle.polynomial.proofs.Products.{no-carry, degree-add, Degree}
