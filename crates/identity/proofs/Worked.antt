@@ -1,11 +1,17 @@
 -- Values at points, worked out: the definitions give them by computing.
 use mathlib.Core.Path.{_≡_, refl}
-use mathlib.Core.List.{List, [], _∷_}
-use Prim.Native.Nat.{_+_, _*_, _^_}
-use lib.IntN.{pos, negsuc, pow, one}
+use mathlib.Core.List.{List, [], _∷_, map}
+use Prim.Native.Nat.{ℕ, _+_, _*_, _^_}
+use lib.ListN.{replicate}
+use lib.IntN.{ℤ, pos, negsuc, pow, one}
 use Rattle.polynomial.specs.Monomial.{degreeOf, degree}
 use Rattle.polynomial.specs.Terms.{Term, term}
+use Rattle.polynomial.specs.Algebra.{coefficient}
 use Rattle.polynomial.specs.Point.{monomialValue, value}
+use Rattle.problem.specs.Rules.{Problem}
+use Rattle.problem.specs.Bases.{basisOf}
+use Rattle.certificate.specs.Rules.{Entry, Certificate}
+use Rattle.identity.specs.Identity.{multiplier, square, squares, claim}
 
 -- case A's objective, x² − 2x + 3: at 5/3 it is 25/9 − 10/3 + 3 = 22/9, and 22/9 × 3^32 = 22 × 3^30
 abbrev pub caseA : List Term
@@ -36,3 +42,25 @@ two-fifths = refl
 pub origin : value (record { numerators = pos 0 ∷ []; denominator = 1 }) 32 caseA ≡ pos 3
 unfolding value monomialValue degree degreeOf pow one
 origin = refl
+
+-- ---- case F's lower certificate: 2(x + 1) = (1 + x)² + (1 − x²)
+abbrev pub problemF : Problem
+problemF = record { variables = 1; objective = term 1 (pos 1) ∷ []; constraints = caseF ∷ []; bases = (0 ∷ 1 ∷ []) ∷ (0 ∷ []) ∷ replicate 7 [] }
+
+abbrev pub entry : ℕ → ℤ → ℕ → Entry
+entry i l at = record { index = i; factor = l; place = at }
+
+abbrev pub lowF : Certificate
+lowF = record {
+  header = record { side = 0; scale = 2; p = negsuc 0; q = 1 };
+  rows = record { basis = 0; weight = 1; entries = entry 0 (pos 1) 14 ∷ entry 1 (pos 1) 18 ∷ [] } ∷ record { basis = 1; weight = 1; entries = entry 0 (pos 1) 26 ∷ [] } ∷ [];
+}
+
+-- the left side is 2 + 2x; on the right 1 + 2x + x² and 1 − x² add up to the same, the cross product 1 × x counted twice
+pub claimF : map (λ (k : ℕ). coefficient k (claim problemF (lowF .header))) (0 ∷ 1 ∷ 2 ∷ []) ≡ pos 2 ∷ pos 2 ∷ pos 0 ∷ []
+unfolding claim coefficient
+claimF = refl
+
+pub squaresF : map (λ (k : ℕ). coefficient k (squares problemF (lowF .rows))) (0 ∷ 1 ∷ 2 ∷ []) ≡ pos 2 ∷ pos 2 ∷ pos 0 ∷ []
+unfolding squares square multiplier basisOf coefficient
+squaresF = refl
