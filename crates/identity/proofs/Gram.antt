@@ -1,13 +1,13 @@
 -- A table of the products w × l × l' may stand for the rows on a basis, and the rows may be taken basis by basis.
 use mathlib.Core.Path.{_≡_, refl, sym, ap, _∙_}
 use mathlib.Core.Bool.{Bool, true, false, cond}
-use mathlib.Core.List.{List, [], _∷_}
+use mathlib.Core.List.{List, [], _∷_, _++_}
 use mathlib.Core.Logic.{⊎-elim}
 use Prim.Native.Nat.{ℕ, zero, suc, _+_, _*_, _/_, _%_, _≤_, _<_}
 use native.Mathlib.Nat.{eq-or-lt-of-le}
 use native.Mathlib.Omega.{arith}
 use lib.Dec.{eqb, ltb}
-use lib.IntN.{ℤ, pos, one, _+ℤ_, _*ℤ_, *ℤ-one, +ℤ-idl, +ℤ-idr, +ℤ-assoc}
+use lib.IntN.{ℤ, pos, one, _+ℤ_, _*ℤ_, *ℤ-one, +ℤ-idl, +ℤ-idr, +ℤ-assoc, +ℤ-comm}
 use lib.ListN.{getD}
 use borrow.Author.Tests.{eqb-true, eq-eqb, ne-eqb, ltb-true, ltb-false}
 use Rattle.integers.proofs.Ring.{+ℤ-left-comm}
@@ -147,6 +147,27 @@ module _ (p : Problem) (j : ℕ) where
             let l = ltb-false n 4096 q in
             coefficient-none (λ n. n < 4096) n (placed table) (listed-keys (λ n. getD table n (pos 0)) 4096) (λ b. omega arith)
             ∙ sym (coefficient-none (λ n. n < 4096) n (gram rs) (gram-keys rs small) (λ b. omega arith))
+
+-- ---- what the two loops add up
+-- a row adds w × l × l' at the place of each two entries
+pub outer-coefficient : (n : ℕ) (r : Row) → coefficient n (outer r) ≡ pos (r .weight) *ℤ sum (λ i. sum (λ i′. match n (64 * i + i′)) (factors (r .entries))) (factors (r .entries))
+unfolding coefficient
+outer-coefficient n r =
+    let F = factors (r .entries) in
+    rw (sum-scale (match n) (pos (r .weight)) (rekeyed (λ i. 64 * i) F ⊗ F), sum-⊗ (match n) (rekeyed (λ i. 64 * i) F) F, sum-rekeyed (λ j. sum (λ k. match n (j + k)) F) (λ i. 64 * i) F)
+
+-- one row more at the end
+pub gram-more : (n : ℕ) (rs : List Row) (r : Row) → coefficient n (gram (rs ++ (r ∷ []))) ≡ coefficient n (gram rs) +ℤ coefficient n (outer r)
+unfolding gram
+gram-more n [] r = coefficient-append n (outer r) [] ∙ +ℤ-comm (coefficient n (outer r)) (coefficient n [])
+gram-more n (x ∷ rs) r =
+    rw (coefficient-append n (outer x) (gram (rs ++ (r ∷ []))), coefficient-append n (outer x) (gram rs), gram-more n rs r)
+    (sym (+ℤ-assoc (coefficient n (outer x)) (coefficient n (gram rs)) (coefficient n (outer r))))
+
+-- each entry of a matrix adds its number times the coefficient of each term of g_j
+pub expanded-coefficient : (p : Problem) (j : ℕ) (M : List Term) (k : ℕ) → coefficient k (expanded p j M) ≡ sum (λ n. sum (λ t. match k (pairKey (basisOf p j) n + t)) (multiplier p j)) M
+unfolding coefficient
+expanded-coefficient p j M k = expanded-sum p j (match k) M
 
 -- ---- the rows basis by basis
 pub rows-on : (j : ℕ) (rs : List Row) → All (λ (r : Row). r .basis ≡ j) (rowsOn j rs)
