@@ -1,17 +1,24 @@
 -- Values at points, worked out: the definitions give them by computing.
-use mathlib.Core.Path.{_≡_, refl}
+use mathlib.Core.Path.{_≡_, refl, sym, _∙_}
 use mathlib.Core.List.{List, [], _∷_, map}
-use Prim.Native.Nat.{ℕ, _+_, _*_, _^_}
-use lib.ListN.{replicate}
+use Prim.Native.Nat.{ℕ, zero, suc, _≤_, _<_, _+_, _*_, _^_}
+use native.Mathlib.Omega.{arith}
+use lib.Dec.{lit≤}
+use lib.ListN.{getD, replicate}
 use lib.IntN.{ℤ, pos, negsuc, pow, one}
-use Rattle.polynomial.specs.Monomial.{degreeOf, degree}
-use Rattle.polynomial.specs.Terms.{Term, term}
+use Rattle.polynomial.specs.Monomial.{degreeOf, degree, within, among}
+use Rattle.polynomial.specs.Terms.{Term, term, keysOf}
 use Rattle.polynomial.specs.Algebra.{coefficient}
 use Rattle.polynomial.specs.Point.{monomialValue, value}
+use Rattle.polynomial.proofs.Sums.{coefficient-none}
+use Rattle.problem.specs.Limits.{All, Distinct, Monomials, Limits}
+use Rattle.problem.proofs.Limits.{monomials-none, nothing-basis}
 use Rattle.problem.specs.Rules.{Problem}
 use Rattle.problem.specs.Bases.{basisOf}
 use Rattle.certificate.specs.Rules.{Entry, Certificate}
-use Rattle.identity.specs.Identity.{multiplier, square, squares, claim}
+use Rattle.identity.specs.Identity.{multiplier, square, squares, claim, Identity}
+use Rattle.identity.specs.Bounds.{BoundedBelow}
+use Rattle.identity.proofs.Bounds.{identity-below}
 
 -- case A's objective, x² − 2x + 3: at 5/3 it is 25/9 − 10/3 + 3 = 22/9, and 22/9 × 3^32 = 22 × 3^30
 abbrev pub caseA : List Term
@@ -64,3 +71,43 @@ claimF = refl
 pub squaresF : map (λ (k : ℕ). coefficient k (squares problemF (lowF .rows))) (0 ∷ 1 ∷ 2 ∷ []) ≡ pos 2 ∷ pos 2 ∷ pos 0 ∷ []
 unfolding squares square multiplier basisOf coefficient
 squaresF = refl
+
+-- no term has another key, so the identity holds
+identityF : Identity problemF lowF
+unfolding Identity claim squares square multiplier basisOf
+identityF zero = unfold coefficient in refl
+identityF (suc zero) = unfold coefficient in refl
+identityF (suc (suc zero)) = unfold coefficient in refl
+identityF (suc (suc (suc k))) =
+    coefficient-none (λ k. k ≤ 2) (suc (suc (suc k))) (claim problemF (lowF .header)) (omega arith) (λ h. omega arith)
+    ∙ sym (coefficient-none (λ k. k ≤ 2) (suc (suc (suc k))) (squares problemF (lowF .rows)) (omega arith) (λ h. omega arith))
+
+limitsF : Limits problemF
+unfolding All Distinct degree degreeOf within among keysOf
+limitsF = record {
+  variables = omega arith;
+  objective = record { monomials = record { count = omega arith; degrees = (lit≤ tt, tt); variables = (refl, tt); distinct = (refl, tt) }; nonzero = (one-not, tt) };
+  constraints = omega arith;
+  terms = (record { monomials = record { count = omega arith; degrees = (lit≤ tt, (lit≤ tt, tt)); variables = (refl, (refl, tt)); distinct = (refl, (refl, tt)) }; nonzero = (one-not, (minus-not, tt)) }, tt);
+  bases = refl;
+  members = (record { count = omega arith; degrees = (lit≤ tt, (lit≤ tt, tt)); variables = (refl, (refl, tt)); distinct = (refl, (refl, tt)) }, (record { count = omega arith; degrees = (lit≤ tt, tt); variables = (refl, tt); distinct = (refl, tt) }, empty));
+  begun = begun;
+}
+  where
+    one-not : pos 1 ≡ pos 0 → ⊥
+    one-not e = let z : _≡_ {A = ℕ} 1 0 = cc in omega arith
+
+    minus-not : negsuc 0 ≡ pos 0 → ⊥
+    minus-not e = let z : _≡_ {A = ℕ} 0 1 = cc in omega arith
+
+    begun : (j : ℕ) → 1 < j → getD (problemF .bases) j [] ≡ []
+    begun zero h = absurd (omega arith)
+    begun (suc zero) h = absurd (omega arith)
+    begun (suc (suc j)) h = nothing-basis (suc (suc j))
+
+    empty : All (Monomials 1 8 64) (replicate 7 [])
+    empty = let e = monomials-none 1 8 64 in (e, (e, (e, (e, (e, (e, (e, tt)))))))
+
+-- so x is at least −1 wherever 1 − x² is at least 0
+pub boundF : BoundedBelow problemF (negsuc 0) 1
+boundF = identity-below problemF limitsF lowF (lit≤ tt) identityF refl
