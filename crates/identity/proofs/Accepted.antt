@@ -9,8 +9,8 @@ use Rattle.stream.specs.Commands as Stream
 use Rattle.problem.specs.Rules.{Problem}
 use Rattle.problem.specs.Limits.{Limits}
 use Rattle.certificate.specs.Rules.{Certificate, shapeOf, readCertificate}
-use Rattle.identity.specs.Identity.{claim, squares, Identity, KeepsBlocks}
-use Rattle.identity.specs.Judgement.{splitPlace, differenceKey, refused, accepted, byIdentity, byBlocks, judgeRead, judgeOutcome, judge, Smallest, Accepted}
+use Rattle.identity.specs.Identity.{Identity, KeepsBlocks}
+use Rattle.identity.specs.Judgement.{splitPlace, differenceKey, refused, accepted, byIdentity, byBlocks, judgeRead, judgeOutcome, judge, Accepted, Differs}
 use Rattle.identity.proofs.Blocks.{split-none, split-kept}
 use Rattle.identity.proofs.Difference.{identity-none, none-identity, difference-smallest}
 use Rattle.identity.proofs.Fits.{read-fits}
@@ -29,12 +29,6 @@ judged : (d c : Certificate) (x y : Option ℕ) → byBlocks x (byIdentity d y) 
 judged d c (some place) y e = not-refused 8 place 0 c e
 judged d c none (some k) e = not-refused 9 0 k c e
 judged d c none none e = record { split-none = refl; difference-none = refl; same = cc }
-
--- refusal 9 at a key, which is the smallest that differs
-pub record Differs (p : Problem) (s : List ℕ) (c : Certificate) : Type 0 where
-  pub key : ℕ
-  pub refusal : judge p s ≡ refused 9 0 key
-  pub smallest : Smallest (claim p (c .header)) (squares p (c .rows)) key
 
 module _ (p : Problem) where
   -- ---- an accepted stream gives a certificate with every row in one block and the identity true
