@@ -14,7 +14,7 @@ use Rattle.identity.specs.Identity.{blockOf, KeepsBlocks}
 use Rattle.identity.specs.Judgement.{firstOutside, rowSplit, orElse, splitPlace}
 
 -- none is not some
-pub never : {X : Type 0} (n : ℕ) → _≡_ {A = Option ℕ} (some n) none → X
+never : {X : Type 0} (n : ℕ) → _≡_ {A = Option ℕ} (some n) none → X
 never n e = absurd (let z : _≡_ {A = ℕ} 0 1 = cc in omega arith)
 
 module _ (b : ℕ → ℕ) (l : ℕ) where
