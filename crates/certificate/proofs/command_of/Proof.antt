@@ -1,32 +1,31 @@
-use borrow.Author.Needs.{needs}
-use native.Mathlib.Omega.{arith}
-use mathlib.Core.Path.{_≡_, refl, sym, ap, _∙_, subst}
-use Prim.Native.Nat.{ℕ, zero, suc, _+_, _-_, _*_, _≤_, _<_}
-use lib.ListN.{length, getD, take, drop, set, length-set}
+-- `command_of`: the byte against each command's.
+use borrow.Author.Tests.{ne-eqb}
+use Rattle.certificate.specs.Layout.{commandOf}
 use Rattle.certificate.proofs.command_of.Statement.{statement}
 use Rattle.certificate.proofs.command_of.Tie as tie
-use Rattle.certificate.proofs.command_of.Reads as reads
-use Rattle.certificate.proofs.command_of.Lts as lts
 
--- src/lib.rt:68:1
 returns : tie.Need-returns
-returns c = search needs
+unfolding commandOf
+returns c = rw (c .match .keys1)
 
--- src/lib.rt:68:1
 returns-2 : tie.Need-returns-2
-returns-2 c = search needs
+unfolding commandOf
+returns-2 c = rw (c .match .keys2)
 
--- src/lib.rt:68:1
 returns-3 : tie.Need-returns-3
-returns-3 c = search needs
+unfolding commandOf
+returns-3 c = rw (c .match .keys3)
 
--- src/lib.rt:68:1
 returns-4 : tie.Need-returns-4
-returns-4 c = search needs
+unfolding commandOf
+returns-4 c = rw (c .match .keys4)
 
--- src/lib.rt:68:1
 returns-5 : tie.Need-returns-5
-returns-5 c = search needs
+unfolding commandOf
+returns-5 c =
+    let r = c .match .rest in
+    let b = c .before .args .byte in
+    rw (ne-eqb b 16 (r .0 .0 .0 .1), ne-eqb b 17 (r .0 .0 .1), ne-eqb b 18 (r .0 .1), ne-eqb b 19 (r .1))
 
 pub command-of-spec : {M : Type 1} → statement M
 command-of-spec = tie.close (tie.spec returns returns-2 returns-3 returns-4 returns-5)

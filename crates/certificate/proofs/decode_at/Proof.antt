@@ -1,149 +1,129 @@
+-- `decode_at`: each operand stands within the command's length.
+use mir.Syntax.{w32}
+use mir.Facts.{toZ-ofZ}
+use borrow.Author.Needs.{sfits-of}
+use Rattle.certificate.specs.Layout.{size}
 use borrow.Author.Needs.{needs}
 use native.Mathlib.Omega.{arith}
-use mathlib.Core.Path.{_≡_, refl, sym, ap, _∙_, subst}
-use Prim.Native.Nat.{ℕ, zero, suc, _+_, _-_, _*_, _≤_, _<_}
-use lib.ListN.{length, getD, take, drop, set, length-set}
+use mathlib.Core.Path.{ap}
 use Rattle.certificate.proofs.decode_at.Statement.{statement}
 use Rattle.certificate.proofs.decode_at.Tie as tie
-use Rattle.certificate.proofs.decode_at.Reads as reads
-use Rattle.certificate.proofs.decode_at.Lts as lts
-use Rattle.stream.proofs.number_at.Reads as number-at-reads
-use Rattle.stream.proofs.signed16.Reads as signed16-reads
-use Rattle.stream.proofs.signed32.Reads as signed32-reads
 
--- src/lib.rt:112:38
 enum-told : tie.Need-enum-told
 enum-told c = search needs
 
--- src/lib.rt:112:38
 add-number-at : tie.Need-add-number-at
 add-number-at c = search needs
 
--- src/lib.rt:112:17
 number-at-requires : tie.Need-number-at-requires
-number-at-requires c κs = search needs
+number-at-requires c κs = let e = ap size (c .enum-told .given .1) in omega arith
 
--- src/lib.rt:112:17
 cast-t7 : tie.Need-cast-t7
 cast-t7 c = search needs
 
--- src/lib.rt:113:38
 add-number-at-2 : tie.Need-add-number-at-2
 add-number-at-2 c = search needs
 
--- src/lib.rt:113:17
 number-at-requires-2 : tie.Need-number-at-requires-2
-number-at-requires-2 c κs = search needs
+number-at-requires-2 c κs = let e = ap size (c .before .enum-told .given .1) in omega arith
 
--- src/lib.rt:113:17
 cast-t10 : tie.Need-cast-t10
 cast-t10 c = search needs
 
--- src/lib.rt:114:55
 add-number-at-3 : tie.Need-add-number-at-3
 add-number-at-3 c = search needs
 
--- src/lib.rt:114:34
 number-at-requires-3 : tie.Need-number-at-requires-3
-number-at-requires-3 c κs = search needs
+number-at-requires-3 c κs = let e = ap size (c .before .before .enum-told .given .1) in omega arith
 
--- src/lib.rt:114:17
 signed32-requires : tie.Need-signed32-requires
 signed32-requires c κs = search needs
 
--- src/lib.rt:115:38
 add-number-at-4 : tie.Need-add-number-at-4
 add-number-at-4 c = search needs
 
--- src/lib.rt:115:17
 number-at-requires-4 : tie.Need-number-at-requires-4
-number-at-requires-4 c κs = search needs
+number-at-requires-4 c κs = let e = ap size (c .before .before .before .before .enum-told .given .1) in omega arith
 
--- src/lib.rt:115:17
 cast-t16 : tie.Need-cast-t16
 cast-t16 c = search needs
 
--- src/lib.rt:120:38
 enum-told-2 : tie.Need-enum-told-2
 enum-told-2 c = search needs
 
--- src/lib.rt:120:38
 add-number-at-5 : tie.Need-add-number-at-5
 add-number-at-5 c = search needs
 
--- src/lib.rt:120:17
 number-at-requires-5 : tie.Need-number-at-requires-5
-number-at-requires-5 c κs = search needs
+number-at-requires-5 c κs = let e = ap size (c .enum-told2 .given .1) in omega arith
 
--- src/lib.rt:120:17
 cast-t19 : tie.Need-cast-t19
 cast-t19 c = search needs
 
--- src/lib.rt:121:38
 add-number-at-6 : tie.Need-add-number-at-6
 add-number-at-6 c = search needs
 
--- src/lib.rt:121:17
 number-at-requires-6 : tie.Need-number-at-requires-6
-number-at-requires-6 c κs = search needs
+number-at-requires-6 c κs = let e = ap size (c .before .enum-told2 .given .1) in omega arith
 
--- src/lib.rt:121:17
 cast-t22 : tie.Need-cast-t22
 cast-t22 c = search needs
 
--- src/lib.rt:126:38
 enum-told-3 : tie.Need-enum-told-3
 enum-told-3 c = search needs
 
--- src/lib.rt:126:38
 add-number-at-7 : tie.Need-add-number-at-7
 add-number-at-7 c = search needs
 
--- src/lib.rt:126:17
 number-at-requires-7 : tie.Need-number-at-requires-7
-number-at-requires-7 c κs = search needs
+number-at-requires-7 c κs = let e = ap size (c .enum-told3 .given .1) in omega arith
 
--- src/lib.rt:126:17
 cast-t25 : tie.Need-cast-t25
 cast-t25 c = search needs
 
--- src/lib.rt:127:55
 add-number-at-8 : tie.Need-add-number-at-8
 add-number-at-8 c = search needs
 
--- src/lib.rt:127:34
 number-at-requires-8 : tie.Need-number-at-requires-8
-number-at-requires-8 c κs = search needs
+number-at-requires-8 c κs = let e = ap size (c .before .enum-told3 .given .1) in omega arith
 
--- src/lib.rt:127:17
 signed16-requires : tie.Need-signed16-requires
 signed16-requires c κs = search needs
 
--- src/lib.rt:130:25
 enum-told-4 : tie.Need-enum-told-4
 enum-told-4 c = search needs
 
--- src/lib.rt:131:29
 enum-told-5 : tie.Need-enum-told-5
 enum-told-5 c = search needs
 
--- src/lib.rt:105:1
 returns : tie.Need-returns
-returns c = search needs
+returns c =
+    rw (
+      c .before .before .before .before .before .enum-told .given .1,
+      toZ-ofZ {w = w32} (sfits-of (c .before .signed32 .ok)),
+      c .before .before .before .before .number-at .ensures .0,
+      c .before .before .before .number-at2 .ensures .0,
+      c .before .signed32 .ensures,
+      c .before .before .number-at3 .ensures .0,
+      c .number-at4 .ensures .0,
+    )
 
--- src/lib.rt:105:1
 returns-2 : tie.Need-returns-2
-returns-2 c = search needs
+returns-2 c = rw (c .before .before .enum-told2 .given .1, c .before .number-at5 .ensures .0, c .number-at6 .ensures .0)
 
--- src/lib.rt:105:1
 returns-3 : tie.Need-returns-3
-returns-3 c = search needs
+returns-3 c =
+    rw (
+      c .before .before .before .enum-told3 .given .1,
+      toZ-ofZ {w = w32} (sfits-of (c .signed16 .ok)),
+      c .before .before .number-at7 .ensures .0,
+      c .signed16 .ensures,
+      c .before .number-at8 .ensures .0,
+    )
 
--- src/lib.rt:105:1
 returns-4 : tie.Need-returns-4
 returns-4 c = search needs
 
--- src/lib.rt:105:1
 returns-5 : tie.Need-returns-5
 returns-5 c = search needs
 

@@ -1,79 +1,102 @@
-use borrow.Author.Needs.{needs}
+-- `verdict_at`: the laws of the checks, in their order.
+use mathlib.Core.Path.{_≡_, sym, ap, _∙_}
+use mathlib.Core.Bool.{true, false}
+use Prim.Native.Nat.{_+_, _≤_}
 use native.Mathlib.Omega.{arith}
-use mathlib.Core.Path.{_≡_, refl, sym, ap, _∙_, subst}
-use Prim.Native.Nat.{ℕ, zero, suc, _+_, _-_, _*_, _≤_, _<_}
-use lib.ListN.{length, getD, take, drop, set, length-set}
+use lib.ListN.{length}
+use borrow.Author.Needs.{needs}
+use borrow.Author.Tests.{not-true, not-false}
+use Rattle.certificate.specs.Layout.{size}
+use Rattle.certificate.specs.Rules.{placed, allowed, repeated, commandAt, instructionAt}
+use Rattle.certificate.proofs.Checks.{verdict-3, verdict-2, verdict-4, verdict-5, verdict-6, verdict-0}
 use Rattle.certificate.proofs.verdict_at.Statement.{statement}
 use Rattle.certificate.proofs.verdict_at.Tie as tie
-use Rattle.certificate.proofs.verdict_at.Reads as reads
-use Rattle.certificate.proofs.verdict_at.Lts as lts
-use Rattle.certificate.proofs.command_of.Reads as command-of-reads
-use Rattle.certificate.proofs.decode_at.Reads as decode-at-reads
-use Rattle.certificate.proofs.is_allowed.Reads as is-allowed-reads
-use Rattle.certificate.proofs.is_full.Reads as is-full-reads
-use Rattle.certificate.proofs.is_placed.Reads as is-placed-reads
-use Rattle.certificate.proofs.is_repeated.Reads as is-repeated-reads
-use Rattle.certificate.proofs.size_of.Reads as size-of-reads
 
--- src/lib.rt:184:30
 shared-slice-read-command-of : tie.Need-shared-slice-read-command-of
 shared-slice-read-command-of c = search needs
 
--- src/lib.rt:184:9
 command-of-requires : tie.Need-command-of-requires
 command-of-requires c κs = search needs
 
--- src/lib.rt:185:9
 is-placed-requires : tie.Need-is-placed-requires
 is-placed-requires c κs = search needs
 
--- src/lib.rt:186:9
 returns : tie.Need-returns
-returns c = search needs
+returns c =
+    let a = c .before .before .before .before .before .args in
+    verdict-3 (a .h) (a .g) (a .s .now) (a .at) (rw (c .before .before .command-of .ensures) at (sym (c .before .is-placed .ensures) ∙ not-true _ (c .if1 .taken)))
 
--- src/lib.rt:188:23
+-- past the first check
+stands : (c : tie.Else1) → let a = c .before .before .before .before .before .args in placed (a .g) (a .at) (commandAt (a .s .now) (a .at)) ≡ true
+stands c = rw (c .before .before .command-of .ensures) at (sym (c .before .is-placed .ensures) ∙ not-false _ (c .if1 .left))
+
 size-of-requires : tie.Need-size-of-requires
 size-of-requires c κs = search needs
 
--- src/lib.rt:188:18
+length-is : (c : tie.After-size-of) → let a = c .before .before .before .before .before .before .args in c .size-of .result ≡ size (commandAt (a .s .now) (a .at))
+length-is c = c .size-of .ensures .0 ∙ ap size (c .before .before .before .command-of .ensures)
+
 add-if2 : tie.Need-add-if2
 add-if2 c = search needs
 
--- src/lib.rt:189:9
 returns-2 : tie.Need-returns-2
-returns-2 c = search needs
+returns-2 c =
+    let a = c .before .before .before .before .before .before .before .args in
+    let k = length-is (c .before) in
+    verdict-2 (a .h) (a .g) (a .s .now) (a .at) (stands (c .before .before)) (omega arith)
 
--- src/lib.rt:191:9
+-- past the second, with the operands as they stand
+whole : (c : tie.Else2) → let a = c .before .before .before .before .before .before .before .args in a .at + size (commandAt (a .s .now) (a .at)) ≤ length (a .s .now)
+whole c = let k = length-is (c .before) in omega arith
+
 decode-at-requires : tie.Need-decode-at-requires
-decode-at-requires c κs = search needs
+decode-at-requires c κs = let k = c .before .size-of .ensures .0 in omega arith
 
--- src/lib.rt:192:9
+decoded : (c : tie.After-decode-at) → let a = c .before .before .before .before .before .before .before .before .args in c .decode-at .result ≡ instructionAt (a .s .now) (a .at)
+decoded c = rw (c .decode-at .ensures, c .before .before .before .before .before .command-of .ensures)
+
 is-allowed-requires : tie.Need-is-allowed-requires
 is-allowed-requires c κs = search needs
 
--- src/lib.rt:193:9
 returns-3 : tie.Need-returns-3
-returns-3 c = search needs
+returns-3 c =
+    let d = c .before .before in
+    let a = d .before .before .before .before .before .before .before .before .args in
+    verdict-4 (a .h) (a .g) (a .s .now) (a .at) (stands (d .before .before .before)) (whole (d .before)) (rw (decoded d) at (sym (c .before .is-allowed .ensures) ∙ not-true _ (c .if3 .taken)))
 
--- src/lib.rt:195:8
+-- past the third
+kept : (c : tie.Else3) → let a = c .before .before .before .before .before .before .before .before .before .before .args in allowed (a .h) (a .g) (instructionAt (a .s .now) (a .at)) ≡ true
+kept c = rw (decoded (c .before .before)) at (sym (c .before .is-allowed .ensures) ∙ not-false _ (c .if3 .left))
+
 is-repeated-requires : tie.Need-is-repeated-requires
 is-repeated-requires c κs = search needs
 
--- src/lib.rt:196:9
 returns-4 : tie.Need-returns-4
-returns-4 c = search needs
+returns-4 c =
+    let d = c .before .before .before .before in
+    let a = d .before .before .before .before .before .before .before .before .args in
+    verdict-5 (a .h) (a .g) (a .s .now) (a .at) (stands (d .before .before .before)) (whole (d .before)) (kept (c .before .before)) (rw (decoded d) at (sym (c .before .is-repeated .ensures) ∙ c .if4 .taken))
 
--- src/lib.rt:198:8
+-- past the fourth
+fresh : (c : tie.Else4) → let a = c .before .before .before .before .before .before .before .before .before .before .before .before .args in repeated (a .g) (instructionAt (a .s .now) (a .at)) ≡ false
+fresh c = rw (decoded (c .before .before .before .before)) at (sym (c .before .is-repeated .ensures) ∙ c .if4 .left)
+
 is-full-requires : tie.Need-is-full-requires
 is-full-requires c κs = search needs
 
--- src/lib.rt:199:9
 returns-5 : tie.Need-returns-5
-returns-5 c = search needs
+returns-5 c =
+    let d = c .before .before .before .before .before .before in
+    let a = d .before .before .before .before .before .before .before .before .args in
+    verdict-6 (a .h) (a .g) (a .s .now) (a .at) (stands (d .before .before .before)) (whole (d .before)) (kept (c .before .before .before .before)) (fresh (c .before .before))
+    (rw (decoded d) at (sym (c .before .is-full .ensures) ∙ c .if5 .taken))
 
--- src/lib.rt:180:1
 returns-6 : tie.Need-returns-6
-returns-6 c = search needs
+returns-6 c =
+    let d = c .before .before .before .before .before .before in
+    let a = d .before .before .before .before .before .before .before .before .args in
+    verdict-0 (a .h) (a .g) (a .s .now) (a .at) (stands (d .before .before .before)) (whole (d .before)) (kept (c .before .before .before .before)) (fresh (c .before .before))
+    (rw (decoded d) at (sym (c .before .is-full .ensures) ∙ c .if5 .left))
 
 pub verdict-at-spec : {M : Type 1} → statement M
 verdict-at-spec =
