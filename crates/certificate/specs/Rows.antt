@@ -42,13 +42,12 @@ unfoldable pub rowsOf : List ℕ → List Row
 rowsOf s = rowsFrom 128 s 10
 
 -- ---- a row in arrays
--- the row that the arrays hold, whose entries begin at an offset
+-- entry i of the arrays, and the row that they hold, whose entries begin at an offset
+abbrev pub storedEntry : StoredRow → ℕ → ℕ → Entry
+storedEntry r at i = record { index = getD (r .indices) i 0; factor = getD (r .factors) i (pos 0); place = at + 4 * i }
+
 unfoldable pub rowOf : StoredRow → ℕ → Row
-rowOf r at = record {
-  basis = r .basis;
-  weight = r .weight;
-  entries = listed (r .count) (λ i. record { index = getD (r .indices) i 0; factor = getD (r .factors) i (pos 0); place = at + 4 * i });
-}
+rowOf r at = record { basis = r .basis; weight = r .weight; entries = listed (r .count) (storedEntry r at) }
 
 -- the arrays hold the row that begins at an offset
 pub record Holds (s : List ℕ) (at : ℕ) (r : StoredRow) : Type 0 where
