@@ -1,15 +1,15 @@
 -- The header and the progress that the reader keeps are those of the certificate that is read.
 use mathlib.Core.Path.{_≡_, refl, ap, sym, _∙_}
 use mathlib.Core.List.{List, [], _∷_, _++_}
-use mathlib.Core.Bool.{Bool, true, false, _&&_}
-use Prim.Native.Nat.{ℕ, zero, suc, _+_, _-_, _≤_, _<_}
+use mathlib.Core.Bool.{true}
+use Prim.Native.Nat.{ℕ, suc, _+_, _-_, _≤_, _<_}
 use native.Mathlib.Numerals.{add-one}
 use native.Mathlib.Omega.{arith}
-use lib.Dec.{eqb, leb, ltb}
+use lib.Dec.{leb, ltb}
 use lib.ListN.{length, getD, set, length-append, length-set}
 use lib.Seq.{getD-at, getD-set-same}
 use borrow.Author.Tests.{leb-true, leb-false, ltb-true}
-use Rattle.stream.specs.Commands.{Outcome, refused, given}
+use Rattle.stream.specs.Commands.{refused, given}
 use Rattle.stream.specs.Operands.{number}
 use Rattle.stream.proofs.Run.{Passes, passes, Left, left-start, left-end, left-refused, left-extra, left-given, left-next}
 use Rattle.problem.proofs.Limits.{and-left, and-right}
@@ -18,7 +18,7 @@ use Rattle.certificate.specs.declared.Command.the-variants as C
 use Rattle.certificate.specs.declared.Shape.{Shape}
 use Rattle.certificate.specs.declared.Header.{Header}
 use Rattle.certificate.specs.declared.Progress.{Progress}
-use Rattle.certificate.specs.Layout.{commandOf, size, decode}
+use Rattle.certificate.specs.Layout.{size, decode}
 use Rattle.certificate.specs.Rules.{Entry, Row, Certificate, noHeader, nothing, noRow, lastRow, floorOf, progressOf, placed, allowed, repeated, full, applied, commandAt, instructionAt, progressVerdict, verdict, next, language, readCertificate}
 use Rattle.certificate.specs.Kept.{headerOutcome, headed, advanced, Within, Bounded}
 
@@ -158,8 +158,8 @@ module _ (h : Shape) (s : List ℕ) where
           read = next (k .read) s at;
           header = ap (λ (x : Header). headed x (instructionAt s at)) (k .header) ∙ sym (next-header (k .read) s at);
           progress =
-            ap (λ (x : Progress). advanced x (instructionAt s at)) (k .progress)
-            ∙ sym (next-progress (k .read) s at (rw (k .progress) at (passed h g s at v .placed)));
+              ap (λ (x : Progress). advanced x (instructionAt s at)) (k .progress)
+              ∙ sym (next-progress (k .read) s at (rw (k .progress) at (passed h g s at v .placed)));
           bounded = bounded-next h g s at v w (k .bounded);
           inside = taken-whole h g s at v;
           left = left-next (language h) s _ (k .read) at (k .left) e none b (taken-size h g s at v);

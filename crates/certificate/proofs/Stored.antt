@@ -1,24 +1,23 @@
 -- Laws of a row that is read off the bytes into arrays: where a command stands, the count of the entries, one entry more.
-use mathlib.Core.Path.{_≡_, refl, ap, sym, _∙_}
+use mathlib.Core.Path.{_≡_, refl, _∙_}
 use mathlib.Core.List.{List}
 use mathlib.Core.Logic.{⊎-elim}
-use mathlib.Core.Bool.{Bool, true, false, _&&_, cond}
-use Prim.Native.Nat.{ℕ, zero, suc, _+_, _-_, _*_, _^_, _≤_, _<_}
+use mathlib.Core.Bool.{Bool, true, false, cond}
+use Prim.Native.Nat.{ℕ, suc, _+_, _-_, _*_, _^_, _≤_, _<_}
 use native.Mathlib.Nat.{eq-or-lt-of-le}
 use native.Mathlib.Omega.{arith}
 use lib.Dec.{leb, eqb, ltb}
-use lib.IntN.{ℤ, pos, negsuc, _-ℤ_}
+use lib.IntN.{ℤ, pos, _-ℤ_}
 use lib.ListN.{length, getD, set, length-set}
 use lib.Seq.{getD-set-same, getD-set-other}
 use mir.Syntax.{w16}
 use mir.Val.{SFits}
 use borrow.Author.Tests.{lt-leb, le-leb, leb-true, eqb-true, lt-ltb, ltb-true, ltb-false}
 use Rattle.counting.specs.Counting.{listed}
-use Rattle.counting.proofs.Listed.{listed-length, listed-same, listed-at}
+use Rattle.counting.proofs.Listed.{listed-same}
 use Rattle.stream.specs.Operands.{number, signed}
 use Rattle.problem.proofs.Limits.{and-left, and-right}
 use Rattle.certificate.specs.declared.StoredRow.{StoredRow}
-use Rattle.certificate.specs.Rules.{Entry, Row}
 use Rattle.certificate.specs.Rows.{stands, entryCount, entryAt, rowAt, afterRow, storedEntry, rowOf, Holds}
 
 -- ---- whether a command stands at an offset

@@ -1,8 +1,8 @@
 -- The limits that every certificate keeps that a stream gives (proofs/Limits.antt).
 use mathlib.Core.Path.{_≡_}
 use mathlib.Core.List.{List, [], _∷_}
-use Prim.Native.Nat.{ℕ, _≤_, _<_}
-use lib.IntN.{ℤ, pos}
+use Prim.Native.Nat.{_≤_, _<_}
+use lib.IntN.{pos}
 use lib.ListN.{length, getD}
 use Rattle.problem.specs.Limits.{All}
 use Rattle.certificate.specs.declared.Shape.{Shape}

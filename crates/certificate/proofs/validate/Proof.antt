@@ -6,19 +6,11 @@ use Rattle.certificate.specs.Kept.{outcomeOf}
 use Rattle.certificate.proofs.Kept.{Held, held-start, held-end, held-refused, held-extra, held-given, held-next, taken-size, taken-whole}
 use borrow.Author.Needs.{needs}
 use native.Mathlib.Omega.{arith}
-use mathlib.Core.Path.{_≡_, refl, sym, ap, _∙_, subst}
-use Prim.Native.Nat.{ℕ, zero, suc, _+_, _-_, _*_, _≤_, _<_}
-use lib.ListN.{length, getD, take, drop, set, length-set}
+use mathlib.Core.Path.{_≡_, ap, _∙_}
+use Prim.Native.Nat.{ℕ, _-_}
+use lib.ListN.{length}
 use Rattle.certificate.proofs.validate.Statement.{statement}
 use Rattle.certificate.proofs.validate.Tie as tie
-use Rattle.certificate.proofs.validate.Reads as reads
-use Rattle.certificate.proofs.validate.Lts as lts
-use Rattle.certificate.proofs.command_of.Reads as command-of-reads
-use Rattle.certificate.proofs.decode_at.Reads as decode-at-reads
-use Rattle.certificate.proofs.header_after.Reads as header-after-reads
-use Rattle.certificate.proofs.progress_after.Reads as progress-after-reads
-use Rattle.certificate.proofs.size_of.Reads as size-of-reads
-use Rattle.certificate.proofs.verdict_at.Reads as verdict-at-reads
 
 abbrev Inv-loop : tie.InvT-loop
 Inv-loop h s header₀ progress₀ at₀ header progress at = Held h s header progress at
@@ -26,24 +18,20 @@ Inv-loop h s header₀ progress₀ at₀ header progress at = Held h s header pr
 abbrev μ-loop : tie.MeasureT-loop
 μ-loop h s header₀ progress₀ at₀ header progress at = length s - at
 
--- src/lib.rt:265:5
 loop-holds : tie.Need-loop-holds Inv-loop μ-loop
 loop-holds c = held-start (c .before .args .h) (c .before .args .s .now)
 
--- src/lib.rt:266:13
 verdict-at-requires : tie.Need-verdict-at-requires Inv-loop μ-loop
 verdict-at-requires c κs = (c .before .loop .inv .bounded, omega arith)
 
--- src/lib.rt:268:13
 returns : tie.Need-returns Inv-loop μ-loop
 unfolding outcomeOf
-returns c = 
+returns c =
     let l = c .before .before .before in
     let a = l .before .before .args in
     rw (ne-eqb (c .before .verdict-at .result) 0 (λ e. omega arith))
     (held-refused (a .h) (a .s .now) _ _ (l .loop .at) (l .loop .inv) (omega arith) _ (c .before .verdict-at .ensures) (omega arith))
 
--- src/lib.rt:274:20
 -- past the checks
 none : (c : tie.Else1 Inv-loop μ-loop) → let l = c .before .before .before in let a = l .before .before .args in progressVerdict (a .h) (l .loop .progress) (a .s .now) (l .loop .at) ≡ 0
 none c = let v = c .before .verdict-at .ensures in omega arith
@@ -54,58 +42,49 @@ length-is c = c .size-of .ensures .0 ∙ ap size (c .before .command-of .ensures
 shared-slice-read-byte : tie.Need-shared-slice-read-byte Inv-loop μ-loop
 shared-slice-read-byte c = search needs
 
--- src/lib.rt:275:13
 command-of-requires : tie.Need-command-of-requires Inv-loop μ-loop
 command-of-requires c κs = search needs
 
--- src/lib.rt:276:25
 size-of-requires : tie.Need-size-of-requires Inv-loop μ-loop
 size-of-requires c κs = search needs
 
--- src/lib.rt:276:20
 add-next : tie.Need-add-next Inv-loop μ-loop
 add-next c = let k = c .size-of .ensures .1 in omega arith
 
--- src/lib.rt:279:13
 returns-2 : tie.Need-returns-2 Inv-loop μ-loop
 unfolding outcomeOf commandOf
-returns-2 c = 
+returns-2 c =
     let l = c .before .before .before .before .before .before .before .before in
     let a = l .before .before .args in
     let b = c .before .if2 .taken in
     let k : c .before .before .size-of .result ≡ 1 = length-is (c .before .before) ∙ ap (λ (x : ℕ). size (commandOf x)) b in
     rw k (held-extra (a .h) (a .s .now) _ _ (l .loop .at) (l .loop .inv) (omega arith) (none (c .before .before .before .before .before)) b (omega arith))
 
--- src/lib.rt:279:13
 returns-3 : tie.Need-returns-3 Inv-loop μ-loop
 unfolding outcomeOf commandOf
-returns-3 c = 
+returns-3 c =
     let l = c .before .before .before .before .before .before .before .before in
     let a = l .before .before .args in
     let b = c .before .if2 .taken in
     let k : c .before .before .size-of .result ≡ 1 = length-is (c .before .before) ∙ ap (λ (x : ℕ). size (commandOf x)) b in
     held-given (a .h) (a .s .now) _ _ (l .loop .at) (l .loop .inv) (omega arith) (none (c .before .before .before .before .before)) b (omega arith)
 
--- src/lib.rt:285:13
 decode-at-requires : tie.Need-decode-at-requires Inv-loop μ-loop
-decode-at-requires c κs = 
+decode-at-requires c κs =
     let l = c .before .before .before .before .before .before .before in
     let a = l .before .before .args in
     let k = length-is (c .before) in
     let e = c .before .size-of .ensures .0 in
     omega (arith, taken-whole (a .h) (l .loop .progress) (a .s .now) (l .loop .at) (none (c .before .before .before .before)))
 
--- src/lib.rt:286:9
 header-after-requires : tie.Need-header-after-requires Inv-loop μ-loop
 header-after-requires c κs = search needs
 
--- src/lib.rt:287:9
 progress-after-requires : tie.Need-progress-after-requires Inv-loop μ-loop
 progress-after-requires c κs = c .before .before .before .before .before .before .before .before .before .loop .inv .bounded
 
--- src/lib.rt:265:5
 loop-less : tie.Need-loop-less Inv-loop μ-loop
-loop-less c = 
+loop-less c =
     let e = c .before .before .before .before in
     let l = e .before .before .before .before .before .before in
     let a = l .before .before .args in
@@ -113,9 +92,8 @@ loop-less c =
     let n = none (e .before .before .before) in
     omega (arith, taken-whole (a .h) (l .loop .progress) (a .s .now) (l .loop .at) n, taken-size (a .h) (l .loop .progress) (a .s .now) (l .loop .at) n)
 
--- src/lib.rt:265:5
 loop-again : tie.Need-loop-again Inv-loop μ-loop
-loop-again c = 
+loop-again c =
     let e = c .before .before .before .before in
     let l = e .before .before .before .before .before .before in
     let a = l .before .before .args in
@@ -123,10 +101,9 @@ loop-again c =
     rw (c .before .header-after .ensures, c .progress-after .ensures, i, length-is e)
     (held-next (a .h) (a .s .now) _ _ (l .loop .at) (l .loop .inv) (omega arith) (none (e .before .before .before)) (l .before .before .pre) (c .before .before .before .if2 .left))
 
--- src/lib.rt:249:1
 returns-4 : tie.Need-returns-4 Inv-loop μ-loop
 unfolding outcomeOf
-returns-4 c = 
+returns-4 c =
     let l = c .before in
     let a = l .before .before .args in
     held-end (a .h) (a .s .now) _ _ (l .loop .at) (l .loop .inv) (omega arith)
