@@ -241,9 +241,12 @@ grown-none n t h =
 
 -- ---- a set that the round before has filled
 
+pub full-keeps : (T B L S S′ : List ℕ) → Extends S S′ → Full T B L S → Full T B L S′
+full-keeps T B L S S′ x f = record { at = λ i k h u. record { at = λ q t m. x .keeps _ (f .at i k h u .at q t m) } }
+
 module _ (first : Bool) (T B L₀ : List ℕ) where
   pub filled-keeps : (S S′ : List ℕ) → Extends S S′ → Filled first T B L₀ S → Filled first T B L₀ S′
-  filled-keeps S S′ x f = record { full = λ e. record { at = λ i k h u. record { at = λ q t m. x .keeps _ (f .full e .at i k h u .at q t m) } } }
+  filled-keeps S S′ x f = record { full = λ e. full-keeps T B L₀ S S′ x (f .full e) }
 
   pub filled-step : (S₀ S t : List ℕ) (n : ℕ) (t′ : List ℕ) → Grown S t n t′ → n ≤ 2048 → Extends S₀ S → Filled first T B L₀ S₀ → Filled first T B L₀ (take n t′)
   filled-step S₀ S t n t′ g b x f = rw (grown-take S t n t′ g b) (filled-keeps S₀ S x f)

@@ -1,1 +1,3 @@
 pub mod Start
+pub mod Settled
+pub mod Laid

@@ -93,3 +93,7 @@ unfolding startFrom
 start-same objective g h b m =
     ap (λ (l : List ℕ). insertAll (multiples 2 l) (fromTo 1 9 (λ j. insertAll (g .multiplier j)) (insertAll objective []))) (b 0 (omega arith))
     ∙ ap (insertAll (multiples 2 (h .basis 0))) (fromTo-same (λ j. insertAll (g .multiplier j)) (λ j. insertAll (h .multiplier j)) 9 1 (λ j S _ l. ap (λ (ks : List ℕ). insertAll ks S) (m j l)) _)
+
+-- a larger set laid over a table that has grown to hold a smaller one is laid over the table it grew from
+pub grown-back : (S t : List ℕ) (n : ℕ) (t₁ : List ℕ) → Grown S t n t₁ → n ≤ 2048 → (S′ : List ℕ) → length S ≤ length S′ → (t₂ : List ℕ) → t₂ ≡ over S′ t₁ → t₂ ≡ over S′ t
+grown-back S t n t₁ g few S′ x t₂ e = e ∙ ap (λ (l : List ℕ). S′ ++ l) (ap (drop (length S′)) (g .table few) ∙ drop-over S t (length S′) x)

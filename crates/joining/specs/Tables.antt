@@ -1,8 +1,15 @@
 -- What the functions that compute the joining rule ask of their arrays and leave in the lent table.
 use mathlib.Core.Path.{_≡_}
-use Prim.Native.Nat.{ℕ, _*_, _^_}
+use mathlib.Core.Bool.{false}
 use mathlib.Core.List.{List}
-use lib.ListN.{length}
+use Prim.Native.Nat.{ℕ, _*_, _^_}
+use lib.Dec.{ltb}
+use lib.ListN.{length, drop}
+use Rattle.support.specs.Sets.{insert}
+use Rattle.support.specs.Table.{over}
+use Rattle.rounds.specs.Rounds.{Closing, blocksIn}
+use Rattle.rounds.specs.Bytes.{blockBytes}
+use Rattle.joining.specs.declared.Joined.{Joined}
 use Rattle.blocks.specs.Limits.{Bounded}
 
 -- nine multipliers of at most 32 terms of degree at most 16
@@ -11,3 +18,14 @@ pub record Multipliers (exponents counts : List ℕ) : Type 0 where
   pub counts-small : Bounded 32 counts
   pub exponents-long : length exponents ≡ 288
   pub exponents-low : Bounded (16 * 2 ^ 56) exponents
+
+-- what is left where the rounds end in o: the closed S with the zero exponent stands in the table t′, unless it has more than 2,048
+-- members
+pub record Joining (o : Closing) (t : List ℕ) (r : Joined) (t′ : List ℕ) : Type 0 where
+  pub full : r .full ≡ ltb 2048 (length (insert 0 (o .state .support)))
+  pub labels : r .full ≡ false → r .labels ≡ blockBytes (o .state .labels)
+  pub rounds : r .full ≡ false → r .rounds ≡ o .rounds
+  pub blocks : r .full ≡ false → r .blocks ≡ blocksIn (o .state .labels)
+  pub len : r .full ≡ false → r .len ≡ length (insert 0 (o .state .support))
+  pub table : r .full ≡ false → t′ ≡ over (insert 0 (o .state .support)) t
+  pub rest : drop 2048 t′ ≡ drop 2048 t

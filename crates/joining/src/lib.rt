@@ -2,6 +2,7 @@
 // in `keys`, the exponents of its multiplier from place 32j on in `exponents`, as in the crate rounds. The first `len` numbers of
 // `table` are the support.
 ghost use mathlib.Core.Path.{_≡_};
+ghost use mathlib.Core.Bool.{true};
 ghost use mathlib.Core.List.{[]};
 ghost use Prim.Native.Nat.{ℕ, _+_, _*_, _^_, _≤_, _<_};
 ghost use lib.ListN.{length, getD, take};
@@ -9,12 +10,16 @@ ghost use Rattle.counting.specs.Counting.{fromTo};
 ghost use Rattle.support.specs.Table.{Holds, Grown};
 ghost use Rattle.blocks.specs.Limits.{Bounded};
 ghost use Rattle.rounds.specs.Bytes.{part};
-ghost use Rattle.joining.specs.Tables.{Multipliers};
+ghost use Rattle.rounds.specs.Rounds.{closing};
+ghost use Rattle.joining.specs.Tables.{Multipliers, Joining};
 ghost use Rattle.rounds.specs.Bytes.{basesIn};
 ghost use Rattle.rounds.specs.Arrays.{Arrays};
 ghost use Rattle.polynomial.specs.Terms.{keysOf, objectiveTerms};
 ghost use Rattle.joining.specs.Joining.{insertAll, multiples, startFrom};
+ghost use Rattle.problem.specs.Stored.{problemOf, Kept};
+ghost use Rattle.joining.specs.Joining as J;
 use polynomial::Objective;
+use problem::StoredProblem;
 
 // The support with each key times `factor` put in; 2,049 where it has too many.
 fn put_keys(table: &mut [u64], len: usize, keys: &[u64], factor: u64) -> usize
@@ -98,4 +103,77 @@ fn seed(
     }
     let n = sizes[0];
     put_keys(table, b, &keys[..n], 2)
+}
+
+// What the joining rule leaves: the block numbers, the number of rounds and of blocks, and how many keys the closed support has
+// with the zero exponent. Where that is more than 2,048, `full` says so and the other fields say nothing.
+pub struct Joined {
+    pub full: bool,
+    pub labels: [u8; 576],
+    pub rounds: usize,
+    pub blocks: usize,
+    pub len: usize,
+}
+
+fn too_many(labels: [u8; 576]) -> Joined
+    ensures { λ r. ⌜ r .full ≡ true ⌝ }
+{
+    Joined {
+        full: true,
+        labels,
+        rounds: 0,
+        blocks: 0,
+        len: 0,
+    }
+}
+
+// The joining rule from its start to its end. The table's first numbers are then the closed support with the zero exponent.
+pub fn settle(
+    q: Objective,
+    keys: &[u64],
+    sizes: &[usize],
+    exponents: &[u64],
+    counts: &[usize],
+    table: &mut [u64],
+) -> Joined
+    requires { ⌜ (2048 ≤ length (now table)) × (q .count ≤ 256) × Bounded (32 * 2 ^ 56) (q .keys) × Arrays (now keys) (now sizes) (now exponents) (now counts) ⌝ }
+    ensures { λ r. ⌜ Joining (closing (basesIn (now (keys .entry)) (now (sizes .entry)) (now (exponents .entry)) (now (counts .entry))) (startFrom (keysOf (objectiveTerms q)) (basesIn (now (keys .entry)) (now (sizes .entry)) (now (exponents .entry)) (now (counts .entry))))) (now (table .entry)) r (now (table .exit)) ⌝ }
+{
+    let start = rounds::start_labels(sizes);
+    let n = seed(q, keys, sizes, exponents, counts, table);
+    if 2048 < n {
+        return too_many(start);
+    }
+    let c = rounds::close(start, keys, sizes, exponents, counts, table, n);
+    let labels = c.labels;
+    let m = c.len;
+    if 2048 < m {
+        return too_many(labels);
+    }
+    let len = support::put(table, m, 0);
+    if 2048 < len {
+        return too_many(labels);
+    }
+    Joined {
+        full: false,
+        labels,
+        rounds: c.rounds,
+        blocks: rounds::count(&labels, sizes),
+        len,
+    }
+}
+
+// The joining rule of a stored problem.
+pub fn join(p: StoredProblem, table: &mut [u64]) -> Joined
+    requires { ⌜ (2048 ≤ length (now table)) × Kept p ⌝ }
+    ensures { λ r. ⌜ Joining (J.closing (problemOf p)) (now (table .entry)) r (now (table .exit)) ⌝ }
+{
+    let constraints = p.constraints;
+    let m = problem::multipliers_of(constraints, p.count);
+    let q = p.objective;
+    let keys = p.keys;
+    let sizes = p.sizes;
+    let exponents = m.keys;
+    let counts = m.counts;
+    settle(q, &keys, &sizes, &exponents, &counts, table)
 }

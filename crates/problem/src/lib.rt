@@ -1,4 +1,16 @@
 // The reader of the problem stream.
+ghost use mathlib.Core.Path.{_≡_};
+ghost use mathlib.Core.Bool.{true};
+ghost use Prim.Native.Nat.{ℕ, _+_, _≤_, _<_};
+ghost use lib.Dec.{leb};
+ghost use lib.ListN.{length, take, drop};
+ghost use Rattle.stream.specs.Commands.{firstRefusal};
+ghost use Rattle.polynomial.specs.Monomial.{among};
+ghost use Rattle.problem.specs.Layout.{commandOf, size, decode};
+ghost use Rattle.problem.specs.Rules.{Problem, placed, fitting, nonzero, allowed, readProblem};
+ghost use Rattle.problem.specs.Checks.{checked};
+ghost use Rattle.problem.specs.Stored.{outcomeOf, constraintsOf, KeptConstraints, Kept};
+ghost use Rattle.problem.specs.Bases.{Flat};
 use polynomial::Objective;
 use polynomial::Polynomial;
 
@@ -22,6 +34,12 @@ pub enum Instruction {
     End,
 }
 
+// What the first three checks of a command give: a refusal's number, or the command and the offset of the next.
+pub enum Checked {
+    Refused(u8),
+    Passed(Instruction, usize),
+}
+
 // A problem as it is stored: count is the number of constraints begun; basis j has sizes[j] keys, from place 64 j of keys on.
 pub struct StoredProblem {
     pub variables: usize,
@@ -37,4 +55,266 @@ pub struct Reading {
     pub number: u8,
     pub place: usize,
     pub problem: StoredProblem,
+}
+
+// The exponents of the multipliers: g_j has counts[j], from place 32 j of keys on.
+pub struct Multipliers {
+    pub keys: [u64; 288],
+    pub counts: [usize; 9],
+}
+
+fn command_of(byte: u8) -> Command
+    ensures { λ r. ⌜ r ≡ commandOf byte ⌝ }
+{
+    match byte {
+        1 => Command::Variables,
+        2 => Command::Objective,
+        3 => Command::Constraint,
+        4 => Command::Term,
+        5 => Command::Member,
+        6 => Command::End,
+        _ => Command::Unknown,
+    }
+}
+
+fn size_of(command: Command) -> usize
+    ensures { λ r. ⌜ (r ≡ size command) × (r ≤ 13) ⌝ }
+{
+    match command {
+        Command::Variables => 1 + 1,
+        Command::Objective => 1 + 8 + 4,
+        Command::Constraint => 1,
+        Command::Term => 1 + 8 + 2,
+        Command::Member => 1 + 1 + 8,
+        Command::End => 1,
+        Command::Unknown => 0,
+    }
+}
+
+// Whether a command may stand at an offset, after `count` constraints.
+fn is_placed(count: usize, at: usize, command: Command) -> bool
+    ensures { λ r. ⌜ ((p : Problem) → length (p .constraints) ≡ count → r ≡ placed p at command) ⌝ }
+{
+    match command {
+        Command::Variables => at == 0,
+        Command::Objective => 0 < at,
+        Command::Constraint => 0 < at,
+        Command::Term => 0 < at && 0 < count,
+        Command::Member => 0 < at,
+        Command::End => 0 < at,
+        Command::Unknown => false,
+    }
+}
+
+fn decode_at(command: Command, s: &[u8], at: usize) -> Instruction
+    requires { ⌜ at + size command ≤ length (now s) ⌝ }
+    ensures { λ r. ⌜ r ≡ decode command (now (s .entry)) at ⌝ }
+{
+    match command {
+        Command::Variables => Instruction::Variables(stream::number_at(s, at + 1, 1) as usize),
+        Command::Objective => {
+            Instruction::Objective(
+                stream::number_at(s, at + 1, 8),
+                stream::signed32(stream::number_at(s, at + 9, 4)),
+            )
+        }
+        Command::Constraint => Instruction::Constraint,
+        Command::Term => {
+            Instruction::Term(
+                stream::number_at(s, at + 1, 8),
+                stream::signed16(stream::number_at(s, at + 9, 2)),
+            )
+        }
+        Command::Member => {
+            Instruction::Member(
+                stream::number_at(s, at + 1, 1) as usize,
+                stream::number_at(s, at + 2, 8),
+            )
+        }
+        Command::End => Instruction::End,
+        Command::Unknown => Instruction::End,
+    }
+}
+
+fn is_fitting(n: usize, limit: u64, key: u64) -> bool
+    ensures { λ r. ⌜ r ≡ fitting n limit key ⌝ }
+{
+    polynomial::degree_of(key) <= limit && polynomial::is_within(n, key)
+}
+
+fn is_nonzero(c: i32) -> bool
+    ensures { λ r. ⌜ r ≡ nonzero c ⌝ }
+{
+    c != 0
+}
+
+// Whether a command's operands keep their rules, with n variables and after `count` constraints.
+fn is_allowed(n: usize, count: usize, i: Instruction) -> bool
+    ensures { λ r. ⌜ ((p : Problem) → p .variables ≡ n → length (p .constraints) ≡ count → r ≡ allowed p i) ⌝ }
+{
+    match i {
+        Instruction::Variables(m) => 1 <= m && m <= 8,
+        Instruction::Objective(key, c) => is_fitting(n, 32, key) && is_nonzero(c),
+        Instruction::Constraint => true,
+        Instruction::Term(key, c) => is_fitting(n, 16, key) && is_nonzero(c),
+        Instruction::Member(j, key) => j <= count && is_fitting(n, 8, key),
+        Instruction::End => true,
+    }
+}
+
+// The checks 3, 2 and 4 of the command at an offset. They need two numbers of what was read before it.
+fn check_at(n: usize, count: usize, s: &[u8], at: usize) -> Checked
+    requires { ⌜ at < length (now s) ⌝ }
+    ensures { λ r. ⌜ ((p : Problem) → p .variables ≡ n → length (p .constraints) ≡ count → r ≡ checked p (now (s .entry)) at) ⌝ }
+{
+    let command = command_of(s[at]);
+    if !is_placed(count, at, command) {
+        return Checked::Refused(3);
+    }
+    let next = at + size_of(command);
+    if s.len() < next {
+        return Checked::Refused(2);
+    }
+    let i = decode_at(command, s, at);
+    if !is_allowed(n, count, i) {
+        return Checked::Refused(4);
+    }
+    Checked::Passed(i, next)
+}
+
+// The checks 5 and 6 of one monomial more, for a list of at most `limit` that has `count`, from a place of the keys on.
+fn check_room(keys: &[u64], from: usize, count: usize, key: u64, limit: usize) -> u8
+    requires { ⌜ from + count ≤ length (now keys) ⌝ }
+    ensures { λ r. ⌜ r ≡ firstRefusal true true true (among key (take count (drop from (now (keys .entry))))) (leb limit count) ⌝ }
+{
+    let part = &keys[from..from + count];
+    if polynomial::is_among(part, key) {
+        return 5;
+    }
+    if limit <= count {
+        return 6;
+    }
+    0
+}
+
+// Reads a problem stream. The arrays are stored to in place; number is 2, as of a stream that ends here, until it is decided.
+pub fn read(s: &[u8]) -> Reading
+    ensures { λ r. ⌜ (outcomeOf r ≡ readProblem (now (s .entry))) × Kept (r .problem) ⌝ }
+{
+    let mut variables = 0;
+    let mut objective = Objective::empty();
+    let mut constraints = [Polynomial::empty(); 8];
+    let mut count = 0;
+    let mut keys: [u64; 576] = [0; 576];
+    let mut sizes: [usize; 9] = [0; 9];
+    let mut number: u8 = 2;
+    let mut at = 0;
+    while at < s.len() {
+        match check_at(variables, count, s, at) {
+            Checked::Refused(found) => {
+                number = found;
+                break;
+            }
+            Checked::Passed(instruction, next) => {
+                match instruction {
+                    Instruction::Variables(n) => {
+                        variables = n;
+                    }
+                    Instruction::Objective(key, c) => {
+                        let n = objective.count;
+                        let found = check_room(&objective.keys, 0, n, key, 256);
+                        if 0 < found {
+                            number = found;
+                            break;
+                        }
+                        objective.keys[n] = key;
+                        objective.coefficients[n] = c;
+                        objective.count = n + 1;
+                    }
+                    Instruction::Constraint => {
+                        if 8 <= count {
+                            number = 6;
+                            break;
+                        }
+                        constraints[count] = Polynomial::empty();
+                        count += 1;
+                    }
+                    Instruction::Term(key, c) => {
+                        let last = count - 1;
+                        let mut q = constraints[last];
+                        let n = q.count;
+                        let found = check_room(&q.keys, 0, n, key, 32);
+                        if 0 < found {
+                            number = found;
+                            break;
+                        }
+                        q.keys[n] = key;
+                        q.coefficients[n] = c;
+                        q.count = n + 1;
+                        constraints[last] = q;
+                    }
+                    Instruction::Member(j, key) => {
+                        let n = sizes[j];
+                        let found = check_room(&keys, 64 * j, n, key, 64);
+                        if 0 < found {
+                            number = found;
+                            break;
+                        }
+                        keys[64 * j + n] = key;
+                        sizes[j] = n + 1;
+                    }
+                    Instruction::End => {
+                        if next < s.len() {
+                            at = next;
+                        } else {
+                            number = 0;
+                        }
+                        break;
+                    }
+                }
+                at = next;
+            }
+        }
+    }
+    Reading {
+        number,
+        place: at,
+        problem: StoredProblem {
+            variables,
+            objective,
+            constraints,
+            count,
+            keys,
+            sizes,
+        },
+    }
+}
+
+fn copy_all(to: &mut [u64], from: &[u64])
+    requires { ⌜ length (now to) ≡ length (now from) ⌝ }
+    ensures { λ _. ⌜ now (to .exit) ≡ now (from .entry) ⌝ }
+{
+    let mut i = 0;
+    while i < from.len() {
+        to[i] = from[i];
+        i += 1;
+    }
+}
+
+// The multipliers of a problem's bases, so that parts of one array can be lent: each constraint is copied once.
+pub fn multipliers_of(constraints: [Polynomial; 8], count: usize) -> Multipliers
+    requires { ⌜ KeptConstraints count constraints ⌝ }
+    ensures { λ r. ⌜ ((p : Problem) → p .constraints ≡ constraintsOf count constraints → Flat p r) ⌝ }
+{
+    let mut keys: [u64; 288] = [0; 288];
+    let mut counts: [usize; 9] = [0; 9];
+    counts[0] = 1;
+    let mut j = 0;
+    while j < count {
+        let q = constraints[j];
+        j += 1;
+        counts[j] = q.count;
+        copy_all(&mut keys[32 * j..32 * j + 32], &q.keys);
+    }
+    Multipliers { keys, counts }
 }

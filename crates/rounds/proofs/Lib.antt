@@ -4,3 +4,6 @@ pub mod Closing
 pub mod Bound
 pub mod Meaning
 pub mod Only
+pub mod Flat
+pub mod Passes
+pub mod Rounding

@@ -8,8 +8,10 @@ use Rattle.support.specs.Table.{Holds, Grown}
 use Rattle.blocks.specs.Join.{join}
 use Rattle.blocks.specs.Extend.{extend}
 use Rattle.blocks.specs.Limits.{Bounded}
+use Rattle.blocks.specs.Filled.{Filled}
 use Rattle.rounds.specs.Rounds.{Bases, Closing, singles}
 use Rattle.rounds.specs.Bytes.{blockBytes, basesIn, labelsIn}
+use Rattle.rounds.specs.declared.Closed.{Closed}
 
 -- nine bases of at most 64 monomials
 pub record Sizes (sizes : List ℕ) : Type 0 where
@@ -25,3 +27,38 @@ pub record Arrays (keys sizes exponents counts : List ℕ) : Type 0 where
   pub counts-small : Bounded 32 counts
   pub exponents-long : length exponents ≡ 288
   pub exponents-low : Bounded (16 * 2 ^ 56) exponents
+
+-- an array that holds block numbers in the parts that sizes names, and 255 everywhere else
+pub record Labelled (sizes l : List ℕ) : Type 0 where
+  pub bytes : l ≡ blockBytes (labelsIn sizes l)
+
+-- one basis of a round: its joining, and its extension of S
+unfoldable pub joinAt : Bases → List ℕ → ℕ → List (List ℕ) → List (List ℕ)
+joinAt g S j L = set L j (join S (g .multiplier j) (g .basis j) (getD L j []))
+
+abbrev pub extendAt : Bases → List (List ℕ) → ℕ → List ℕ → List ℕ
+extendAt g L j S = extend (g .multiplier j) (g .basis j) (getD L j []) S
+
+-- after the first round, S is full for the blocks of the round before, of every basis
+pub record FilledAll (first : Bool) (g : Bases) (L : List (List ℕ)) (S : List ℕ) : Type 0 where
+  pub at : (j : ℕ) → j < 9 → Filled first (g .multiplier j) (g .basis j) (getD L j []) S
+
+-- what an extension asks: the support in its table, the arrays, the blocks and those of the round before
+pub record ExtendingAll (first : Bool) (t : List ℕ) (len : ℕ) (keys sizes exponents counts l l₀ : List ℕ) : Type 0 where
+  pub support : Holds t len
+  pub arrays : Arrays keys sizes exponents counts
+  pub labels : length l ≡ 576
+  pub before : length l₀ ≡ 576
+  pub filled : FilledAll first (basesIn keys sizes exponents counts) (labelsIn sizes l₀) (take len t)
+
+-- what the closing asks: the support in its table, the arrays, and every basis as single blocks
+pub record Starting (t : List ℕ) (len : ℕ) (keys sizes exponents counts l : List ℕ) : Type 0 where
+  pub support : Holds t len
+  pub arrays : Arrays keys sizes exponents counts
+  pub labels : l ≡ blockBytes (singles (basesIn keys sizes exponents counts))
+
+-- what the closing leaves: the outcome o, where its S has at most 2,048 members; else 2,049 as their number
+pub record Settled (o : Closing) (t : List ℕ) (r : Closed) (t′ : List ℕ) : Type 0 where
+  pub grown : Grown (o .state .support) t (r .len) t′
+  pub rounds : r .len ≤ 2048 → r .rounds ≡ o .rounds
+  pub labels : r .len ≤ 2048 → r .labels ≡ blockBytes (o .state .labels)

@@ -1,1 +1,243 @@
-// tmp
+// The joining rule over all nine bases, round by round. Basis j stands from place 64j on in `keys` and has sizes[j] monomials;
+// the exponents of its multiplier stand from place 32j on in `exponents`, counts[j] of them; its block numbers stand from
+// place 64j on in `labels`. The first `len` numbers of `table` are the support.
+ghost use mathlib.Core.Path.{_≡_};
+ghost use Prim.Native.Nat.{ℕ, _+_, _*_, _≤_, _<_};
+ghost use lib.ListN.{length, getD, take};
+ghost use Rattle.counting.specs.Counting.{listed};
+ghost use Rattle.support.specs.Table.{Holds, Grown};
+ghost use Rattle.rounds.specs.Rounds.{joinAll, extendAll, same, closing, blocksIn};
+ghost use Rattle.rounds.specs.Bytes.{blockBytes, basesIn, labelsIn};
+ghost use Rattle.rounds.specs.Arrays.{Sizes, Arrays, Labelled, joinAt, extendAt, ExtendingAll, Starting, Settled};
+
+// Each index of a basis is a block of its own.
+fn number(part: &mut [u8])
+    requires { ⌜ length (now part) ≤ 64 ⌝ }
+    ensures { λ _. ⌜ now (part .exit) ≡ listed (length (now (part .entry))) (λ i. i) ⌝ }
+{
+    let mut i = 0;
+    while i < part.len() {
+        part[i] = i as u8;
+        i += 1;
+    }
+}
+
+// The block numbers at the start: 255 everywhere, and then each index of each basis.
+pub fn start_labels(sizes: &[usize]) -> [u8; 576]
+    requires { ⌜ Sizes (now sizes) ⌝ }
+    ensures { λ r. ⌜ r ≡ blockBytes (listed 9 (λ j. listed (getD (now (sizes .entry)) j 0) (λ i. i))) ⌝ }
+{
+    let mut labels = [255u8; 576];
+    let mut j = 0;
+    while j < 9 {
+        let a = 64 * j;
+        let e = a + sizes[j];
+        number(&mut labels[a..e]);
+        j += 1;
+    }
+    labels
+}
+
+// Basis j joins.
+fn join_at(
+    labels: &mut [u8],
+    keys: &[u64],
+    sizes: &[usize],
+    exponents: &[u64],
+    counts: &[usize],
+    table: &[u64],
+    len: usize,
+    j: usize,
+)
+    requires { ⌜ Holds (now table) len × Arrays (now keys) (now sizes) (now exponents) (now counts) × Labelled (now sizes) (now labels) × (j < 9) ⌝ }
+    ensures { λ _. ⌜ now (labels .exit) ≡ blockBytes (joinAt (basesIn (now (keys .entry)) (now (sizes .entry)) (now (exponents .entry)) (now (counts .entry))) (take len (now (table .entry))) j (labelsIn (now (sizes .entry)) (now (labels .entry)))) ⌝ }
+{
+    let a = 64 * j;
+    let e = a + sizes[j];
+    let b = 32 * j;
+    let f = b + counts[j];
+    blocks::join_pass(&mut labels[a..e], &keys[a..e], &exponents[b..f], table, len);
+}
+
+// Every basis joins, on the same support.
+fn join_all(
+    labels: &mut [u8],
+    keys: &[u64],
+    sizes: &[usize],
+    exponents: &[u64],
+    counts: &[usize],
+    table: &[u64],
+    len: usize,
+)
+    requires { ⌜ Holds (now table) len × Arrays (now keys) (now sizes) (now exponents) (now counts) × Labelled (now sizes) (now labels) ⌝ }
+    ensures { λ _. ⌜ now (labels .exit) ≡ blockBytes (joinAll (basesIn (now (keys .entry)) (now (sizes .entry)) (now (exponents .entry)) (now (counts .entry))) (take len (now (table .entry))) (labelsIn (now (sizes .entry)) (now (labels .entry)))) ⌝ }
+{
+    let mut j = 0;
+    while j < 9 {
+        join_at(labels, keys, sizes, exponents, counts, table, len, j);
+        j += 1;
+    }
+}
+
+// The support's extension by the blocks of basis j; `old` has the blocks before this round's joining.
+fn extend_at(
+    table: &mut [u64],
+    len: usize,
+    labels: &[u8],
+    old: &[u8],
+    first: bool,
+    keys: &[u64],
+    sizes: &[usize],
+    exponents: &[u64],
+    counts: &[usize],
+    j: usize,
+) -> usize
+    requires { ⌜ ExtendingAll first (now table) len (now keys) (now sizes) (now exponents) (now counts) (now labels) (now old) × (j < 9) ⌝ }
+    ensures { λ r. ⌜ Grown (extendAt (basesIn (now (keys .entry)) (now (sizes .entry)) (now (exponents .entry)) (now (counts .entry))) (labelsIn (now (sizes .entry)) (now (labels .entry))) j (take len (now (table .entry)))) (now (table .entry)) r (now (table .exit)) ⌝ }
+{
+    let a = 64 * j;
+    let e = a + sizes[j];
+    let b = 32 * j;
+    let f = b + counts[j];
+    blocks::extend_pass(
+        table,
+        len,
+        &labels[a..e],
+        &old[a..e],
+        first,
+        &keys[a..e],
+        &exponents[b..f],
+    )
+}
+
+// The support's extension by every basis.
+fn extend_all(
+    table: &mut [u64],
+    len: usize,
+    labels: &[u8],
+    old: &[u8],
+    first: bool,
+    keys: &[u64],
+    sizes: &[usize],
+    exponents: &[u64],
+    counts: &[usize],
+) -> usize
+    requires { ⌜ ExtendingAll first (now table) len (now keys) (now sizes) (now exponents) (now counts) (now labels) (now old) ⌝ }
+    ensures { λ r. ⌜ Grown (extendAll (basesIn (now (keys .entry)) (now (sizes .entry)) (now (exponents .entry)) (now (counts .entry))) (labelsIn (now (sizes .entry)) (now (labels .entry))) (take len (now (table .entry)))) (now (table .entry)) r (now (table .exit)) ⌝ }
+{
+    let mut n = len;
+    let mut j = 0;
+    while j < 9 {
+        n = extend_at(
+            table,
+            n,
+            labels,
+            old,
+            first,
+            keys,
+            sizes,
+            exponents,
+            counts,
+            j,
+        );
+        if 2048 < n {
+            return n;
+        }
+        j += 1;
+    }
+    n
+}
+
+// Whether two arrays of block numbers are the same.
+fn is_same(a: &[u8], b: &[u8]) -> bool
+    requires { ⌜ length (now a) ≡ length (now b) ⌝ }
+    ensures { λ r. ⌜ r ≡ same (now (a .entry)) (now (b .entry)) ⌝ }
+{
+    let mut i = 0;
+    while i < a.len() {
+        if a[i] != b[i] {
+            return false;
+        }
+        i += 1;
+    }
+    true
+}
+
+// What the rounds leave: the block numbers, how many keys the support has (2,049 where it has too many), how many rounds.
+pub struct Closed {
+    pub labels: [u8; 576],
+    pub len: usize,
+    pub rounds: usize,
+}
+
+// Rounds until one changes neither a block nor the support, or the support has too many keys.
+pub fn close(
+    start: [u8; 576],
+    keys: &[u64],
+    sizes: &[usize],
+    exponents: &[u64],
+    counts: &[usize],
+    table: &mut [u64],
+    len: usize,
+) -> Closed
+    requires { ⌜ Starting (now table) len (now keys) (now sizes) (now exponents) (now counts) start ⌝ }
+    ensures { λ r. ⌜ Settled (closing (basesIn (now (keys .entry)) (now (sizes .entry)) (now (exponents .entry)) (now (counts .entry))) (take len (now (table .entry)))) (now (table .entry)) r (now (table .exit)) ⌝ }
+{
+    let mut labels = start;
+    let mut n = len;
+    let mut rounds = 0;
+    while rounds < 578 {
+        let old = labels;
+        let few = n;
+        join_all(&mut labels, keys, sizes, exponents, counts, table, n);
+        n = extend_all(
+            table,
+            n,
+            &labels,
+            &old,
+            rounds == 0,
+            keys,
+            sizes,
+            exponents,
+            counts,
+        );
+        rounds += 1;
+        if 2048 < n {
+            return Closed {
+                labels,
+                len: n,
+                rounds,
+            };
+        }
+        if n == few {
+            if is_same(&old, &labels) {
+                return Closed {
+                    labels,
+                    len: n,
+                    rounds,
+                };
+            }
+        }
+    }
+    Closed {
+        labels,
+        len: n,
+        rounds,
+    }
+}
+
+// The number of blocks of all bases.
+pub fn count(labels: &[u8], sizes: &[usize]) -> usize
+    requires { ⌜ Sizes (now sizes) × (length (now labels) ≡ 576) ⌝ }
+    ensures { λ r. ⌜ r ≡ blocksIn (labelsIn (now (sizes .entry)) (now (labels .entry))) ⌝ }
+{
+    let mut n = 0;
+    let mut j = 0;
+    while j < 9 {
+        let a = 64 * j;
+        let e = a + sizes[j];
+        n += blocks::count_blocks(&labels[a..e]);
+        j += 1;
+    }
+    n
+}

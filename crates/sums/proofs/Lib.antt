@@ -1,0 +1,4 @@
+pub mod Cut
+pub mod Carry
+pub mod Wide
+pub mod Tables
