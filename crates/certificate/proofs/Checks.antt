@@ -1,27 +1,15 @@
--- Laws of a command's checks: their order, and what a command that passes them has.
-use mathlib.Core.Path.{_≡_, refl}
+-- Laws of a command's checks: their order.
+use mathlib.Core.Path.{_≡_}
 use mathlib.Core.List.{List}
-use mathlib.Core.Bool.{true, false, not}
-use Prim.Native.Nat.{ℕ, zero, suc, _+_, _-_, _^_, _≤_, _<_}
-use native.Mathlib.Omega.{arith}
+use mathlib.Core.Bool.{true, false}
+use Prim.Native.Nat.{ℕ, _+_, _≤_, _<_}
 use lib.ListN.{length}
-use lib.Dec.{eqb}
-use lib.IntN.{ℤ, pos, negsuc}
-use mir.Syntax.{w32}
-use mir.Val.{ofZ, SFits}
-use borrow.Author.Tests.{lt-ltb, le-leb, lt-leb, ne-eqb}
+use borrow.Author.Tests.{le-leb, lt-leb}
 use Rattle.stream.specs.Commands.{firstRefusal}
-use Rattle.problem.specs.Rules.{nonzero}
 use Rattle.certificate.specs.declared.Shape.{Shape}
 use Rattle.certificate.specs.declared.Progress.{Progress}
 use Rattle.certificate.specs.Layout.{size}
 use Rattle.certificate.specs.Rules.{placed, allowed, repeated, full, commandAt, instructionAt, progressVerdict}
-
--- a signed number is 0 exactly where its bits are
-pub nonzero-bits : (c : ℤ) → SFits w32 c → not (eqb (ofZ w32 c) 0) ≡ nonzero c
-nonzero-bits (pos zero) h = refl
-nonzero-bits (pos (suc n)) h = rw (ne-eqb (suc n) 0 (λ e. omega arith), lt-ltb 0 (suc n) (omega arith))
-nonzero-bits (negsuc n) h = let k = h .sfits in rw (ne-eqb (2 ^ 32 - suc n) 0 (λ e. omega arith))
 
 -- ---- the checks, one by one
 module _ (h : Shape) (g : Progress) (s : List ℕ) (at : ℕ) where

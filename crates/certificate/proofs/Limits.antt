@@ -1,15 +1,15 @@
 -- Every certificate that a stream gives keeps the limits.
-use mathlib.Core.Path.{_≡_, refl, ap, sym, _∙_, subst}
+use mathlib.Core.Path.{_≡_, refl, subst}
 use mathlib.Core.List.{List, [], _∷_, _++_}
-use mathlib.Core.Bool.{Bool, true, false, _&&_}
-use Prim.Native.Nat.{ℕ, zero, suc, _+_, _-_, _≤_, _<_}
+use mathlib.Core.Bool.{true, false, _&&_}
+use Prim.Native.Nat.{ℕ, zero, suc, _+_, _≤_, _<_}
 use native.Mathlib.Omega.{arith}
-use lib.Dec.{eqb, leb, ltb}
-use lib.IntN.{ℤ, pos}
-use lib.ListN.{length, getD, set, length-append, length-set}
+use lib.Dec.{leb, ltb}
+use lib.ListN.{length, getD, length-append, length-set}
 use borrow.Author.Tests.{leb-true, leb-false, ltb-true, ltb-false, eqb-true}
 use Rattle.stream.specs.Commands.{given}
-use Rattle.stream.proofs.Run.{Taken, read-induction}
+use Rattle.stream.specs.Operands.{number}
+use Rattle.stream.proofs.Run.{read-induction}
 use Rattle.problem.specs.Rules.{nonzero}
 use Rattle.problem.specs.Limits.{All}
 use Rattle.problem.proofs.Limits.{and-left, and-right, all-more, all-set, nonzero-not}
@@ -17,7 +17,7 @@ use Rattle.certificate.specs.declared.Command.{Command}
 use Rattle.certificate.specs.declared.Command.the-variants as C
 use Rattle.certificate.specs.declared.Shape.{Shape}
 use Rattle.certificate.specs.Layout.{commandOf, size, decode}
-use Rattle.certificate.specs.Rules.{Entry, Row, Certificate, nothing, noRow, lastRow, floorOf, progressOf, allowed, withEntry, applied, commandAt, instructionAt, progressVerdict, verdict, next, language, readCertificate}
+use Rattle.certificate.specs.Rules.{Entry, Row, Certificate, nothing, noRow, lastRow, floorOf, progressOf, allowed, withEntry, applied, commandAt, verdict, next, language, readCertificate}
 use Rattle.certificate.specs.Limits.{Rising, SoundRow, Sound}
 use Rattle.certificate.proofs.Kept.{Passed, passed, taken-size}
 
@@ -67,10 +67,13 @@ module _ (h : Shape) (c : Certificate) (s : List ℕ) (at : ℕ) (kept : Kept h 
   applied-sound : (k : Command) → Passed h (progressOf c) s at k → Sound h (applied c (decode k s at) at)
   unfolding applied progressOf All
   applied-sound C.Header p =
+      let side = number 1 s (at + 1) in
+      let d = number 2 s (at + 2) in
+      let q = number 2 s (at + 8) in
       rw (kept .first (eqb-true at 0 (p .placed))) (record {
         side = leb-true _ 1 (and-left _ _ (p .allowed));
-        scale = leb-true 1 _ (and-left _ _ (and-right (leb _ 1) _ (p .allowed)));
-        q = leb-true 1 _ (and-right (leb 1 _) _ (and-right (leb _ 1) _ (p .allowed)));
+        scale = leb-true 1 _ (and-left (leb 1 d) (leb 1 q) (and-right (leb side 1) _ (p .allowed)));
+        q = leb-true 1 _ (and-right (leb 1 d) (leb 1 q) (and-right (leb side 1) _ (p .allowed)));
         count = omega arith;
         rows = tt;
       })

@@ -4,7 +4,6 @@ ghost use mathlib.Core.Bool.{true};
 ghost use Prim.Native.Nat.{ℕ, _+_, _*_, _≤_, _<_};
 ghost use lib.ListN.{length};
 ghost use Rattle.stream.specs.Operands.{number, signed};
-ghost use Rattle.problem.specs.Rules.{nonzero};
 ghost use Rattle.certificate.specs.Layout.{commandOf, size, decode};
 ghost use Rattle.certificate.specs.Rules.{placed, allowed, repeated, full, progressVerdict, readCertificate};
 ghost use Rattle.certificate.specs.Kept.{headerOutcome, outcomeOf, headed, advanced, Within, Bounded};
@@ -132,12 +131,6 @@ fn decode_at(command: Command, s: &[u8], at: usize) -> Instruction
     }
 }
 
-fn is_nonzero(l: i32) -> bool
-    ensures { λ r. ⌜ r ≡ nonzero l ⌝ }
-{
-    l != 0
-}
-
 // Whether a command's operands keep their rules.
 fn is_allowed(h: Shape, g: Progress, i: Instruction) -> bool
     requires { ⌜ Bounded g ⌝ }
@@ -148,7 +141,7 @@ fn is_allowed(h: Shape, g: Progress, i: Instruction) -> bool
         Instruction::Row(j, w) => (j as usize) <= h.constraints && 1 <= w,
         Instruction::Entry(k, l) => {
             let j = g.basis;
-            (k as usize) < h.sizes[j] && is_nonzero(l)
+            (k as usize) < h.sizes[j] && problem::is_nonzero(l)
         }
         Instruction::End => true,
     }
