@@ -86,18 +86,19 @@ module _ (c : Certificate) (s : List ℕ) (at : ℕ) where
       go C.End = refl
       go C.Unknown = refl
 
+  pub applied-progress : (k : Command) → placed (progressOf c) at k ≡ true → progressOf (applied c (decode k s at) at) ≡ advanced (progressOf c) (decode k s at)
+  unfolding applied progressOf
+  applied-progress C.Header p = refl
+  applied-progress C.Row p = rw (last-append (c .rows), length-append (c .rows))
+  applied-progress C.Entry p =
+      let n = ltb-true 0 (length (c .rows)) (and-right (ltb 0 at) _ p) in
+      rw (last-set (c .rows) _ n, length-set (c .rows), floor-more (lastRow (c .rows) .entries), ← add-one (number 1 s (at + 1)))
+  applied-progress C.End p = refl
+  applied-progress C.Unknown p = refl
+
   pub next-progress : placed (progressOf c) at (commandAt s at) ≡ true → progressOf (next c s at) ≡ advanced (progressOf c) (instructionAt s at)
-  unfolding next applied progressOf
-  next-progress = go (commandAt s at)
-    where
-      go : (k : Command) → placed (progressOf c) at k ≡ true → progressOf (applied c (decode k s at) at) ≡ advanced (progressOf c) (decode k s at)
-      go C.Header p = refl
-      go C.Row p = rw (last-append (c .rows), length-append (c .rows))
-      go C.Entry p =
-          let n = ltb-true 0 (length (c .rows)) (and-right (ltb 0 at) _ p) in
-          rw (last-set (c .rows) _ n, length-set (c .rows), floor-more (lastRow (c .rows) .entries), ← add-one (number 1 s (at + 1)))
-      go C.End p = refl
-      go C.Unknown p = refl
+  unfolding next
+  next-progress p = applied-progress (commandAt s at) p
 
 -- ---- what the reader's loop keeps: there is a certificate, read so far, whose header and progress are at hand
 pub record Held (h : Shape) (s : List ℕ) (t : Header) (g : Progress) (at : ℕ) : Type 0 where

@@ -1,23 +1,27 @@
--- Every certificate that a stream gives keeps the limits.
+-- Every certificate that a stream gives keeps the limits, and so does the shape of every problem that is read.
 use mathlib.Core.Path.{_≡_, refl, subst}
 use mathlib.Core.List.{List, [], _∷_, _++_}
-use mathlib.Core.Bool.{true, false, _&&_}
+use mathlib.Core.Bool.{Bool, true, false, _&&_}
 use Prim.Native.Nat.{ℕ, zero, suc, _+_, _≤_, _<_}
 use native.Mathlib.Omega.{arith}
 use lib.Dec.{leb, ltb}
-use lib.ListN.{length, getD, length-append, length-set}
+use lib.ListN.{length, getD, length-append, length-set, List·getD-eq-default}
 use borrow.Author.Tests.{leb-true, leb-false, ltb-true, ltb-false, eqb-true}
 use Rattle.stream.specs.Commands.{given}
 use Rattle.stream.specs.Operands.{number}
 use Rattle.stream.proofs.Run.{read-induction}
-use Rattle.problem.specs.Rules.{nonzero}
-use Rattle.problem.specs.Limits.{All}
-use Rattle.problem.proofs.Limits.{and-left, and-right, all-more, all-set, nonzero-not}
+use Rattle.problem.specs.Rules.{Problem, nonzero}
+use Rattle.counting.specs.Counting.{listed}
+use Rattle.counting.proofs.Listed.{listed-length, listed-at}
+use Rattle.problem.specs.Bases.{basisOf}
+use Rattle.problem.specs.Limits.{All, Monomials, Limits as ProblemLimits}
+use Rattle.problem.proofs.Limits.{and-left, and-right, all-more, all-set, nonzero-not, all-at, monomials-none}
 use Rattle.certificate.specs.declared.Command.{Command}
 use Rattle.certificate.specs.declared.Command.the-variants as C
 use Rattle.certificate.specs.declared.Shape.{Shape}
 use Rattle.certificate.specs.Layout.{commandOf, size, decode}
-use Rattle.certificate.specs.Rules.{Entry, Row, Certificate, nothing, noRow, lastRow, floorOf, progressOf, allowed, withEntry, applied, commandAt, verdict, next, language, readCertificate}
+use Rattle.certificate.specs.Rules.{Entry, Row, Certificate, nothing, noRow, lastRow, floorOf, shapeOf, progressOf, allowed, withEntry, applied, commandAt, verdict, next, language, readCertificate}
+use Rattle.certificate.specs.Kept.{Within}
 use Rattle.certificate.specs.Limits.{Rising, SoundRow, Sound}
 use Rattle.certificate.proofs.Kept.{Passed, passed, taken-size}
 
@@ -120,3 +124,18 @@ read-sound h s c e =
     (λ a at t b k. subst (Sound h) (end-leaves a s at b) (next-sound h a s at k (t .passed)))
     (λ a b at cs t n f k. f (kept-next h a s at k (t .passed)))
     nothing c e (kept-start h)
+
+-- ---- the shape of a problem within its limits
+pub shape-within : (p : Problem) → ProblemLimits p → Within (shapeOf p)
+unfolding shapeOf basisOf
+shape-within p l = record { constraints = l .constraints; sizes = λ j. go j (ltb j 9) refl }
+  where
+    size : (j : ℕ) → length (getD (p .bases) j []) ≤ 64
+    size j = all-at (Monomials (p .variables) 8 64) (p .bases) j [] (l .members) (monomials-none (p .variables) 8 64) .count
+
+    go : (j : ℕ) (b : Bool) → ltb j 9 ≡ b → getD (listed 9 (λ (i : ℕ). length (getD (p .bases) i []))) j 0 ≤ 64
+    go j true e = rw (listed-at 9 (λ (i : ℕ). length (getD (p .bases) i [])) j 0 (ltb-true j 9 e)) (size j)
+    go j false e =
+        let n = listed-length 9 (λ (i : ℕ). length (getD (p .bases) i [])) in
+        let b = ltb-false j 9 e in
+        rw (List·getD-eq-default (listed 9 (λ (i : ℕ). length (getD (p .bases) i []))) 0 {n = j} (omega arith)) (omega arith)
