@@ -1,4 +1,13 @@
 // The certificate stream: its reader, which stores nothing, and its rows, read off the lent bytes one at a time.
+ghost use mathlib.Core.Path.{_≡_};
+ghost use mathlib.Core.Bool.{true};
+ghost use Prim.Native.Nat.{ℕ, _+_, _*_, _≤_, _<_};
+ghost use lib.ListN.{length};
+ghost use Rattle.stream.specs.Operands.{number, signed};
+ghost use Rattle.certificate.specs.Layout.{commandOf, size, decode};
+ghost use Rattle.certificate.specs.Rules.{placed, allowed, repeated, full, progressVerdict, readCertificate};
+ghost use Rattle.certificate.specs.Kept.{headerOutcome, outcomeOf, headed, advanced, Within, Bounded};
+ghost use Rattle.certificate.specs.Rows.{stands, entryCount, Holds};
 
 pub enum Command {
     Header,
@@ -10,9 +19,9 @@ pub enum Command {
 
 // A command with its operands.
 pub enum Instruction {
-    Header(usize, u64, i32, u64),
-    Row(usize, u64),
-    Entry(usize, i32),
+    Header(u8, u16, i32, u16),
+    Row(u8, u16),
+    Entry(u8, i32),
     End,
 }
 
@@ -43,4 +52,298 @@ pub struct Reading {
     pub number: u8,
     pub place: usize,
     pub header: Header,
+}
+
+// A row in arrays, of which the first `count` places are used, and the offset of the command after it.
+pub struct StoredRow {
+    pub basis: usize,
+    pub weight: u16,
+    pub indices: [u8; 64],
+    pub factors: [i16; 64],
+    pub count: usize,
+    pub next: usize,
+}
+
+fn command_of(byte: u8) -> Command
+    ensures { λ r. ⌜ r ≡ commandOf byte ⌝ }
+{
+    match byte {
+        0x10 => Command::Header,
+        0x11 => Command::Row,
+        0x12 => Command::Entry,
+        0x13 => Command::End,
+        _ => Command::Unknown,
+    }
+}
+
+fn size_of(command: Command) -> usize
+    ensures { λ r. ⌜ (r ≡ size command) × (r ≤ 10) ⌝ }
+{
+    match command {
+        Command::Header => 1 + 1 + 2 + 4 + 2,
+        Command::Row => 1 + 1 + 2,
+        Command::Entry => 1 + 1 + 2,
+        Command::End => 1,
+        Command::Unknown => 0,
+    }
+}
+
+// Whether a command may stand at an offset.
+fn is_placed(g: Progress, at: usize, command: Command) -> bool
+    ensures { λ r. ⌜ r ≡ placed g at command ⌝ }
+{
+    match command {
+        Command::Header => at == 0,
+        Command::Row => 0 < at,
+        Command::Entry => 0 < at && 0 < g.rows,
+        Command::End => 0 < at,
+        Command::Unknown => false,
+    }
+}
+
+fn decode_at(command: Command, s: &[u8], at: usize) -> Instruction
+    requires { ⌜ at + size command ≤ length (now s) ⌝ }
+    ensures { λ r. ⌜ r ≡ decode command (now (s .entry)) at ⌝ }
+{
+    match command {
+        Command::Header => {
+            Instruction::Header(
+                stream::number_at(s, at + 1, 1) as u8,
+                stream::number_at(s, at + 2, 2) as u16,
+                stream::signed32(stream::number_at(s, at + 4, 4)),
+                stream::number_at(s, at + 8, 2) as u16,
+            )
+        }
+        Command::Row => {
+            Instruction::Row(
+                stream::number_at(s, at + 1, 1) as u8,
+                stream::number_at(s, at + 2, 2) as u16,
+            )
+        }
+        Command::Entry => {
+            Instruction::Entry(
+                stream::number_at(s, at + 1, 1) as u8,
+                stream::signed16(stream::number_at(s, at + 2, 2)),
+            )
+        }
+        Command::End => Instruction::End,
+        Command::Unknown => Instruction::End,
+    }
+}
+
+// Whether a command's operands keep their rules.
+fn is_allowed(h: Shape, g: Progress, i: Instruction) -> bool
+    requires { ⌜ Bounded g ⌝ }
+    ensures { λ r. ⌜ r ≡ allowed h g i ⌝ }
+{
+    match i {
+        Instruction::Header(side, d, _, q) => side <= 1 && (1 <= d && 1 <= q),
+        Instruction::Row(j, w) => (j as usize) <= h.constraints && 1 <= w,
+        Instruction::Entry(k, l) => {
+            let j = g.basis;
+            (k as usize) < h.sizes[j] && problem::is_nonzero(l)
+        }
+        Instruction::End => true,
+    }
+}
+
+fn is_repeated(g: Progress, i: Instruction) -> bool
+    ensures { λ r. ⌜ r ≡ repeated g i ⌝ }
+{
+    match i {
+        Instruction::Header(_, _, _, _) => false,
+        Instruction::Row(_, _) => false,
+        Instruction::Entry(k, _) => (k as usize) < g.floor,
+        Instruction::End => false,
+    }
+}
+
+fn is_full(g: Progress, i: Instruction) -> bool
+    ensures { λ r. ⌜ r ≡ full g i ⌝ }
+{
+    match i {
+        Instruction::Header(_, _, _, _) => false,
+        Instruction::Row(_, _) => 128 <= g.rows,
+        Instruction::Entry(_, _) => false,
+        Instruction::End => false,
+    }
+}
+
+// The number of the refusal that the command at an offset meets, or 0.
+fn verdict_at(h: Shape, g: Progress, s: &[u8], at: usize) -> u8
+    requires { ⌜ Bounded g × (at < length (now s)) ⌝ }
+    ensures { λ r. ⌜ r ≡ progressVerdict h g (now (s .entry)) at ⌝ }
+{
+    let command = command_of(s[at]);
+    if !is_placed(g, at, command) {
+        return 3;
+    }
+    if s.len() < at + size_of(command) {
+        return 2;
+    }
+    let i = decode_at(command, s, at);
+    if !is_allowed(h, g, i) {
+        return 4;
+    }
+    if is_repeated(g, i) {
+        return 5;
+    }
+    if is_full(g, i) {
+        return 6;
+    }
+    0
+}
+
+// The header after a command that is not refused.
+fn header_after(t: Header, i: Instruction) -> Header
+    ensures { λ r. ⌜ r ≡ headed t i ⌝ }
+{
+    match i {
+        Instruction::Header(side, scale, p, q) => {
+            Header {
+                side: side as usize,
+                scale,
+                p,
+                q,
+            }
+        }
+        Instruction::Row(_, _) => t,
+        Instruction::Entry(_, _) => t,
+        Instruction::End => t,
+    }
+}
+
+// The progress after a command that is not refused.
+fn progress_after(g: Progress, i: Instruction) -> Progress
+    requires { ⌜ Bounded g ⌝ }
+    ensures { λ r. ⌜ r ≡ advanced g i ⌝ }
+{
+    match i {
+        Instruction::Header(_, _, _, _) => g,
+        Instruction::Row(j, _) => {
+            Progress {
+                rows: g.rows + 1,
+                basis: j as usize,
+                floor: 0,
+            }
+        }
+        Instruction::Entry(k, _) => {
+            Progress {
+                rows: g.rows,
+                basis: g.basis,
+                floor: (k as usize) + 1,
+            }
+        }
+        Instruction::End => g,
+    }
+}
+
+// Reads a certificate stream command by command. Of the rows it keeps what the next check needs.
+pub fn validate(h: Shape, s: &[u8]) -> Reading
+    requires { ⌜ Within h ⌝ }
+    ensures { λ r. ⌜ outcomeOf r ≡ headerOutcome (readCertificate h (now (s .entry))) ⌝ }
+{
+    let mut header = Header {
+        side: 0,
+        scale: 0,
+        p: 0,
+        q: 0,
+    };
+    let mut progress = Progress {
+        rows: 0,
+        basis: 0,
+        floor: 0,
+    };
+    let mut at = 0;
+    while at < s.len() {
+        let number = verdict_at(h, progress, s, at);
+        if 0 < number {
+            return Reading {
+                number,
+                place: at,
+                header,
+            };
+        }
+        let byte = s[at];
+        let command = command_of(byte);
+        let next = at + size_of(command);
+        if byte == 0x13 {
+            let number = if next < s.len() { 2 } else { 0 };
+            return Reading {
+                number,
+                place: next,
+                header,
+            };
+        }
+        let i = decode_at(command, s, at);
+        header = header_after(header, i);
+        progress = progress_after(progress, i);
+        at = next;
+    }
+    Reading {
+        number: 2,
+        place: at,
+        header,
+    }
+}
+
+// Whether a whole command of four bytes stands at an offset, with the byte b.
+pub fn stands_at(b: u8, s: &[u8], at: usize) -> bool
+    ensures { λ r. ⌜ r ≡ stands b (now (s .entry)) at ⌝ }
+{
+    let n = s.len();
+    if n < 4 {
+        return false;
+    }
+    if n - 4 < at {
+        return false;
+    }
+    s[at] == b
+}
+
+// How many entries follow each other from an offset on, up to 64.
+fn count_at(s: &[u8], at: usize) -> usize
+    requires { ⌜ at ≤ length (now s) ⌝ }
+    ensures { λ r. ⌜ (r ≡ entryCount 64 (now (s .entry)) at) × (r ≤ 64) × (at + 4 * r ≤ length (now (s .entry))) ⌝ }
+{
+    let mut n = 0;
+    while n < 64 {
+        if !stands_at(0x12, s, at + 4 * n) {
+            return n;
+        }
+        n += 1;
+    }
+    n
+}
+
+fn factor_at(s: &[u8], at: usize) -> i16
+    requires { ⌜ at + 2 ≤ length (now s) ⌝ }
+    ensures { λ r. ⌜ r ≡ signed 15 (number 2 (now (s .entry)) at) ⌝ }
+{
+    stream::signed16(stream::number_at(s, at, 2)) as i16
+}
+
+// The row that begins at an offset.
+pub fn row_at(s: &[u8], at: usize) -> StoredRow
+    requires { ⌜ stands 0x11 (now s) at ≡ true ⌝ }
+    ensures { λ r. ⌜ Holds (now (s .entry)) at r ⌝ }
+{
+    let here = at + 4;
+    let count = count_at(s, here);
+    let mut indices: [u8; 64] = [0; 64];
+    let mut factors: [i16; 64] = [0; 64];
+    let mut i = 0;
+    while i < count {
+        indices[i] = stream::number_at(s, here + 4 * i + 1, 1) as u8;
+        factors[i] = factor_at(s, here + 4 * i + 2);
+        i += 1;
+    }
+    StoredRow {
+        basis: stream::number_at(s, at + 1, 1) as usize,
+        weight: stream::number_at(s, at + 2, 2) as u16,
+        indices,
+        factors,
+        count,
+        next: here + 4 * count,
+    }
 }

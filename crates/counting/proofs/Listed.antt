@@ -29,6 +29,12 @@ module _ {A : Type 0} where
   listed-same zero f g h = refl
   listed-same (suc n) f g h = rw (listed-same n f g (λ i p. h i (omega arith)), h n (omega arith))
 
+  -- the first element and the others
+  pub listed-first : (n : ℕ) (f : ℕ → A) → listed (suc n) f ≡ f 0 ∷ listed n (λ i. f (suc i))
+  unfolding listed
+  listed-first zero f = refl
+  listed-first (suc n) f = rw (listed-first n f)
+
   pub listed-at : (n : ℕ) (f : ℕ → A) (i : ℕ) (d : A) → i < n → getD (listed n f) i d ≡ f i
   unfolding listed
   listed-at zero f i d p = absurd (omega arith)

@@ -98,7 +98,7 @@ unfolding keysOf
 keys-more [] k c = refl
 keys-more (t ∷ ts) k c = ap (λ (l : List ℕ). t .key ∷ l) (keys-more ts k c)
 
-nonzero-not : (c : ℤ) → nonzero c ≡ true → c ≡ pos 0 → ⊥
+pub nonzero-not : (c : ℤ) → nonzero c ≡ true → c ≡ pos 0 → ⊥
 nonzero-not (pos n) h e = let z : n ≡ 0 = cc in let k = ltb-true 0 n h in omega arith
 nonzero-not (negsuc n) h e = let z : _≡_ {A = ℕ} 0 1 = cc in omega arith
 

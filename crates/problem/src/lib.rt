@@ -142,7 +142,7 @@ fn is_fitting(n: usize, limit: u64, key: u64) -> bool
     polynomial::degree_of(key) <= limit && polynomial::is_within(n, key)
 }
 
-fn is_nonzero(c: i32) -> bool
+pub fn is_nonzero(c: i32) -> bool
     ensures { λ r. ⌜ r ≡ nonzero c ⌝ }
 {
     c != 0
