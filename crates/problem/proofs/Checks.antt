@@ -19,13 +19,17 @@ use Rattle.problem.specs.declared.Checked.{Checked}
 use Rattle.problem.specs.declared.Checked.the-variants.{Refused, Passed}
 use Rattle.problem.specs.Layout.{commandOf, size, decode}
 use Rattle.problem.specs.Rules.{Problem, placed, nonzero, allowed, repeated, full, commandAt, instructionAt, verdict}
-use Rattle.problem.specs.Checks.{early, checked}
+use Rattle.problem.specs.Checks.{early, checked, late}
 
 -- a signed number is 0 exactly where its bits are
 pub nonzero-bits : (c : ℤ) → SFits w32 c → not (eqb (ofZ w32 c) 0) ≡ nonzero c
 nonzero-bits (pos zero) h = refl
 nonzero-bits (pos (suc n)) h = rw (ne-eqb (suc n) 0 (λ e. omega arith), lt-ltb 0 (suc n) (omega arith))
 nonzero-bits (negsuc n) h = let k = h .sfits in rw (ne-eqb (2 ^ 32 - suc n) 0 (λ e. omega arith))
+
+-- two constructors are never equal
+pub clash : {X : Type 0} → _≡_ {A = ℕ} 0 1 → X
+clash z = absurd (omega arith)
 
 -- ---- the first three checks, one by one
 module _ (p : Problem) (s : List ℕ) (at : ℕ) where
@@ -49,7 +53,7 @@ module _ (p : Problem) (s : List ℕ) (at : ℕ) where
 
 -- ---- what follows from them
 never : {X : Type 0} (n m : ℕ) (i : Instruction) → Refused n ≡ Passed i m → X
-never n m i h = absurd (let z : _≡_ {A = ℕ} 0 1 = cc in omega arith)
+never n m i h = clash (cc)
 
 module _ (p : Problem) (s : List ℕ) (at : ℕ) where
   -- where one of them fails, the command is refused with its number
@@ -71,7 +75,7 @@ pub record Passes (p : Problem) (s : List ℕ) (at : ℕ) (i : Instruction) (nex
   pub step : next ≡ at + size (commandAt s at)
   pub whole : next ≤ length s
   pub operands : allowed p i ≡ true
-  pub decides : verdict p s at ≡ firstRefusal true true true (repeated p i) (full p i)
+  pub decides : verdict p s at ≡ late p i
 
 module _ (p : Problem) (s : List ℕ) (at : ℕ) (i : Instruction) (next : ℕ) where
   pub passes : Passed i next ≡ checked p s at → Passes p s at i next
@@ -105,29 +109,29 @@ placed-size p at C.Constraint h = omega arith
 placed-size p at C.Term h = omega arith
 placed-size p at C.Member h = omega arith
 placed-size p at C.End h = omega arith
-placed-size p at C.Unknown h = absurd (let z : _≡_ {A = ℕ} 0 1 = cc in omega arith)
+placed-size p at C.Unknown h = clash (cc)
 
 end-command : (p : Problem) (s : List ℕ) (at : ℕ) (k : Command) → placed p at k ≡ true → decode k s at ≡ I.End → k ≡ C.End
-end-command p s at C.Variables h e = absurd (let z : _≡_ {A = ℕ} 0 1 = cc in omega arith)
-end-command p s at C.Objective h e = absurd (let z : _≡_ {A = ℕ} 0 1 = cc in omega arith)
-end-command p s at C.Constraint h e = absurd (let z : _≡_ {A = ℕ} 0 1 = cc in omega arith)
-end-command p s at C.Term h e = absurd (let z : _≡_ {A = ℕ} 0 1 = cc in omega arith)
-end-command p s at C.Member h e = absurd (let z : _≡_ {A = ℕ} 0 1 = cc in omega arith)
+end-command p s at C.Variables h e = clash (cc)
+end-command p s at C.Objective h e = clash (cc)
+end-command p s at C.Constraint h e = clash (cc)
+end-command p s at C.Term h e = clash (cc)
+end-command p s at C.Member h e = clash (cc)
 end-command p s at C.End h e = refl
-end-command p s at C.Unknown h e = absurd (let z : _≡_ {A = ℕ} 0 1 = cc in omega arith)
+end-command p s at C.Unknown h e = clash (cc)
 
 end-byte : (b : ℕ) → commandOf b ≡ C.End → b ≡ 6
 unfolding commandOf
 end-byte b h = go (eqb b 1) (eqb b 2) (eqb b 3) (eqb b 4) (eqb b 5) (eqb b 6) refl h
   where
     go : (t u v w x y : Bool) → eqb b 6 ≡ y → cond t C.Variables (cond u C.Objective (cond v C.Constraint (cond w C.Term (cond x C.Member (cond y C.End C.Unknown))))) ≡ C.End → b ≡ 6
-    go true u v w x y e h = absurd (let z : _≡_ {A = ℕ} 0 1 = cc in omega arith)
-    go false true v w x y e h = absurd (let z : _≡_ {A = ℕ} 0 1 = cc in omega arith)
-    go false false true w x y e h = absurd (let z : _≡_ {A = ℕ} 0 1 = cc in omega arith)
-    go false false false true x y e h = absurd (let z : _≡_ {A = ℕ} 0 1 = cc in omega arith)
-    go false false false false true y e h = absurd (let z : _≡_ {A = ℕ} 0 1 = cc in omega arith)
+    go true u v w x y e h = clash (cc)
+    go false true v w x y e h = clash (cc)
+    go false false true w x y e h = clash (cc)
+    go false false false true x y e h = clash (cc)
+    go false false false false true y e h = clash (cc)
     go false false false false false true e h = eqb-true b 6 e
-    go false false false false false false e h = absurd (let z : _≡_ {A = ℕ} 0 1 = cc in omega arith)
+    go false false false false false false e h = clash (cc)
 
 module _ (p : Problem) (s : List ℕ) (at : ℕ) (i : Instruction) (next : ℕ) (t : Passes p s at i next) where
   pub passes-size : 1 ≤ size (commandAt s at)

@@ -19,6 +19,7 @@ use Rattle.polynomial.specs.Terms.{Term, term, keysOf, termsIn, terms, Low, Fil
 use Rattle.polynomial.specs.declared.Polynomial.{Polynomial}
 use Rattle.polynomial.proofs.Terms.{terms-length, terms-keys, set-all, low-set, low-none}
 use Rattle.problem.specs.Rules.{appendAt, lastOf}
+use Rattle.problem.specs.Checks.{lateIn}
 use Rattle.problem.specs.Stored.{noTerms, constraintsOf, basesOf, KeptConstraints, KeptBases}
 
 before-or-after : (i j : ℕ) → i ≢ j → (i < j) ⊎ (j < i)
@@ -37,7 +38,7 @@ listed-append n f g j x h other here =
 
 -- the checks 5 and 6 of the keys in an array are those of the terms that it holds
 pub terms-room : (n most k : ℕ) (keys : List ℕ) (coefficients : List ℤ) → n ≤ length keys
-    → firstRefusal true true true (among k (take n keys)) (leb most n)
+    → lateIn keys 0 n k most
     ≡ firstRefusal true true true (among k (keysOf (termsIn n keys coefficients))) (leb most (length (termsIn n keys coefficients)))
 terms-room n most k keys coefficients h = rw (terms-keys n keys coefficients h, terms-length n keys coefficients)
 

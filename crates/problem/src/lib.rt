@@ -1,14 +1,10 @@
 // The reader of the problem stream.
 ghost use mathlib.Core.Path.{_≡_};
-ghost use mathlib.Core.Bool.{true};
 ghost use Prim.Native.Nat.{ℕ, _+_, _≤_, _<_};
-ghost use lib.Dec.{leb};
-ghost use lib.ListN.{length, take, drop};
-ghost use Rattle.stream.specs.Commands.{firstRefusal};
-ghost use Rattle.polynomial.specs.Monomial.{among};
+ghost use lib.ListN.{length};
 ghost use Rattle.problem.specs.Layout.{commandOf, size, decode};
 ghost use Rattle.problem.specs.Rules.{Problem, placed, fitting, nonzero, allowed, readProblem};
-ghost use Rattle.problem.specs.Checks.{checked};
+ghost use Rattle.problem.specs.Checks.{checked, lateIn};
 ghost use Rattle.problem.specs.Stored.{outcomeOf, constraintsOf, KeptConstraints, Kept};
 ghost use Rattle.problem.specs.Bases.{Flat};
 use polynomial::Objective;
@@ -185,7 +181,7 @@ fn check_at(n: usize, count: usize, s: &[u8], at: usize) -> Checked
 // The checks 5 and 6 of one monomial more, for a list of at most `limit` that has `count`, from a place of the keys on.
 fn check_room(keys: &[u64], from: usize, count: usize, key: u64, limit: usize) -> u8
     requires { ⌜ from + count ≤ length (now keys) ⌝ }
-    ensures { λ r. ⌜ r ≡ firstRefusal true true true (among key (take count (drop from (now (keys .entry))))) (leb limit count) ⌝ }
+    ensures { λ r. ⌜ r ≡ lateIn (now (keys .entry)) from count key limit ⌝ }
 {
     let part = &keys[from..from + count];
     if polynomial::is_among(part, key) {
