@@ -1,6 +1,6 @@
 -- Laws of a command's checks: their order, and what follows from the first three.
-use mathlib.Core.Path.{_≡_, refl, ap, sym, _∙_}
-use mathlib.Core.List.{List, []}
+use mathlib.Core.Path.{_≡_, refl, sym, _∙_}
+use mathlib.Core.List.{List}
 use mathlib.Core.Bool.{Bool, true, false, not, cond}
 use Prim.Native.Nat.{ℕ, zero, suc, _+_, _-_, _^_, _≤_, _<_}
 use native.Mathlib.Omega.{arith}
@@ -15,7 +15,6 @@ use Rattle.problem.specs.declared.Command.{Command}
 use Rattle.problem.specs.declared.Command.the-variants as C
 use Rattle.problem.specs.declared.Instruction.{Instruction}
 use Rattle.problem.specs.declared.Instruction.the-variants as I
-use Rattle.problem.specs.declared.Checked.{Checked}
 use Rattle.problem.specs.declared.Checked.the-variants.{Refused, Passed}
 use Rattle.problem.specs.Layout.{commandOf, size, decode}
 use Rattle.problem.specs.Rules.{Problem, placed, nonzero, allowed, repeated, full, commandAt, instructionAt, verdict}

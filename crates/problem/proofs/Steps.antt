@@ -1,20 +1,20 @@
 -- One command of the reading loop: what it stores is what the definition says, and the loop's invariant goes on.
-use mathlib.Core.Path.{_≡_, refl, ap, sym, _∙_}
-use mathlib.Core.List.{List, [], _∷_, _++_}
+use mathlib.Core.Path.{_≡_, refl, sym, _∙_}
+use mathlib.Core.List.{List}
 use mathlib.Core.Bool.{Bool, true, false, _&&_}
-use Prim.Native.Nat.{ℕ, zero, suc, _+_, _-_, _*_, _^_, _≤_, _<_, zero-le}
+use Prim.Native.Nat.{ℕ, _+_, _-_, _*_, _^_, _≤_, _<_, zero-le}
 use native.Mathlib.Nat.{le-trans}
 use native.Mathlib.Omega.{arith}
-use lib.Dec.{eqb, leb, ltb}
-use lib.IntN.{ℤ, pos}
+use lib.Dec.{leb, ltb}
+use lib.IntN.{ℤ}
 use lib.ListN.{length, take, drop, set, getD, replicate, length-drop, length-replicate, getD-replicate}
 use lib.Seq.{length-take-le}
 use borrow.Author.Tests.{ne-eqb, le-leb, lt-leb, leb-true, leb-false, ltb-true}
-use Rattle.stream.specs.Commands.{Outcome, refused, given, firstRefusal}
+use Rattle.stream.specs.Commands.{firstRefusal}
 use Rattle.stream.proofs.Run.{Left, left-start, left-end, left-refused, left-extra, left-given, left-next}
 use Rattle.counting.specs.Counting.{listed}
-use Rattle.polynomial.specs.Monomial.{degree, within, among}
-use Rattle.polynomial.specs.Terms.{Term, term, keysOf, termsIn, objectiveTerms, terms, Filled}
+use Rattle.polynomial.specs.Monomial.{degree, within}
+use Rattle.polynomial.specs.Terms.{Term, term, termsIn, Filled}
 use Rattle.polynomial.specs.declared.Objective.{Objective}
 use Rattle.polynomial.specs.declared.Polynomial.{Polynomial}
 use Rattle.polynomial.proofs.Monomials.{key-low}
@@ -26,10 +26,10 @@ use Rattle.problem.specs.declared.Instruction.the-variants as I
 use Rattle.problem.specs.declared.Checked.{Checked}
 use Rattle.problem.specs.declared.StoredProblem.{StoredProblem}
 use Rattle.problem.specs.declared.Reading.{Reading}
-use Rattle.problem.specs.Layout.{commandOf, size, decode}
-use Rattle.problem.specs.Rules.{Problem, placed, fitting, nonzero, repeated, full, applied, commandAt, verdict, next, language, nothing, readProblem}
+use Rattle.problem.specs.Layout.{commandOf, decode}
+use Rattle.problem.specs.Rules.{Problem, placed, fitting, nonzero, full, applied, commandAt, verdict, next, language, nothing, readProblem}
 use Rattle.problem.specs.Checks.{checked, late, lateIn}
-use Rattle.problem.specs.Stored.{noTerms, constraintsOf, basesOf, problemOf, outcomeOf, KeptConstraints, KeptBases, Kept}
+use Rattle.problem.specs.Stored.{noTerms, constraintsOf, basesOf, problemOf, outcomeOf, Kept}
 use Rattle.problem.proofs.Checks.{clash, Passes, passes-size, passes-end, passes-on}
 use Rattle.problem.proofs.Stored.{terms-room, constraints-count, last-stored, constraint-begun, term-added, constraints-kept, basis-stored, member-added, bases-kept}
 

@@ -1,6 +1,6 @@
 // The reader of the problem stream.
 ghost use mathlib.Core.Path.{_≡_};
-ghost use Prim.Native.Nat.{ℕ, _+_, _≤_, _<_};
+ghost use Prim.Native.Nat.{_+_, _≤_, _<_};
 ghost use lib.ListN.{length};
 ghost use Rattle.problem.specs.Layout.{commandOf, size, decode};
 ghost use Rattle.problem.specs.Rules.{Problem, placed, fitting, nonzero, allowed, readProblem};

@@ -1,13 +1,12 @@
 -- `check_at`: the laws of the first three checks, in their order.
 use mathlib.Core.Path.{_≡_, sym, ap, _∙_}
-use mathlib.Core.Bool.{true, false}
-use Prim.Native.Nat.{ℕ, _+_, _≤_, _<_}
+use mathlib.Core.Bool.{true}
 use native.Mathlib.Omega.{arith}
-use lib.ListN.{length, getD}
+use lib.ListN.{length}
 use borrow.Author.Needs.{needs}
 use borrow.Author.Tests.{not-true, not-false}
-use Rattle.problem.specs.Layout.{size, decode}
-use Rattle.problem.specs.Rules.{Problem, placed, allowed, commandAt, instructionAt}
+use Rattle.problem.specs.Layout.{size}
+use Rattle.problem.specs.Rules.{Problem, placed, commandAt, instructionAt}
 use Rattle.problem.proofs.Checks.{checked-3, checked-2, checked-4, checked-0}
 use Rattle.problem.proofs.check_at.Statement.{statement}
 use Rattle.problem.proofs.check_at.Tie as tie

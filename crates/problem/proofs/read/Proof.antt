@@ -1,9 +1,9 @@
 -- `read`: from the command at hand on the definition gives what it gives for the whole stream (`Going`); each command's law keeps it.
 use mathlib.Core.Path.{_≡_, refl, sym, ap, _∙_}
 use mathlib.Core.List.{List}
-use Prim.Native.Nat.{ℕ, _+_, _-_, _*_, _≤_, _<_}
+use Prim.Native.Nat.{ℕ, _-_, _*_, _<_}
 use native.Mathlib.Omega.{arith}
-use lib.ListN.{length, getD, set}
+use lib.ListN.{length, getD}
 use mir.Syntax.{w32}
 use mir.Val.{toZ, ofZ}
 use borrow.Author.Needs.{needs}
@@ -11,7 +11,6 @@ use Rattle.polynomial.specs.Terms.{Filled}
 use Rattle.polynomial.specs.declared.Polynomial.{Polynomial}
 use Rattle.problem.specs.declared.Instruction.{Instruction}
 use Rattle.problem.specs.declared.Instruction.the-variants as I
-use Rattle.problem.specs.declared.StoredProblem.{StoredProblem}
 use Rattle.problem.specs.Checks.{lateIn}
 use Rattle.problem.specs.Stored.{problemOf, noTerms}
 use Rattle.problem.proofs.Checks.{Passes, passes, early-refusal, passes-longer, passes-as}
