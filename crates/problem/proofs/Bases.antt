@@ -26,6 +26,11 @@ below-or-not i n = go (decLt i n)
     go (yes h) = inl h
     go (no h) = inr (omega arith)
 
+-- the constraints of a stored problem, from which its multipliers are made
+pub stored-constraints : (p : StoredProblem) → problemOf p .constraints ≡ constraintsOf (p .count) (p .constraints)
+unfolding problemOf
+stored-constraints p = refl
+
 -- every basis is its part of the keys
 pub basis-part : (p : StoredProblem) → Kept p → (j : ℕ) → basisOf (problemOf p) j ≡ take (getD (p .sizes) j 0) (drop (64 * j) (p .keys))
 unfolding basisOf problemOf

@@ -23,12 +23,11 @@ use Rattle.problem.specs.declared.Command.{Command}
 use Rattle.problem.specs.declared.Command.the-variants as C
 use Rattle.problem.specs.declared.Instruction.{Instruction}
 use Rattle.problem.specs.declared.Instruction.the-variants as I
-use Rattle.problem.specs.declared.Checked.{Checked}
 use Rattle.problem.specs.declared.StoredProblem.{StoredProblem}
 use Rattle.problem.specs.declared.Reading.{Reading}
 use Rattle.problem.specs.Layout.{commandOf, decode}
 use Rattle.problem.specs.Rules.{Problem, placed, fitting, nonzero, full, applied, commandAt, verdict, next, language, nothing, readProblem}
-use Rattle.problem.specs.Checks.{checked, late, lateIn}
+use Rattle.problem.specs.Checks.{early, late, lateIn}
 use Rattle.problem.specs.Stored.{noTerms, constraintsOf, basesOf, problemOf, outcomeOf, Kept}
 use Rattle.problem.proofs.Checks.{clash, Passes, passes-size, passes-end, passes-on}
 use Rattle.problem.proofs.Stored.{terms-room, constraints-count, last-stored, constraint-begun, term-added, constraints-kept, basis-stored, member-added, bases-kept}
@@ -158,7 +157,7 @@ module _ (s : List ℕ) (v : ℕ) (o : Objective) (qs : List Polynomial) (n : �
   kept = g .kept
 
   -- what the first checks say of these numbers, they say of this problem
-  pub first-checks : (r : Checked) → ((p : Problem) → p .variables ≡ v → length (p .constraints) ≡ n → r ≡ checked p s at) → r ≡ checked (problemOf here) s at
+  pub first-checks : (r : ℕ) → ((p : Problem) → p .variables ≡ v → length (p .constraints) ≡ n → r ≡ early p s at) → r ≡ early (problemOf here) s at
   unfolding problemOf
   first-checks r e = e (problemOf here) refl (constraints-count n qs)
 
