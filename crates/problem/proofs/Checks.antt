@@ -5,7 +5,7 @@ use mathlib.Core.Bool.{Bool, true, false, not, cond}
 use Prim.Native.Nat.{ℕ, zero, suc, _+_, _-_, _^_, _≤_, _<_}
 use native.Mathlib.Omega.{arith}
 use lib.ListN.{length, getD}
-use lib.Dec.{eqb, leb, ltb}
+use lib.Dec.{eqb}
 use lib.IntN.{ℤ, pos, negsuc}
 use mir.Syntax.{w32}
 use mir.Val.{ofZ, SFits}
@@ -16,7 +16,7 @@ use Rattle.problem.specs.declared.Command.the-variants as C
 use Rattle.problem.specs.declared.Instruction.{Instruction}
 use Rattle.problem.specs.declared.Instruction.the-variants as I
 use Rattle.problem.specs.Layout.{commandOf, size, decode}
-use Rattle.problem.specs.Rules.{Problem, placed, nonzero, allowed, repeated, full, commandAt, instructionAt, verdict}
+use Rattle.problem.specs.Rules.{Problem, placed, nonzero, allowed, commandAt, instructionAt, verdict}
 use Rattle.problem.specs.Checks.{early, late}
 
 -- a signed number is 0 exactly where its bits are
