@@ -1,0 +1,29 @@
+-- Fractions: a signed numerator over a denominator.
+use mathlib.Core.Bool.{Bool}
+use Prim.Native.Nat.{ℕ, _*_, _^_, _≤_, _<_}
+use lib.IntN.{ℤ, pos, natAbs, _-ℤ_, _*ℤ_}
+use lib.Signed.{ltZ}
+use Rattle.fraction.specs.declared.Fraction.{Fraction}
+
+abbrev pub fraction : ℤ → ℕ → Fraction
+fraction p q = record { num = p; den = q }
+
+abbrev pub zero : Fraction
+zero = fraction (pos 0) 1
+
+-- what a refusal returns: "all other fields are 0"
+abbrev pub none : Fraction
+none = fraction (pos 0) 0
+
+-- a bound's range: p(i32) over q(u16)
+pub record Bound (f : Fraction) : Type 0 where
+  pub num : natAbs (f .num) ≤ 2 ^ 31
+  pub den : f .den < 2 ^ 16
+
+-- "Two fractions are compared by cross products"
+abbrev pub isLess : Fraction → Fraction → Bool
+isLess a b = ltZ (a .num *ℤ pos (b .den)) (b .num *ℤ pos (a .den))
+
+-- "Its gap is (P × q − p × Q)/(Q × q), not reduced": p/q the lower bound, P/Q the upper one
+abbrev pub gapOf : Fraction → Fraction → Fraction
+gapOf lower upper = fraction (upper .num *ℤ pos (lower .den) -ℤ lower .num *ℤ pos (upper .den)) (upper .den * lower .den)

@@ -1,0 +1,116 @@
+//! Seeded records of every shape, the fixed corpus and the workloads.
+
+mod accepted;
+mod blocks;
+mod boxed;
+mod broken;
+mod cascade;
+mod certificates;
+mod changes;
+mod damage;
+mod draft;
+mod largest;
+mod limits;
+mod problems;
+mod rng;
+mod rules;
+mod samples;
+mod support;
+mod workloads;
+
+use crate::records::{Record, BLOCKS, CHECK, PAIR};
+use rng::Rng;
+pub use workloads::workload;
+
+/// How many records of the generator the corpus has of each kind, after the special cases.
+const CORPUS: [(u8, usize); 3] = [(BLOCKS, 2_700), (CHECK, 2_000), (PAIR, 1_600)];
+/// The seed of the corpus.
+const CORPUS_SEED: u64 = 20_481;
+
+/// Whether these are kinds of records, one at least.
+pub fn are_kinds(kinds: &str) -> bool {
+    !kinds.is_empty()
+        && kinds
+            .bytes()
+            .all(|kind| [BLOCKS, CHECK, PAIR].contains(&kind))
+}
+
+/// `count` records of these kinds; the same arguments always give the same records.
+pub fn generate(kinds: &str, seed: u64, count: usize) -> impl Iterator<Item = Record> {
+    let kinds = kinds.as_bytes().to_vec();
+    let mut rng = Rng::new(seed);
+    (0..count).map(move |_| {
+        let kind = *rng.pick(&kinds);
+        record(&mut rng, kind)
+    })
+}
+
+fn record(rng: &mut Rng, kind: u8) -> Record {
+    match kind {
+        BLOCKS => Record::blocks(blocks::problem(rng)),
+        _ => certificates::record(rng, kind),
+    }
+}
+
+/// The fixed corpus of these kinds: the special cases, then records of a fixed seed.
+pub fn corpus(kinds: &str) -> Vec<Record> {
+    let mut all = Vec::new();
+    for (kind, count) in CORPUS {
+        if !kinds.as_bytes().contains(&kind) {
+            continue;
+        }
+        all.extend(special(kind));
+        let mut rng = Rng::new(CORPUS_SEED + u64::from(kind));
+        all.extend((0..count).map(|_| record(&mut rng, kind)));
+    }
+    all
+}
+
+fn special(kind: u8) -> Vec<Record> {
+    match kind {
+        BLOCKS => blocks::special().into_iter().map(Record::blocks).collect(),
+        CHECK => [samples::checks(), certificates::special(kind)].concat(),
+        _ => [samples::pairs(), certificates::special(kind)].concat(),
+    }
+}
+
+#[cfg(test)]
+mod tests {
+    use super::*;
+    use crate::answer::Checker;
+    use std::collections::BTreeSet;
+
+    /// The refusals of a corpus, as number and stream.
+    fn refusals(kinds: &str) -> BTreeSet<(u8, u8)> {
+        let checker = &mut Checker::default();
+        let mut all = BTreeSet::new();
+        for record in corpus(kinds) {
+            let line = record.answer(checker);
+            let mut words = line.split(' ').skip_while(|&word| word != "refused");
+            if let (Some(number), Some(stream)) = (words.nth(1), words.next()) {
+                all.insert((number.parse().unwrap(), stream.parse().unwrap()));
+            }
+        }
+        all
+    }
+
+    #[test]
+    fn the_corpus_meets_every_refusal() {
+        let in_problem: Vec<(u8, u8)> = (2..=7).map(|number| (number, 0)).collect();
+        let in_certificate = |stream| [2, 3, 4, 5, 6, 8, 9].map(|number| (number, stream));
+        let mut expected: BTreeSet<(u8, u8)> = in_problem.into_iter().collect();
+        assert_eq!(refusals("b"), expected);
+        expected.extend(in_certificate(1));
+        assert_eq!(refusals("c"), expected);
+        expected.extend(in_certificate(2));
+        expected.extend([(10, 1), (10, 2)]);
+        assert_eq!(refusals("p"), expected);
+    }
+
+    #[test]
+    fn the_same_arguments_give_the_same_records() {
+        let records = |seed| -> Vec<Record> { generate("bcp", seed, 200).collect() };
+        assert_eq!(records(7), records(7));
+        assert_ne!(records(7), records(8));
+    }
+}

@@ -1,0 +1,70 @@
+//! Second exact implementation of the rules of document 01, set against the proved one.
+
+mod answer;
+mod certificate;
+mod generate;
+mod identity;
+mod joining;
+mod monomial;
+mod parity;
+#[cfg(test)]
+mod plain;
+mod problem;
+mod records;
+mod refusal;
+mod stream;
+mod table;
+mod timing;
+mod vectors;
+
+use std::io;
+use std::path::Path;
+use std::process::ExitCode;
+
+const USAGE: &str = "usage: reference replay | generate KINDS SEED COUNT | corpus KINDS
+                 | vectors DIR | workload NAME | time";
+
+fn main() -> ExitCode {
+    let arguments: Vec<String> = std::env::args().skip(1).collect();
+    let arguments: Vec<&str> = arguments.iter().map(String::as_str).collect();
+    match run(&arguments) {
+        Ok(code) => code,
+        Err(error) if error.kind() == io::ErrorKind::BrokenPipe => ExitCode::SUCCESS,
+        Err(error) => {
+            eprintln!("reference: {error}");
+            ExitCode::FAILURE
+        }
+    }
+}
+
+fn run(arguments: &[&str]) -> io::Result<ExitCode> {
+    match arguments {
+        ["replay"] => records::replay()?,
+        ["generate", kinds, seed, count] if generate::are_kinds(kinds) => {
+            let (Ok(seed), Ok(count)) = (seed.parse(), count.parse()) else {
+                return Ok(usage());
+            };
+            records::write_all(generate::generate(kinds, seed, count))?;
+        }
+        ["corpus", kinds] if generate::are_kinds(kinds) => {
+            records::write_all(generate::corpus(kinds))?;
+        }
+        ["workload", name] => match generate::workload(name) {
+            Some(records) => records::write_all(records)?,
+            None => return Ok(usage()),
+        },
+        ["vectors", directory] => {
+            if !vectors::run(Path::new(directory))? {
+                return Ok(ExitCode::FAILURE);
+            }
+        }
+        ["time"] => timing::run()?,
+        _ => return Ok(usage()),
+    }
+    Ok(ExitCode::SUCCESS)
+}
+
+fn usage() -> ExitCode {
+    eprintln!("{USAGE}");
+    ExitCode::from(2)
+}

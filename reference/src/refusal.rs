@@ -1,0 +1,48 @@
+//! Refusals: number, stream, place and key, as in the table of document 01.
+
+/// Which of the lent byte runs a refusal speaks of.
+pub const PROBLEM: u8 = 0;
+/// The first (or only) certificate.
+pub const FIRST: u8 = 1;
+/// The second certificate.
+pub const SECOND: u8 = 2;
+
+/// Stream ends in a command or without its end, or goes on after it.
+pub const CUT: u8 = 2;
+/// Command unknown in this stream or misplaced.
+pub const MISPLACED: u8 = 3;
+/// Operand outside its rule.
+pub const OPERAND: u8 = 4;
+/// Monomial repeated, or index not rising.
+pub const REPEATED: u8 = 5;
+/// One more than a count allows.
+pub const COUNT: u8 = 6;
+/// Closed S with zero above 2,048.
+pub const SUPPORT: u8 = 7;
+/// A row in two blocks.
+pub const BLOCKS: u8 = 8;
+/// Identity false.
+pub const IDENTITY: u8 = 9;
+/// In a pair, first side not 0 or second not 1.
+pub const SIDES: u8 = 10;
+
+/// The four fields of a refusal.
+#[derive(Clone, Copy, Debug, PartialEq, Eq)]
+pub struct Refusal {
+    pub number: u8,
+    pub stream: u8,
+    pub place: usize,
+    pub key: u64,
+}
+
+impl Refusal {
+    /// A refusal with key 0, as all but number 9 have.
+    pub fn new(number: u8, stream: u8, place: usize) -> Self {
+        Refusal {
+            number,
+            stream,
+            place,
+            key: 0,
+        }
+    }
+}

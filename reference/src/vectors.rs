@@ -1,0 +1,80 @@
+//! Stored cases: folders with the three streams and the answers expected of them.
+
+use std::fs;
+use std::io;
+use std::path::{Path, PathBuf};
+
+use crate::answer::Checker;
+use crate::records::RUN;
+
+/// Runs every folder below `directory`; tells how many agree and whether all do.
+pub fn run(directory: &Path) -> io::Result<bool> {
+    let mut folders: Vec<PathBuf> = fs::read_dir(directory)?
+        .map(|entry| entry.map(|entry| entry.path()))
+        .collect::<io::Result<_>>()?;
+    folders.retain(|folder| folder.is_dir());
+    folders.sort();
+    let mut checker = Checker::default();
+    let mut agree = 0;
+    for folder in &folders {
+        match difference(&mut checker, folder)? {
+            None => agree += 1,
+            Some(file) => println!("{}: {file} differs", folder.display()),
+        }
+    }
+    println!("{agree} of {} agree", folders.len());
+    Ok(agree == folders.len())
+}
+
+/// The first file of a folder that differs from the answer.
+fn difference(checker: &mut Checker, folder: &Path) -> io::Result<Option<&'static str>> {
+    let [problem, low, high] = ["problem.bin", "low.bin", "high.bin"].map(|name| folder.join(name));
+    let (problem, low, high) = (stream(&problem)?, stream(&low)?, stream(&high)?);
+    let answers = [
+        ("expected", gapcheck(checker, &problem, &low, &high)),
+        ("blocks.txt", blocks(checker, &problem)),
+    ];
+    for (name, answer) in answers {
+        match fs::read(folder.join(name)) {
+            Ok(stored) if stored == answer.as_bytes() => {}
+            Err(error) if error.kind() == io::ErrorKind::NotFound && name != "expected" => {}
+            Ok(_) => return Ok(Some(name)),
+            Err(error) => return Err(error),
+        }
+    }
+    Ok(None)
+}
+
+/// "Each to at most 65,536 bytes; a missing file is an empty stream."
+fn stream(path: &Path) -> io::Result<Vec<u8>> {
+    let mut bytes = match fs::read(path) {
+        Err(error) if error.kind() == io::ErrorKind::NotFound => Vec::new(),
+        other => other?,
+    };
+    bytes.truncate(RUN);
+    Ok(bytes)
+}
+
+/// The output of gapcheck.
+fn gapcheck(checker: &mut Checker, problem: &[u8], low: &[u8], high: &[u8]) -> String {
+    match checker.pair(problem, low, high) {
+        Ok(pair) => format!(
+            "lower {}\nupper {}\ngap {}\nrounds {}\n",
+            pair.lower, pair.upper, pair.gap, pair.rounds
+        ),
+        Err(refusal) => format!("{refusal}\n"),
+    }
+}
+
+/// The blocks call as the stored cases tell it.
+fn blocks(checker: &mut Checker, problem: &[u8]) -> String {
+    match checker.blocks(problem) {
+        Ok(blocks) => format!(
+            "blocks {}\nrounds {}\n{}\n",
+            blocks.count,
+            blocks.rounds,
+            blocks.hex()
+        ),
+        Err(refusal) => format!("{refusal}\n"),
+    }
+}
