@@ -27,7 +27,8 @@ use Rattle.rounds.proofs.Meaning.{labelOf, closing-closed, closing-least, closi
 use Rattle.joining.specs.Joining.{basesOf, startSet, closing, closedSupport, tooLarge, blockTotal}
 use Rattle.joining.proofs.Start.{start-rising}
 use Rattle.checker.specs.declared.BlocksVerdict.{BlocksVerdict}
-use Rattle.checker.specs.Verdict.{noRefusal, refusedBlocks, blocksOf, blocksRead, blocksVerdict, bytesOf, bytesRead, bytesLeft}
+use Rattle.checker.specs.Refusals.{noRefusal}
+use Rattle.checker.specs.Blocks.{refusedBlocks, blocksOf, blocksRead, blocksVerdict, bytesOf, bytesRead, bytesLeft}
 use Rattle.checker.specs.Promises.{blockAt, Accepted, BlocksClosed, BlocksLeast, BlocksLowest, RoundsTaken, FewRounds, SevenExactly}
 
 -- ---- block numbers that agree at every index of a basis mean the same
@@ -157,25 +158,28 @@ module _ (short : Bool) (s out : List ℕ) (p : Problem) (read : readProblem s �
       go false n = rw (blocksOf, tooLarge, lt-ltb 2048 (length (insert 0 (closedSupport p))) h)
 
 module _ (short : Bool) (s out : List ℕ) where
-  pub clause-closed : BlocksClosed s (blocksVerdict short s) (bytesLeft short s out)
+  abbrev number : ℕ
+  number = blocksVerdict short s .refusal .number
+
+  clause-closed : BlocksClosed s number (bytesLeft short s out)
   clause-closed p read h = rw (found short s out p read h .bytes) (promise-closed s p read (drop 576 out))
 
-  pub clause-least : BlocksLeast s (blocksVerdict short s) (bytesLeft short s out)
+  clause-least : BlocksLeast s number (bytesLeft short s out)
   clause-least p read h = rw (found short s out p read h .bytes) (promise-least s p read (drop 576 out))
 
-  pub clause-lowest : BlocksLowest s (blocksVerdict short s) (bytesLeft short s out)
+  clause-lowest : BlocksLowest s number (bytesLeft short s out)
   clause-lowest p read h = rw (found short s out p read h .bytes) (promise-lowest s p read (drop 576 out))
 
-  pub clause-rounds : RoundsTaken s (blocksVerdict short s)
+  clause-rounds : RoundsTaken s number (blocksVerdict short s .rounds)
   clause-rounds p read h = rw (found short s out p read h .rounds) (promise-rounds s p read)
 
-  pub clause-few : FewRounds s (blocksVerdict short s)
+  clause-few : FewRounds s number (blocksVerdict short s .rounds)
   clause-few p read h = rw (found short s out p read h .rounds) (promise-few s p read)
 
-  pub clause-seven : SevenExactly s (blocksVerdict short s)
+  clause-seven : SevenExactly s number
   clause-seven = record { only = λ p read. seven-only short s out p read; always = λ p read. seven-always short s out p read }
 
   -- all of them, of a verdict and bytes that are the definitions'
   pub clauses : (v : BlocksVerdict) (bytes : List ℕ) → v ≡ blocksVerdict short s → bytes ≡ bytesLeft short s out
-      → BlocksClosed s v bytes × (BlocksLeast s v bytes × (BlocksLowest s v bytes × (RoundsTaken s v × (FewRounds s v × SevenExactly s v))))
+      → BlocksClosed s (v .refusal .number) bytes × (BlocksLeast s (v .refusal .number) bytes × (BlocksLowest s (v .refusal .number) bytes × (RoundsTaken s (v .refusal .number) (v .rounds) × (FewRounds s (v .refusal .number) (v .rounds) × SevenExactly s (v .refusal .number)))))
   clauses v bytes e f = rw (e, f) (clause-closed, (clause-least, (clause-lowest, (clause-rounds, (clause-few, clause-seven)))))

@@ -8,7 +8,8 @@ use lib.Dec.{ltb}
 use lib.IntN.{ℤ}
 use lib.ListN.{length, drop, replicate}
 use borrow.Author.Tests.{lt-ltb, le-ltb, ltb-false}
-use Rattle.checker.specs.Verdict.{tablesShort, blocksShort, tableLeft}
+use Rattle.checker.specs.Tables.{tablesShort, tableLeft}
+use Rattle.checker.specs.Blocks.{blocksShort}
 
 or-left : (a b : Bool) → (a || b) ≡ false → a ≡ false
 or-left true b h = h

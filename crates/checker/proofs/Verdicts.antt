@@ -14,7 +14,8 @@ use Rattle.rounds.specs.Bytes.{blockBytes}
 use Rattle.joining.specs.Joining.{closing, tooLarge, blockTotal}
 use Rattle.joining.specs.Tables.{Joining}
 use Rattle.joining.specs.declared.Joined.{Joined}
-use Rattle.checker.specs.Verdict.{noRefusal, refusedBlocks, blocksOf, bytesOf}
+use Rattle.checker.specs.Refusals.{noRefusal}
+use Rattle.checker.specs.Blocks.{refusedBlocks, blocksOf, bytesOf}
 
 module _ (r : Reading) (o : Outcome Problem) (e : outcomeOf r ≡ o) where
   pub reading-refused : 0 < r .number → o ≡ refused (r .number) (r .place)

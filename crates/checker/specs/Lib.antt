@@ -1,2 +1,4 @@
-pub mod Verdict
+pub mod Tables
+pub mod Refusals
+pub mod Blocks
 pub mod Promises

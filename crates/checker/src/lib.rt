@@ -7,7 +7,8 @@ ghost use lib.Dec.{ltb};
 ghost use lib.ListN.{length, drop, replicate};
 ghost use lib.IntN.{pos};
 ghost use Rattle.problem.specs.Rules.{readProblem};
-ghost use Rattle.checker.specs.Verdict.{blocksShort, refusedBlocks, blocksRead, bytesRead, blocksVerdict, bytesLeft, tableLeft};
+ghost use Rattle.checker.specs.Tables.{tableLeft};
+ghost use Rattle.checker.specs.Blocks.{blocksShort, refusedBlocks, blocksRead, bytesRead, blocksVerdict, bytesLeft};
 ghost use Rattle.checker.specs.Promises.{BlocksClosed, BlocksLeast, BlocksLowest, RoundsTaken, FewRounds, SevenExactly};
 
 // A refusal, as document 01's table numbers them: number is 0 where nothing is refused, and then the other fields are 0.
@@ -133,12 +134,12 @@ pub fn blocks(
     ensures keys_left { λ _. ⌜ now (keys .exit) ≡ tableLeft (blocksShort (now (out .entry)) (now (keys .entry)) (now (high .entry)) (now (low .entry))) 0 (now (keys .entry)) ⌝ }
     ensures high_left { λ _. ⌜ now (high .exit) ≡ tableLeft (blocksShort (now (out .entry)) (now (keys .entry)) (now (high .entry)) (now (low .entry))) (pos 0) (now (high .entry)) ⌝ }
     ensures low_left { λ _. ⌜ now (low .exit) ≡ tableLeft (blocksShort (now (out .entry)) (now (keys .entry)) (now (high .entry)) (now (low .entry))) 0 (now (low .entry)) ⌝ }
-    ensures closed { λ r. ⌜ BlocksClosed (now (problem .entry)) r (now (out .exit)) ⌝ }
-    ensures least { λ r. ⌜ BlocksLeast (now (problem .entry)) r (now (out .exit)) ⌝ }
-    ensures lowest { λ r. ⌜ BlocksLowest (now (problem .entry)) r (now (out .exit)) ⌝ }
-    ensures rounds { λ r. ⌜ RoundsTaken (now (problem .entry)) r ⌝ }
-    ensures few_rounds { λ r. ⌜ FewRounds (now (problem .entry)) r ⌝ }
-    ensures seven { λ r. ⌜ SevenExactly (now (problem .entry)) r ⌝ }
+    ensures closed { λ r. ⌜ BlocksClosed (now (problem .entry)) (r .refusal .number) (now (out .exit)) ⌝ }
+    ensures least { λ r. ⌜ BlocksLeast (now (problem .entry)) (r .refusal .number) (now (out .exit)) ⌝ }
+    ensures lowest { λ r. ⌜ BlocksLowest (now (problem .entry)) (r .refusal .number) (now (out .exit)) ⌝ }
+    ensures rounds { λ r. ⌜ RoundsTaken (now (problem .entry)) (r .refusal .number) (r .rounds) ⌝ }
+    ensures few_rounds { λ r. ⌜ FewRounds (now (problem .entry)) (r .refusal .number) (r .rounds) ⌝ }
+    ensures seven { λ r. ⌜ SevenExactly (now (problem .entry)) (r .refusal .number) ⌝ }
 {
     if out.len() < 576 {
         return refuse_blocks(1, 0);

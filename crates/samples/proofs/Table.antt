@@ -19,7 +19,8 @@ use Rattle.rounds.specs.Rounds.{singles, start, joinAll, extendAll, round, same
 use Rattle.rounds.specs.Rounds as Rounds
 use Rattle.rounds.specs.Bytes.{blockBytes}
 use Rattle.joining.specs.Joining.{insertAll, startFrom, startSet, closing, tooLarge, blockTotal}
-use Rattle.checker.specs.Verdict.{noRefusal, refusedBlocks, blocksOf, blocksVerdict, bytesOf, bytesLeft}
+use Rattle.checker.specs.Refusals.{noRefusal}
+use Rattle.checker.specs.Blocks.{refusedBlocks, blocksOf, blocksVerdict, bytesOf, bytesLeft}
 use Rattle.checker.specs.declared.BlocksVerdict.{BlocksVerdict}
 use Rattle.samples.specs.Streams.{problemA, problemC, problemD, problemE, problemF}
 

@@ -7,7 +7,8 @@ use mathlib.Core.List.{List}
 use Prim.Native.Nat.{ℕ, _≤_, _<_}
 use lib.ListN.{length, drop}
 use lib.IntN.{pos}
-use Rattle.checker.specs.Verdict.{blocksShort, blocksVerdict, bytesLeft, tablesShort}
+use Rattle.checker.specs.Tables.{tablesShort}
+use Rattle.checker.specs.Blocks.{blocksShort, blocksVerdict, bytesLeft}
 use Rattle.checker.proofs.Tables.{Long, tables-long, out-short, out-long, table-cleared, table-kept}
 use Rattle.checker.proofs.Promised.{clauses}
 use Rattle.checker.proofs.blocks.Statement.{statement}

@@ -1,32 +1,23 @@
--- What the blocks call returns and leaves behind, for all inputs.
+-- What the blocks call returns and leaves in the 576 bytes, for all inputs.
 use mathlib.Core.Bool.{Bool, true, false, cond, _||_}
 use mathlib.Core.List.{List, [], _∷_, _++_}
 use Prim.Native.Nat.{ℕ}
 use lib.Dec.{ltb}
 use lib.IntN.{ℤ}
-use lib.ListN.{length, drop, replicate}
+use lib.ListN.{length, drop}
 use Rattle.stream.specs.Commands.{Outcome, refused, given}
 use Rattle.problem.specs.Rules.{Problem, readProblem}
 use Rattle.rounds.specs.Bytes.{blockBytes}
 use Rattle.joining.specs.Joining.{closing, tooLarge, blockTotal}
-use Rattle.checker.specs.declared.Refusal.{Refusal}
+use Rattle.checker.specs.Tables.{tablesShort}
+use Rattle.checker.specs.Refusals.{noRefusal, problemRefusal}
 use Rattle.checker.specs.declared.BlocksVerdict.{BlocksVerdict}
 
 -- ---- refusal 1: "a lent table or the 576 bytes is too short"
-abbrev pub tablesShort : List ℕ → List ℤ → List ℕ → Bool
-tablesShort keys high low = ltb (length keys) 2048 || (ltb (length high) 2048 || ltb (length low) 2048)
-
 unfoldable pub blocksShort : List ℕ → List ℕ → List ℤ → List ℕ → Bool
 blocksShort out keys high low = ltb (length out) 576 || tablesShort keys high low
 
 -- ---- the verdict: "A refusal .. returns number, stream .., place and key; all other fields are 0"
-abbrev pub noRefusal : Refusal
-noRefusal = record { number = 0; stream = 0; place = 0; key = 0 }
-
--- a refusal of the problem, stream 0; the key is 0 except at 9
-abbrev pub problemRefusal : ℕ → ℕ → Refusal
-problemRefusal number place = record { number = number; stream = 0; place = place; key = 0 }
-
 abbrev pub refusedBlocks : ℕ → ℕ → BlocksVerdict
 refusedBlocks number place = record { refusal = problemRefusal number place; blocks = 0; rounds = 0 }
 
@@ -52,8 +43,3 @@ bytesRead (given p) out = bytesOf p out
 
 unfoldable pub bytesLeft : Bool → List ℕ → List ℕ → List ℕ
 bytesLeft short s out = cond short out (bytesRead (readProblem s) out)
-
--- ---- a work table: "On every return their first 2,048 numbers are zero and extra length .. is untouched, except that refusal 1
--- writes nothing"
-unfoldable pub tableLeft {ℓ} : {A : Type ℓ} → Bool → A → List A → List A
-tableLeft short zero t = cond short t (replicate 2048 zero ++ drop 2048 t)
