@@ -174,3 +174,8 @@ module _ (short : Bool) (s out : List ℕ) where
 
   pub clause-seven : SevenExactly s (blocksVerdict short s)
   clause-seven = record { only = λ p read. seven-only short s out p read; always = λ p read. seven-always short s out p read }
+
+  -- all of them, of a verdict and bytes that are the definitions'
+  pub clauses : (v : BlocksVerdict) (bytes : List ℕ) → v ≡ blocksVerdict short s → bytes ≡ bytesLeft short s out
+      → BlocksClosed s v bytes × (BlocksLeast s v bytes × (BlocksLowest s v bytes × (RoundsTaken s v × (FewRounds s v × SevenExactly s v))))
+  clauses v bytes e f = rw (e, f) (clause-closed, (clause-least, (clause-lowest, (clause-rounds, (clause-few, clause-seven)))))

@@ -6,7 +6,9 @@ ghost use Prim.Native.Nat.{ℕ, _≤_};
 ghost use lib.Dec.{ltb};
 ghost use lib.ListN.{length, drop, replicate};
 ghost use lib.IntN.{pos};
-ghost use Rattle.checker.specs.Verdict.{refusedBlocks};
+ghost use Rattle.problem.specs.Rules.{readProblem};
+ghost use Rattle.checker.specs.Verdict.{blocksShort, refusedBlocks, blocksRead, bytesRead, blocksVerdict, bytesLeft, tableLeft};
+ghost use Rattle.checker.specs.Promises.{BlocksClosed, BlocksLeast, BlocksLowest, RoundsTaken, FewRounds, SevenExactly};
 
 // A refusal, as document 01's table numbers them: number is 0 where nothing is refused, and then the other fields are 0.
 pub struct Refusal {
@@ -86,4 +88,67 @@ fn refuse_blocks(number: u8, place: usize) -> BlocksVerdict
         blocks: 0,
         rounds: 0,
     }
+}
+
+// The blocks of a problem stream, with tables that are long enough. The table is changed before place 2,048 only.
+fn answer_blocks(problem: &[u8], out: &mut [u8], table: &mut [u64]) -> BlocksVerdict
+    requires { ⌜ (576 ≤ length (now out)) × (2048 ≤ length (now table)) ⌝ }
+    ensures { λ r. ⌜ (r ≡ blocksRead (readProblem (now (problem .entry)))) × (now (out .exit) ≡ bytesRead (readProblem (now (problem .entry))) (now (out .entry))) × (drop 2048 (now (table .exit)) ≡ drop 2048 (now (table .entry))) ⌝ }
+{
+    let r = problem::read(problem);
+    let number = r.number;
+    if 0 < number {
+        return refuse_blocks(number, r.place);
+    }
+    let p = r.problem;
+    let j = joining::join(p, table);
+    let full = j.full;
+    if full {
+        return refuse_blocks(7, 0);
+    }
+    let labels = j.labels;
+    copy(out, &labels);
+    BlocksVerdict {
+        refusal: Refusal {
+            number: 0,
+            stream: 0,
+            place: 0,
+            key: 0,
+        },
+        blocks: j.blocks,
+        rounds: j.rounds,
+    }
+}
+
+// The blocks of a problem. `out` gets the 576 block numbers; `keys`, `high` and `low` are the work tables.
+pub fn blocks(
+    problem: &[u8],
+    out: &mut [u8],
+    keys: &mut [u64],
+    high: &mut [i64],
+    low: &mut [u64],
+) -> BlocksVerdict
+    ensures verdict { λ r. ⌜ r ≡ blocksVerdict (blocksShort (now (out .entry)) (now (keys .entry)) (now (high .entry)) (now (low .entry))) (now (problem .entry)) ⌝ }
+    ensures bytes { λ _. ⌜ now (out .exit) ≡ bytesLeft (blocksShort (now (out .entry)) (now (keys .entry)) (now (high .entry)) (now (low .entry))) (now (problem .entry)) (now (out .entry)) ⌝ }
+    ensures keys_left { λ _. ⌜ now (keys .exit) ≡ tableLeft (blocksShort (now (out .entry)) (now (keys .entry)) (now (high .entry)) (now (low .entry))) 0 (now (keys .entry)) ⌝ }
+    ensures high_left { λ _. ⌜ now (high .exit) ≡ tableLeft (blocksShort (now (out .entry)) (now (keys .entry)) (now (high .entry)) (now (low .entry))) (pos 0) (now (high .entry)) ⌝ }
+    ensures low_left { λ _. ⌜ now (low .exit) ≡ tableLeft (blocksShort (now (out .entry)) (now (keys .entry)) (now (high .entry)) (now (low .entry))) 0 (now (low .entry)) ⌝ }
+    ensures closed { λ r. ⌜ BlocksClosed (now (problem .entry)) r (now (out .exit)) ⌝ }
+    ensures least { λ r. ⌜ BlocksLeast (now (problem .entry)) r (now (out .exit)) ⌝ }
+    ensures lowest { λ r. ⌜ BlocksLowest (now (problem .entry)) r (now (out .exit)) ⌝ }
+    ensures rounds { λ r. ⌜ RoundsTaken (now (problem .entry)) r ⌝ }
+    ensures few_rounds { λ r. ⌜ FewRounds (now (problem .entry)) r ⌝ }
+    ensures seven { λ r. ⌜ SevenExactly (now (problem .entry)) r ⌝ }
+{
+    if out.len() < 576 {
+        return refuse_blocks(1, 0);
+    }
+    if is_short(keys.len(), high.len(), low.len()) {
+        return refuse_blocks(1, 0);
+    }
+    let v = answer_blocks(problem, out, keys);
+    clear(keys);
+    clear_signed(high);
+    clear(low);
+    v
 }

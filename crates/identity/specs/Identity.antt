@@ -1,9 +1,9 @@
 -- The identity that a certificate claims, and the blocks that its rows keep to.
 use mathlib.Core.Path.{_≡_}
 use mathlib.Core.List.{List, [], _∷_, _++_}
-use Prim.Native.Nat.{ℕ, zero, suc}
+use Prim.Native.Nat.{ℕ, zero, suc, _≤_, _<_}
 use lib.IntN.{ℤ, pos, negℤ}
-use lib.ListN.{getD}
+use lib.ListN.{length, getD}
 use Rattle.polynomial.specs.Terms.{Term, term}
 use Rattle.polynomial.specs.Algebra.{coefficient, scale, _⊗_}
 use Rattle.problem.specs.Rules.{Problem}
@@ -56,3 +56,11 @@ pub record OneBlock (p : Problem) (r : Row) : Type 0 where
 
 abbrev pub KeepsBlocks : Problem → List Row → Type 0
 KeepsBlocks p rs = All (OneBlock p) rs
+
+-- the rows are on bases of the problem: "on basis j, 0 or a constraint of the problem", with indices "less than the basis's length"
+pub record RowFits (p : Problem) (r : Row) : Type 0 where
+  pub basis : r .basis ≤ length (p .constraints)
+  pub indices : All (λ (e : Entry). e .index < length (basisOf p (r .basis))) (r .entries)
+
+abbrev pub RowsFit : Problem → List Row → Type 0
+RowsFit p rs = All (RowFits p) rs

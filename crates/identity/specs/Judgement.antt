@@ -1,8 +1,9 @@
 -- What becomes of one certificate: refusals 2 to 6 of its stream, 8, 9, or it is accepted.
-use mathlib.Core.Bool.{Bool, true, false, cond}
+use mathlib.Core.Path.{_≡_}
+use mathlib.Core.Bool.{Bool, false, cond}
 use mathlib.Core.List.{List, [], _∷_}
 use mathlib.Core.Option.{Option, none, some}
-use Prim.Native.Nat.{ℕ}
+use Prim.Native.Nat.{ℕ, _<_}
 use lib.Dec.{eqb}
 use lib.IntN.{ℤ, pos, negsuc}
 use Rattle.stream.specs.Commands.{Outcome}
@@ -13,7 +14,7 @@ use Rattle.problem.specs.Rules.{Problem}
 use Rattle.support.specs.Sets.{insert}
 use Rattle.joining.specs.Joining.{closedSupport}
 use Rattle.certificate.specs.Rules.{Entry, Row, Certificate, shapeOf, readCertificate}
-use Rattle.identity.specs.Identity.{squares, claim, blockOf}
+use Rattle.identity.specs.Identity.{squares, claim, blockOf, Identity, KeepsBlocks}
 
 -- ---- refusal 8: "first entry outside the row's first block", and its place; b is the block number of an index
 unfoldable pub firstOutside : (ℕ → ℕ) → ℕ → List Entry → Option ℕ
@@ -46,12 +47,17 @@ unfoldable pub firstDifference : List Term → List Term → List ℕ → Option
 firstDifference P Q [] = none
 firstDifference P Q (k ∷ ks) = cond (sameNumber (coefficient k P) (coefficient k Q)) (firstDifference P Q ks) (some k)
 
--- the keys of the closed S with the zero exponent, from the smallest on. proofs/Accepted.antt: outside them no side has a term
+-- the keys of the closed S with the zero exponent, from the smallest on. Outside them neither side has a term: proofs/Reach.antt
 unfoldable pub comparedKeys : Problem → List ℕ
 comparedKeys p = insert 0 (closedSupport p)
 
 unfoldable pub differenceKey : Problem → Certificate → Option ℕ
 differenceKey p c = firstDifference (claim p (c .header)) (squares p (c .rows)) (comparedKeys p)
+
+-- "key is the smallest that differs"
+pub record Smallest (P Q : List Term) (k : ℕ) : Type 0 where
+  pub differs : coefficient k P ≡ coefficient k Q → ⊥
+  pub below : (j : ℕ) → j < k → coefficient j P ≡ coefficient j Q
 
 -- ---- what becomes of a certificate: a refusal with its number, place and key, or it is accepted
 pub data Judgement : Type 0 where
@@ -76,3 +82,15 @@ judgeOutcome p (Stream.given c) = judgeRead p c
 
 unfoldable pub judge : Problem → List ℕ → Judgement
 judge p s = judgeOutcome p (readCertificate (shapeOf p) s)
+
+-- what accepting means: the stream gives the certificate, each row is in one block, and the identity holds
+pub record Accepted (p : Problem) (s : List ℕ) (c : Certificate) : Type 0 where
+  pub read : readCertificate (shapeOf p) s ≡ Stream.given c
+  pub blocks : KeepsBlocks p (c .rows)
+  pub identity : Identity p c
+
+-- refusal 9 at a key, which is the smallest that differs
+pub record Differs (p : Problem) (s : List ℕ) (c : Certificate) : Type 0 where
+  pub key : ℕ
+  pub refusal : judge p s ≡ refused 9 0 key
+  pub smallest : Smallest (claim p (c .header)) (squares p (c .rows)) key

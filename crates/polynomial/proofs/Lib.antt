@@ -1,2 +1,5 @@
 pub mod Monomials
 pub mod Terms
+pub mod Sums
+pub mod Products
+pub mod Values

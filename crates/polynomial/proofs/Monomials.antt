@@ -1,12 +1,12 @@
 -- Laws of monomials: the degree and the exponents above n digit by digit, a search in a list, and a bound on the key.
-use mathlib.Core.Path.{_≡_, refl, sym, ap, _∙_}
-use mathlib.Core.List.{List, [], _∷_}
-use mathlib.Core.Bool.{Bool, true, false, cond}
+use mathlib.Core.Path.{_≡_, _∙_}
+use mathlib.Core.List.{List}
+use mathlib.Core.Bool.{true, false}
 use Prim.Native.Nat.{ℕ, zero, suc, _+_, _-_, _*_, _/_, _%_, _^_, _≤_, _<_}
-use native.Mathlib.Nat.{pow-suc, pow-le-pow-right, div-div-eq-div-mul, div-lt-iff-lt-mul, mod-add-div, mod-lt, lt-of-lt-of-le, mul-le-mul-right, le-trans, one-le-pow}
+use native.Mathlib.Nat.{pow-suc, pow-le-pow-right, div-div-eq-div-mul, div-lt-iff-lt-mul, mod-add-div, mul-le-mul-right, le-trans}
 use native.Mathlib.Numerals.{add-one}
 use native.Mathlib.Omega.{arith}
-use lib.Dec.{lit<, lit≤, eqb}
+use lib.Dec.{lit<}
 use lib.ListN.{length, drop, getD, drop-of-length-le}
 use lib.Seq.{drop-cons}
 use borrow.Author.Tests.{eq-eqb, ne-eqb, eqb-true}

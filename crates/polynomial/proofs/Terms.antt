@@ -1,14 +1,13 @@
 -- Laws of the terms that arrays hold: their number, their keys, one more term.
-use mathlib.Core.Path.{_≡_, refl, sym, ap, _∙_}
-use mathlib.Core.List.{List, [], _∷_, _++_, map, map-append}
-use mathlib.Core.Logic.{⊎-elim}
-use Prim.Native.Nat.{ℕ, zero, suc, _+_, _-_, _*_, _^_, _≤_, _<_, zero-le}
+use mathlib.Core.Path.{_≡_, refl, _∙_}
+use mathlib.Core.List.{List, [], _∷_, _++_, map-append}
+use Prim.Native.Nat.{ℕ, zero, suc, _+_, _*_, _^_, _≤_, _<_, zero-le}
 use native.Mathlib.Omega.{arith}
 use lib.IntN.{ℤ, pos}
 use lib.ListN.{length, take, set, getD, replicate, length-set, length-replicate}
-use lib.Seq.{getD-set-same, getD-set-other, set-out}
+use lib.Seq.{getD-set-same, getD-set-other}
 use Rattle.counting.specs.Counting.{listed}
-use Rattle.counting.proofs.Listed.{same-or-not, listed-length, listed-take, listed-more}
+use Rattle.counting.proofs.Listed.{listed-length, listed-take, listed-more}
 use Rattle.polynomial.specs.Terms.{Term, term, keysOf, termsIn, Low, Filled}
 
 pub terms-length : (n : ℕ) (keys : List ℕ) (coefficients : List ℤ) → length (termsIn n keys coefficients) ≡ n

@@ -1,6 +1,5 @@
 // Monomials, and polynomials as arrays by value.
 ghost use mathlib.Core.Path.{_≡_};
-ghost use Prim.Native.Nat.{ℕ};
 ghost use Rattle.polynomial.specs.Monomial.{degree, within, among};
 ghost use Rattle.polynomial.specs.Terms.{Filled};
 

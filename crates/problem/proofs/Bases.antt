@@ -1,8 +1,8 @@
 -- Laws of the bases and the multipliers: a basis is its part of the keys, and the multipliers are flattened one after the other.
-use mathlib.Core.Path.{_≡_, refl, ap, sym, _∙_}
+use mathlib.Core.Path.{_≡_, refl, sym, _∙_}
 use mathlib.Core.List.{List, [], _∷_, _++_}
 use mathlib.Core.Logic.{_⊎_, inl, inr, ⊎-elim}
-use Prim.Native.Nat.{ℕ, zero, suc, _+_, _-_, _*_, _^_, _≤_, _<_, zero-le}
+use Prim.Native.Nat.{ℕ, zero, suc, _+_, _-_, _*_, _≤_, _<_, zero-le}
 use native.Mathlib.Decide.{decLt}
 use native.Mathlib.Nat.{eq-or-lt-of-le}
 use native.Mathlib.Numerals.{add-one}
@@ -13,7 +13,6 @@ use Rattle.counting.proofs.Listed.{listed-at}
 use Rattle.polynomial.specs.Terms.{keysOf, terms, Low, Filled}
 use Rattle.polynomial.specs.declared.Polynomial.{Polynomial}
 use Rattle.polynomial.proofs.Terms.{terms-keys, set-all, low-none}
-use Rattle.problem.specs.declared.Multipliers.{Multipliers}
 use Rattle.problem.specs.declared.StoredProblem.{StoredProblem}
 use Rattle.problem.specs.Rules.{Problem}
 use Rattle.problem.specs.Stored.{noTerms, constraintsOf, basesOf, problemOf, KeptConstraints, Kept}
@@ -26,6 +25,11 @@ below-or-not i n = go (decLt i n)
     go : Dec (i < n) → (i < n) ⊎ (n ≤ i)
     go (yes h) = inl h
     go (no h) = inr (omega arith)
+
+-- the constraints of a stored problem, from which its multipliers are made
+pub stored-constraints : (p : StoredProblem) → problemOf p .constraints ≡ constraintsOf (p .count) (p .constraints)
+unfolding problemOf
+stored-constraints p = refl
 
 -- every basis is its part of the keys
 pub basis-part : (p : StoredProblem) → Kept p → (j : ℕ) → basisOf (problemOf p) j ≡ take (getD (p .sizes) j 0) (drop (64 * j) (p .keys))

@@ -1,11 +1,11 @@
 -- Laws of a command's checks: their order, and what follows from the first three.
-use mathlib.Core.Path.{_≡_, refl, ap, sym, _∙_}
-use mathlib.Core.List.{List, []}
+use mathlib.Core.Path.{_≡_, refl, sym, _∙_}
+use mathlib.Core.List.{List}
 use mathlib.Core.Bool.{Bool, true, false, not, cond}
 use Prim.Native.Nat.{ℕ, zero, suc, _+_, _-_, _^_, _≤_, _<_}
 use native.Mathlib.Omega.{arith}
 use lib.ListN.{length, getD}
-use lib.Dec.{eqb, leb, ltb}
+use lib.Dec.{eqb}
 use lib.IntN.{ℤ, pos, negsuc}
 use mir.Syntax.{w32}
 use mir.Val.{ofZ, SFits}
@@ -15,11 +15,9 @@ use Rattle.problem.specs.declared.Command.{Command}
 use Rattle.problem.specs.declared.Command.the-variants as C
 use Rattle.problem.specs.declared.Instruction.{Instruction}
 use Rattle.problem.specs.declared.Instruction.the-variants as I
-use Rattle.problem.specs.declared.Checked.{Checked}
-use Rattle.problem.specs.declared.Checked.the-variants.{Refused, Passed}
 use Rattle.problem.specs.Layout.{commandOf, size, decode}
-use Rattle.problem.specs.Rules.{Problem, placed, nonzero, allowed, repeated, full, commandAt, instructionAt, verdict}
-use Rattle.problem.specs.Checks.{early, checked}
+use Rattle.problem.specs.Rules.{Problem, placed, nonzero, allowed, commandAt, instructionAt, verdict}
+use Rattle.problem.specs.Checks.{early, late}
 
 -- a signed number is 0 exactly where its bits are
 pub nonzero-bits : (c : ℤ) → SFits w32 c → not (eqb (ofZ w32 c) 0) ≡ nonzero c
@@ -27,75 +25,80 @@ nonzero-bits (pos zero) h = refl
 nonzero-bits (pos (suc n)) h = rw (ne-eqb (suc n) 0 (λ e. omega arith), lt-ltb 0 (suc n) (omega arith))
 nonzero-bits (negsuc n) h = let k = h .sfits in rw (ne-eqb (2 ^ 32 - suc n) 0 (λ e. omega arith))
 
+-- two constructors are never equal
+pub clash : {X : Type 0} → _≡_ {A = ℕ} 0 1 → X
+clash z = absurd (omega arith)
+
 -- ---- the first three checks, one by one
 module _ (p : Problem) (s : List ℕ) (at : ℕ) where
-  pub checked-3 : placed p at (commandAt s at) ≡ false → checked p s at ≡ Refused 3
-  unfolding checked early firstRefusal
-  checked-3 h = rw h
+  pub early-3 : placed p at (commandAt s at) ≡ false → early p s at ≡ 3
+  unfolding early firstRefusal
+  early-3 h = rw h
 
   module _ (h : placed p at (commandAt s at) ≡ true) where
-    pub checked-2 : length s < at + size (commandAt s at) → checked p s at ≡ Refused 2
-    unfolding checked early firstRefusal
-    checked-2 k = rw (h, lt-leb (at + size (commandAt s at)) (length s) k)
+    pub early-2 : length s < at + size (commandAt s at) → early p s at ≡ 2
+    unfolding early firstRefusal
+    early-2 k = rw (h, lt-leb (at + size (commandAt s at)) (length s) k)
 
     module _ (k : at + size (commandAt s at) ≤ length s) where
-      pub checked-4 : allowed p (instructionAt s at) ≡ false → checked p s at ≡ Refused 4
-      unfolding checked early firstRefusal
-      checked-4 l = rw (h, le-leb (at + size (commandAt s at)) (length s) k, l)
+      pub early-4 : allowed p (instructionAt s at) ≡ false → early p s at ≡ 4
+      unfolding early firstRefusal
+      early-4 l = rw (h, le-leb (at + size (commandAt s at)) (length s) k, l)
 
-      pub checked-0 : allowed p (instructionAt s at) ≡ true → checked p s at ≡ Passed (instructionAt s at) (at + size (commandAt s at))
-      unfolding checked early firstRefusal
-      checked-0 l = rw (h, le-leb (at + size (commandAt s at)) (length s) k, l)
+      pub early-0 : allowed p (instructionAt s at) ≡ true → early p s at ≡ 0
+      unfolding early firstRefusal
+      early-0 l = rw (h, le-leb (at + size (commandAt s at)) (length s) k, l)
 
 -- ---- what follows from them
-never : {X : Type 0} (n m : ℕ) (i : Instruction) → Refused n ≡ Passed i m → X
-never n m i h = absurd (let z : _≡_ {A = ℕ} 0 1 = cc in omega arith)
-
-module _ (p : Problem) (s : List ℕ) (at : ℕ) where
-  -- where one of them fails, the command is refused with its number
-  pub early-refusal : (n : ℕ) → Refused n ≡ checked p s at → (0 < n) × (verdict p s at ≡ n)
-  unfolding checked early verdict firstRefusal
-  early-refusal n = go (placed p at (commandAt s at)) (leb (at + size (commandAt s at)) (length s)) (allowed p (instructionAt s at)) (repeated p (instructionAt s at)) (full p (instructionAt s at)) (instructionAt s at) (at + size (commandAt s at))
+module _ (a b c : Bool) where
+  -- where one of them fails, it decides
+  early-decides : (r f : Bool) → 0 < firstRefusal a b c false false → firstRefusal a b c r f ≡ firstRefusal a b c false false
+  unfolding firstRefusal
+  early-decides r f = go a b c
     where
-      go : (a b c r f : Bool) (i : Instruction) (m : ℕ) → Refused n ≡ cond (ltb 0 (firstRefusal a b c false false)) (Refused (firstRefusal a b c false false)) (Passed i m)
-          → (0 < n) × (firstRefusal a b c r f ≡ n)
-      go false b c r f i m h = let e : n ≡ 3 = cc in (omega arith, sym e)
-      go true false c r f i m h = let e : n ≡ 2 = cc in (omega arith, sym e)
-      go true true false r f i m h = let e : n ≡ 4 = cc in (omega arith, sym e)
-      go true true true r f i m h = never n m i h
+      go : (a b c : Bool) → 0 < firstRefusal a b c false false → firstRefusal a b c r f ≡ firstRefusal a b c false false
+      go false b c h = refl
+      go true false c h = refl
+      go true true false h = refl
+      go true true true h = absurd (omega arith)
 
--- where none fails: the command with its operands, which are allowed, and the place of the next; the last two checks decide
+  early-passes : firstRefusal a b c false false ≡ 0 → (a ≡ true) × (b ≡ true) × (c ≡ true)
+  unfolding firstRefusal
+  early-passes = go a b c
+    where
+      go : (a b c : Bool) → firstRefusal a b c false false ≡ 0 → (a ≡ true) × (b ≡ true) × (c ≡ true)
+      go false b c h = absurd (omega arith)
+      go true false c h = absurd (omega arith)
+      go true true false h = absurd (omega arith)
+      go true true true h = (refl, refl, refl)
+
+-- a command that passed them, with its operands and the place of the next: the last two checks decide
 pub record Passes (p : Problem) (s : List ℕ) (at : ℕ) (i : Instruction) (next : ℕ) : Type 0 where
   pub instruction : instructionAt s at ≡ i
   pub stands : placed p at (commandAt s at) ≡ true
   pub step : next ≡ at + size (commandAt s at)
   pub whole : next ≤ length s
   pub operands : allowed p i ≡ true
-  pub decides : verdict p s at ≡ firstRefusal true true true (repeated p i) (full p i)
+  pub decides : verdict p s at ≡ late p i
 
-module _ (p : Problem) (s : List ℕ) (at : ℕ) (i : Instruction) (next : ℕ) where
-  pub passes : Passed i next ≡ checked p s at → Passes p s at i next
-  unfolding checked early verdict firstRefusal
-  passes h =
-      go (placed p at (commandAt s at)) (leb (at + size (commandAt s at)) (length s)) (allowed p (instructionAt s at)) (instructionAt s at) (at + size (commandAt s at)) refl refl refl refl refl h
-    where
-      go : (a b c : Bool) (j : Instruction) (m : ℕ) → placed p at (commandAt s at) ≡ a → leb (at + size (commandAt s at)) (length s) ≡ b → allowed p (instructionAt s at) ≡ c → instructionAt s at ≡ j → at + size (commandAt s at) ≡ m
-          → Passed i next ≡ cond (ltb 0 (firstRefusal a b c false false)) (Refused (firstRefusal a b c false false)) (Passed j m) → Passes p s at i next
-      go false b c j m ea eb ec ej em h = never 3 next i (sym h)
-      go true false c j m ea eb ec ej em h = never 2 next i (sym h)
-      go true true false j m ea eb ec ej em h = never 4 next i (sym h)
-      go true true true j m ea eb ec ej em h =
-          let k : j ≡ i = cc in
-          let n : m ≡ next = cc in
-          let w = leb-true (at + size (commandAt s at)) (length s) eb in
-          record {
-            instruction = ej ∙ k;
-            stands = ea;
-            step = sym (em ∙ n);
-            whole = omega arith;
-            operands = rw (ej ∙ k) at ec;
-            decides = rw (ea, eb, ec, ej ∙ k);
-          }
+module _ (p : Problem) (s : List ℕ) (at : ℕ) where
+  pub early-refusal : 0 < early p s at → verdict p s at ≡ early p s at
+  unfolding early verdict
+  early-refusal h = early-decides _ _ _ _ _ h
+
+  pub passes : (i : Instruction) (next : ℕ) → early p s at ≡ 0 → instructionAt s at ≡ i → next ≡ at + size (commandAt s at) → Passes p s at i next
+  unfolding early verdict
+  passes i next h e k =
+      let t = early-passes _ _ _ h in
+      let w = leb-true (at + size (commandAt s at)) (length s) (t .1) in
+      record {
+        instruction = e;
+        stands = t .0;
+        step = k;
+        whole = omega arith;
+        operands = rw e at (t .2);
+        decides = rw (t .0, t .1, t .2, e);
+      }
 
 -- a command that stands somewhere has a byte, and 06 is the one that ends
 placed-size : (p : Problem) (at : ℕ) (k : Command) → placed p at k ≡ true → 1 ≤ size k
@@ -105,29 +108,29 @@ placed-size p at C.Constraint h = omega arith
 placed-size p at C.Term h = omega arith
 placed-size p at C.Member h = omega arith
 placed-size p at C.End h = omega arith
-placed-size p at C.Unknown h = absurd (let z : _≡_ {A = ℕ} 0 1 = cc in omega arith)
+placed-size p at C.Unknown h = clash (cc)
 
 end-command : (p : Problem) (s : List ℕ) (at : ℕ) (k : Command) → placed p at k ≡ true → decode k s at ≡ I.End → k ≡ C.End
-end-command p s at C.Variables h e = absurd (let z : _≡_ {A = ℕ} 0 1 = cc in omega arith)
-end-command p s at C.Objective h e = absurd (let z : _≡_ {A = ℕ} 0 1 = cc in omega arith)
-end-command p s at C.Constraint h e = absurd (let z : _≡_ {A = ℕ} 0 1 = cc in omega arith)
-end-command p s at C.Term h e = absurd (let z : _≡_ {A = ℕ} 0 1 = cc in omega arith)
-end-command p s at C.Member h e = absurd (let z : _≡_ {A = ℕ} 0 1 = cc in omega arith)
+end-command p s at C.Variables h e = clash (cc)
+end-command p s at C.Objective h e = clash (cc)
+end-command p s at C.Constraint h e = clash (cc)
+end-command p s at C.Term h e = clash (cc)
+end-command p s at C.Member h e = clash (cc)
 end-command p s at C.End h e = refl
-end-command p s at C.Unknown h e = absurd (let z : _≡_ {A = ℕ} 0 1 = cc in omega arith)
+end-command p s at C.Unknown h e = clash (cc)
 
 end-byte : (b : ℕ) → commandOf b ≡ C.End → b ≡ 6
 unfolding commandOf
 end-byte b h = go (eqb b 1) (eqb b 2) (eqb b 3) (eqb b 4) (eqb b 5) (eqb b 6) refl h
   where
     go : (t u v w x y : Bool) → eqb b 6 ≡ y → cond t C.Variables (cond u C.Objective (cond v C.Constraint (cond w C.Term (cond x C.Member (cond y C.End C.Unknown))))) ≡ C.End → b ≡ 6
-    go true u v w x y e h = absurd (let z : _≡_ {A = ℕ} 0 1 = cc in omega arith)
-    go false true v w x y e h = absurd (let z : _≡_ {A = ℕ} 0 1 = cc in omega arith)
-    go false false true w x y e h = absurd (let z : _≡_ {A = ℕ} 0 1 = cc in omega arith)
-    go false false false true x y e h = absurd (let z : _≡_ {A = ℕ} 0 1 = cc in omega arith)
-    go false false false false true y e h = absurd (let z : _≡_ {A = ℕ} 0 1 = cc in omega arith)
+    go true u v w x y e h = clash (cc)
+    go false true v w x y e h = clash (cc)
+    go false false true w x y e h = clash (cc)
+    go false false false true x y e h = clash (cc)
+    go false false false false true y e h = clash (cc)
     go false false false false false true e h = eqb-true b 6 e
-    go false false false false false false e h = absurd (let z : _≡_ {A = ℕ} 0 1 = cc in omega arith)
+    go false false false false false false e h = clash (cc)
 
 module _ (p : Problem) (s : List ℕ) (at : ℕ) (i : Instruction) (next : ℕ) (t : Passes p s at i next) where
   pub passes-size : 1 ≤ size (commandAt s at)
@@ -142,6 +145,3 @@ module _ (p : Problem) (s : List ℕ) (at : ℕ) (i : Instruction) (next : ℕ) 
 
   pub passes-longer : at < next
   passes-longer = let e = t .step in let z = passes-size in omega arith
-
-  pub passes-as : (j : Instruction) → i ≡ j → Passes p s at j next
-  passes-as j e = rw e at t

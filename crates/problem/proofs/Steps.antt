@@ -1,20 +1,20 @@
 -- One command of the reading loop: what it stores is what the definition says, and the loop's invariant goes on.
-use mathlib.Core.Path.{_≡_, refl, ap, sym, _∙_}
-use mathlib.Core.List.{List, [], _∷_, _++_}
+use mathlib.Core.Path.{_≡_, refl, sym, _∙_}
+use mathlib.Core.List.{List}
 use mathlib.Core.Bool.{Bool, true, false, _&&_}
-use Prim.Native.Nat.{ℕ, zero, suc, _+_, _-_, _*_, _^_, _≤_, _<_, zero-le}
+use Prim.Native.Nat.{ℕ, _+_, _-_, _*_, _^_, _≤_, _<_, zero-le}
 use native.Mathlib.Nat.{le-trans}
 use native.Mathlib.Omega.{arith}
-use lib.Dec.{eqb, leb, ltb}
-use lib.IntN.{ℤ, pos}
+use lib.Dec.{leb, ltb}
+use lib.IntN.{ℤ}
 use lib.ListN.{length, take, drop, set, getD, replicate, length-drop, length-replicate, getD-replicate}
 use lib.Seq.{length-take-le}
 use borrow.Author.Tests.{ne-eqb, le-leb, lt-leb, leb-true, leb-false, ltb-true}
-use Rattle.stream.specs.Commands.{Outcome, refused, given, firstRefusal}
+use Rattle.stream.specs.Commands.{firstRefusal}
 use Rattle.stream.proofs.Run.{Left, left-start, left-end, left-refused, left-extra, left-given, left-next}
 use Rattle.counting.specs.Counting.{listed}
-use Rattle.polynomial.specs.Monomial.{degree, within, among}
-use Rattle.polynomial.specs.Terms.{Term, term, keysOf, termsIn, objectiveTerms, terms, Filled}
+use Rattle.polynomial.specs.Monomial.{degree, within}
+use Rattle.polynomial.specs.Terms.{Term, term, termsIn, Filled}
 use Rattle.polynomial.specs.declared.Objective.{Objective}
 use Rattle.polynomial.specs.declared.Polynomial.{Polynomial}
 use Rattle.polynomial.proofs.Monomials.{key-low}
@@ -23,14 +23,13 @@ use Rattle.problem.specs.declared.Command.{Command}
 use Rattle.problem.specs.declared.Command.the-variants as C
 use Rattle.problem.specs.declared.Instruction.{Instruction}
 use Rattle.problem.specs.declared.Instruction.the-variants as I
-use Rattle.problem.specs.declared.Checked.{Checked}
 use Rattle.problem.specs.declared.StoredProblem.{StoredProblem}
 use Rattle.problem.specs.declared.Reading.{Reading}
-use Rattle.problem.specs.Layout.{commandOf, size, decode}
-use Rattle.problem.specs.Rules.{Problem, placed, fitting, nonzero, repeated, full, applied, commandAt, verdict, next, language, nothing, readProblem}
-use Rattle.problem.specs.Checks.{checked}
-use Rattle.problem.specs.Stored.{noTerms, constraintsOf, basesOf, problemOf, outcomeOf, KeptConstraints, KeptBases, Kept}
-use Rattle.problem.proofs.Checks.{Passes, passes-size, passes-end, passes-on}
+use Rattle.problem.specs.Layout.{commandOf, decode}
+use Rattle.problem.specs.Rules.{Problem, placed, fitting, nonzero, full, applied, commandAt, verdict, next, language, nothing, readProblem}
+use Rattle.problem.specs.Checks.{early, late, lateIn}
+use Rattle.problem.specs.Stored.{noTerms, constraintsOf, basesOf, problemOf, outcomeOf, Kept}
+use Rattle.problem.proofs.Checks.{clash, Passes, passes-size, passes-end, passes-on}
 use Rattle.problem.proofs.Stored.{terms-room, constraints-count, last-stored, constraint-begun, term-added, constraints-kept, basis-stored, member-added, bases-kept}
 
 abbrev pub stored : ℕ → Objective → List Polynomial → ℕ → List ℕ → List ℕ → StoredProblem
@@ -46,10 +45,6 @@ pub record Going (s : List ℕ) (p : StoredProblem) (number at : ℕ) : Type 0 w
   pub reached : at ≤ length s
   pub kept : Kept p
   pub left : Left language s (readProblem s) (problemOf p) at
-
--- the last two checks of a command whose operands are allowed: 5, 6 or 0
-abbrev pub late : StoredProblem → Instruction → ℕ
-late p i = firstRefusal true true true (repeated (problemOf p) i) (full (problemOf p) i)
 
 -- what the function promises
 abbrev pub Done : List ℕ → Reading → Type 0
@@ -69,10 +64,10 @@ module _ (s : List ℕ) (p : StoredProblem) (number at : ℕ) (g : Going s p num
     refusing n l v = (rw (ne-eqb n 0 (λ e. omega arith), ← v) (left-refused language s _ _ at (g .left) h (omega arith)), g .kept)
 
     module _ (i : Instruction) (after : ℕ) (t : Passes (problemOf p) s at i after) where
-      pub late-refusal : (n : ℕ) → 0 < n → n ≡ late p i → Done s (reading n at p)
+      pub late-refusal : (n : ℕ) → 0 < n → n ≡ late (problemOf p) i → Done s (reading n at p)
       late-refusal n l e = refusing n l (t .decides ∙ sym e)
 
-      pub going-on : (q : StoredProblem) → late p i ≡ 0 → (I.End ≡ i → ⊥) → problemOf q ≡ applied (problemOf p) i → Kept q → Going s q number after
+      pub going-on : (q : StoredProblem) → late (problemOf p) i ≡ 0 → (I.End ≡ i → ⊥) → problemOf q ≡ applied (problemOf p) i → Kept q → Going s q number after
       unfolding next
       going-on q v d e k =
           record {
@@ -92,9 +87,9 @@ module _ (s : List ℕ) (p : StoredProblem) (number at : ℕ) (g : Going s p num
       unfolding firstRefusal
       none = t .decides
 
-      pub extra : after < length s → Done s (reading 2 after p)
+      pub extra : after < length s → Done s (reading number after p)
       unfolding outcomeOf
-      extra m = (rw last-byte (left-extra language s _ _ at (g .left) h none (passes-end _ s at I.End after t refl) (rw last-byte at m)), g .kept)
+      extra m = (rw (g .undecided, last-byte) (left-extra language s _ _ at (g .left) h none (passes-end _ s at I.End after t refl) (rw last-byte at m)), g .kept)
 
       pub complete : length s ≤ after → Done s (reading 0 at p)
       unfolding outcomeOf
@@ -121,11 +116,11 @@ starting s o q f e =
 -- ---- what each command stores
 and-left : (a b : Bool) → (a && b) ≡ true → a ≡ true
 and-left true b h = refl
-and-left false b h = absurd (let z : _≡_ {A = ℕ} 0 1 = cc in omega arith)
+and-left false b h = clash (cc)
 
 and-right : (a b : Bool) → (a && b) ≡ true → b ≡ true
 and-right true b h = h
-and-right false b h = absurd (let z : _≡_ {A = ℕ} 0 1 = cc in omega arith)
+and-right false b h = clash (cc)
 
 -- no check fails, so the list is not full
 not-full : (a f : Bool) → firstRefusal true true true a f ≡ 0 → f ≡ false
@@ -134,18 +129,18 @@ not-full false false h = refl
 not-full false true h = absurd (omega arith)
 not-full true f h = absurd (omega arith)
 
-pub space : (a : Bool) (most n : ℕ) → firstRefusal true true true a (leb most n) ≡ 0 → n < most
-space a most n h = leb-false most n (not-full a (leb most n) h)
+pub space : (keys : List ℕ) (from n k most : ℕ) → lateIn keys from n k most ≡ 0 → n < most
+space keys from n k most h = leb-false most n (not-full _ _ h)
 
 -- a 04 stands after a 03
 term-placed : (p : Problem) (s : List ℕ) (at : ℕ) (w : Command) (k : ℕ) (c : ℤ) → placed p at w ≡ true → decode w s at ≡ I.Term k c → 0 < length (p .constraints)
-term-placed p s at C.Variables k c h e = absurd (let z : _≡_ {A = ℕ} 0 1 = cc in omega arith)
-term-placed p s at C.Objective k c h e = absurd (let z : _≡_ {A = ℕ} 0 1 = cc in omega arith)
-term-placed p s at C.Constraint k c h e = absurd (let z : _≡_ {A = ℕ} 0 1 = cc in omega arith)
+term-placed p s at C.Variables k c h e = clash (cc)
+term-placed p s at C.Objective k c h e = clash (cc)
+term-placed p s at C.Constraint k c h e = clash (cc)
 term-placed p s at C.Term k c h e = ltb-true 0 (length (p .constraints)) (and-right (ltb 0 at) (ltb 0 (length (p .constraints))) h)
-term-placed p s at C.Member k c h e = absurd (let z : _≡_ {A = ℕ} 0 1 = cc in omega arith)
-term-placed p s at C.End k c h e = absurd (let z : _≡_ {A = ℕ} 0 1 = cc in omega arith)
-term-placed p s at C.Unknown k c h e = absurd (let z : _≡_ {A = ℕ} 0 1 = cc in omega arith)
+term-placed p s at C.Member k c h e = clash (cc)
+term-placed p s at C.End k c h e = clash (cc)
+term-placed p s at C.Unknown k c h e = clash (cc)
 
 -- a monomial that is allowed has a key that is low enough
 fitting-low : (n d k : ℕ) → n ≤ 8 → fitting n d k ≡ true → k ≤ d * 2 ^ 56
@@ -162,28 +157,28 @@ module _ (s : List ℕ) (v : ℕ) (o : Objective) (qs : List Polynomial) (n : �
   kept = g .kept
 
   -- what the first checks say of these numbers, they say of this problem
-  pub first-checks : (r : Checked) → ((p : Problem) → p .variables ≡ v → length (p .constraints) ≡ n → r ≡ checked p s at) → r ≡ checked (problemOf here) s at
+  pub first-checks : (r : ℕ) → ((p : Problem) → p .variables ≡ v → length (p .constraints) ≡ n → r ≡ early p s at) → r ≡ early (problemOf here) s at
   unfolding problemOf
   first-checks r e = e (problemOf here) refl (constraints-count n qs)
 
   pub after-variables : (m : ℕ) → Passes (problemOf here) s at (I.Variables m) after → Going s (stored m o qs n keys sizes) number after
   unfolding problemOf applied firstRefusal
   after-variables m t =
-      going-on s here number at g h (I.Variables m) after t (stored m o qs n keys sizes) refl (λ e. let z : _≡_ {A = ℕ} 0 1 = cc in omega arith) refl
+      going-on s here number at g h (I.Variables m) after t (stored m o qs n keys sizes) refl (λ e. clash (cc)) refl
       (record { variables-low = leb-true m 8 (and-right (leb 1 m) (leb m 8) (t .operands)); objective = kept .objective; constraints = kept .constraints; bases = kept .bases })
 
   module _ (k : ℕ) (c : ℤ) (t : Passes (problemOf here) s at (I.Objective k c) after) where
-    pub objective-room : firstRefusal true true true (among k (take (o .count) (drop 0 (o .keys)))) (leb 256 (o .count)) ≡ late here (I.Objective k c)
+    pub objective-room : lateIn (o .keys) 0 (o .count) k 256 ≡ late (problemOf here) (I.Objective k c)
     unfolding problemOf
     objective-room = let f = kept .objective in terms-room (o .count) 256 k (o .keys) (o .coefficients) (omega arith)
 
-    pub after-objective : firstRefusal true true true (among k (take (o .count) (drop 0 (o .keys)))) (leb 256 (o .count)) ≡ 0
+    pub after-objective : lateIn (o .keys) 0 (o .count) k 256 ≡ 0
         → Going s (stored v (record { keys = set (o .keys) (o .count) k; coefficients = set (o .coefficients) (o .count) c; count = o .count + 1 }) qs n keys sizes) number after
     unfolding problemOf applied
     after-objective e =
         let f = kept .objective in
-        let l : o .count < 256 = leb-false 256 (o .count) (not-full _ _ e) in
-        going-on s here number at g h (I.Objective k c) after t _ (sym objective-room ∙ e) (λ e. let z : _≡_ {A = ℕ} 0 1 = cc in omega arith)
+        let l : o .count < 256 = space (o .keys) 0 (o .count) k 256 e in
+        going-on s here number at g h (I.Objective k c) after t _ (sym objective-room ∙ e) (λ e. clash (cc))
         (rw (terms-more (o .count) (o .keys) (o .coefficients) k c (omega arith) (omega arith)))
         (record {
           variables-low = kept .variables-low;
@@ -193,7 +188,7 @@ module _ (s : List ℕ) (v : ℕ) (o : Objective) (qs : List Polynomial) (n : �
         })
 
   module _ (t : Passes (problemOf here) s at I.Constraint after) where
-    pub constraint-full : 8 ≤ n → 6 ≡ late here I.Constraint
+    pub constraint-full : 8 ≤ n → 6 ≡ late (problemOf here) I.Constraint
     unfolding problemOf firstRefusal
     constraint-full l = rw (constraints-count n qs, le-leb 8 n l)
 
@@ -201,7 +196,7 @@ module _ (s : List ℕ) (v : ℕ) (o : Objective) (qs : List Polynomial) (n : �
     unfolding problemOf applied firstRefusal
     after-constraint q l f =
         let w = kept .constraints .places in
-        going-on s here number at g h I.Constraint after t _ (rw (constraints-count n qs, lt-leb 8 n l)) (λ e. let z : _≡_ {A = ℕ} 0 1 = cc in omega arith)
+        going-on s here number at g h I.Constraint after t _ (rw (constraints-count n qs, lt-leb 8 n l)) (λ e. clash (cc))
         (rw (constraint-begun n qs q (omega arith) (f .1)))
         (record {
           variables-low = kept .variables-low;
@@ -221,11 +216,11 @@ module _ (s : List ℕ) (v : ℕ) (o : Objective) (qs : List Polynomial) (n : �
     pub last-filled : Filled 16 32 (last .keys) (last .coefficients) (last .count)
     last-filled = let w = kept .constraints .count-low in let b = term-begun in kept .constraints .each (n - 1) (omega arith)
 
-    pub term-room : firstRefusal true true true (among k (take (last .count) (drop 0 (last .keys)))) (leb 32 (last .count)) ≡ late here (I.Term k c)
+    pub term-room : lateIn (last .keys) 0 (last .count) k 32 ≡ late (problemOf here) (I.Term k c)
     unfolding problemOf
     term-room = let f = last-filled in rw (last-stored n qs term-begun) (terms-room (last .count) 32 k (last .keys) (last .coefficients) (omega arith))
 
-    pub after-term : firstRefusal true true true (among k (take (last .count) (drop 0 (last .keys)))) (leb 32 (last .count)) ≡ 0
+    pub after-term : lateIn (last .keys) 0 (last .count) k 32 ≡ 0
         → Going s (stored v o (set qs (n - 1) (record { keys = set (last .keys) (last .count) k; coefficients = set (last .coefficients) (last .count) c; count = last .count + 1 })) n keys sizes) number after
     unfolding problemOf applied
     after-term e =
@@ -233,8 +228,8 @@ module _ (s : List ℕ) (v : ℕ) (o : Objective) (qs : List Polynomial) (n : �
         let b = term-begun in
         let w = kept .constraints .places in
         let u = kept .constraints .count-low in
-        let l : last .count < 32 = leb-false 32 (last .count) (not-full _ _ e) in
-        going-on s here number at g h (I.Term k c) after t _ (sym term-room ∙ e) (λ e. let z : _≡_ {A = ℕ} 0 1 = cc in omega arith)
+        let l : last .count < 32 = space (last .keys) 0 (last .count) k 32 e in
+        going-on s here number at g h (I.Term k c) after t _ (sym term-room ∙ e) (λ e. clash (cc))
         (rw (constraints-count n qs, term-added n qs (n - 1) _ (term k c) (omega arith) (omega arith) (terms-more (last .count) (last .keys) (last .coefficients) k c (omega arith) (omega arith))))
         (record {
           variables-low = kept .variables-low;
@@ -250,7 +245,7 @@ module _ (s : List ℕ) (v : ℕ) (o : Objective) (qs : List Polynomial) (n : �
         let u = kept .constraints .count-low in
         omega (arith, rw (constraints-count n qs) at (leb-true j (length (constraintsOf n qs)) (and-left (leb j (length (constraintsOf n qs))) (fitting v 8 k) (t .operands))))
 
-    pub member-room : firstRefusal true true true (among k (take (getD sizes j 0) (drop (64 * j) keys))) (leb 64 (getD sizes j 0)) ≡ late here (I.Member j k)
+    pub member-room : lateIn keys (64 * j) (getD sizes j 0) k 64 ≡ late (problemOf here) (I.Member j k)
     unfolding problemOf
     member-room =
         let w = kept .bases .keys-length in
@@ -259,12 +254,12 @@ module _ (s : List ℕ) (v : ℕ) (o : Objective) (qs : List Polynomial) (n : �
         let l : length (take (getD sizes j 0) (drop (64 * j) keys)) ≡ getD sizes j 0 = length-take-le (getD sizes j 0) (drop (64 * j) keys) (rw (length-drop (64 * j) keys) (omega arith)) in
         rw (basis-stored sizes keys j member-begun, l)
 
-    pub after-member : firstRefusal true true true (among k (take (getD sizes j 0) (drop (64 * j) keys))) (leb 64 (getD sizes j 0)) ≡ 0
+    pub after-member : lateIn keys (64 * j) (getD sizes j 0) k 64 ≡ 0
         → Going s (stored v o qs n (set keys (64 * j + getD sizes j 0) k) (set sizes j (getD sizes j 0 + 1))) number after
     unfolding problemOf applied
     after-member e =
-        let l : getD sizes j 0 < 64 = leb-false 64 (getD sizes j 0) (not-full _ _ e) in
-        going-on s here number at g h (I.Member j k) after t _ (sym member-room ∙ e) (λ e. let z : _≡_ {A = ℕ} 0 1 = cc in omega arith)
+        let l : getD sizes j 0 < 64 = space keys (64 * j) (getD sizes j 0) k 64 e in
+        going-on s here number at g h (I.Member j k) after t _ (sym member-room ∙ e) (λ e. clash (cc))
         (rw (member-added sizes keys (kept .bases) j k member-begun l))
         (record {
           variables-low = kept .variables-low;

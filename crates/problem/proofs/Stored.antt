@@ -1,24 +1,25 @@
 -- Laws of the arrays of a stored problem: the lists that they hold, one more of each, and what they keep.
-use mathlib.Core.Path.{_≡_, refl, ap, sym, _∙_}
+use mathlib.Core.Path.{_≡_, sym, _∙_}
 use mathlib.Core.List.{List, [], _∷_, _++_}
 use mathlib.Core.Logic.{_⊎_, inl, inr, ⊎-elim, _≢_}
-use mathlib.Core.Bool.{true, false}
-use Prim.Native.Nat.{ℕ, zero, suc, _+_, _-_, _*_, _^_, _≤_, _<_, zero-le}
+use mathlib.Core.Bool.{true}
+use Prim.Native.Nat.{ℕ, _+_, _-_, _*_, _^_, _≤_, _<_}
 use native.Mathlib.Decide.{decLt}
 use native.Mathlib.Numerals.{add-one, lt-of-le-of-ne}
 use native.Mathlib.Omega.{arith}
 use lib.Dec.{leb}
 use lib.IntN.{ℤ}
-use lib.ListN.{length, take, drop, set, getD, replicate, length-set, length-drop, length-replicate}
+use lib.ListN.{length, take, drop, set, getD, length-set, length-drop}
 use lib.Seq.{getD-set-same, getD-set-other, drop-set-add, drop-set-lt, take-set-le, take-suc-set}
 use Rattle.counting.specs.Counting.{listed}
 use Rattle.counting.proofs.Listed.{listed-length, listed-at, listed-more, listed-set}
 use Rattle.stream.specs.Commands.{firstRefusal}
 use Rattle.polynomial.specs.Monomial.{among}
-use Rattle.polynomial.specs.Terms.{Term, term, keysOf, termsIn, terms, Low, Filled}
+use Rattle.polynomial.specs.Terms.{Term, keysOf, termsIn, terms, Filled}
 use Rattle.polynomial.specs.declared.Polynomial.{Polynomial}
-use Rattle.polynomial.proofs.Terms.{terms-length, terms-keys, set-all, low-set, low-none}
+use Rattle.polynomial.proofs.Terms.{terms-length, terms-keys, set-all, low-set}
 use Rattle.problem.specs.Rules.{appendAt, lastOf}
+use Rattle.problem.specs.Checks.{lateIn}
 use Rattle.problem.specs.Stored.{noTerms, constraintsOf, basesOf, KeptConstraints, KeptBases}
 
 before-or-after : (i j : ℕ) → i ≢ j → (i < j) ⊎ (j < i)
@@ -37,7 +38,7 @@ listed-append n f g j x h other here =
 
 -- the checks 5 and 6 of the keys in an array are those of the terms that it holds
 pub terms-room : (n most k : ℕ) (keys : List ℕ) (coefficients : List ℤ) → n ≤ length keys
-    → firstRefusal true true true (among k (take n keys)) (leb most n)
+    → lateIn keys 0 n k most
     ≡ firstRefusal true true true (among k (keysOf (termsIn n keys coefficients))) (leb most (length (termsIn n keys coefficients)))
 terms-room n most k keys coefficients h = rw (terms-keys n keys coefficients h, terms-length n keys coefficients)
 

@@ -1,14 +1,10 @@
 // The reader of the problem stream.
 ghost use mathlib.Core.Path.{_≡_};
-ghost use mathlib.Core.Bool.{true};
-ghost use Prim.Native.Nat.{ℕ, _+_, _≤_, _<_};
-ghost use lib.Dec.{leb};
-ghost use lib.ListN.{length, take, drop};
-ghost use Rattle.stream.specs.Commands.{firstRefusal};
-ghost use Rattle.polynomial.specs.Monomial.{among};
+ghost use Prim.Native.Nat.{_+_, _≤_, _<_};
+ghost use lib.ListN.{length};
 ghost use Rattle.problem.specs.Layout.{commandOf, size, decode};
-ghost use Rattle.problem.specs.Rules.{Problem, placed, fitting, nonzero, allowed, readProblem};
-ghost use Rattle.problem.specs.Checks.{checked};
+ghost use Rattle.problem.specs.Rules.{Problem, placed, fitting, nonzero, allowed, commandAt, readProblem};
+ghost use Rattle.problem.specs.Checks.{early, lateIn};
 ghost use Rattle.problem.specs.Stored.{outcomeOf, constraintsOf, KeptConstraints, Kept};
 ghost use Rattle.problem.specs.Bases.{Flat};
 use polynomial::Objective;
@@ -32,12 +28,6 @@ pub enum Instruction {
     Term(u64, i32),
     Member(usize, u64),
     End,
-}
-
-// What the first three checks of a command give: a refusal's number, or the command and the offset of the next.
-pub enum Checked {
-    Refused(u8),
-    Passed(Instruction, usize),
 }
 
 // A problem as it is stored: count is the number of constraints begun; basis j has sizes[j] keys, from place 64 j of keys on.
@@ -162,30 +152,27 @@ fn is_allowed(n: usize, count: usize, i: Instruction) -> bool
     }
 }
 
-// The checks 3, 2 and 4 of the command at an offset. They need two numbers of what was read before it.
-fn check_at(n: usize, count: usize, s: &[u8], at: usize) -> Checked
-    requires { ⌜ at < length (now s) ⌝ }
-    ensures { λ r. ⌜ ((p : Problem) → p .variables ≡ n → length (p .constraints) ≡ count → r ≡ checked p (now (s .entry)) at) ⌝ }
+// The checks 3, 2 and 4 of the command at an offset: they need two numbers of what was read before it.
+fn check_at(n: usize, count: usize, command: Command, s: &[u8], at: usize) -> u8
+    requires { ⌜ (at < length (now s)) × (command ≡ commandAt (now s) at) ⌝ }
+    ensures { λ r. ⌜ ((p : Problem) → p .variables ≡ n → length (p .constraints) ≡ count → r ≡ early p (now (s .entry)) at) ⌝ }
 {
-    let command = command_of(s[at]);
     if !is_placed(count, at, command) {
-        return Checked::Refused(3);
+        return 3;
     }
-    let next = at + size_of(command);
-    if s.len() < next {
-        return Checked::Refused(2);
+    if s.len() < at + size_of(command) {
+        return 2;
     }
-    let i = decode_at(command, s, at);
-    if !is_allowed(n, count, i) {
-        return Checked::Refused(4);
+    if !is_allowed(n, count, decode_at(command, s, at)) {
+        return 4;
     }
-    Checked::Passed(i, next)
+    0
 }
 
 // The checks 5 and 6 of one monomial more, for a list of at most `limit` that has `count`, from a place of the keys on.
 fn check_room(keys: &[u64], from: usize, count: usize, key: u64, limit: usize) -> u8
     requires { ⌜ from + count ≤ length (now keys) ⌝ }
-    ensures { λ r. ⌜ r ≡ firstRefusal true true true (among key (take count (drop from (now (keys .entry))))) (leb limit count) ⌝ }
+    ensures { λ r. ⌜ r ≡ lateIn (now (keys .entry)) from count key limit ⌝ }
 {
     let part = &keys[from..from + count];
     if polynomial::is_among(part, key) {
@@ -210,71 +197,70 @@ pub fn read(s: &[u8]) -> Reading
     let mut number: u8 = 2;
     let mut at = 0;
     while at < s.len() {
-        match check_at(variables, count, s, at) {
-            Checked::Refused(found) => {
-                number = found;
+        let command = command_of(s[at]);
+        let found = check_at(variables, count, command, s, at);
+        if 0 < found {
+            number = found;
+            break;
+        }
+        let next = at + size_of(command);
+        match decode_at(command, s, at) {
+            Instruction::Variables(n) => {
+                variables = n;
+            }
+            Instruction::Objective(key, c) => {
+                let n = objective.count;
+                let found = check_room(&objective.keys, 0, n, key, 256);
+                if 0 < found {
+                    number = found;
+                    break;
+                }
+                objective.keys[n] = key;
+                objective.coefficients[n] = c;
+                objective.count = n + 1;
+            }
+            Instruction::Constraint => {
+                if 8 <= count {
+                    number = 6;
+                    break;
+                }
+                constraints[count] = Polynomial::empty();
+                count += 1;
+            }
+            Instruction::Term(key, c) => {
+                let last = count - 1;
+                let mut q = constraints[last];
+                let n = q.count;
+                let found = check_room(&q.keys, 0, n, key, 32);
+                if 0 < found {
+                    number = found;
+                    break;
+                }
+                q.keys[n] = key;
+                q.coefficients[n] = c;
+                q.count = n + 1;
+                constraints[last] = q;
+            }
+            Instruction::Member(j, key) => {
+                let n = sizes[j];
+                let found = check_room(&keys, 64 * j, n, key, 64);
+                if 0 < found {
+                    number = found;
+                    break;
+                }
+                keys[64 * j + n] = key;
+                sizes[j] = n + 1;
+            }
+            Instruction::End => {
+                if next < s.len() {
+                    at = next;
+                } else {
+                    number = 0;
+                }
                 break;
             }
-            Checked::Passed(instruction, next) => {
-                match instruction {
-                    Instruction::Variables(n) => {
-                        variables = n;
-                    }
-                    Instruction::Objective(key, c) => {
-                        let n = objective.count;
-                        let found = check_room(&objective.keys, 0, n, key, 256);
-                        if 0 < found {
-                            number = found;
-                            break;
-                        }
-                        objective.keys[n] = key;
-                        objective.coefficients[n] = c;
-                        objective.count = n + 1;
-                    }
-                    Instruction::Constraint => {
-                        if 8 <= count {
-                            number = 6;
-                            break;
-                        }
-                        constraints[count] = Polynomial::empty();
-                        count += 1;
-                    }
-                    Instruction::Term(key, c) => {
-                        let last = count - 1;
-                        let mut q = constraints[last];
-                        let n = q.count;
-                        let found = check_room(&q.keys, 0, n, key, 32);
-                        if 0 < found {
-                            number = found;
-                            break;
-                        }
-                        q.keys[n] = key;
-                        q.coefficients[n] = c;
-                        q.count = n + 1;
-                        constraints[last] = q;
-                    }
-                    Instruction::Member(j, key) => {
-                        let n = sizes[j];
-                        let found = check_room(&keys, 64 * j, n, key, 64);
-                        if 0 < found {
-                            number = found;
-                            break;
-                        }
-                        keys[64 * j + n] = key;
-                        sizes[j] = n + 1;
-                    }
-                    Instruction::End => {
-                        if next < s.len() {
-                            at = next;
-                        } else {
-                            number = 0;
-                        }
-                        break;
-                    }
-                }
-                at = next;
-            }
         }
+        at = next;
     }
     Reading {
         number,

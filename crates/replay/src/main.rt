@@ -2,6 +2,7 @@
 // 32 bits, little-endian, and three byte runs, each of at most 65,536 bytes.
 ghost use Prim.Native.Nat.{ℕ, _+_, _*_, _≤_, _<_};
 ghost use lib.ListN.{length};
+use checker::Refusal;
 use libc::STDIN_FILENO;
 use libc::STDOUT_FILENO;
 
@@ -39,11 +40,91 @@ fn length_at(head: &[u8; 13], at: usize) -> usize
     stream::number_at(head, at, 4) as usize
 }
 
-// The next n bytes of the input; whether they are there.
-fn fill(run: &mut [u8], n: usize) -> bool
-    requires { ⌜ n ≤ length (now run) ⌝ }
-{
-    io::read_full(STDIN_FILENO, &mut run[..n]) == n
+// The next n bytes of the input; whether there is room for them and they are there.
+fn fill(bytes: &mut [u8], n: usize) -> bool {
+    if n <= bytes.len() {
+        io::read_full(STDIN_FILENO, &mut bytes[..n]) == n
+    } else {
+        false
+    }
 }
 
-fn main() {}
+// The first n bytes, or all.
+fn cut(bytes: &[u8], n: usize) -> &[u8] {
+    if n <= bytes.len() { &bytes[..n] } else { bytes }
+}
+
+fn put_refusal(r: Refusal) {
+    put(b"refused ");
+    put_number(r.number as u64);
+    put(b" ");
+    put_number(r.stream as u64);
+    put(b" ");
+    put_number(r.place as u64);
+    put(b" ");
+    put_number(r.key);
+    put(b"\n");
+}
+
+fn run_blocks(problem: &[u8]) {
+    let mut out = [0u8; 576];
+    let mut keys = [0u64; 2048];
+    let mut high = [0i64; 2048];
+    let mut low = [0u64; 2048];
+    let v = checker::blocks(problem, &mut out, &mut keys, &mut high, &mut low);
+    let r = v.refusal;
+    if r.number == 0 {
+        put(b"blocks ");
+        put_number(v.blocks as u64);
+        put(b" rounds ");
+        put_number(v.rounds as u64);
+        put(b" ");
+        put_hex(&out);
+        put(b"\n");
+    } else {
+        put_refusal(r);
+    }
+}
+
+// Answers a record of a kind; whether the kind is known.
+fn run(kind: u8, problem: &[u8], first: &[u8], second: &[u8]) -> bool {
+    if kind == b'b' {
+        run_blocks(problem);
+        return true;
+    }
+    false
+}
+
+// Answers the next record; whether there was a whole one of a known kind.
+fn answer() -> bool {
+    let mut head = [0u8; 13];
+    if io::read_full(STDIN_FILENO, &mut head) < 13 {
+        return false;
+    }
+    let a = length_at(&head, 1);
+    let b = length_at(&head, 5);
+    let c = length_at(&head, 9);
+    let mut problem = io::large_buffer();
+    let mut first = io::large_buffer();
+    let mut second = io::large_buffer();
+    if !fill(&mut problem, a) {
+        return false;
+    }
+    if !fill(&mut first, b) {
+        return false;
+    }
+    if !fill(&mut second, c) {
+        return false;
+    }
+    run(head[0], cut(&problem, a), cut(&first, b), cut(&second, c))
+}
+
+fn main() {
+    let mut left: u64 = 18446744073709551615;
+    while 0 < left {
+        if !answer() {
+            return;
+        }
+        left -= 1;
+    }
+}

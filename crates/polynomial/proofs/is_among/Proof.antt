@@ -1,6 +1,6 @@
 -- `is_among`: a monomial stands in the list exactly if it stands in it from i on.
 use mathlib.Core.Path.{_≡_, refl, sym, _∙_}
-use Prim.Native.Nat.{_+_, _-_, _≤_, _<_}
+use Prim.Native.Nat.{_-_, _≤_}
 use native.Mathlib.Omega.{arith}
 use lib.ListN.{length, drop}
 use Rattle.polynomial.specs.Monomial.{among}

@@ -1,10 +1,8 @@
 -- `is_within`: what is left after i turns is the key without its first i exponents.
-use mathlib.Core.Path.{_≡_, refl, sym, ap, _∙_}
-use Prim.Native.Nat.{ℕ, _+_, _-_, _*_, _/_, _^_, _≤_, _<_}
+use mathlib.Core.Path.{_≡_, sym, ap, _∙_}
+use Prim.Native.Nat.{ℕ, _-_, _/_, _^_, _≤_}
 use native.Mathlib.Nat.{div-one}
 use native.Mathlib.Omega.{arith}
-use lib.Dec.{eqb}
-use borrow.Author.Needs.{needs}
 use Rattle.polynomial.specs.Monomial.{within}
 use Rattle.polynomial.proofs.Monomials.{within-more}
 use Rattle.polynomial.proofs.is_within.Statement.{statement}

@@ -1,52 +1,45 @@
 -- `check_at`: the laws of the first three checks, in their order.
 use mathlib.Core.Path.{_≡_, sym, ap, _∙_}
-use mathlib.Core.Bool.{true, false}
-use Prim.Native.Nat.{ℕ, _+_, _≤_, _<_}
+use mathlib.Core.Bool.{true}
 use native.Mathlib.Omega.{arith}
-use lib.ListN.{length, getD}
+use lib.ListN.{length}
 use borrow.Author.Needs.{needs}
 use borrow.Author.Tests.{not-true, not-false}
-use Rattle.problem.specs.Layout.{size, decode}
-use Rattle.problem.specs.Rules.{Problem, placed, allowed, commandAt, instructionAt}
-use Rattle.problem.proofs.Checks.{checked-3, checked-2, checked-4, checked-0}
+use Rattle.problem.specs.Layout.{size}
+use Rattle.problem.specs.Rules.{Problem, placed, commandAt, instructionAt}
+use Rattle.problem.proofs.Checks.{early-3, early-2, early-4, early-0}
 use Rattle.problem.proofs.check_at.Statement.{statement}
 use Rattle.problem.proofs.check_at.Tie as tie
-
-shared-slice-read-command-of : tie.Need-shared-slice-read-command-of
-shared-slice-read-command-of c = search needs
-
-command-of-requires : tie.Need-command-of-requires
-command-of-requires c κs = search needs
 
 is-placed-requires : tie.Need-is-placed-requires
 is-placed-requires c κs = search needs
 
+-- past the first check
+stands : (c : tie.Else1) (p : Problem) → length (p .constraints) ≡ c .before .before .before .args .count
+    → placed p (c .before .before .before .args .at) (commandAt (c .before .before .before .args .s .now) (c .before .before .before .args .at)) ≡ true
+stands c p h = rw (c .before .before .before .pre .1) at (sym (c .before .is-placed .ensures p h) ∙ not-false _ (c .if1 .left))
+
 returns : tie.Need-returns
 returns c =
     λ p e h.
-    let a = c .before .before .before .before .before .args in
-    sym (checked-3 p (a .s .now) (a .at) (rw (c .before .before .command-of .ensures) at (sym (c .before .is-placed .ensures p h) ∙ not-true _ (c .if1 .taken))))
-
--- past the first check
-stands : (c : tie.Else1) (p : Problem) → length (p .constraints) ≡ c .before .before .before .before .before .args .count
-    → placed p (c .before .before .before .before .before .args .at) (commandAt (c .before .before .before .before .before .args .s .now) (c .before .before .before .before .before .args .at)) ≡ true
-stands c p h = rw (c .before .before .command-of .ensures) at (sym (c .before .is-placed .ensures p h) ∙ not-false _ (c .if1 .left))
+    let a = c .before .before .before .args in
+    sym (early-3 p (a .s .now) (a .at) (rw (c .before .before .before .pre .1) at (sym (c .before .is-placed .ensures p h) ∙ not-true _ (c .if1 .taken))))
 
 size-of-requires : tie.Need-size-of-requires
 size-of-requires c κs = search needs
 
-length-is : (c : tie.After-size-of) → c .size-of .result ≡ size (commandAt (c .before .before .before .before .before .before .args .s .now) (c .before .before .before .before .before .before .args .at))
-length-is c = c .size-of .ensures .0 ∙ ap size (c .before .before .before .command-of .ensures)
+length-is : (c : tie.After-size-of) → c .size-of .result ≡ size (commandAt (c .before .before .before .before .args .s .now) (c .before .before .before .before .args .at))
+length-is c = c .size-of .ensures .0 ∙ ap size (c .before .before .before .before .pre .1)
 
-add-next : tie.Need-add-next
-add-next c = let h = c .size-of .ensures .1 in omega arith
+add-if2 : tie.Need-add-if2
+add-if2 c = let h = c .size-of .ensures .1 in omega arith
 
 returns-2 : tie.Need-returns-2
 returns-2 c =
     λ p e h.
-    let a = c .before .before .before .before .before .before .before .args in
+    let a = c .before .before .before .before .before .args in
     let k = length-is (c .before) in
-    sym (checked-2 p (a .s .now) (a .at) (stands (c .before .before) p h) (omega arith))
+    sym (early-2 p (a .s .now) (a .at) (stands (c .before .before) p h) (omega arith))
 
 decode-at-requires : tie.Need-decode-at-requires
 decode-at-requires c κs = let k = c .before .size-of .ensures .0 in omega arith
@@ -54,36 +47,33 @@ decode-at-requires c κs = let k = c .before .size-of .ensures .0 in omega arith
 is-allowed-requires : tie.Need-is-allowed-requires
 is-allowed-requires c κs = search needs
 
--- past the second, with the operands as they stand
-decoded : (c : tie.After-is-allowed) → c .before .decode-at .result ≡ instructionAt (c .before .before .before .before .before .before .before .before .before .args .s .now) (c .before .before .before .before .before .before .before .before .before .args .at)
-decoded c = rw (c .before .decode-at .ensures, c .before .before .before .before .before .before .command-of .ensures)
+decoded : (c : tie.After-is-allowed) → c .before .decode-at .result ≡ instructionAt (c .before .before .before .before .before .before .before .args .s .now) (c .before .before .before .before .before .before .before .args .at)
+decoded c = rw (c .before .decode-at .ensures, c .before .before .before .before .before .before .before .pre .1)
 
 returns-3 : tie.Need-returns-3
 returns-3 c =
     λ p e h.
     let d = c .before .before .before in
-    let a = d .before .before .before .before .before .before .before .args in
+    let a = d .before .before .before .before .before .args in
     let k = length-is (d .before) in
-    sym (checked-4 p (a .s .now) (a .at) (stands (d .before .before) p h) (omega arith) (rw (decoded (c .before)) at (sym (c .before .is-allowed .ensures p e h) ∙ not-true _ (c .if3 .taken))))
+    sym (early-4 p (a .s .now) (a .at) (stands (d .before .before) p h) (omega arith) (rw (decoded (c .before)) at (sym (c .before .is-allowed .ensures p e h) ∙ not-true _ (c .if3 .taken))))
 
 returns-4 : tie.Need-returns-4
 returns-4 c =
     λ p e h.
     let d = c .before .before .before in
-    let a = d .before .before .before .before .before .before .before .args in
+    let a = d .before .before .before .before .before .args in
     let k = length-is (d .before) in
-    rw (decoded (c .before), k) (sym (checked-0 p (a .s .now) (a .at) (stands (d .before .before) p h) (omega arith) (rw (decoded (c .before)) at (sym (c .before .is-allowed .ensures p e h) ∙ not-false _ (c .if3 .left)))))
+    sym (early-0 p (a .s .now) (a .at) (stands (d .before .before) p h) (omega arith) (rw (decoded (c .before)) at (sym (c .before .is-allowed .ensures p e h) ∙ not-false _ (c .if3 .left))))
 
 pub check-at-spec : {M : Type 1} → statement M
 check-at-spec =
     tie.close
     (tie.spec
-    shared-slice-read-command-of
-    command-of-requires
     is-placed-requires
     returns
     size-of-requires
-    add-next
+    add-if2
     returns-2
     decode-at-requires
     is-allowed-requires

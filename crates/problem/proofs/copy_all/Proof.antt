@@ -1,9 +1,9 @@
 -- `copy_all`: the first i numbers are the same.
 use mathlib.Core.Path.{_≡_, refl, sym, _∙_}
-use Prim.Native.Nat.{_+_, _-_, _≤_, _<_}
+use Prim.Native.Nat.{_-_, _≤_}
 use native.Mathlib.Numerals.{add-one}
 use native.Mathlib.Omega.{arith}
-use lib.ListN.{length, take, set, getD, length-set}
+use lib.ListN.{length, take, getD, length-set}
 use lib.Seq.{take-suc, take-suc-set, take-all}
 use Rattle.problem.proofs.copy_all.Statement.{statement}
 use Rattle.problem.proofs.copy_all.Tie as tie

@@ -1,6 +1,5 @@
 -- `decode_at`: each operand stands within the command's length.
-use mathlib.Core.Path.{_≡_, ap}
-use Prim.Native.Nat.{_+_}
+use mathlib.Core.Path.{ap}
 use native.Mathlib.Omega.{arith}
 use mir.Syntax.{w32}
 use mir.Facts.{toZ-ofZ}

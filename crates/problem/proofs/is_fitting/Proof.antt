@@ -1,8 +1,6 @@
 -- `is_fitting`: both tests, in their order.
-use mathlib.Core.Path.{_≡_}
 use borrow.Author.Needs.{needs}
 use borrow.Author.Tests.{le-leb, lt-leb}
-use Rattle.polynomial.specs.Monomial.{degree}
 use Rattle.problem.specs.Rules.{fitting}
 use Rattle.problem.proofs.is_fitting.Statement.{statement}
 use Rattle.problem.proofs.is_fitting.Tie as tie

@@ -1,5 +1,4 @@
 -- `is_placed`: a test for each command.
-use mathlib.Core.Path.{_≡_}
 use borrow.Author.Needs.{needs}
 use borrow.Author.Tests.{lt-ltb, le-ltb}
 use Rattle.problem.proofs.is_placed.Statement.{statement}

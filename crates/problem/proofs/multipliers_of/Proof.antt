@@ -1,12 +1,10 @@
 -- `multipliers_of`: after j turns the multipliers up to number j stand in their parts.
-use mathlib.Core.Path.{_≡_, refl, sym, _∙_}
-use Prim.Native.Nat.{ℕ, _+_, _-_, _*_, _≤_, _<_}
+use mathlib.Core.Path.{_≡_}
+use Prim.Native.Nat.{_+_, _-_, _*_, _≤_}
 use native.Mathlib.Omega.{arith}
-use lib.ListN.{length, take, drop, set, getD, length-take, length-drop}
+use lib.ListN.{length, take, drop, length-drop}
 use lib.Seq.{length-take-le}
 use borrow.Author.Needs.{needs}
-use Rattle.polynomial.specs.Terms.{Filled}
-use Rattle.problem.specs.Stored.{noTerms}
 use Rattle.problem.proofs.Bases.{Flattened, flat-start, kept-one, flat-more, flat-done}
 use Rattle.problem.proofs.multipliers_of.Statement.{statement}
 use Rattle.problem.proofs.multipliers_of.Tie as tie

@@ -1,23 +1,22 @@
 -- `read`: from the command at hand on the definition gives what it gives for the whole stream (`Going`); each command's law keeps it.
 use mathlib.Core.Path.{_≡_, refl, sym, ap, _∙_}
-use mathlib.Core.List.{List, []}
-use mathlib.Core.Bool.{true}
-use Prim.Native.Nat.{ℕ, _+_, _-_, _*_, _≤_, _<_}
+use mathlib.Core.List.{List}
+use Prim.Native.Nat.{ℕ, _+_, _-_, _*_, _<_}
 use native.Mathlib.Omega.{arith}
-use lib.Dec.{leb}
-use lib.ListN.{length, getD, set, take, drop}
+use lib.ListN.{length, getD}
 use mir.Syntax.{w32}
 use mir.Val.{toZ, ofZ}
 use borrow.Author.Needs.{needs}
-use Rattle.stream.specs.Commands.{firstRefusal}
-use Rattle.polynomial.specs.Monomial.{among}
 use Rattle.polynomial.specs.Terms.{Filled}
 use Rattle.polynomial.specs.declared.Polynomial.{Polynomial}
 use Rattle.problem.specs.declared.Instruction.{Instruction}
 use Rattle.problem.specs.declared.Instruction.the-variants as I
-use Rattle.problem.specs.declared.StoredProblem.{StoredProblem}
+use Rattle.problem.specs.declared.Command.{Command}
+use Rattle.problem.specs.Layout.{size, decode}
+use Rattle.problem.specs.Rules.{Problem}
+use Rattle.problem.specs.Checks.{early, lateIn}
 use Rattle.problem.specs.Stored.{problemOf, noTerms}
-use Rattle.problem.proofs.Checks.{Passes, passes, early-refusal, passes-longer, passes-as}
+use Rattle.problem.proofs.Checks.{Passes, passes, early-refusal, passes-longer}
 use Rattle.problem.proofs.Steps.{stored, Going, starting, space, ended, refusing, late-refusal, extra, complete, first-checks, after-variables, objective-room, after-objective, constraint-full, after-constraint, term-begun, last-filled, term-room, after-term, member-begun, member-room, after-member}
 use Rattle.problem.proofs.read.Statement.{statement}
 use Rattle.problem.proofs.read.Tie as tie
@@ -28,25 +27,38 @@ Inv-loop s variables₀ objective₀ constraints₀ count₀ keys₀ sizes₀ nu
 abbrev μ-loop : tie.MeasureT-loop
 μ-loop s variables₀ objective₀ constraints₀ count₀ keys₀ sizes₀ number₀ at₀ variables objective constraints count keys sizes number at = length s - at
 
--- ---- the command at hand: the loop's head, the bytes, and that it passed the first checks
-abbrev there : tie.After-known-told2 Inv-loop μ-loop → tie.At-loop Inv-loop μ-loop
-there c = c .before .before .before .before .before
-
+-- ---- the command at hand, which passed the first checks
 abbrev bytes : tie.At-loop Inv-loop μ-loop → List ℕ
 bytes l = l .before .before .before .before .args .s .now
 
-abbrev kept : tie.At-loop Inv-loop μ-loop → StoredProblem
-kept l = stored (l .loop .variables) (l .loop .objective) (l .loop .constraints) (l .loop .count) (l .loop .keys) (l .loop .sizes)
+abbrev kept : tie.At-loop Inv-loop μ-loop → Problem
+kept l = problemOf (stored (l .loop .variables) (l .loop .objective) (l .loop .constraints) (l .loop .count) (l .loop .keys) (l .loop .sizes))
 
-passed : (c : tie.After-known-told2 Inv-loop μ-loop) → Passes (problemOf (kept (there c))) (bytes (there c)) (there c .loop .at) (c .before .instruction .given .0 .0) (c .before .instruction .given .0 .1 .0)
-passed c =
-    passes _ _ _ _ _ (sym (c .before .instruction .given .1) ∙ first-checks _ _ _ _ _ _ _ _ _ 0 (there c .loop .inv) (omega arith) _ (c .before .before .before .check-at .ensures))
+first : (c : tie.After-check-at Inv-loop μ-loop) → let l = c .before .before .before .before in c .check-at .result ≡ early (kept l) (bytes l) (l .loop .at)
+first c = first-checks _ _ _ _ _ _ _ _ _ 0 (c .before .before .before .before .loop .inv) (omega arith) _ (c .check-at .ensures)
 
-passed-as : (c : tie.After-known-told2 Inv-loop μ-loop) (i : Instruction) → c .before .instruction .given .0 .0 ≡ i → Passes (problemOf (kept (there c))) (bytes (there c)) (there c .loop .at) i (c .before .instruction .given .0 .1 .0)
-passed-as c i e = passes-as _ _ _ _ _ (passed c) i e
+none : (c : tie.Else1 Inv-loop μ-loop) → let l = c .before .before .before .before .before in early (kept l) (bytes l) (l .loop .at) ≡ 0
+none c = let e = first (c .before) in omega arith
 
-shorter : (c : tie.After-known-told2 Inv-loop μ-loop) → length (bytes (there c)) - c .before .instruction .given .0 .1 .0 < length (bytes (there c)) - there c .loop .at
-shorter c = let t = passed c in let l = passes-longer _ _ _ _ _ t in let w = t .whole in omega arith
+abbrev Told : Type 0
+Told = tie.After-decode-at Inv-loop μ-loop
+
+abbrev head : Told → tie.At-loop Inv-loop μ-loop
+head c = c .before .before .before .before .before .before .before
+
+abbrev next : Told → ℕ
+next c = head c .loop .at + c .before .size-of .result
+
+abbrev At : Told → Instruction → Type 0
+At c i = Passes (kept (head c)) (bytes (head c)) (head c .loop .at) i (next c)
+
+passed : (c : Told) (i : Instruction) → c .decode-at .result ≡ i → At c i
+passed c i e =
+    let m = c .before .before .before .before .command-of .ensures in
+    passes _ _ _ _ _ (none (c .before .before)) (sym (c .decode-at .ensures ∙ ap (λ (k : Command). decode k (bytes (head c)) (head c .loop .at)) m) ∙ e) (ap (λ (n : ℕ). head c .loop .at + n) (c .before .size-of .ensures .0 ∙ ap size m))
+
+shorter : (c : Told) → length (bytes (head c)) - next c < length (bytes (head c)) - head c .loop .at
+shorter c = let t = passed c (c .decode-at .result) refl in let l = passes-longer _ _ _ _ _ t in let w = t .whole in omega arith
 
 empty-requires : tie.Need-empty-requires Inv-loop μ-loop
 empty-requires c κs = search needs
@@ -57,33 +69,45 @@ empty-requires-2 c κs = search needs
 loop-holds : tie.Need-loop-holds Inv-loop μ-loop
 loop-holds c = starting (c .before .before .before .args .s .now) (c .before .empty .result) (c .empty2 .result) (c .before .empty .ensures) (c .empty2 .ensures)
 
+shared-slice-read-command-of : tie.Need-shared-slice-read-command-of Inv-loop μ-loop
+shared-slice-read-command-of c = omega arith
+
+command-of-requires : tie.Need-command-of-requires Inv-loop μ-loop
+command-of-requires c κs = search needs
+
 check-at-requires : tie.Need-check-at-requires Inv-loop μ-loop
-check-at-requires c κs = omega arith
+check-at-requires c κs = (omega arith, c .command-of .ensures)
 
-enum-known-found : tie.Need-enum-known-found Inv-loop μ-loop
-enum-known-found c = search needs
+size-of-requires : tie.Need-size-of-requires Inv-loop μ-loop
+size-of-requires c κs = search needs
 
-enum-known-instruction : tie.Need-enum-known-instruction Inv-loop μ-loop
-enum-known-instruction c = search needs
+add-next : tie.Need-add-next Inv-loop μ-loop
+add-next c = let h = c .size-of .ensures .1 in omega arith
 
-enum-known-instruction-2 : tie.Need-enum-known-instruction-2 Inv-loop μ-loop
-enum-known-instruction-2 c = search needs
+decode-at-requires : tie.Need-decode-at-requires Inv-loop μ-loop
+decode-at-requires c κs =
+    let e = ap size (c .before .before .before .command-of .ensures) in
+    let w = passes _ _ _ _ _ (none (c .before)) refl refl .whole in
+    omega arith
 
-enum-known-instruction-3 : tie.Need-enum-known-instruction-3 Inv-loop μ-loop
-enum-known-instruction-3 c = search needs
+enum-known-n : tie.Need-enum-known-n Inv-loop μ-loop
+enum-known-n c = search needs
+
+enum-known-key : tie.Need-enum-known-key Inv-loop μ-loop
+enum-known-key c = search needs
 
 -- ---- a term of the objective
-objective-passed : (c : tie.After-known-told4 Inv-loop μ-loop) → Passes (problemOf (kept (there (c .before .before .before)))) (bytes (there (c .before .before .before))) (there (c .before .before .before) .loop .at) (I.Objective (c .before .instruction3 .given .0 .0) (toZ w32 (ofZ w32 (c .before .instruction3 .given .0 .1 .0)))) (c .before .before .before .before .instruction .given .0 .1 .0)
+objective-passed : (c : tie.After-known-told2 Inv-loop μ-loop) → At (c .before .before .before) (I.Objective (c .before .key .given .0 .0) (toZ w32 (ofZ w32 (c .before .key .given .0 .1 .0))))
 objective-passed c =
-    let g = c .before .instruction3 .given in
+    let g = c .before .key .given in
     let z : toZ w32 (ofZ w32 (g .0 .1 .0)) ≡ g .0 .1 .0 = search needs in
-    passed-as (c .before .before .before) _ (g .1 ∙ ap (I.Objective (g .0 .0)) (sym z))
+    passed (c .before .before .before) _ (g .1 ∙ ap (I.Objective (g .0 .0)) (sym z))
 
-objective-none : (c : tie.Else1 Inv-loop μ-loop) → firstRefusal true true true (among (c .before .before .before .before .before .before .instruction3 .given .0 .0) (take (there (c .before .before .before .before .before .before .before .before) .loop .objective .count) (drop 0 (there (c .before .before .before .before .before .before .before .before) .loop .objective .keys)))) (leb 256 (there (c .before .before .before .before .before .before .before .before) .loop .objective .count)) ≡ 0
+objective-none : (c : tie.Else2 Inv-loop μ-loop) → let o = head (c .before .before .before .before .before .before .before .before) .loop .objective in lateIn (o .keys) 0 (o .count) (c .before .before .before .before .before .before .key .given .0 .0) 256 ≡ 0
 objective-none c = let e : c .before .check-room .result ≡ 0 = omega arith in sym (c .before .check-room .ensures) ∙ e
 
-objective-space : (c : tie.Else1 Inv-loop μ-loop) → there (c .before .before .before .before .before .before .before .before) .loop .objective .count < 256
-objective-space c = space _ 256 _ (objective-none c)
+objective-space : (c : tie.Else2 Inv-loop μ-loop) → head (c .before .before .before .before .before .before .before .before) .loop .objective .count < 256
+objective-space c = space _ 0 _ _ 256 (objective-none c)
 
 check-room-requires : tie.Need-check-room-requires Inv-loop μ-loop
 check-room-requires c κs = omega arith
@@ -118,24 +142,24 @@ array-set-from-constraints c = omega arith
 add-count : tie.Need-add-count Inv-loop μ-loop
 add-count c = omega arith
 
-enum-known-instruction-4 : tie.Need-enum-known-instruction-4 Inv-loop μ-loop
-enum-known-instruction-4 c = search needs
+enum-known-key-2 : tie.Need-enum-known-key-2 Inv-loop μ-loop
+enum-known-key-2 c = search needs
 
 -- ---- a term of the constraint begun last
-term-passed : (c : tie.After-known-told5 Inv-loop μ-loop) → Passes (problemOf (kept (there (c .before .before .before)))) (bytes (there (c .before .before .before))) (there (c .before .before .before) .loop .at) (I.Term (c .before .instruction4 .given .0 .0) (toZ w32 (ofZ w32 (c .before .instruction4 .given .0 .1 .0)))) (c .before .before .before .before .instruction .given .0 .1 .0)
+term-passed : (c : tie.After-known-told3 Inv-loop μ-loop) → At (c .before .before .before) (I.Term (c .before .key2 .given .0 .0) (toZ w32 (ofZ w32 (c .before .key2 .given .0 .1 .0))))
 term-passed c =
-    let g = c .before .instruction4 .given in
+    let g = c .before .key2 .given in
     let z : toZ w32 (ofZ w32 (g .0 .1 .0)) ≡ g .0 .1 .0 = search needs in
-    passed-as (c .before .before .before) _ (g .1 ∙ ap (I.Term (g .0 .0)) (sym z))
+    passed (c .before .before .before) _ (g .1 ∙ ap (I.Term (g .0 .0)) (sym z))
 
-begun : (c : tie.After-known-told5 Inv-loop μ-loop) → 0 < there (c .before .before .before) .loop .count
-begun c = term-begun _ _ _ _ _ _ _ _ _ _ (there (c .before .before .before) .loop .inv) (omega arith) _ _ (term-passed c)
+begun : (c : tie.After-known-told3 Inv-loop μ-loop) → 0 < head (c .before .before .before) .loop .count
+begun c = term-begun _ _ _ _ _ _ _ _ _ _ (head (c .before .before .before) .loop .inv) (omega arith) _ _ (term-passed c)
 
-abbrev last : tie.At-loop Inv-loop μ-loop → Polynomial
-last l = getD (l .loop .constraints) (l .loop .count - 1) noTerms
+abbrev last : Told → Polynomial
+last c = getD (head c .loop .constraints) (head c .loop .count - 1) noTerms
 
-last-kept : (c : tie.After-known-told5 Inv-loop μ-loop) → Filled 16 32 (last (there (c .before .before .before)) .keys) (last (there (c .before .before .before)) .coefficients) (last (there (c .before .before .before)) .count)
-last-kept c = last-filled _ _ _ _ _ _ _ _ _ _ (there (c .before .before .before) .loop .inv) (omega arith) _ _ (term-passed c)
+last-kept : (c : tie.After-known-told3 Inv-loop μ-loop) → let q = last (c .before .before .before) in Filled 16 32 (q .keys) (q .coefficients) (q .count)
+last-kept c = last-filled _ _ _ _ _ _ _ _ _ _ (head (c .before .before .before) .loop .inv) (omega arith) _ _ (term-passed c)
 
 sub-last : tie.Need-sub-last Inv-loop μ-loop
 sub-last c = let h = begun c in omega arith
@@ -149,11 +173,11 @@ array-copy-out-q c = let h = begun c in omega arith
 check-room-requires-2 : tie.Need-check-room-requires-2 Inv-loop μ-loop
 check-room-requires-2 c κs = let f = last-kept (c .before .before .before .before) in omega arith
 
-term-none : (c : tie.Else3 Inv-loop μ-loop) → firstRefusal true true true (among (c .before .before .before .before .before .before .before .instruction4 .given .0 .0) (take (last (there (c .before .before .before .before .before .before .before .before .before)) .count) (drop 0 (last (there (c .before .before .before .before .before .before .before .before .before)) .keys)))) (leb 32 (last (there (c .before .before .before .before .before .before .before .before .before)) .count)) ≡ 0
+term-none : (c : tie.Else4 Inv-loop μ-loop) → let q = last (c .before .before .before .before .before .before .before .before .before) in lateIn (q .keys) 0 (q .count) (c .before .before .before .before .before .before .before .key2 .given .0 .0) 32 ≡ 0
 term-none c = let e : c .before .check-room2 .result ≡ 0 = omega arith in sym (c .before .check-room2 .ensures) ∙ e
 
-term-space : (c : tie.Else3 Inv-loop μ-loop) → last (there (c .before .before .before .before .before .before .before .before .before)) .count < 32
-term-space c = space _ 32 _ (term-none c)
+term-space : (c : tie.Else4 Inv-loop μ-loop) → last (c .before .before .before .before .before .before .before .before .before) .count < 32
+term-space c = space _ 0 _ _ 32 (term-none c)
 
 mul-q-2 : tie.Need-mul-q-2 Inv-loop μ-loop
 mul-q-2 c = let h = term-space c in omega arith
@@ -176,15 +200,15 @@ mul-constraints-2 c = let h = begun (c .before .before .before .before .before .
 array-set-from-constraints-2 : tie.Need-array-set-from-constraints-2 Inv-loop μ-loop
 array-set-from-constraints-2 c = let h = begun (c .before .before .before .before .before .before) in omega arith
 
-enum-known-instruction-5 : tie.Need-enum-known-instruction-5 Inv-loop μ-loop
-enum-known-instruction-5 c = search needs
+enum-known-j : tie.Need-enum-known-j Inv-loop μ-loop
+enum-known-j c = search needs
 
 -- ---- a monomial of a basis
-member-passed : (c : tie.After-known-told6 Inv-loop μ-loop) → Passes (problemOf (kept (there (c .before .before .before)))) (bytes (there (c .before .before .before))) (there (c .before .before .before) .loop .at) (I.Member (c .before .instruction5 .given .0 .0) (c .before .instruction5 .given .0 .1 .0)) (c .before .before .before .before .instruction .given .0 .1 .0)
-member-passed c = passed-as (c .before .before .before) _ (c .before .instruction5 .given .1)
+member-passed : (c : tie.After-known-told4 Inv-loop μ-loop) → At (c .before .before .before) (I.Member (c .before .j .given .0 .0) (c .before .j .given .0 .1 .0))
+member-passed c = passed (c .before .before .before) _ (c .before .j .given .1)
 
-named : (c : tie.After-known-told6 Inv-loop μ-loop) → c .before .instruction5 .given .0 .0 < 9
-named c = member-begun _ _ _ _ _ _ _ _ _ _ (there (c .before .before .before) .loop .inv) (omega arith) _ _ (member-passed c)
+named : (c : tie.After-known-told4 Inv-loop μ-loop) → c .before .j .given .0 .0 < 9
+named c = member-begun _ _ _ _ _ _ _ _ _ _ (head (c .before .before .before) .loop .inv) (omega arith) _ _ (member-passed c)
 
 mul-n : tie.Need-mul-n Inv-loop μ-loop
 mul-n c = let h = named c in omega arith
@@ -199,13 +223,16 @@ mul-check-room : tie.Need-mul-check-room Inv-loop μ-loop
 mul-check-room c = let h = named (c .before) in omega arith
 
 check-room-requires-3 : tie.Need-check-room-requires-3 Inv-loop μ-loop
-check-room-requires-3 c κs = let h = named (c .before) in let b = there (c .before .before .before .before) .loop .inv .kept .bases in let l = b .sizes-low (c .before .before .instruction5 .given .0 .0) in omega arith
+check-room-requires-3 c κs =
+    let h = named (c .before) in
+    let l = head (c .before .before .before .before) .loop .inv .kept .bases .sizes-low (c .before .before .j .given .0 .0) in
+    omega arith
 
-member-none : (c : tie.Else4 Inv-loop μ-loop) → firstRefusal true true true (among (c .before .before .before .before .instruction5 .given .0 .1 .0) (take (getD (there (c .before .before .before .before .before .before) .loop .sizes) (c .before .before .before .before .instruction5 .given .0 .0) 0) (drop (64 * c .before .before .before .before .instruction5 .given .0 .0) (there (c .before .before .before .before .before .before) .loop .keys)))) (leb 64 (getD (there (c .before .before .before .before .before .before) .loop .sizes) (c .before .before .before .before .instruction5 .given .0 .0) 0)) ≡ 0
+member-none : (c : tie.Else5 Inv-loop μ-loop) → let l = head (c .before .before .before .before .before .before) .loop in let j = c .before .before .before .before .j .given .0 .0 in lateIn (l .keys) (64 * j) (getD (l .sizes) j 0) (c .before .before .before .before .j .given .0 .1 .0) 64 ≡ 0
 member-none c = let e : c .before .check-room3 .result ≡ 0 = omega arith in sym (c .before .check-room3 .ensures) ∙ e
 
-member-space : (c : tie.Else4 Inv-loop μ-loop) → getD (there (c .before .before .before .before .before .before) .loop .sizes) (c .before .before .before .before .instruction5 .given .0 .0) 0 < 64
-member-space c = space _ 64 _ (member-none c)
+member-space : (c : tie.Else5 Inv-loop μ-loop) → getD (head (c .before .before .before .before .before .before) .loop .sizes) (c .before .before .before .before .j .given .0 .0) 0 < 64
+member-space c = space (head (c .before .before .before .before .before .before) .loop .keys) (64 * c .before .before .before .before .j .given .0 .0) _ _ 64 (member-none c)
 
 mul-keys : tie.Need-mul-keys Inv-loop μ-loop
 mul-keys c = let h = named (c .before .before .before) in omega arith
@@ -231,64 +258,75 @@ array-write-sizes c = named (c .before .before .before)
 enum-told-2 : tie.Need-enum-told-2 Inv-loop μ-loop
 enum-told-2 c = search needs
 
+-- ---- the turns of the loop, and the ways out of it
+
 loop-less : tie.Need-loop-less Inv-loop μ-loop
 loop-less c = shorter (c .before .before .before)
 
 loop-again : tie.Need-loop-again Inv-loop μ-loop
-loop-again c = after-variables _ _ _ _ _ _ _ _ _ _ (there (c .before .before .before) .loop .inv) (omega arith) _ (passed-as (c .before .before .before) _ (c .before .instruction2 .given .1))
+loop-again c = after-variables _ _ _ _ _ _ _ _ _ _ (head (c .before .before .before) .loop .inv) (omega arith) _ (passed (c .before .before .before) _ (c .before .n .given .1))
 
 loop-less-2 : tie.Need-loop-less-2 Inv-loop μ-loop
 loop-less-2 c = shorter (c .before .before .before .before .before .before .before .before)
 
 loop-again-2 : tie.Need-loop-again-2 Inv-loop μ-loop
-loop-again-2 c = after-objective _ _ _ _ _ _ _ _ _ _ (there (c .before .before .before .before .before .before .before .before) .loop .inv) (omega arith) _ _ (objective-passed (c .before .before .before .before .before)) (objective-none c)
+loop-again-2 c = after-objective _ _ _ _ _ _ _ _ _ _ (head (c .before .before .before .before .before .before .before .before) .loop .inv) (omega arith) _ _ (objective-passed (c .before .before .before .before .before)) (objective-none c)
 
 loop-less-3 : tie.Need-loop-less-3 Inv-loop μ-loop
 loop-less-3 c = shorter (c .before .before .before .before)
 
 loop-again-3 : tie.Need-loop-again-3 Inv-loop μ-loop
-loop-again-3 c = after-constraint _ _ _ _ _ _ _ _ _ _ (there (c .before .before .before .before) .loop .inv) (omega arith) (passed-as (c .before .before .before .before) _ (c .before .before .enum-told .given .1)) (c .empty3 .result) (omega arith) (c .empty3 .ensures)
+loop-again-3 c = after-constraint _ _ _ _ _ _ _ _ _ _ (head (c .before .before .before .before) .loop .inv) (omega arith) (passed (c .before .before .before .before) _ (c .before .before .enum-told .given .1)) (c .empty3 .result) (omega arith) (c .empty3 .ensures)
 
 loop-less-4 : tie.Need-loop-less-4 Inv-loop μ-loop
 loop-less-4 c = shorter (c .before .before .before .before .before .before .before .before .before)
 
 loop-again-4 : tie.Need-loop-again-4 Inv-loop μ-loop
-loop-again-4 c = after-term _ _ _ _ _ _ _ _ _ _ (there (c .before .before .before .before .before .before .before .before .before) .loop .inv) (omega arith) _ _ (term-passed (c .before .before .before .before .before .before)) (term-none c)
+loop-again-4 c = after-term _ _ _ _ _ _ _ _ _ _ (head (c .before .before .before .before .before .before .before .before .before) .loop .inv) (omega arith) _ _ (term-passed (c .before .before .before .before .before .before)) (term-none c)
 
 loop-less-5 : tie.Need-loop-less-5 Inv-loop μ-loop
 loop-less-5 c = shorter (c .before .before .before .before .before .before)
 
 loop-again-5 : tie.Need-loop-again-5 Inv-loop μ-loop
-loop-again-5 c = after-member _ _ _ _ _ _ _ _ _ _ (there (c .before .before .before .before .before .before) .loop .inv) (omega arith) _ _ (member-passed (c .before .before .before)) (member-none c)
+loop-again-5 c = after-member _ _ _ _ _ _ _ _ _ _ (head (c .before .before .before .before .before .before) .loop .inv) (omega arith) _ _ (member-passed (c .before .before .before)) (member-none c)
 
 returns : tie.Need-returns Inv-loop μ-loop
 returns c = ended _ _ _ _ (c .before .loop .inv) (omega arith)
 
 returns-2 : tie.Need-returns-2 Inv-loop μ-loop
 returns-2 c =
-    let l = c .before .before .before .before .before in
-    let e = early-refusal _ _ _ _ (sym (c .before .found .given .1) ∙ first-checks _ _ _ _ _ _ _ _ _ 0 (l .loop .inv) (omega arith) _ (c .before .before .before .check-at .ensures)) in
-    refusing _ _ _ _ (l .loop .inv) (omega arith) _ (e .0) (e .1)
+    let r = first (c .before) in
+    refusing _ _ _ _ (c .before .before .before .before .before .loop .inv) (omega arith) _ (omega arith) (early-refusal _ _ _ (omega arith) ∙ sym r)
 
 returns-3 : tie.Need-returns-3 Inv-loop μ-loop
-returns-3 c = late-refusal _ _ _ _ (there (c .before .before .before .before .before .before .before .before) .loop .inv) (omega arith) _ _ (objective-passed (c .before .before .before .before .before)) _ (omega arith) (c .before .check-room .ensures ∙ objective-room _ _ _ _ _ _ _ _ _ _ (there (c .before .before .before .before .before .before .before .before) .loop .inv) (omega arith) _ _ (objective-passed (c .before .before .before .before .before)))
+returns-3 c =
+    let d = c .before .before .before .before .before in
+    let g = head (d .before .before .before) .loop .inv in
+    late-refusal _ _ _ _ g (omega arith) _ _ (objective-passed d) _ (omega arith) (c .before .check-room .ensures ∙ objective-room _ _ _ _ _ _ _ _ _ _ g (omega arith) _ _ (objective-passed d))
 
 returns-4 : tie.Need-returns-4 Inv-loop μ-loop
-returns-4 c = late-refusal _ _ _ _ (there (c .before .before .before) .loop .inv) (omega arith) _ _ (passed-as (c .before .before .before) _ (c .before .enum-told .given .1)) 6 (omega arith) (constraint-full _ _ _ _ _ _ _ _ _ _ (there (c .before .before .before) .loop .inv) (omega arith) (passed-as (c .before .before .before) _ (c .before .enum-told .given .1)) (omega arith))
+returns-4 c =
+    let d = c .before .before .before in
+    let t = passed d _ (c .before .enum-told .given .1) in
+    late-refusal _ _ _ _ (head d .loop .inv) (omega arith) _ _ t 6 (omega arith) (constraint-full _ _ _ _ _ _ _ _ _ _ (head d .loop .inv) (omega arith) t (omega arith))
 
 returns-5 : tie.Need-returns-5 Inv-loop μ-loop
-returns-5 c = late-refusal _ _ _ _ (there (c .before .before .before .before .before .before .before .before .before) .loop .inv) (omega arith) _ _ (term-passed (c .before .before .before .before .before .before)) _ (omega arith) (c .before .check-room2 .ensures ∙ term-room _ _ _ _ _ _ _ _ _ _ (there (c .before .before .before .before .before .before .before .before .before) .loop .inv) (omega arith) _ _ (term-passed (c .before .before .before .before .before .before)))
+returns-5 c =
+    let d = c .before .before .before .before .before .before in
+    let g = head (d .before .before .before) .loop .inv in
+    late-refusal _ _ _ _ g (omega arith) _ _ (term-passed d) _ (omega arith) (c .before .check-room2 .ensures ∙ term-room _ _ _ _ _ _ _ _ _ _ g (omega arith) _ _ (term-passed d))
 
 returns-6 : tie.Need-returns-6 Inv-loop μ-loop
-returns-6 c = late-refusal _ _ _ _ (there (c .before .before .before .before .before .before) .loop .inv) (omega arith) _ _ (member-passed (c .before .before .before)) _ (omega arith) (c .before .check-room3 .ensures ∙ member-room _ _ _ _ _ _ _ _ _ _ (there (c .before .before .before .before .before .before) .loop .inv) (omega arith) _ _ (member-passed (c .before .before .before)))
+returns-6 c =
+    let d = c .before .before .before in
+    let g = head (d .before .before .before) .loop .inv in
+    late-refusal _ _ _ _ g (omega arith) _ _ (member-passed d) _ (omega arith) (c .before .check-room3 .ensures ∙ member-room _ _ _ _ _ _ _ _ _ _ g (omega arith) _ _ (member-passed d))
 
 returns-7 : tie.Need-returns-7 Inv-loop μ-loop
-returns-7 c =
-    let g = there (c .before .before .before) .loop .inv in
-    rw (g .undecided) (extra _ _ _ _ g (omega arith) _ (passed-as (c .before .before .before) _ (c .before .enum-told2 .given .1)) (omega arith))
+returns-7 c = extra _ _ _ _ (head (c .before .before .before) .loop .inv) (omega arith) _ (passed (c .before .before .before) _ (c .before .enum-told2 .given .1)) (omega arith)
 
 returns-8 : tie.Need-returns-8 Inv-loop μ-loop
-returns-8 c = complete _ _ _ _ (there (c .before .before .before) .loop .inv) (omega arith) _ (passed-as (c .before .before .before) _ (c .before .enum-told2 .given .1)) (omega arith)
+returns-8 c = complete _ _ _ _ (head (c .before .before .before) .loop .inv) (omega arith) _ (passed (c .before .before .before) _ (c .before .enum-told2 .given .1)) (omega arith)
 
 pub read-spec : {M : Type 1} → statement M
 read-spec =
@@ -299,11 +337,14 @@ read-spec =
     empty-requires
     empty-requires-2
     loop-holds
+    shared-slice-read-command-of
+    command-of-requires
     check-at-requires
-    enum-known-found
-    enum-known-instruction
-    enum-known-instruction-2
-    enum-known-instruction-3
+    size-of-requires
+    add-next
+    decode-at-requires
+    enum-known-n
+    enum-known-key
     check-room-requires
     mul-objective
     element-write-objective
@@ -315,7 +356,7 @@ read-spec =
     mul-constraints
     array-set-from-constraints
     add-count
-    enum-known-instruction-4
+    enum-known-key-2
     sub-last
     mul-q
     array-copy-out-q
@@ -327,7 +368,7 @@ read-spec =
     add-q
     mul-constraints-2
     array-set-from-constraints-2
-    enum-known-instruction-5
+    enum-known-j
     mul-n
     array-read-n
     slice-aggregate-check-room

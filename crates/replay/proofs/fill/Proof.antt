@@ -1,7 +1,10 @@
 -- `fill`: the part that is lent is n bytes long.
 use borrow.Author.Needs.{needs}
-use mathlib.Core.Path.{sym}
+use native.Mathlib.Omega.{arith}
+use mathlib.Core.Path.{_≡_, refl, sym, ap, _∙_, subst}
+use Prim.Native.Nat.{ℕ, zero, suc, _+_, _-_, _*_, _≤_, _<_}
 use lib.Seq.{length-take-le}
+use lib.ListN.{length, getD, take, drop, set, length-set}
 use Rattle.replay.proofs.fill.Statement.{statement}
 use Rattle.replay.proofs.fill.Tie as tie
 
@@ -9,7 +12,7 @@ slice-relend-prefix-read-full : tie.Need-slice-relend-prefix-read-full
 slice-relend-prefix-read-full c = search needs
 
 slice-aggregate-read-full : tie.Need-slice-aggregate-read-full
-slice-aggregate-read-full c = let s = c .before .before in sym (length-take-le (s .args .n) (s .args .run .now) (s .pre))
+slice-aggregate-read-full c = let t = c .before in let s = t .before .before in sym (length-take-le (s .args .n) (s .args .bytes .now) (t .if1 .taken))
 
 read-full-requires : tie.Need-read-full-requires
 read-full-requires c κs = search needs
@@ -20,6 +23,9 @@ same-length c = search needs
 returns : tie.Need-returns
 returns c = search needs
 
+returns-2 : tie.Need-returns-2
+returns-2 c = search needs
+
 pub fill-spec : {M : Type 1} → statement M
 fill-spec =
     tie.close
@@ -28,4 +34,5 @@ fill-spec =
     slice-aggregate-read-full
     read-full-requires
     same-length
-    returns)
+    returns
+    returns-2)

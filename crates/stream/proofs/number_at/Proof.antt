@@ -1,8 +1,8 @@
 -- `number_at`: after each turn x is the number of the bytes passed, from the last one down.
-use mathlib.Core.Path.{_≡_, refl, sym, ap, _∙_}
+use mathlib.Core.Path.{_≡_}
 use lib.ListN.{getD}
 use lib.Dec.{lit<}
-use Prim.Native.Nat.{ℕ, _+_, _-_, _*_, _^_, _≤_, _<_}
+use Prim.Native.Nat.{_+_, _-_, _^_, _≤_, _<_}
 use native.Mathlib.Omega.{arith}
 use Rattle.stream.specs.Operands.{number}
 use Rattle.stream.proofs.Numbers.{number-more, power-more, room}

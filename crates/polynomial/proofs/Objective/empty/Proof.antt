@@ -1,5 +1,5 @@
 -- `Objective::empty`: nothing but zeros, and no term.
-use mathlib.Core.Path.{_≡_, refl}
+use mathlib.Core.Path.{refl}
 use Rattle.polynomial.proofs.Terms.{filled-none}
 use Rattle.polynomial.proofs.Objective.empty.Statement.{statement}
 use Rattle.polynomial.proofs.Objective.empty.Tie as tie

@@ -1,5 +1,5 @@
 -- `Polynomial::empty`: nothing but zeros, and no term.
-use mathlib.Core.Path.{_≡_, refl}
+use mathlib.Core.Path.{refl}
 use Rattle.polynomial.proofs.Terms.{filled-none}
 use Rattle.polynomial.proofs.Polynomial.empty.Statement.{statement}
 use Rattle.polynomial.proofs.Polynomial.empty.Tie as tie

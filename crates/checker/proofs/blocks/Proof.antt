@@ -1,0 +1,111 @@
+-- `blocks`: the equations from the callees, and the clauses from the equations.
+use borrow.Author.Needs.{needs}
+use native.Mathlib.Omega.{arith}
+use mathlib.Core.Path.{_≡_, refl, sym, ap, _∙_}
+use mathlib.Core.Bool.{Bool, true, false}
+use mathlib.Core.List.{List}
+use Prim.Native.Nat.{ℕ, _≤_, _<_}
+use lib.ListN.{length, drop}
+use lib.IntN.{pos}
+use Rattle.checker.specs.Verdict.{blocksShort, blocksVerdict, bytesLeft, tablesShort}
+use Rattle.checker.proofs.Tables.{Long, tables-long, out-short, out-long, table-cleared, table-kept}
+use Rattle.checker.proofs.Promised.{clauses}
+use Rattle.checker.proofs.blocks.Statement.{statement}
+use Rattle.checker.proofs.blocks.Tie as tie
+
+-- whether something lent is too short
+abbrev short : tie.Start → Bool
+short s = blocksShort (s .args .out .now) (s .args .keys .now) (s .args .high .now) (s .args .low .now)
+
+refuse-blocks-requires : tie.Need-refuse-blocks-requires
+refuse-blocks-requires c κs = search needs
+
+returns : tie.Need-returns
+unfolding blocksVerdict bytesLeft
+returns c =
+    let s = c .before .before .before .before .before .before in
+    let e : short s ≡ true = out-short (s .args .keys .now) (s .args .high .now) (s .args .low .now) (s .args .out .now) (c .before .if1 .taken) in
+    let v = c .refuse-blocks .ensures in
+    rw e (v, (refl, (table-kept 0 _, (table-kept (pos 0) _, (table-kept 0 _, clauses true (s .args .problem .now) (s .args .out .now) _ _ v refl)))))
+
+is-short-requires : tie.Need-is-short-requires
+is-short-requires c κs = search needs
+
+refuse-blocks-requires-2 : tie.Need-refuse-blocks-requires-2
+refuse-blocks-requires-2 c κs = search needs
+
+returns-2 : tie.Need-returns-2
+unfolding blocksVerdict bytesLeft
+returns-2 c =
+    let i = c .before .before in
+    let s = i .before .before .before .before .before .before in
+    let e : short s ≡ true = out-long (s .args .keys .now) (s .args .high .now) (s .args .low .now) (s .args .out .now) true (i .before .if1 .left) (sym (i .is-short .ensures) ∙ c .before .if2 .taken) in
+    let v = c .refuse-blocks2 .ensures in
+    rw e (v, (refl, (table-kept 0 _, (table-kept (pos 0) _, (table-kept 0 _, clauses true (s .args .problem .now) (s .args .out .now) _ _ v refl)))))
+
+-- with tables that are long enough
+fine : (c : tie.Else2) → tablesShort (c .before .before .before .before .before .before .before .args .keys .now) (c .before .before .before .before .before .before .before .args .high .now) (c .before .before .before .before .before .before .before .args .low .now) ≡ false
+fine c = sym (c .before .is-short .ensures) ∙ c .if2 .left
+
+long : (c : tie.Else2) → let s = c .before .before .before .before .before .before .before in Long (s .args .keys .now) (s .args .high .now) (s .args .low .now)
+long c = tables-long _ _ _ (fine c)
+
+answer-blocks-requires : tie.Need-answer-blocks-requires
+answer-blocks-requires c κs = let e = c .before .before in (e .before .before .if1 .left, long e .keys)
+
+clear-requires : tie.Need-clear-requires
+clear-requires c κs =
+    let a = c .before .before .before .before .before in
+    omega (arith, long (a .before .before .before) .keys, a .answer-blocks .kept .1 .1 .0)
+
+clear-signed-requires : tie.Need-clear-signed-requires
+clear-signed-requires c κs = long (c .before .before .before .before .before .before .before .before .before .before .before .before) .high
+
+clear-requires-2 : tie.Need-clear-requires-2
+clear-requires-2 c κs = long (c .before .before .before .before .before .before .before .before .before .before .before .before .before .before .before) .low
+
+same-length : tie.Need-same-length
+same-length c = search needs
+
+same-length-2 : tie.Need-same-length-2
+same-length-2 c = search needs
+
+same-length-3 : tie.Need-same-length-3
+same-length-3 c = search needs
+
+same-length-4 : tie.Need-same-length-4
+same-length-4 c = search needs
+
+returns-3 : tie.Need-returns-3
+unfolding blocksVerdict bytesLeft
+returns-3 c =
+    let l = c .before .before in
+    let h = l .before .before .before in
+    let k = h .before .before .before .before in
+    let a = k .before .before .before .before .before .before in
+    let b = a .before .before .before in
+    let s = b .before .before .before .before .before .before .before in
+    let e : short s ≡ false = out-long (s .args .keys .now) (s .args .high .now) (s .args .low .now) (s .args .out .now) false (b .before .before .if1 .left) (fine b) in
+    let v = a .answer-blocks .ensures .0 in
+    let o = a .answer-blocks .ensures .1 in
+    rw e
+    (v, (o, (table-cleared 0 (s .args .keys .now) (a .answer-blocks .last .1 .1 .0) _ (a .answer-blocks .ensures .2) (k .clear .ensures), (table-cleared (pos 0) (s .args .high .now) (s .args .high .now) _ refl (h .clear-signed .ensures), (table-cleared 0 (s .args .low .now) (s .args .low .now) _ refl (l .clear2 .ensures), clauses false (s .args .problem .now) (s .args .out .now) _ _ v o)))))
+
+pub blocks-spec : {M : Type 1} → statement M
+blocks-spec =
+    tie.close
+    (tie.spec
+    refuse-blocks-requires
+    returns
+    is-short-requires
+    refuse-blocks-requires-2
+    returns-2
+    answer-blocks-requires
+    clear-requires
+    clear-signed-requires
+    clear-requires-2
+    same-length
+    same-length-2
+    same-length-3
+    same-length-4
+    returns-3)

@@ -1,0 +1,21 @@
+-- `cut`: the part that is lent is n bytes long.
+use borrow.Author.Needs.{needs}
+use native.Mathlib.Omega.{arith}
+use mathlib.Core.Path.{_≡_, refl, sym, ap, _∙_, subst}
+use Prim.Native.Nat.{ℕ, zero, suc, _+_, _-_, _*_, _≤_, _<_}
+use lib.Seq.{length-take-le}
+use lib.ListN.{length, getD, take, drop, set, length-set}
+use Rattle.replay.proofs.cut.Statement.{statement}
+use Rattle.replay.proofs.cut.Tie as tie
+
+slice-aggregate-result : tie.Need-slice-aggregate-result
+slice-aggregate-result c = let s = c .before .before in sym (length-take-le (s .args .n) (s .args .bytes .now) (c .before .if1 .taken))
+
+returns : tie.Need-returns
+returns c = search needs
+
+returns-2 : tie.Need-returns-2
+returns-2 c = search needs
+
+pub cut-spec : {M : Type 1} → statement M
+cut-spec = tie.close (tie.spec slice-aggregate-result returns returns-2)
