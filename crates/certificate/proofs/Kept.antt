@@ -20,7 +20,7 @@ use Rattle.certificate.specs.declared.Header.{Header}
 use Rattle.certificate.specs.declared.Progress.{Progress}
 use Rattle.certificate.specs.Layout.{size, decode}
 use Rattle.certificate.specs.Rules.{Entry, Row, Certificate, noHeader, nothing, noRow, lastRow, floorOf, progressOf, placed, allowed, repeated, full, applied, commandAt, instructionAt, progressVerdict, verdict, next, language, readCertificate}
-use Rattle.certificate.specs.Kept.{headerOutcome, headed, advanced, Within, Bounded}
+use Rattle.certificate.specs.Kept.{noProgress, headerOutcome, headed, advanced, Within, Bounded}
 
 -- ---- the row begun last, and the least index that may follow
 pub last-append : (rs : List Row) (r : Row) → lastRow (rs ++ (r ∷ [])) ≡ r
@@ -110,7 +110,7 @@ pub record Held (h : Shape) (s : List ℕ) (t : Header) (g : Progress) (at : ℕ
   pub left : Left (language h) s (readCertificate h s) read at
 
 module _ (h : Shape) (s : List ℕ) where
-  pub held-start : Held h s noHeader (record { rows = 0; basis = 0; floor = 0 }) 0
+  pub held-start : Held h s noHeader noProgress 0
   unfolding readCertificate progressOf
   held-start = record {
     read = nothing;

@@ -7,12 +7,12 @@ use native.Mathlib.Omega.{arith}
 use lib.Dec.{leb, ltb}
 use lib.ListN.{length, getD, length-append, length-set, List·getD-eq-default}
 use borrow.Author.Tests.{leb-true, leb-false, ltb-true, ltb-false, eqb-true}
+use Rattle.counting.specs.Counting.{listed}
+use Rattle.counting.proofs.Listed.{listed-length, listed-at}
 use Rattle.stream.specs.Commands.{given}
 use Rattle.stream.specs.Operands.{number}
 use Rattle.stream.proofs.Run.{read-induction}
 use Rattle.problem.specs.Rules.{Problem, nonzero}
-use Rattle.counting.specs.Counting.{listed}
-use Rattle.counting.proofs.Listed.{listed-length, listed-at}
 use Rattle.problem.specs.Bases.{basisOf}
 use Rattle.problem.specs.Limits.{All, Monomials, Limits as ProblemLimits}
 use Rattle.problem.proofs.Limits.{and-left, and-right, all-more, all-set, nonzero-not, all-at, monomials-none}

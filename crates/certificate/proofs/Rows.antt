@@ -19,7 +19,7 @@ use Rattle.certificate.specs.declared.Shape.{Shape}
 use Rattle.certificate.specs.Layout.{commandOf, size, decode}
 use Rattle.certificate.specs.Rules.{Entry, Row, Certificate, nothing, noRow, lastRow, progressOf, placed, withEntry, applied, commandAt, verdict, next, language, readCertificate}
 use Rattle.certificate.specs.Kept.{Within}
-use Rattle.certificate.specs.Rows.{stands, entryCount, entryAt, rowAt, afterRow, rowsFrom, rowsOf, more}
+use Rattle.certificate.specs.Rows.{stands, entryCount, entryAt, rowAt, afterRow, rowsFrom, rowsOf}
 use Rattle.certificate.proofs.Kept.{Passed, passed, applied-progress}
 
 -- ---- rows that grow: the entries es join the last of them, and the rows after it follow
@@ -162,7 +162,7 @@ module _ (h : Shape) (w : Within h) (s : List ℕ) where
       (f n 64 (rw g (omega arith)) (λ _. omega arith) ∙ grown-row (a .rows) _ _ _)
 
   rest-entry : (a b : Certificate) (at : ℕ) → Passed h (progressOf a) s at C.Entry → getD s at 0 ≡ 0x12 → Rest (applied a (decode C.Entry s at) at) (at + 4) b → Rest a at b
-  unfolding applied entryAt
+  unfolding applied
   rest-entry a b at p e f n m hn hm = go m (hm r)
     where
       r : 0 < progressOf a .rows

@@ -20,6 +20,10 @@ headerOutcome (given c) = given (c .header)
 unfoldable pub outcomeOf : Reading → Outcome Header
 outcomeOf r = cond (eqb (r .number) 0) (given (r .header)) (refused (r .number) (r .place))
 
+-- the progress before the first command
+abbrev pub noProgress : Progress
+noProgress = record { rows = 0; basis = 0; floor = 0 }
+
 -- the header and the progress after a command that is not refused
 abbrev pub headed : Header → Instruction → Header
 headed t (I.Header side d p q) = record { side = side; scale = d; p = p; q = q }

@@ -5,8 +5,8 @@ ghost use Prim.Native.Nat.{ℕ, _+_, _*_, _≤_, _<_};
 ghost use lib.ListN.{length};
 ghost use Rattle.stream.specs.Operands.{number, signed};
 ghost use Rattle.certificate.specs.Layout.{commandOf, size, decode};
-ghost use Rattle.certificate.specs.Rules.{placed, allowed, repeated, full, progressVerdict, readCertificate};
-ghost use Rattle.certificate.specs.Kept.{headerOutcome, outcomeOf, headed, advanced, Within, Bounded};
+ghost use Rattle.certificate.specs.Rules.{noHeader, placed, allowed, repeated, full, progressVerdict, readCertificate};
+ghost use Rattle.certificate.specs.Kept.{noProgress, headerOutcome, outcomeOf, headed, advanced, Within, Bounded};
 ghost use Rattle.certificate.specs.Rows.{stands, entryCount, Holds};
 
 pub enum Command {
@@ -45,6 +45,32 @@ pub struct Progress {
     pub rows: usize,
     pub basis: usize,
     pub floor: usize,
+}
+
+// Before the first command.
+impl Header {
+    fn none() -> Self
+        ensures { λ r. ⌜ r ≡ noHeader ⌝ }
+    {
+        Self {
+            side: 0,
+            scale: 0,
+            p: 0,
+            q: 0,
+        }
+    }
+}
+
+impl Progress {
+    fn none() -> Self
+        ensures { λ r. ⌜ r ≡ noProgress ⌝ }
+    {
+        Self {
+            rows: 0,
+            basis: 0,
+            floor: 0,
+        }
+    }
 }
 
 // What a stream gives: number is 0 where the certificate is read, else the refusal's.
@@ -101,6 +127,7 @@ fn is_placed(g: Progress, at: usize, command: Command) -> bool
     }
 }
 
+// A command with its operands, which stand after its byte.
 fn decode_at(command: Command, s: &[u8], at: usize) -> Instruction
     requires { ⌜ at + size command ≤ length (now s) ⌝ }
     ensures { λ r. ⌜ r ≡ decode command (now (s .entry)) at ⌝ }
@@ -147,6 +174,7 @@ fn is_allowed(h: Shape, g: Progress, i: Instruction) -> bool
     }
 }
 
+// Whether an entry's index does not rise.
 fn is_repeated(g: Progress, i: Instruction) -> bool
     ensures { λ r. ⌜ r ≡ repeated g i ⌝ }
 {
@@ -158,6 +186,7 @@ fn is_repeated(g: Progress, i: Instruction) -> bool
     }
 }
 
+// Whether a row is one too many.
 fn is_full(g: Progress, i: Instruction) -> bool
     ensures { λ r. ⌜ r ≡ full g i ⌝ }
 {
@@ -243,17 +272,8 @@ pub fn validate(h: Shape, s: &[u8]) -> Reading
     requires { ⌜ Within h ⌝ }
     ensures { λ r. ⌜ outcomeOf r ≡ headerOutcome (readCertificate h (now (s .entry))) ⌝ }
 {
-    let mut header = Header {
-        side: 0,
-        scale: 0,
-        p: 0,
-        q: 0,
-    };
-    let mut progress = Progress {
-        rows: 0,
-        basis: 0,
-        floor: 0,
-    };
+    let mut header = Header::none();
+    let mut progress = Progress::none();
     let mut at = 0;
     while at < s.len() {
         let number = verdict_at(h, progress, s, at);

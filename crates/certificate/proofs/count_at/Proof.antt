@@ -1,9 +1,9 @@
 -- `count_at`: n entries are counted, and the rest is as the definition has it.
-use borrow.Author.Tests.{not-true, not-false}
-use Rattle.certificate.proofs.Stored.{Counted, counted-start, counted-full, counted-stop, counted-more}
-use borrow.Author.Needs.{needs}
 use mathlib.Core.Path.{sym, _∙_}
 use Prim.Native.Nat.{_-_}
+use borrow.Author.Tests.{not-true, not-false}
+use borrow.Author.Needs.{needs}
+use Rattle.certificate.proofs.Stored.{Counted, counted-start, counted-full, counted-stop, counted-more}
 use Rattle.certificate.proofs.count_at.Statement.{statement}
 use Rattle.certificate.proofs.count_at.Tie as tie
 

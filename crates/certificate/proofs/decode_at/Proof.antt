@@ -1,11 +1,10 @@
 -- `decode_at`: each operand stands within the command's length.
+use mathlib.Core.Path.{ap}
+use native.Mathlib.Omega.{arith}
 use mir.Syntax.{w32}
 use mir.Facts.{toZ-ofZ}
-use borrow.Author.Needs.{sfits-of}
+use borrow.Author.Needs.{sfits-of, needs}
 use Rattle.certificate.specs.Layout.{size}
-use borrow.Author.Needs.{needs}
-use native.Mathlib.Omega.{arith}
-use mathlib.Core.Path.{ap}
 use Rattle.certificate.proofs.decode_at.Statement.{statement}
 use Rattle.certificate.proofs.decode_at.Tie as tie
 

@@ -1,11 +1,10 @@
 -- `factor_at`: a signed number of 16 bits fits them.
+use mathlib.Core.Path.{ap, _∙_}
 use mir.Syntax.{w16, w32}
 use mir.Facts.{toZ-ofZ}
-use borrow.Author.Needs.{sfits-of}
+use borrow.Author.Needs.{sfits-of, needs}
 use Rattle.stream.specs.Operands.{signed}
 use Rattle.certificate.proofs.Stored.{signed-fits}
-use borrow.Author.Needs.{needs}
-use mathlib.Core.Path.{ap, _∙_}
 use Rattle.certificate.proofs.factor_at.Statement.{statement}
 use Rattle.certificate.proofs.factor_at.Tie as tie
 

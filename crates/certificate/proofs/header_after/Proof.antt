@@ -1,8 +1,8 @@
 -- `header_after`: a case for each command.
+use mathlib.Core.Path.{_≡_}
 use mir.Syntax.{w32}
 use mir.Val.{toZ, ofZ}
 use borrow.Author.Needs.{needs}
-use mathlib.Core.Path.{_≡_}
 use Rattle.certificate.proofs.header_after.Statement.{statement}
 use Rattle.certificate.proofs.header_after.Tie as tie
 

@@ -1,9 +1,9 @@
 -- `is_allowed`: a test for each command.
-use borrow.Author.Tests.{le-leb, lt-leb, lt-ltb, le-ltb}
+use mathlib.Core.Path.{_≡_}
 use mir.Syntax.{w32}
 use mir.Val.{toZ, ofZ}
+use borrow.Author.Tests.{le-leb, lt-leb, lt-ltb, le-ltb}
 use borrow.Author.Needs.{needs}
-use mathlib.Core.Path.{_≡_}
 use Rattle.certificate.proofs.is_allowed.Statement.{statement}
 use Rattle.certificate.proofs.is_allowed.Tie as tie
 

@@ -1,12 +1,11 @@
 -- `row_at`: after each turn the first i entries of the row stand in the arrays.
-use mir.Facts.{toZ-ofZ}
-use borrow.Author.Needs.{sfits-of}
-use Rattle.certificate.proofs.Stored.{Filled, filled-more, filled-row, stands-within}
-use borrow.Author.Needs.{needs}
-use native.Mathlib.Omega.{arith}
 use mathlib.Core.Path.{_≡_, refl, _∙_}
 use Prim.Native.Nat.{_+_, _-_, _≤_}
+use native.Mathlib.Omega.{arith}
 use lib.ListN.{length}
+use mir.Facts.{toZ-ofZ}
+use borrow.Author.Needs.{sfits-of, needs}
+use Rattle.certificate.proofs.Stored.{Filled, filled-more, filled-row, stands-within}
 use Rattle.certificate.proofs.row_at.Statement.{statement}
 use Rattle.certificate.proofs.row_at.Tie as tie
 

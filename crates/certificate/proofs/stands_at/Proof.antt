@@ -1,8 +1,8 @@
 -- `stands_at`: the law for a command that is cut, and for its byte.
-use Rattle.certificate.proofs.Stored.{stands-cut, stands-byte}
-use borrow.Author.Needs.{needs}
-use native.Mathlib.Omega.{arith}
 use mathlib.Core.Path.{sym}
+use native.Mathlib.Omega.{arith}
+use borrow.Author.Needs.{needs}
+use Rattle.certificate.proofs.Stored.{stands-cut, stands-byte}
 use Rattle.certificate.proofs.stands_at.Statement.{statement}
 use Rattle.certificate.proofs.stands_at.Tie as tie
 

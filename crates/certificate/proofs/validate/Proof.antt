@@ -1,14 +1,14 @@
 -- `validate`: what the loop keeps is the header and the progress of the certificate read so far.
+use mathlib.Core.Path.{_≡_, ap, _∙_}
+use Prim.Native.Nat.{ℕ, _-_}
+use native.Mathlib.Omega.{arith}
+use lib.ListN.{length}
 use borrow.Author.Tests.{ne-eqb}
+use borrow.Author.Needs.{needs}
 use Rattle.certificate.specs.Layout.{commandOf, size}
 use Rattle.certificate.specs.Rules.{commandAt, instructionAt, progressVerdict}
 use Rattle.certificate.specs.Kept.{outcomeOf}
 use Rattle.certificate.proofs.Kept.{Held, held-start, held-end, held-refused, held-extra, held-given, held-next, taken-size, taken-whole}
-use borrow.Author.Needs.{needs}
-use native.Mathlib.Omega.{arith}
-use mathlib.Core.Path.{_≡_, ap, _∙_}
-use Prim.Native.Nat.{ℕ, _-_}
-use lib.ListN.{length}
 use Rattle.certificate.proofs.validate.Statement.{statement}
 use Rattle.certificate.proofs.validate.Tie as tie
 
@@ -18,8 +18,16 @@ Inv-loop h s header₀ progress₀ at₀ header progress at = Held h s header pr
 abbrev μ-loop : tie.MeasureT-loop
 μ-loop h s header₀ progress₀ at₀ header progress at = length s - at
 
+none-requires : tie.Need-none-requires Inv-loop μ-loop
+none-requires c κs = search needs
+
+none-requires-2 : tie.Need-none-requires-2 Inv-loop μ-loop
+none-requires-2 c κs = search needs
+
 loop-holds : tie.Need-loop-holds Inv-loop μ-loop
-loop-holds c = held-start (c .before .args .h) (c .before .args .s .now)
+loop-holds c =
+    let a = c .before .before .before .args in
+    rw (c .before .none .ensures, c .none2 .ensures) (held-start (a .h) (a .s .now))
 
 verdict-at-requires : tie.Need-verdict-at-requires Inv-loop μ-loop
 verdict-at-requires c κs = (c .before .loop .inv .bounded, omega arith)
@@ -28,15 +36,15 @@ returns : tie.Need-returns Inv-loop μ-loop
 unfolding outcomeOf
 returns c =
     let l = c .before .before .before in
-    let a = l .before .before .args in
+    let a = l .before .before .before .before .args in
     rw (ne-eqb (c .before .verdict-at .result) 0 (λ e. omega arith))
     (held-refused (a .h) (a .s .now) _ _ (l .loop .at) (l .loop .inv) (omega arith) _ (c .before .verdict-at .ensures) (omega arith))
 
 -- past the checks
-none : (c : tie.Else1 Inv-loop μ-loop) → let l = c .before .before .before in let a = l .before .before .args in progressVerdict (a .h) (l .loop .progress) (a .s .now) (l .loop .at) ≡ 0
+none : (c : tie.Else1 Inv-loop μ-loop) → let l = c .before .before .before in let a = l .before .before .before .before .args in progressVerdict (a .h) (l .loop .progress) (a .s .now) (l .loop .at) ≡ 0
 none c = let v = c .before .verdict-at .ensures in omega arith
 
-length-is : (c : tie.After-size-of Inv-loop μ-loop) → let l = c .before .before .before .before .before .before in c .size-of .result ≡ size (commandAt (l .before .before .args .s .now) (l .loop .at))
+length-is : (c : tie.After-size-of Inv-loop μ-loop) → let l = c .before .before .before .before .before .before in c .size-of .result ≡ size (commandAt (l .before .before .before .before .args .s .now) (l .loop .at))
 length-is c = c .size-of .ensures .0 ∙ ap size (c .before .command-of .ensures)
 
 shared-slice-read-byte : tie.Need-shared-slice-read-byte Inv-loop μ-loop
@@ -55,7 +63,7 @@ returns-2 : tie.Need-returns-2 Inv-loop μ-loop
 unfolding outcomeOf commandOf
 returns-2 c =
     let l = c .before .before .before .before .before .before .before .before in
-    let a = l .before .before .args in
+    let a = l .before .before .before .before .args in
     let b = c .before .if2 .taken in
     let k : c .before .before .size-of .result ≡ 1 = length-is (c .before .before) ∙ ap (λ (x : ℕ). size (commandOf x)) b in
     rw k (held-extra (a .h) (a .s .now) _ _ (l .loop .at) (l .loop .inv) (omega arith) (none (c .before .before .before .before .before)) b (omega arith))
@@ -64,7 +72,7 @@ returns-3 : tie.Need-returns-3 Inv-loop μ-loop
 unfolding outcomeOf commandOf
 returns-3 c =
     let l = c .before .before .before .before .before .before .before .before in
-    let a = l .before .before .args in
+    let a = l .before .before .before .before .args in
     let b = c .before .if2 .taken in
     let k : c .before .before .size-of .result ≡ 1 = length-is (c .before .before) ∙ ap (λ (x : ℕ). size (commandOf x)) b in
     held-given (a .h) (a .s .now) _ _ (l .loop .at) (l .loop .inv) (omega arith) (none (c .before .before .before .before .before)) b (omega arith)
@@ -72,7 +80,7 @@ returns-3 c =
 decode-at-requires : tie.Need-decode-at-requires Inv-loop μ-loop
 decode-at-requires c κs =
     let l = c .before .before .before .before .before .before .before in
-    let a = l .before .before .args in
+    let a = l .before .before .before .before .args in
     let k = length-is (c .before) in
     let e = c .before .size-of .ensures .0 in
     omega (arith, taken-whole (a .h) (l .loop .progress) (a .s .now) (l .loop .at) (none (c .before .before .before .before)))
@@ -87,7 +95,7 @@ loop-less : tie.Need-loop-less Inv-loop μ-loop
 loop-less c =
     let e = c .before .before .before .before in
     let l = e .before .before .before .before .before .before in
-    let a = l .before .before .args in
+    let a = l .before .before .before .before .args in
     let k = length-is e in
     let n = none (e .before .before .before) in
     omega (arith, taken-whole (a .h) (l .loop .progress) (a .s .now) (l .loop .at) n, taken-size (a .h) (l .loop .progress) (a .s .now) (l .loop .at) n)
@@ -96,16 +104,16 @@ loop-again : tie.Need-loop-again Inv-loop μ-loop
 loop-again c =
     let e = c .before .before .before .before in
     let l = e .before .before .before .before .before .before in
-    let a = l .before .before .args in
+    let a = l .before .before .before .before .args in
     let i : c .before .before .decode-at .result ≡ instructionAt (a .s .now) (l .loop .at) = rw (c .before .before .decode-at .ensures, e .before .command-of .ensures) in
     rw (c .before .header-after .ensures, c .progress-after .ensures, i, length-is e)
-    (held-next (a .h) (a .s .now) _ _ (l .loop .at) (l .loop .inv) (omega arith) (none (e .before .before .before)) (l .before .before .pre) (c .before .before .before .if2 .left))
+    (held-next (a .h) (a .s .now) _ _ (l .loop .at) (l .loop .inv) (omega arith) (none (e .before .before .before)) (l .before .before .before .before .pre) (c .before .before .before .if2 .left))
 
 returns-4 : tie.Need-returns-4 Inv-loop μ-loop
 unfolding outcomeOf
 returns-4 c =
     let l = c .before in
-    let a = l .before .before .args in
+    let a = l .before .before .before .before .args in
     held-end (a .h) (a .s .now) _ _ (l .loop .at) (l .loop .inv) (omega arith)
 
 pub validate-spec : {M : Type 1} → statement M
@@ -114,6 +122,8 @@ validate-spec =
     (tie.spec
     Inv-loop
     μ-loop
+    none-requires
+    none-requires-2
     loop-holds
     verdict-at-requires
     returns
