@@ -178,11 +178,12 @@ module _ (s : List ℕ) (v : ℕ) (o : Objective) (qs : List Polynomial) (n : �
     after-objective e =
         let f = kept .objective in
         let l : o .count < 256 = space (o .keys) 0 (o .count) k 256 e in
+        let b = fitting-low v 32 k (kept .variables-low) (and-left (fitting v 32 k) (nonzero c) (t .operands)) in
         going-on s here number at g h (I.Objective k c) after t _ (sym objective-room ∙ e) (λ e. clash (cc))
         (rw (terms-more (o .count) (o .keys) (o .coefficients) k c (omega arith) (omega arith)))
         (record {
           variables-low = kept .variables-low;
-          objective = filled-more 32 256 (o .keys) (o .coefficients) (o .count) k c f l (fitting-low v 32 k (kept .variables-low) (and-left (fitting v 32 k) (nonzero c) (t .operands)));
+          objective = filled-more 32 256 (o .keys) (o .coefficients) (o .count) k c f l b;
           constraints = kept .constraints;
           bases = kept .bases;
         })
@@ -229,12 +230,14 @@ module _ (s : List ℕ) (v : ℕ) (o : Objective) (qs : List Polynomial) (n : �
         let w = kept .constraints .places in
         let u = kept .constraints .count-low in
         let l : last .count < 32 = space (last .keys) 0 (last .count) k 32 e in
+        let m = fitting-low v 16 k (kept .variables-low) (and-left (fitting v 16 k) (nonzero c) (t .operands)) in
+        let d = terms-more (last .count) (last .keys) (last .coefficients) k c (omega arith) (omega arith) in
         going-on s here number at g h (I.Term k c) after t _ (sym term-room ∙ e) (λ e. clash (cc))
-        (rw (constraints-count n qs, term-added n qs (n - 1) _ (term k c) (omega arith) (omega arith) (terms-more (last .count) (last .keys) (last .coefficients) k c (omega arith) (omega arith))))
+        (rw (constraints-count n qs, term-added n qs (n - 1) _ (term k c) (omega arith) (omega arith) d))
         (record {
           variables-low = kept .variables-low;
           objective = kept .objective;
-          constraints = constraints-kept n qs (n - 1) n _ (kept .constraints) u (filled-more 16 32 (last .keys) (last .coefficients) (last .count) k c f l (fitting-low v 16 k (kept .variables-low) (and-left (fitting v 16 k) (nonzero c) (t .operands))));
+          constraints = constraints-kept n qs (n - 1) n _ (kept .constraints) u (filled-more 16 32 (last .keys) (last .coefficients) (last .count) k c f l m);
           bases = kept .bases;
         })
 
@@ -259,11 +262,12 @@ module _ (s : List ℕ) (v : ℕ) (o : Objective) (qs : List Polynomial) (n : �
     unfolding problemOf applied
     after-member e =
         let l : getD sizes j 0 < 64 = space keys (64 * j) (getD sizes j 0) k 64 e in
+        let b = fitting-low v 8 k (kept .variables-low) (and-right (leb j (length (constraintsOf n qs))) (fitting v 8 k) (t .operands)) in
         going-on s here number at g h (I.Member j k) after t _ (sym member-room ∙ e) (λ e. clash (cc))
         (rw (member-added sizes keys (kept .bases) j k member-begun l))
         (record {
           variables-low = kept .variables-low;
           objective = kept .objective;
           constraints = kept .constraints;
-          bases = bases-kept sizes keys (kept .bases) j k member-begun l (fitting-low v 8 k (kept .variables-low) (and-right (leb j (length (constraintsOf n qs))) (fitting v 8 k) (t .operands)));
+          bases = bases-kept sizes keys (kept .bases) j k member-begun l b;
         })
