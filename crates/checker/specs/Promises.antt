@@ -1,6 +1,7 @@
 -- What the calls promise where nothing is refused, in the buyer's terms. s is the problem stream, number and rounds what the call
 -- returns, bytes the 576 bytes at exit.
 use mathlib.Core.Path.{_≡_}
+use mathlib.Core.Bool.{Bool, false}
 use mathlib.Core.List.{List}
 use Prim.Native.Nat.{ℕ, _+_, _*_, _≤_, _<_}
 use lib.ListN.{length, getD}
@@ -9,7 +10,14 @@ use Rattle.problem.specs.Rules.{Problem, readProblem}
 use Rattle.problem.specs.Limits.{memberCommands, basesNamed}
 use Rattle.support.specs.Sets.{insert}
 use Rattle.rounds.specs.Meaning.{Closed, Least, Lowest, TakesRounds}
-use Rattle.joining.specs.Joining.{basesOf, startSet, closedSupport}
+use Rattle.joining.specs.Joining.{basesOf, startSet, closedSupport, tooLarge}
+use Rattle.fraction.specs.Fractions.{gapOf}
+use Rattle.fraction.specs.declared.Fraction.{Fraction}
+use Rattle.certificate.specs.Rules.{Certificate, shapeOf, readCertificate}
+use Rattle.identity.specs.Identity.{KeepsBlocks, Identity}
+use Rattle.identity.specs.Bounds.{BoundedBelow, BoundedAbove, WithinGap}
+use Rattle.checker.specs.Check.{boundOf}
+use Rattle.checker.specs.declared.PairVerdict.{PairVerdict}
 
 -- "byte 64j + i": the block number of index i in basis j
 abbrev pub blockAt : List ℕ → ℕ → ℕ → ℕ
@@ -43,3 +51,52 @@ FewRounds s number rounds = Accepted s number (λ p. rounds + basesNamed s ≤ m
 pub record SevenExactly (s : List ℕ) (number : ℕ) : Type 0 where
   pub only : (p : Problem) → readProblem s ≡ given p → number ≡ 7 → 2048 < length (insert 0 (closedSupport p))
   pub always : (p : Problem) → readProblem s ≡ given p → (number ≡ 1 → ⊥) → 2048 < length (insert 0 (closedSupport p)) → number ≡ 7
+
+-- ---- the check
+-- for a problem within its limits and full-length work tables (short is false), "a certificate that reads by its layouts is accepted
+-- exactly when its rows keep to those blocks and its weighted squares equal the polynomial identity, coefficient by coefficient"
+pub record AcceptedExactly (short : Bool) (s t : List ℕ) (number : ℕ) : Type 0 where
+  pub only : (p : Problem) (c : Certificate) → readProblem s ≡ given p → readCertificate (shapeOf p) t ≡ given c → number ≡ 0 → KeepsBlocks p (c .rows) × Identity p c
+  pub always : (p : Problem) (c : Certificate) → short ≡ false → readProblem s ≡ given p → tooLarge p ≡ false → readCertificate (shapeOf p) t ≡ given c → KeepsBlocks p (c .rows) → Identity p c → number ≡ 0
+
+-- ---- the pair
+-- a certificate stream is accepted: it reads by its layouts, its rows keep to the blocks, and the identity holds
+pub record Holds (p : Problem) (t : List ℕ) (c : Certificate) : Type 0 where
+  pub read : readCertificate (shapeOf p) t ≡ given c
+  pub blocks : KeepsBlocks p (c .rows)
+  pub identity : Identity p c
+
+-- both certificates are accepted, "the first with side 0 and the second with side 1"
+pub record BothHold (p : Problem) (low high : List ℕ) (c d : Certificate) : Type 0 where
+  pub first : Holds p low c
+  pub second : Holds p high d
+  pub lower : c .header .side ≡ 0
+  pub upper : d .header .side ≡ 1
+
+-- "the bounds reported are the p/q and P/Q that the certificates state, and the gap is document 01's"
+pub record Stated (s low high : List ℕ) (v : PairVerdict) : Type 0 where
+  pub problem : Problem
+  pub read : readProblem s ≡ given problem
+  pub first : Certificate
+  pub second : Certificate
+  pub hold : BothHold problem low high first second
+  pub lower : v .lower ≡ boundOf first
+  pub upper : v .upper ≡ boundOf second
+  pub gap : v .gap ≡ gapOf (boundOf first) (boundOf second)
+
+-- the pair accepts only what states its bounds, and "for a problem within its limits and full-length work tables it accepts exactly
+-- when both certificates are accepted, the first with side 0 and the second with side 1"
+pub record PairExactly (short : Bool) (s low high : List ℕ) (v : PairVerdict) : Type 0 where
+  pub only : v .refusal .number ≡ 0 → Stated s low high v
+  pub always : (p : Problem) (c d : Certificate) → short ≡ false → readProblem s ≡ given p → tooLarge p ≡ false → BothHold p low high c d → v .refusal .number ≡ 0
+
+-- "at every rational point where all constraints are at least 0, p/q ≤ value ≤ P/Q"
+abbrev pub HoldsBelow : List ℕ → ℕ → Fraction → Type 0
+HoldsBelow s number f = Accepted s number (λ p. BoundedBelow p (f .num) (f .den))
+
+abbrev pub HoldsAbove : List ℕ → ℕ → Fraction → Type 0
+HoldsAbove s number f = Accepted s number (λ p. BoundedAbove p (f .num) (f .den))
+
+-- "any two such points have values no further apart than the gap"
+abbrev pub HoldsGap : List ℕ → ℕ → Fraction → Type 0
+HoldsGap s number f = Accepted s number (λ p. WithinGap p (f .num) (f .den))

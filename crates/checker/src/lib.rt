@@ -10,6 +10,7 @@ ghost use Rattle.problem.specs.Rules.{readProblem};
 ghost use Rattle.checker.specs.Tables.{tableLeft};
 ghost use Rattle.checker.specs.Blocks.{blocksShort, refusedBlocks, blocksRead, bytesRead, blocksVerdict, bytesLeft};
 ghost use Rattle.checker.specs.Promises.{BlocksClosed, BlocksLeast, BlocksLowest, RoundsTaken, FewRounds, SevenExactly};
+use fraction::Fraction;
 
 // A refusal, as document 01's table numbers them: number is 0 where nothing is refused, and then the other fields are 0.
 pub struct Refusal {
@@ -23,6 +24,25 @@ pub struct Refusal {
 pub struct BlocksVerdict {
     pub refusal: Refusal,
     pub blocks: usize,
+    pub rounds: usize,
+}
+
+// What the check returns: the side, the bound p/q that the certificate states, and the rounds. With a refusal side and rounds are 0
+// and the bound is 0 over 0.
+pub struct CheckVerdict {
+    pub refusal: Refusal,
+    pub side: usize,
+    pub bound: Fraction,
+    pub rounds: usize,
+}
+
+// What the pair returns: the bounds p/q and P/Q that the certificates state, their gap, and the rounds. With a refusal the rounds
+// are 0 and the fractions 0 over 0.
+pub struct PairVerdict {
+    pub refusal: Refusal,
+    pub lower: Fraction,
+    pub upper: Fraction,
+    pub gap: Fraction,
     pub rounds: usize,
 }
 

@@ -2,7 +2,13 @@
 
 // The blocks call: the number of the refusal, or 0.
 #[no_mangle]
-pub extern "C" fn zamiachisel_blocks(problem: &[u8], out: &mut [u8], keys: &mut [u64], high: &mut [i64], low: &mut [u64]) -> u64 {
+pub extern "C" fn zamiachisel_blocks(
+    problem: &[u8],
+    out: &mut [u8],
+    keys: &mut [u64],
+    high: &mut [i64],
+    low: &mut [u64],
+) -> u64 {
     let v = checker::blocks(problem, out, keys, high, low);
     let r = v.refusal;
     r.number as u64

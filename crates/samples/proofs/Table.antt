@@ -22,7 +22,20 @@ use Rattle.joining.specs.Joining.{insertAll, startFrom, startSet, closing, tooL
 use Rattle.checker.specs.Refusals.{noRefusal}
 use Rattle.checker.specs.Blocks.{refusedBlocks, blocksOf, blocksVerdict, bytesOf, bytesLeft}
 use Rattle.checker.specs.declared.BlocksVerdict.{BlocksVerdict}
-use Rattle.samples.specs.Streams.{problemA, problemC, problemD, problemE, problemF}
+use Rattle.certificate.specs.Rules.{shapeOf, progressOf, progressVerdict, readCertificate}
+use Rattle.certificate.specs.Rules as Certificate
+use Rattle.certificate.specs.Layout as CertificateLayout
+use Rattle.polynomial.specs.Algebra.{coefficient}
+use Rattle.identity.specs.Identity.{multiplier, square, squares, claim, blockOf}
+use Rattle.identity.specs.Judgement.{firstOutside, rowSplit, splitPlace, firstDifference, comparedKeys, differenceKey, judgeRead, judge}
+use Rattle.fraction.specs.Fractions.{fraction}
+use Rattle.checker.specs.Refusals.{problemRefusal, certificateRefusal}
+use Rattle.checker.specs.Check.{refusedCheck, checkOf, checkVerdict}
+use Rattle.checker.specs.Pair.{refusedPair, pairSides, pairOf, pairVerdict}
+use Rattle.checker.specs.declared.CheckVerdict.{CheckVerdict}
+use Rattle.checker.specs.declared.PairVerdict.{PairVerdict}
+use lib.IntN.{ℤ, pos, negsuc}
+use Rattle.samples.specs.Streams.{problemA, problemC, problemD, problemE, problemF, certificateA, certificateB, certificateD, lowF, highF, certificateI}
 
 -- a verdict, the first three bytes of basis 0 and the first of basis 1
 record Row : Type 0 where
@@ -47,3 +60,43 @@ pub samples :
     ∷ []
 unfolding listed fromTo sumTo number signed firstRefusal run readWhole degreeOf degree within among keysOf commandOf appendAt fitting applied verdict next readProblem basisOf multiplierOf member insert linked merged joinPair join addTerms addPair extend lowestFrom singles start joinAll extendAll round same sameAll sameState closeFrom blocksIn Rounds.closing blockBytes insertAll startFrom startSet closing tooLarge blockTotal blocksOf blocksVerdict bytesOf bytesLeft
 samples = refl
+
+-- a lower bound p/1 that is accepted
+abbrev accepted : ℤ → ℕ → CheckVerdict
+accepted p rounds = record { refusal = noRefusal; side = 0; bound = fraction p 1; rounds = rounds }
+
+-- A: accepted, 2 rounds; B: refusal 9, key 0; D: refusal 8 at the second entry; I: 4; an empty certificate: 2
+pub checks :
+    checkVerdict false problemA certificateA
+    ∷ checkVerdict false problemA certificateB
+    ∷ checkVerdict false problemD certificateD
+    ∷ checkVerdict false problemA certificateI
+    ∷ checkVerdict false problemA []
+    ∷ checkVerdict false [] certificateA
+    ∷ []
+    ≡ accepted (pos 2) 2
+    ∷ refusedCheck (certificateRefusal 1 9 0 0)
+    ∷ refusedCheck (certificateRefusal 1 8 18 0)
+    ∷ refusedCheck (certificateRefusal 1 4 0 0)
+    ∷ refusedCheck (certificateRefusal 1 2 0 0)
+    ∷ refusedCheck (problemRefusal 2 0)
+    ∷ []
+unfolding listed fromTo sumTo number signed firstRefusal run readWhole degreeOf degree within among keysOf commandOf appendAt fitting applied verdict next readProblem basisOf multiplierOf member insert linked merged joinPair join addTerms addPair extend lowestFrom singles start joinAll extendAll round same sameAll sameState closeFrom blocksIn Rounds.closing insertAll startFrom startSet closing tooLarge CertificateLayout.commandOf shapeOf progressOf progressVerdict Certificate.verdict Certificate.applied Certificate.next readCertificate coefficient multiplier square squares claim blockOf firstOutside rowSplit splitPlace firstDifference comparedKeys differenceKey judgeRead judge checkOf checkVerdict
+checks = refl
+
+-- F: bounds −1 and 1, gap 2, 2 rounds; two lower ones: 10 in the second stream; the certificates turned: 10 in the first
+pub pairs :
+    pairVerdict false problemF lowF highF
+    ∷ pairVerdict false problemF lowF lowF
+    ∷ pairVerdict false problemF highF lowF
+    ∷ pairVerdict false problemF lowF []
+    ∷ pairVerdict true problemF lowF highF
+    ∷ []
+    ≡ record { refusal = noRefusal; lower = fraction (negsuc 0) 1; upper = fraction (pos 1) 1; gap = fraction (pos 2) 1; rounds = 2 }
+    ∷ refusedPair (certificateRefusal 2 10 0 0)
+    ∷ refusedPair (certificateRefusal 1 10 0 0)
+    ∷ refusedPair (certificateRefusal 2 2 0 0)
+    ∷ refusedPair (problemRefusal 1 0)
+    ∷ []
+unfolding listed fromTo sumTo number signed firstRefusal run readWhole degreeOf degree within among keysOf commandOf appendAt fitting applied verdict next readProblem basisOf multiplierOf member insert linked merged joinPair join addTerms addPair extend lowestFrom singles start joinAll extendAll round same sameAll sameState closeFrom blocksIn Rounds.closing insertAll startFrom startSet closing tooLarge CertificateLayout.commandOf shapeOf progressOf progressVerdict Certificate.verdict Certificate.applied Certificate.next readCertificate coefficient multiplier square squares claim blockOf firstOutside rowSplit splitPlace firstDifference comparedKeys differenceKey judgeRead judge pairSides pairOf pairVerdict
+pairs = refl

@@ -1,4 +1,5 @@
--- The byte streams of document 01's samples. A monomial is written by the exponents of its first two variables.
+-- The byte streams of document 01's samples. A monomial is written by the exponents of its first two variables, a number below 0 as
+-- its lowest byte.
 use mathlib.Core.List.{List, [], _∷_, _++_}
 use Prim.Native.Nat.{ℕ}
 use lib.ListN.{replicate}
@@ -10,7 +11,6 @@ exponents a b = a ∷ b ∷ replicate 6 0
 abbrev pub variables : ℕ → List ℕ
 variables n = 1 ∷ n ∷ []
 
--- a coefficient from 0 to 255, and from −256 to −1 as 256 less than it, in 4 and in 2 bytes
 abbrev pub objectiveTerm : List ℕ → ℕ → List ℕ
 objectiveTerm e c = (2 ∷ e) ++ (c ∷ 0 ∷ 0 ∷ 0 ∷ [])
 
@@ -52,3 +52,45 @@ problemE = variables 1 ++ objectiveTerm (exponents 6 0) 1 ++ constraint ++ const
 -- objective x, constraint 1 − x², bases {1, x} and {1}
 abbrev pub problemF : List ℕ
 problemF = variables 1 ++ objectiveTerm (exponents 1 0) 1 ++ constraint ++ constraintTerm (exponents 0 0) 1 ++ constraintMinus (exponents 2 0) 255 ++ member 0 (exponents 0 0) ++ member 0 (exponents 1 0) ++ member 1 (exponents 0 0) ++ end
+
+-- ---- certificates
+-- side, D, p and q, each below 256; a p of −256 to −1 is written as 256 more than it
+abbrev pub header : ℕ → ℕ → ℕ → ℕ → List ℕ
+header side d p q = 16 ∷ side ∷ d ∷ 0 ∷ p ∷ 0 ∷ 0 ∷ 0 ∷ q ∷ 0 ∷ []
+
+abbrev pub headerMinus : ℕ → ℕ → ℕ → ℕ → List ℕ
+headerMinus side d p q = 16 ∷ side ∷ d ∷ 0 ∷ p ∷ 255 ∷ 255 ∷ 255 ∷ q ∷ 0 ∷ []
+
+abbrev pub row : ℕ → ℕ → List ℕ
+row j w = 17 ∷ j ∷ w ∷ 0 ∷ []
+
+abbrev pub entry : ℕ → ℕ → List ℕ
+entry i l = 18 ∷ i ∷ l ∷ 0 ∷ []
+
+abbrev pub entryMinus : ℕ → ℕ → List ℕ
+entryMinus i l = 18 ∷ i ∷ l ∷ 255 ∷ []
+
+abbrev pub finish : List ℕ
+finish = 19 ∷ []
+
+-- lower 2/1, D 1, row weight 1, factors −1, 1; and the same with p = 3
+abbrev pub certificateA : List ℕ
+certificateA = header 0 1 2 1 ++ row 0 1 ++ entryMinus 0 255 ++ entry 1 1 ++ finish
+
+abbrev pub certificateB : List ℕ
+certificateB = header 0 1 3 1 ++ row 0 1 ++ entryMinus 0 255 ++ entry 1 1 ++ finish
+
+-- a row on x1 and x2
+abbrev pub certificateD : List ℕ
+certificateD = header 0 1 0 1 ++ row 0 1 ++ entry 1 1 ++ entry 2 1 ++ finish
+
+-- 2(x + 1) = (1 + x)² + (1 − x²) and 2(1 − x) = (1 − x)² + (1 − x²)
+abbrev pub lowF : List ℕ
+lowF = headerMinus 0 2 255 1 ++ row 0 1 ++ entry 0 1 ++ entry 1 1 ++ row 1 1 ++ entry 0 1 ++ finish
+
+abbrev pub highF : List ℕ
+highF = header 1 2 1 1 ++ row 0 1 ++ entry 0 1 ++ entryMinus 1 255 ++ row 1 1 ++ entry 0 1 ++ finish
+
+-- q = 0
+abbrev pub certificateI : List ℕ
+certificateI = header 0 1 2 0 ++ finish

@@ -1,0 +1,40 @@
+-- What the check returns, for all inputs.
+use mathlib.Core.Bool.{Bool, cond}
+use mathlib.Core.List.{List}
+use Prim.Native.Nat.{ℕ}
+use Rattle.stream.specs.Commands.{Outcome, refused, given}
+use Rattle.problem.specs.Rules.{Problem, readProblem}
+use Rattle.joining.specs.Joining.{closing, tooLarge}
+use Rattle.fraction.specs.Fractions.{fraction, none}
+use Rattle.fraction.specs.declared.Fraction.{Fraction}
+use Rattle.certificate.specs.Rules.{Certificate}
+use Rattle.identity.specs.Judgement.{Judgement, judge}
+use Rattle.identity.specs.Judgement as J
+use Rattle.checker.specs.declared.Refusal.{Refusal}
+use Rattle.checker.specs.declared.CheckVerdict.{CheckVerdict}
+use Rattle.checker.specs.Refusals.{noRefusal, problemRefusal, certificateRefusal}
+
+-- "A refusal .. returns number, stream .., place and key; all other fields are 0"
+abbrev pub refusedCheck : Refusal → CheckVerdict
+refusedCheck r = record { refusal = r; side = 0; bound = none; rounds = 0 }
+
+-- the bound that a certificate states, p/q
+abbrev pub boundOf : Certificate → Fraction
+boundOf c = fraction (c .header .p) (c .header .q)
+
+-- "Check (problem, certificate): side, p, q, rounds"
+abbrev pub checkJudged : Problem → Judgement → CheckVerdict
+checkJudged p (J.refused number place key) = refusedCheck (certificateRefusal 1 number place key)
+checkJudged p (J.accepted c) = record { refusal = noRefusal; side = c .header .side; bound = boundOf c; rounds = closing p .rounds }
+
+-- "7; the first certificate by commands likewise; 8 by rows; 9"
+unfoldable pub checkOf : Problem → List ℕ → CheckVerdict
+checkOf p s = cond (tooLarge p) (refusedCheck (problemRefusal 7 0)) (checkJudged p (judge p s))
+
+abbrev pub checkRead : Outcome Problem → List ℕ → CheckVerdict
+checkRead (refused number place) s = refusedCheck (problemRefusal number place)
+checkRead (given p) s = checkOf p s
+
+-- "Order: 1; the problem by commands .."
+unfoldable pub checkVerdict : Bool → List ℕ → List ℕ → CheckVerdict
+checkVerdict short problem certificate = cond short (refusedCheck (problemRefusal 1 0)) (checkRead (readProblem problem) certificate)
