@@ -82,7 +82,7 @@ returns c =
     let d = c .before in
     let l = d .before .before .before .before .before .before .before .before .before .before .before in
     let s = l .before .before .before .before .before .before in
-    rounding-full (basesIn (s .args .keys .now) (s .args .sizes .now) (s .args .exponents .now) (s .args .counts .now)) _ (s .pre .support .room) _ _ _ _ _ (l .loop .inv .1) (d .before .before .before .before .before .before .before .before .before .before .loop-test .taken) _ (next-labels d) _ _ (d .before .before .extend-all .ensures) (c .if1 .taken) _
+    rounding-full (basesIn (s .args .keys .now) (s .args .sizes .now) (s .args .exponents .now) (s .args .counts .now)) _ (s .pre .support .room) _ _ _ _ _ (l .loop .inv .1) (omega (arith, d .before .before .before .before .before .before .before .before .before .before .loop-test .taken)) _ (next-labels d) _ _ (d .before .before .extend-all .ensures) (c .if1 .taken) _
 
 slice-aggregate-is-same : tie.Need-slice-aggregate-is-same Inv-loop μ-loop
 slice-aggregate-is-same c = sym (labelled-long (c .before .before .before .before .before .before .before .before .before .before .before .before .before .before .loop .inv .0))
@@ -104,7 +104,7 @@ returns-2 c =
     let l = d .before .before .before .before .before .before .before .before .before .before .before in
     let s = l .before .before .before .before .before .before in
     let e = same-true _ _ (sym (c .before .is-same .ensures) ∙ c .if3 .taken) in
-    rounding-done (basesIn (s .args .keys .now) (s .args .sizes .now) (s .args .exponents .now) (s .args .counts .now)) _ (s .pre .support .room) _ _ _ _ _ (l .loop .inv .1) (d .before .before .before .before .before .before .before .before .before .before .loop-test .taken) _ (next-labels d) _ _ (d .before .before .extend-all .ensures) (c .before .before .before .before .before .if1 .left) (c .before .before .before .before .if2 .taken) (ap (labelsIn (s .args .sizes .now)) (sym e)) _ (next-labelled d .bytes)
+    rounding-done (basesIn (s .args .keys .now) (s .args .sizes .now) (s .args .exponents .now) (s .args .counts .now)) _ (s .pre .support .room) _ _ _ _ _ (l .loop .inv .1) (omega (arith, d .before .before .before .before .before .before .before .before .before .before .loop-test .taken)) _ (next-labels d) _ _ (d .before .before .extend-all .ensures) (c .before .before .before .before .before .if1 .left) (c .before .before .before .before .if2 .taken) (ap (labelsIn (s .args .sizes .now)) (sym e)) _ (next-labelled d .bytes)
 
 loop-less : tie.Need-loop-less Inv-loop μ-loop
 loop-less c = search needs
@@ -115,7 +115,7 @@ loop-again c =
     let l = d .before .before .before .before .before .before .before .before .before .before .before in
     let s = l .before .before .before .before .before .before in (
       next-labelled d,
-      rounding-more (basesIn (s .args .keys .now) (s .args .sizes .now) (s .args .exponents .now) (s .args .counts .now)) _ (s .pre .support .room) _ _ _ _ _ (l .loop .inv .1) (d .before .before .before .before .before .before .before .before .before .before .loop-test .taken) _ (next-labels d) _ _ (d .before .before .extend-all .ensures) (c .before .before .before .before .before .if1 .left)
+      rounding-more (basesIn (s .args .keys .now) (s .args .sizes .now) (s .args .exponents .now) (s .args .counts .now)) _ (s .pre .support .room) _ _ _ _ _ (l .loop .inv .1) (omega (arith, d .before .before .before .before .before .before .before .before .before .before .loop-test .taken)) _ (next-labels d) _ _ (d .before .before .extend-all .ensures) (c .before .before .before .before .before .if1 .left)
           (λ _ f. same-apart _ _ (sym (c .before .is-same .ensures) ∙ c .if3 .left) (labelled-same (l .loop .inv .0) (next-labelled d) (sym f))),
     )
 
@@ -127,7 +127,7 @@ loop-again-2 c =
     let d = c .before .before in
     let l = d .before .before .before .before .before .before .before .before .before .before .before in
     let s = l .before .before .before .before .before .before in
-    (next-labelled d, rounding-more (basesIn (s .args .keys .now) (s .args .sizes .now) (s .args .exponents .now) (s .args .counts .now)) _ (s .pre .support .room) _ _ _ _ _ (l .loop .inv .1) (d .before .before .before .before .before .before .before .before .before .before .loop-test .taken) _ (next-labels d) _ _ (d .before .before .extend-all .ensures) (c .before .if1 .left) (λ e _. c .if2 .left e))
+    (next-labelled d, rounding-more (basesIn (s .args .keys .now) (s .args .sizes .now) (s .args .exponents .now) (s .args .counts .now)) _ (s .pre .support .room) _ _ _ _ _ (l .loop .inv .1) (omega (arith, d .before .before .before .before .before .before .before .before .before .before .loop-test .taken)) _ (next-labels d) _ _ (d .before .before .extend-all .ensures) (c .before .if1 .left) (λ e _. c .if2 .left e))
 
 same-length-3 : tie.Need-same-length-3 Inv-loop μ-loop
 same-length-3 c = c .before .loop .inv .1 .held .long

@@ -89,9 +89,9 @@ extend-pass-requires c κs =
       basis = record {
         keys = taken-bounded _ a (a + n - a) (s .args .keys .now) (p .keys-low);
         exponents = taken-bounded _ b (b + m - b) (s .args .exponents .now) (p .exponents-low);
-        labels = taken-long a n (s .args .labels .now) (omega (arith, s .pre .0 .labels)) ∙ sym k;
+        labels = taken-long a n _ (omega (arith, s .pre .0 .labels, s .pre .0 .before)) ∙ sym k;
       };
-      before = taken-long a n (s .args .old .now) (omega (arith, s .pre .0 .before)) ∙ sym k;
+      before = taken-long a n _ (omega (arith, s .pre .0 .before)) ∙ sym k;
       filled = filled-at (s .args .keys .now) (s .args .sizes .now) (s .args .exponents .now) (s .args .counts .now) (p .sized) (s .args .j) (s .pre .1) _ _ _ (s .pre .0 .filled);
     }
 
