@@ -1,5 +1,6 @@
 pub mod Laws
 pub mod Growth
+pub mod Index
 pub mod Members
 pub mod Least
 pub mod Joined
