@@ -3,7 +3,7 @@ use mathlib.Core.Path.{_≡_, refl, sym, ap, _∙_}
 use mathlib.Core.Logic.{_⊎_, inl, inr, ⊎-elim}
 use mathlib.Core.Bool.{Bool, true, false}
 use mathlib.Core.List.{List, [], _∷_, _++_}
-use Prim.Native.Nat.{ℕ, zero, suc, _+_, _-_, _%_, _≤_, _<_}
+use Prim.Native.Nat.{ℕ, _+_, _*_, _^_, _%_, _≤_, _<_}
 use native.Mathlib.Omega.{arith}
 use native.Mathlib.Numerals.{add-one}
 use lib.ListN.{length, getD, take, set, replicate, length-set, length-replicate, getD-replicate}
@@ -18,11 +18,11 @@ use Rattle.blocks.proofs.Growth.{Extends, Held, held-start, held-step, 
 
 -- ---- what the index tells
 
-pub indexed-none : (idx S : List ℕ) → Indexed idx S → (k : ℕ) → getD idx (k % 4093) 0 ≡ 0 → false ≡ member k S
-indexed-none idx S x k e = go (member k S) refl
+pub indexed-none : (idx S : List ℕ) → Indexed idx S → (k : ℕ) → k ≤ 32 * 2 ^ 56 → getD idx (k % 4093) 0 ≡ 0 → false ≡ member k S
+indexed-none idx S x k h e = go (member k S) refl
   where
     go : (b : Bool) → member k S ≡ b → false ≡ b
-    go true m = absurd (x .none k e m)
+    go true m = absurd (x .none k h e m)
     go false m = refl
 
 -- ---- a key marked
@@ -31,8 +31,8 @@ module _ (idx S S′ : List ℕ) (x : Indexed idx S) (k : ℕ) (from : (y : ℕ)
   pub indexed-mark : Indexed (set idx (k % 4093) (k + 1)) S′
   indexed-mark = record {
     long = length-set idx (k % 4093) (k + 1) ∙ x .long;
-    none = λ y e m. ⊎-elim (λ q. omega (arith, sym (here y q) ∙ e)) (λ q. no y q e m) (same-or-not (y % 4093) (k % 4093));
-    some = λ y e. ⊎-elim (λ q. let w : k ≡ y = omega (arith, sym (here y q) ∙ e) in rw (← w) there) (λ q. keeps y (x .some y (sym (other y q) ∙ e))) (same-or-not (y % 4093) (k % 4093));
+    none = λ y h e m. ⊎-elim (λ q. omega (arith, sym (here y q) ∙ e)) (λ q. no y h q e m) (same-or-not (y % 4093) (k % 4093));
+    some = λ y h e. ⊎-elim (λ q. let w : k ≡ y = omega (arith, sym (here y q) ∙ e) in rw (← w) there) (λ q. keeps y (x .some y h (sym (other y q) ∙ e))) (same-or-not (y % 4093) (k % 4093));
   }
     where
       here : (y : ℕ) → y % 4093 ≡ k % 4093 → getD (set idx (k % 4093) (k + 1)) (y % 4093) 0 ≡ k + 1
@@ -41,8 +41,8 @@ module _ (idx S S′ : List ℕ) (x : Indexed idx S) (k : ℕ) (from : (y : ℕ)
       other : (y : ℕ) → (y % 4093 ≡ k % 4093 → ⊥) → getD (set idx (k % 4093) (k + 1)) (y % 4093) 0 ≡ getD idx (y % 4093) 0
       other y q = getD-set-other idx (k % 4093) (y % 4093) (k + 1) 0 q
 
-      no : (y : ℕ) → (y % 4093 ≡ k % 4093 → ⊥) → getD (set idx (k % 4093) (k + 1)) (y % 4093) 0 ≡ 0 → In y S′ → ⊥
-      no y q e m = ⊎-elim (λ w. q (ap (λ (z : ℕ). z % 4093) (sym w))) (λ m′. x .none y (sym (other y q) ∙ e) m′) (from y m)
+      no : (y : ℕ) → y ≤ 32 * 2 ^ 56 → (y % 4093 ≡ k % 4093 → ⊥) → getD (set idx (k % 4093) (k + 1)) (y % 4093) 0 ≡ 0 → In y S′ → ⊥
+      no y h q e m = ⊎-elim (λ w. q (ap (λ (z : ℕ). z % 4093) (sym w))) (λ m′. x .none y h (sym (other y q) ∙ e) m′) (from y m)
 
 -- ---- a table's numbers marked one by one
 
@@ -61,14 +61,23 @@ snoc-in (z ∷ zs) k = in-there k z (zs ++ (k ∷ [])) (snoc-in zs k)
 pub indexed-start : Indexed (replicate 4096 0) []
 indexed-start = record {
   long = length-replicate {A = ℕ} 4096 0;
-  none = λ k _ m. not-nil k m;
-  some = λ k e. absurd (omega (arith, sym (getD-replicate 4096 (k % 4093) 0 0 (omega arith)) ∙ e));
+  none = λ k _ _ m. not-nil k m;
+  some = λ k _ e. absurd (omega (arith, sym (getD-replicate 4096 (k % 4093) 0 0 (omega arith)) ∙ e));
 }
 
-pub indexed-next : (idx t : List ℕ) (i : ℕ) → i < length t → Indexed idx (take i t) → Indexed (set idx (getD t i 0 % 4093) (getD t i 0 + 1)) (take (i + 1) t)
-indexed-next idx t i h x =
-    rw (add-one i, take-suc t i 0 h)
-    (indexed-mark idx (take i t) (take i t ++ (getD t i 0 ∷ [])) x (getD t i 0) (λ y m. in-snoc y (take i t) (getD t i 0) m) (λ y m. snoc-keeps y (take i t) (getD t i 0) m) (snoc-in (take i t) (getD t i 0)))
+module _ (idx t : List ℕ) (i : ℕ) (h : i < length t) (x : Indexed idx (take i t)) where
+  pub indexed-next : Indexed (set idx (getD t i 0 % 4093) (getD t i 0 + 1)) (take (i + 1) t)
+  indexed-next =
+      rw (add-one i, take-suc t i 0 h)
+      (indexed-mark idx (take i t) (take i t ++ (getD t i 0 ∷ [])) x (getD t i 0) (λ y m. in-snoc y (take i t) (getD t i 0) m) (λ y m. snoc-keeps y (take i t) (getD t i 0) m) (snoc-in (take i t) (getD t i 0)))
+
+  -- a key of which the index does not tell
+  pub indexed-past : 32 * 2 ^ 56 < getD t i 0 → Indexed idx (take (i + 1) t)
+  indexed-past b = rw (add-one i, take-suc t i 0 h) (record {
+    long = x .long;
+    none = λ k l e m. ⊎-elim (λ q. omega arith) (λ m′. x .none k l e m′) (in-snoc k (take i t) (getD t i 0) m);
+    some = λ k l e. snoc-keeps k (take i t) (getD t i 0) (x .some k l e);
+  })
 
 -- ---- a key put in
 
@@ -76,8 +85,8 @@ module _ (idx t : List ℕ) (n : ℕ) (h : Holds t n) (x : Indexed idx (take n t
   pub stored-none : Stored (take n t) t n t idx
   stored-none = record { grown = grown-none n t h; index = λ _. x }
 
-  pub stored-known : (k : ℕ) → getD idx (k % 4093) 0 ≡ k + 1 → Stored (insert k (take n t)) t n t idx
-  stored-known k e = rw (insert-member k (take n t) (h .rising) (x .some k e)) stored-none
+  pub stored-known : (k : ℕ) → k ≤ 32 * 2 ^ 56 → getD idx (k % 4093) 0 ≡ k + 1 → Stored (insert k (take n t)) t n t idx
+  stored-known k l e = rw (insert-member k (take n t) (h .rising) (x .some k l e)) stored-none
 
   pub stored-put : (k r : ℕ) (t′ : List ℕ) → Put k (take n t) t r t′ → Stored (insert k (take n t)) t r t′ (set idx (k % 4093) (k + 1))
   stored-put k r t′ p =

@@ -1,7 +1,7 @@
 // The joining rule for one basis: `basis` has the keys of its monomials, `exponents` those of its multiplier, `labels` the
 // block number of each index, and the first `len` numbers of `table` are the support.
 ghost use mathlib.Core.Path.{_≡_};
-ghost use mathlib.Core.List.{map};
+ghost use mathlib.Core.List.{[], map};
 ghost use Prim.Native.Nat.{ℕ, _+_, _*_, _^_, _%_, _≤_, _<_};
 ghost use lib.ListN.{length, getD, take};
 ghost use Rattle.support.specs.Sets.{member, insert};
@@ -40,11 +40,30 @@ fn merge(labels: &mut [u8], a: u8, b: u8)
     }
 }
 
+// The largest sum of an exponent and two monomials of a basis: 32 × 256^7.
+const LARGEST: u64 = 2305843009213693952;
+
 // The place of a key in the index.
-pub fn slot(key: u64) -> usize
+fn slot(key: u64) -> usize
     ensures { λ r. ⌜ r ≡ key % 4093 ⌝ }
 {
     (key % 4093) as usize
+}
+
+// The index of a support, made in one that holds nothing.
+pub fn mark(index: &mut [u64], table: &[u64], len: usize)
+    requires { ⌜ Holds (now table) len × Indexed (now index) [] ⌝ }
+    ensures { λ _. ⌜ Indexed (now (index .exit)) (take len (now (table .entry))) ⌝ }
+{
+    let mut i = 0;
+    while i < len {
+        let key = table[i];
+        if key <= LARGEST {
+            let p = slot(key);
+            index[p] = key + 1;
+        }
+        i += 1;
+    }
 }
 
 // Whether a key is in the support. The index tells it at once, unless another member has the key's place.
@@ -137,7 +156,14 @@ fn join_row(
 }
 
 // Every pair of the basis.
-pub fn join_pass(labels: &mut [u8], basis: &[u64], exponents: &[u64], table: &[u64], index: &[u64], len: usize)
+pub fn join_pass(
+    labels: &mut [u8],
+    basis: &[u64],
+    exponents: &[u64],
+    table: &[u64],
+    index: &[u64],
+    len: usize,
+)
     requires { ⌜ Joining (now table) (now index) len (now basis) (now exponents) (now labels) ⌝ }
     ensures { λ _. ⌜ now (labels .exit) ≡ join (take len (now (table .entry))) (now (exponents .entry)) (now (basis .entry)) (now (labels .entry)) ⌝ }
 {
@@ -149,13 +175,7 @@ pub fn join_pass(labels: &mut [u8], basis: &[u64], exponents: &[u64], table: &[u
 }
 
 // The same with t + s for each exponent t of the multiplier.
-fn add_terms(
-    table: &mut [u64],
-    index: &mut [u64],
-    len: usize,
-    exponents: &[u64],
-    s: u64,
-) -> usize
+fn add_terms(table: &mut [u64], index: &mut [u64], len: usize, exponents: &[u64], s: u64) -> usize
     requires { ⌜ Holds (now table) len × Indexed (now index) (take len (now table)) × Bounded (16 * 2 ^ 56) (now exponents) × (s ≤ 16 * 2 ^ 56) ⌝ }
     ensures { λ r. ⌜ Stored (addTerms (now (exponents .entry)) s (take len (now (table .entry)))) (now (table .entry)) r (now (table .exit)) (now (index .exit)) ⌝ }
 {

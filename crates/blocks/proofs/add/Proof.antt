@@ -23,7 +23,7 @@ add-if1 c = search needs
 returns : tie.Need-returns
 returns c =
     let s = c .before .before .before .before .before in
-    stored-known _ _ _ (s .pre .0) (s .pre .1) (s .args .key) (ap (λ (i : ℕ). getD (s .args .index .now) i 0) (sym (c .before .before .slot .ensures)) ∙ c .if1 .taken)
+    stored-known _ _ _ (s .pre .0) (s .pre .1) (s .args .key) (s .pre .2) (ap (λ (i : ℕ). getD (s .args .index .now) i 0) (sym (c .before .before .slot .ensures)) ∙ c .if1 .taken)
 
 put-requires : tie.Need-put-requires
 put-requires c κs = search needs

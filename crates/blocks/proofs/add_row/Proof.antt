@@ -27,16 +27,19 @@ loop-holds c =
 add-pair-requires : tie.Need-add-pair-requires Inv-loop μ-loop
 add-pair-requires c κs =
     let l = c .before .before .before in
-    let s = l .before .before .before .before .before .before .before in
-    (record {
-      joining = record {
-        support = held-holds _ (s .pre .0 .joining .support .room) _ _ _ _ (l .loop .inv .1 .held);
-        index = l .loop .inv .1 .index;
-        basis = s .pre .0 .joining .basis;
-      };
-      before = s .pre .0 .before;
-      filled = l .loop .inv .2;
-    }, omega arith, omega arith)
+    let s = l .before .before .before .before .before .before .before in (
+      record {
+        joining = record {
+          support = held-holds _ (s .pre .0 .joining .support .room) _ _ _ _ (l .loop .inv .1 .held);
+          index = l .loop .inv .1 .index;
+          basis = s .pre .0 .joining .basis;
+        };
+        before = s .pre .0 .before;
+        filled = l .loop .inv .2;
+      },
+      omega arith,
+      omega arith,
+    )
 
 same-length : tie.Need-same-length Inv-loop μ-loop
 same-length c = c .before .before .before .before .before .add-pair .kept .0 ∙ c .before .before .before .before .before .before .before .before .before .loop .inv .1 .held .long

@@ -28,16 +28,18 @@ loop-holds c =
 add-row-requires : tie.Need-add-row-requires Inv-loop μ-loop
 add-row-requires c κs =
     let l = c .before .before .before in
-    let s = l .before .before .before .before .before .before .before in
-    (record {
-      joining = record {
-        support = held-holds _ (s .pre .joining .support .room) _ _ _ _ (l .loop .inv .1 .held);
-        index = l .loop .inv .1 .index;
-        basis = s .pre .joining .basis;
-      };
-      before = s .pre .before;
-      filled = l .loop .inv .2;
-    }, omega arith)
+    let s = l .before .before .before .before .before .before .before in (
+      record {
+        joining = record {
+          support = held-holds _ (s .pre .joining .support .room) _ _ _ _ (l .loop .inv .1 .held);
+          index = l .loop .inv .1 .index;
+          basis = s .pre .joining .basis;
+        };
+        before = s .pre .before;
+        filled = l .loop .inv .2;
+      },
+      omega arith,
+    )
 
 same-length : tie.Need-same-length Inv-loop μ-loop
 same-length c = c .before .before .before .before .before .add-row .kept .0 ∙ c .before .before .before .before .before .before .before .before .before .loop .inv .1 .held .long

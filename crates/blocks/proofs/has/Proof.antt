@@ -20,7 +20,7 @@ shared-slice-read-m c = omega (arith, c .before .slot .ensures, c .before .befor
 returns : tie.Need-returns
 returns c =
     let s = c .before .before .before .before .before in
-    indexed-none _ _ (s .pre .1) (s .args .key) (ap (λ (i : ℕ). getD (s .args .index .now) i 0) (sym (c .before .before .slot .ensures)) ∙ c .if1 .taken)
+    indexed-none _ _ (s .pre .1) (s .args .key) (s .pre .2) (ap (λ (i : ℕ). getD (s .args .index .now) i 0) (sym (c .before .before .slot .ensures)) ∙ c .if1 .taken)
 
 add-if2 : tie.Need-add-if2
 add-if2 c = search needs
@@ -28,7 +28,7 @@ add-if2 c = search needs
 returns-2 : tie.Need-returns-2
 returns-2 c =
     let s = c .before .before .before .before .before .before in
-    sym (s .pre .1 .some (s .args .key) (ap (λ (i : ℕ). getD (s .args .index .now) i 0) (sym (c .before .before .before .slot .ensures)) ∙ c .if2 .taken))
+    sym (s .pre .1 .some (s .args .key) (s .pre .2) (ap (λ (i : ℕ). getD (s .args .index .now) i 0) (sym (c .before .before .before .slot .ensures)) ∙ c .if2 .taken))
 
 contains-requires : tie.Need-contains-requires
 contains-requires c κs = search needs

@@ -22,12 +22,14 @@ loop-holds c = (omega arith, refl, refl)
 
 join-row-requires : tie.Need-join-row-requires Inv-loop μ-loop
 join-row-requires c κs =
-    let s = c .before .before .before .before .before .before .before .before in
-    (record {
-      support = s .pre .support;
-      index = s .pre .index;
-      basis = record { keys = s .pre .basis .keys; exponents = s .pre .basis .exponents; labels = omega arith };
-    }, omega arith)
+    let s = c .before .before .before .before .before .before .before .before in (
+      record {
+        support = s .pre .support;
+        index = s .pre .index;
+        basis = record { keys = s .pre .basis .keys; exponents = s .pre .basis .exponents; labels = omega arith };
+      },
+      omega arith,
+    )
 
 add-i : tie.Need-add-i Inv-loop μ-loop
 add-i c = search needs

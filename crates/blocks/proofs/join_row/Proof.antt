@@ -24,12 +24,15 @@ loop-holds c = search needs
 
 join-pair-requires : tie.Need-join-pair-requires Inv-loop μ-loop
 join-pair-requires c κs =
-    let s = c .before .before .before .before .before .before .before .before in
-    (record {
-      support = s .pre .0 .support;
-      index = s .pre .0 .index;
-      basis = record { keys = s .pre .0 .basis .keys; exponents = s .pre .0 .basis .exponents; labels = omega arith };
-    }, s .pre .1, omega arith)
+    let s = c .before .before .before .before .before .before .before .before in (
+      record {
+        support = s .pre .0 .support;
+        index = s .pre .0 .index;
+        basis = record { keys = s .pre .0 .basis .keys; exponents = s .pre .0 .basis .exponents; labels = omega arith };
+      },
+      s .pre .1,
+      omega arith,
+    )
 
 add-k-2 : tie.Need-add-k-2 Inv-loop μ-loop
 add-k-2 c = search needs
