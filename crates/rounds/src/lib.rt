@@ -4,6 +4,8 @@
 ghost use mathlib.Core.Path.{_≡_};
 ghost use Prim.Native.Nat.{ℕ, _+_, _*_, _≤_, _<_};
 ghost use lib.ListN.{length, getD, take};
+ghost use lib.Dec.{ltb, eqb};
+ghost use mathlib.Core.Bool.{true, false, cond};
 ghost use Rattle.counting.specs.Counting.{listed};
 ghost use Rattle.blocks.specs.Index.{Stored};
 ghost use Rattle.rounds.specs.Rounds.{joinAll, extendAll, same, closing, blocksIn};
@@ -207,6 +209,21 @@ fn is_same(a: &[u8], b: &[u8]) -> bool
     true
 }
 
+// Whether a round is the last: it left too many keys, or as many as before and the blocks as they were.
+fn is_last(few: usize, len: usize, old: &[u8], labels: &[u8]) -> bool
+    requires { ⌜ length (now old) ≡ length (now labels) ⌝ }
+    ensures { λ r. ⌜ r ≡ cond (ltb 2048 len) true (cond (eqb len few) (same (now (old .entry)) (now (labels .entry))) false) ⌝ }
+{
+    if 2048 < len {
+        return true;
+    }
+    if len == few {
+        is_same(old, labels)
+    } else {
+        false
+    }
+}
+
 // What the rounds leave: the block numbers, how many keys the support has (2,049 where it has too many), how many rounds.
 pub struct Closed {
     pub labels: [u8; 576],
@@ -235,11 +252,10 @@ pub fn close(
     while rounds < 578 {
         let old = labels;
         let few = n;
-        let first = rounds == 0;
         n = round(
             &mut labels,
             &old,
-            first,
+            rounds == 0,
             keys,
             sizes,
             exponents,
@@ -249,13 +265,8 @@ pub fn close(
             n,
         );
         rounds += 1;
-        if 2048 < n {
+        if is_last(few, n, &old, &labels) {
             break;
-        }
-        if n == few {
-            if is_same(&old, &labels) {
-                break;
-            }
         }
     }
     Closed {

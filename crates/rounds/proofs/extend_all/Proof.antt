@@ -30,17 +30,19 @@ loop-holds c =
 extend-at-requires : tie.Need-extend-at-requires Inv-loop μ-loop
 extend-at-requires c κs =
     let l = c .before .before .before in
-    let p = l .before .before .before .before .before .before .before .before .before .pre in
-    (record {
-      joining = record {
-        support = held-holds _ (p .joining .support .room) _ _ _ _ (l .loop .inv .1 .held);
-        index = l .loop .inv .1 .index;
-        arrays = p .joining .arrays;
-        labels = p .joining .labels;
-      };
-      before = p .before;
-      filled = l .loop .inv .2;
-    }, omega arith)
+    let p = l .before .before .before .before .before .before .before .before .before .pre in (
+      record {
+        joining = record {
+          support = held-holds _ (p .joining .support .room) _ _ _ _ (l .loop .inv .1 .held);
+          index = l .loop .inv .1 .index;
+          arrays = p .joining .arrays;
+          labels = p .joining .labels;
+        };
+        before = p .before;
+        filled = l .loop .inv .2;
+      },
+      omega arith,
+    )
 
 same-length : tie.Need-same-length Inv-loop μ-loop
 same-length c = c .before .before .before .before .before .extend-at .kept .0 ∙ c .before .before .before .before .before .before .before .before .before .loop .inv .1 .held .long

@@ -25,13 +25,15 @@ join-at-requires : tie.Need-join-at-requires Inv-loop μ-loop
 join-at-requires c κs =
     let l = c .before .before in
     let p = l .before .before .before .before .before .before .before .before .pre in
-    let z = p .arrays .sized in
-    (record {
-      support = p .support;
-      index = p .index;
-      arrays = p .arrays;
-      labels = joining-labelled _ _ _ _ z (labels-shaped _ z _ (labelled-long (p .labels))) (l .loop .j) _ (l .loop .inv .2);
-    }, omega arith)
+    let z = p .arrays .sized in (
+      record {
+        support = p .support;
+        index = p .index;
+        arrays = p .arrays;
+        labels = joining-labelled _ _ _ _ z (labels-shaped _ z _ (labelled-long (p .labels))) (l .loop .j) _ (l .loop .inv .2);
+      },
+      omega arith,
+    )
 
 add-j : tie.Need-add-j Inv-loop μ-loop
 add-j c = search needs
