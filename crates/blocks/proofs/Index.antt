@@ -9,8 +9,8 @@ use native.Mathlib.Numerals.{add-one}
 use lib.ListN.{length, getD, take, set, replicate, length-set, length-replicate, getD-replicate}
 use lib.Seq.{getD-set-same, getD-set-other, take-suc, length-take-le}
 use Rattle.counting.proofs.Listed.{same-or-not}
-use Rattle.support.specs.Sets.{Rising, member, insert, In}
-use Rattle.support.specs.Table.{Holds, Put, Grown}
+use Rattle.support.specs.Sets.{member, insert, In}
+use Rattle.support.specs.Table.{Holds, Put}
 use Rattle.support.proofs.Laws.{inside, insert-member}
 use Rattle.blocks.specs.Index.{Indexed, Stored}
 use Rattle.blocks.proofs.Members.{not-nil, in-cons, in-here, in-there, in-insert, insert-in, insert-keeps}

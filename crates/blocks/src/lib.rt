@@ -1,13 +1,14 @@
 // The joining rule for one basis: `basis` has the keys of its monomials, `exponents` those of its multiplier, `labels` the
-// block number of each index, and the first `len` numbers of `table` are the support.
+// block number of each index. The first `len` numbers of `table` are the support, and `index` is its index, which spares most
+// searches of the table.
 ghost use mathlib.Core.Path.{_≡_};
 ghost use mathlib.Core.List.{[], map};
-ghost use Prim.Native.Nat.{ℕ, _+_, _*_, _^_, _%_, _≤_, _<_};
-ghost use lib.ListN.{length, getD, take};
+ghost use Prim.Native.Nat.{_%_, _≤_, _<_};
+ghost use lib.ListN.{length, take};
 ghost use Rattle.support.specs.Sets.{member, insert};
 ghost use Rattle.support.specs.Table.{Holds};
 ghost use Rattle.blocks.specs.Index.{Indexed, Stored};
-ghost use Rattle.blocks.specs.Limits.{Bounded, Joining};
+ghost use Rattle.blocks.specs.Limits.{ForKey, ForSums, Joining};
 ghost use Rattle.blocks.specs.Filled.{Extending};
 ghost use Rattle.blocks.specs.Join.{linked, renamed, merged, joinPair, joinRow, join};
 ghost use Rattle.blocks.specs.Extend.{addTerms, addPair, addRow, extend, blockCount};
@@ -68,7 +69,7 @@ pub fn mark(index: &mut [u64], table: &[u64], len: usize)
 
 // Whether a key is in the support. The index tells it at once, unless another member has the key's place.
 fn has(table: &[u64], index: &[u64], len: usize, key: u64) -> bool
-    requires { ⌜ Holds (now table) len × Indexed (now index) (take len (now table)) × (key ≤ 32 * 2 ^ 56) ⌝ }
+    requires { ⌜ ForKey (now table) (now index) len key ⌝ }
     ensures { λ r. ⌜ r ≡ member key (take len (now (table .entry))) ⌝ }
 {
     let i = slot(key);
@@ -84,7 +85,7 @@ fn has(table: &[u64], index: &[u64], len: usize, key: u64) -> bool
 
 // The support with a key put in, and the number of its keys: 2,049 where it has more than 2,048.
 fn add(table: &mut [u64], index: &mut [u64], len: usize, key: u64) -> usize
-    requires { ⌜ Holds (now table) len × Indexed (now index) (take len (now table)) × (key ≤ 32 * 2 ^ 56) ⌝ }
+    requires { ⌜ ForKey (now table) (now index) len key ⌝ }
     ensures { λ r. ⌜ Stored (insert key (take len (now (table .entry)))) (now (table .entry)) r (now (table .exit)) (now (index .exit)) ⌝ }
 {
     let i = slot(key);
@@ -98,7 +99,7 @@ fn add(table: &mut [u64], index: &mut [u64], len: usize, key: u64) -> usize
 
 // Whether t + s is in the support for some exponent t of the multiplier.
 fn is_linked(table: &[u64], index: &[u64], len: usize, exponents: &[u64], s: u64) -> bool
-    requires { ⌜ Holds (now table) len × Indexed (now index) (take len (now table)) × Bounded (16 * 2 ^ 56) (now exponents) × (s ≤ 16 * 2 ^ 56) ⌝ }
+    requires { ⌜ ForSums (now table) (now index) len (now exponents) s ⌝ }
     ensures { λ r. ⌜ r ≡ linked (take len (now (table .entry))) (now (exponents .entry)) s ⌝ }
 {
     let mut i = 0;
@@ -176,7 +177,7 @@ pub fn join_pass(
 
 // The same with t + s for each exponent t of the multiplier.
 fn add_terms(table: &mut [u64], index: &mut [u64], len: usize, exponents: &[u64], s: u64) -> usize
-    requires { ⌜ Holds (now table) len × Indexed (now index) (take len (now table)) × Bounded (16 * 2 ^ 56) (now exponents) × (s ≤ 16 * 2 ^ 56) ⌝ }
+    requires { ⌜ ForSums (now table) (now index) len (now exponents) s ⌝ }
     ensures { λ r. ⌜ Stored (addTerms (now (exponents .entry)) s (take len (now (table .entry)))) (now (table .entry)) r (now (table .exit)) (now (index .exit)) ⌝ }
 {
     let mut n = len;

@@ -8,7 +8,7 @@ use native.Mathlib.Omega.{arith}
 use native.Mathlib.Numerals.{add-one}
 use lib.Dec.{ltb}
 use lib.ListN.{length, getD, take, drop, set, replicate, length-drop}
-use lib.Seq.{getD-take, getD-drop, length-take-le}
+use lib.Seq.{getD-drop, length-take-le}
 use Rattle.counting.specs.Counting.{listed, fromTo, sumTo}
 use Rattle.counting.proofs.Listed.{listed-length, listed-same, listed-at, listed-all}
 use Rattle.counting.proofs.Steps.{fromTo-reaches}

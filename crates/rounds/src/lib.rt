@@ -2,7 +2,7 @@
 // the exponents of its multiplier stand from place 32j on in `exponents`, counts[j] of them; its block numbers stand from
 // place 64j on in `labels`. The first `len` numbers of `table` are the support.
 ghost use mathlib.Core.Path.{_≡_};
-ghost use Prim.Native.Nat.{ℕ, _+_, _*_, _≤_, _<_};
+ghost use Prim.Native.Nat.{_+_, _*_, _≤_, _<_};
 ghost use lib.ListN.{length, getD, take};
 ghost use lib.Dec.{ltb, eqb};
 ghost use mathlib.Core.Bool.{true, false, cond};

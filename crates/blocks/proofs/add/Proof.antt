@@ -1,9 +1,9 @@
 -- `blocks::add` meets its contract: the index knows the key, or it is put in and marked.
 use borrow.Author.Needs.{needs}
 use native.Mathlib.Omega.{arith}
-use mathlib.Core.Path.{_≡_, sym, ap, _∙_}
+use mathlib.Core.Path.{sym, ap, _∙_}
 use Prim.Native.Nat.{ℕ}
-use lib.ListN.{getD, length-set}
+use lib.ListN.{getD}
 use Rattle.blocks.proofs.Index.{stored-known, stored-put}
 use Rattle.blocks.proofs.add.Statement.{statement}
 use Rattle.blocks.proofs.add.Tie as tie
@@ -15,7 +15,7 @@ mul-if1 : tie.Need-mul-if1
 mul-if1 c = search needs
 
 slice-read-if1 : tie.Need-slice-read-if1
-slice-read-if1 c = omega (arith, c .before .slot .ensures, c .before .before .before .before .pre .1 .long)
+slice-read-if1 c = omega (arith, c .before .slot .ensures, c .before .before .before .before .pre .index .long)
 
 add-if1 : tie.Need-add-if1
 add-if1 c = search needs
@@ -23,7 +23,7 @@ add-if1 c = search needs
 returns : tie.Need-returns
 returns c =
     let s = c .before .before .before .before .before in
-    stored-known _ _ _ (s .pre .0) (s .pre .1) (s .args .key) (s .pre .2) (ap (λ (i : ℕ). getD (s .args .index .now) i 0) (sym (c .before .before .slot .ensures)) ∙ c .if1 .taken)
+    stored-known _ _ _ (s .pre .support) (s .pre .index) (s .args .key) (s .pre .low) (ap (λ (i : ℕ). getD (s .args .index .now) i 0) (sym (c .before .before .slot .ensures)) ∙ c .if1 .taken)
 
 put-requires : tie.Need-put-requires
 put-requires c κs = search needs
@@ -35,7 +35,7 @@ mul-index : tie.Need-mul-index
 mul-index c = search needs
 
 slice-write-index : tie.Need-slice-write-index
-slice-write-index c = omega (arith, c .before .before .before .before .before .before .slot .ensures, c .before .before .before .before .before .before .before .before .before .pre .1 .long)
+slice-write-index c = omega (arith, c .before .before .before .before .before .before .slot .ensures, c .before .before .before .before .before .before .before .before .before .pre .index .long)
 
 same-length : tie.Need-same-length
 same-length c = search needs
@@ -46,7 +46,7 @@ same-length-2 c = search needs
 returns-2 : tie.Need-returns-2
 returns-2 c =
     let s = c .before .before .before .before .before .before .before .before .before in
-    rw (c .before .before .before .before .before .before .slot .ensures) (stored-put _ _ _ (s .pre .0) (s .pre .1) (s .args .key) _ _ (c .before .before .put .ensures))
+    rw (c .before .before .before .before .before .before .slot .ensures) (stored-put _ _ _ (s .pre .support) (s .pre .index) (s .args .key) _ _ (c .before .before .put .ensures))
 
 pub add-spec : {M : Type 1} → statement M
 add-spec =

@@ -52,7 +52,12 @@ add-terms-requires : tie.Need-add-terms-requires
 add-terms-requires c κs =
     let s = c .before .before .before .before .before .before .before .before .before .before .before .before .before .before in
     let p = s .pre .0 .joining in
-    (p .support, p .index, p .basis .exponents, omega (arith, p .basis .keys (s .args .i), p .basis .keys (s .args .k)))
+    record {
+      support = p .support;
+      index = p .index;
+      exponents = p .basis .exponents;
+      low = omega (arith, p .basis .keys (s .args .i), p .basis .keys (s .args .k));
+    }
 
 same-length : tie.Need-same-length
 same-length c = search needs

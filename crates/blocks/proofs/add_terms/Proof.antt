@@ -1,7 +1,7 @@
 -- `blocks::add_terms` meets its contract: the table holds the set so far, and the exponents from i on are still to be added.
 use borrow.Author.Needs.{needs}
 use native.Mathlib.Omega.{arith}
-use mathlib.Core.Path.{_≡_, sym, _∙_}
+use mathlib.Core.Path.{sym, _∙_}
 use Prim.Native.Nat.{_+_, _-_, _≤_}
 use lib.ListN.{length, take, drop}
 use Rattle.blocks.specs.Extend.{addTerms}
@@ -17,7 +17,7 @@ abbrev μ-loop : tie.MeasureT-loop
 μ-loop table₀ index₀ len exponents s n₀ i₀ table index n i = length exponents - i
 
 loop-holds : tie.Need-loop-holds Inv-loop μ-loop
-loop-holds c = let s = c .before .before .before in (omega arith, indexing-start _ (s .pre .0 .room) _ _ _ (s .pre .0) (s .pre .1))
+loop-holds c = let s = c .before .before .before in (omega arith, indexing-start _ (s .pre .support .room) _ _ _ (s .pre .support) (s .pre .index))
 
 mul-add : tie.Need-mul-add Inv-loop μ-loop
 mul-add c = search needs
@@ -26,25 +26,29 @@ shared-slice-read-add : tie.Need-shared-slice-read-add Inv-loop μ-loop
 shared-slice-read-add c = omega arith
 
 add-add : tie.Need-add-add Inv-loop μ-loop
-add-add c = omega (arith, c .before .before .before .before .before .before .before .before .pre .2 (c .before .before .before .before .loop .i))
+add-add c = omega (arith, c .before .before .before .before .before .before .before .before .pre .exponents (c .before .before .before .before .loop .i))
 
 add-requires : tie.Need-add-requires Inv-loop μ-loop
 add-requires c κs =
     let l = c .before .before .before .before in
     let s = l .before .before .before .before in
-    (held-holds _ (s .pre .0 .room) _ _ _ _ (l .loop .inv .1 .held), l .loop .inv .1 .index, omega (arith, s .pre .2 (l .loop .i)))
+    record {
+      support = held-holds _ (s .pre .support .room) _ _ _ _ (l .loop .inv .1 .held);
+      index = l .loop .inv .1 .index;
+      low = omega (arith, s .pre .exponents (l .loop .i));
+    }
 
 same-length : tie.Need-same-length Inv-loop μ-loop
 same-length c = c .before .before .before .before .before .add .kept .0 ∙ c .before .before .before .before .before .before .before .before .before .before .loop .inv .1 .held .long
 
 same-length-2 : tie.Need-same-length-2 Inv-loop μ-loop
-same-length-2 c = c .before .before .before .before .before .add .kept .1 .0 ∙ c .before .before .before .before .before .before .before .before .before .before .loop .inv .1 .index .long ∙ sym (c .before .before .before .before .before .before .before .before .before .before .before .before .before .before .pre .1 .long)
+same-length-2 c = c .before .before .before .before .before .add .kept .1 .0 ∙ c .before .before .before .before .before .before .before .before .before .before .loop .inv .1 .index .long ∙ sym (c .before .before .before .before .before .before .before .before .before .before .before .before .before .before .pre .index .long)
 
 returns : tie.Need-returns Inv-loop μ-loop
 returns c =
     let l = c .before .before .before .before .before .before .before .before .before .before in
     let s = l .before .before .before .before in
-    indexing-stop _ (s .pre .0 .room) _ _ _ _ _ (l .loop .inv .1) _ _ _ _ (c .before .before .before .before .before .add .ensures) (addTerms (drop (l .loop .i + 1) (s .args .exponents .now)) (s .args .s)) (add-next (s .args .exponents .now) (s .args .s) _ (l .loop .i) (omega arith)) (c .if1 .taken) (add-extends (drop (l .loop .i + 1) (s .args .exponents .now)) (s .args .s) _)
+    indexing-stop _ (s .pre .support .room) _ _ _ _ _ (l .loop .inv .1) _ _ _ _ (c .before .before .before .before .before .add .ensures) (addTerms (drop (l .loop .i + 1) (s .args .exponents .now)) (s .args .s)) (add-next (s .args .exponents .now) (s .args .s) _ (l .loop .i) (omega arith)) (c .if1 .taken) (add-extends (drop (l .loop .i + 1) (s .args .exponents .now)) (s .args .s) _)
 
 add-i : tie.Need-add-i Inv-loop μ-loop
 add-i c = search needs
@@ -56,18 +60,18 @@ loop-again : tie.Need-loop-again Inv-loop μ-loop
 loop-again c =
     let l = c .before .before .before .before .before .before .before .before .before .before in
     let s = l .before .before .before .before in
-    (omega arith, indexing-step _ (s .pre .0 .room) _ _ _ _ _ (l .loop .inv .1) _ _ _ _ (c .before .before .before .before .before .add .ensures) _ (add-next (s .args .exponents .now) (s .args .s) _ (l .loop .i) (omega arith)) (c .if1 .left) (insert-extends _ _))
+    (omega arith, indexing-step _ (s .pre .support .room) _ _ _ _ _ (l .loop .inv .1) _ _ _ _ (c .before .before .before .before .before .add .ensures) _ (add-next (s .args .exponents .now) (s .args .s) _ (l .loop .i) (omega arith)) (c .if1 .left) (insert-extends _ _))
 
 same-length-3 : tie.Need-same-length-3 Inv-loop μ-loop
 same-length-3 c = c .before .loop .inv .1 .held .long
 
 same-length-4 : tie.Need-same-length-4 Inv-loop μ-loop
-same-length-4 c = c .before .loop .inv .1 .index .long ∙ sym (c .before .before .before .before .before .pre .1 .long)
+same-length-4 c = c .before .loop .inv .1 .index .long ∙ sym (c .before .before .before .before .before .pre .index .long)
 
 returns-2 : tie.Need-returns-2 Inv-loop μ-loop
 returns-2 c =
     let l = c .before in
-    indexing-end _ (l .before .before .before .before .pre .0 .room) _ _ _ _ _ (l .loop .inv .1) (add-done _ _ _ (l .loop .i) (omega arith))
+    indexing-end _ (l .before .before .before .before .pre .support .room) _ _ _ _ _ (l .loop .inv .1) (add-done _ _ _ (l .loop .i) (omega arith))
 
 pub add-terms-spec : {M : Type 1} → statement M
 add-terms-spec =

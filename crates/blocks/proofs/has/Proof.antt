@@ -1,7 +1,7 @@
 -- `blocks::has` meets its contract: the index says no, or yes, or the table is searched.
 use borrow.Author.Needs.{needs}
 use native.Mathlib.Omega.{arith}
-use mathlib.Core.Path.{_≡_, sym, ap, _∙_}
+use mathlib.Core.Path.{sym, ap, _∙_}
 use Prim.Native.Nat.{ℕ}
 use lib.ListN.{getD}
 use Rattle.blocks.proofs.Index.{indexed-none}
@@ -15,12 +15,12 @@ mul-m : tie.Need-mul-m
 mul-m c = search needs
 
 shared-slice-read-m : tie.Need-shared-slice-read-m
-shared-slice-read-m c = omega (arith, c .before .slot .ensures, c .before .before .before .before .pre .1 .long)
+shared-slice-read-m c = omega (arith, c .before .slot .ensures, c .before .before .before .before .pre .index .long)
 
 returns : tie.Need-returns
 returns c =
     let s = c .before .before .before .before .before in
-    indexed-none _ _ (s .pre .1) (s .args .key) (s .pre .2) (ap (λ (i : ℕ). getD (s .args .index .now) i 0) (sym (c .before .before .slot .ensures)) ∙ c .if1 .taken)
+    indexed-none _ _ (s .pre .index) (s .args .key) (s .pre .low) (ap (λ (i : ℕ). getD (s .args .index .now) i 0) (sym (c .before .before .slot .ensures)) ∙ c .if1 .taken)
 
 add-if2 : tie.Need-add-if2
 add-if2 c = search needs
@@ -28,7 +28,7 @@ add-if2 c = search needs
 returns-2 : tie.Need-returns-2
 returns-2 c =
     let s = c .before .before .before .before .before .before in
-    sym (s .pre .1 .some (s .args .key) (s .pre .2) (ap (λ (i : ℕ). getD (s .args .index .now) i 0) (sym (c .before .before .before .slot .ensures)) ∙ c .if2 .taken))
+    sym (s .pre .index .some (s .args .key) (s .pre .low) (ap (λ (i : ℕ). getD (s .args .index .now) i 0) (sym (c .before .before .before .slot .ensures)) ∙ c .if2 .taken))
 
 contains-requires : tie.Need-contains-requires
 contains-requires c κs = search needs

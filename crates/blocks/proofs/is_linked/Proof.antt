@@ -25,12 +25,12 @@ shared-slice-read-has : tie.Need-shared-slice-read-has Inv-loop μ-loop
 shared-slice-read-has c = search needs
 
 add-has : tie.Need-add-has Inv-loop μ-loop
-add-has c = omega (arith, c .before .before .before .before .before .before .pre .2 (c .before .before .loop .i))
+add-has c = omega (arith, c .before .before .before .before .before .before .pre .exponents (c .before .before .loop .i))
 
 has-requires : tie.Need-has-requires Inv-loop μ-loop
 has-requires c κs =
     let s = c .before .before .before .before .before .before in
-    (s .pre .0, s .pre .1, omega (arith, s .pre .2 (c .before .before .loop .i)))
+    record { support = s .pre .support; index = s .pre .index; low = omega (arith, s .pre .exponents (c .before .before .loop .i)) }
 
 returns : tie.Need-returns Inv-loop μ-loop
 returns c =

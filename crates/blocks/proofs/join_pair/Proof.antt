@@ -35,7 +35,12 @@ add-is-linked c =
 is-linked-requires : tie.Need-is-linked-requires
 is-linked-requires c κs =
     let s = c .before .before .before .before .before .before .before .before .before .before in
-    (s .pre .0 .support, s .pre .0 .index, s .pre .0 .basis .exponents, omega (arith, s .pre .0 .basis .keys (s .args .i), s .pre .0 .basis .keys (s .args .k)))
+    record {
+      support = s .pre .0 .support;
+      index = s .pre .0 .index;
+      exponents = s .pre .0 .basis .exponents;
+      low = omega (arith, s .pre .0 .basis .keys (s .args .i), s .pre .0 .basis .keys (s .args .k));
+    }
 
 merge-requires : tie.Need-merge-requires
 merge-requires c κs = search needs

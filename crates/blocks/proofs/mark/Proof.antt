@@ -1,10 +1,10 @@
 -- `blocks::mark` meets its contract: the numbers before i are marked.
 use borrow.Author.Needs.{needs}
 use native.Mathlib.Omega.{arith}
-use mathlib.Core.Path.{_≡_, sym, ap, _∙_}
+use mathlib.Core.Path.{_≡_, sym, _∙_}
 use mathlib.Core.Logic.{⊎-elim}
 use Prim.Native.Nat.{_-_, _≤_}
-use lib.ListN.{length, take}
+use lib.ListN.{take}
 use Rattle.blocks.specs.Index.{Indexed}
 use Rattle.blocks.proofs.Index.{indexed-next, indexed-past}
 use Rattle.blocks.proofs.mark.Statement.{statement}

@@ -1,7 +1,7 @@
 -- `rounds::close` meets its contract: after each round, what is left of 578 gives the outcome, and S is full for the blocks.
 use borrow.Author.Needs.{needs}
 use native.Mathlib.Omega.{arith}
-use mathlib.Core.Path.{_≡_, refl, sym, _∙_}
+use mathlib.Core.Path.{sym, _∙_}
 use Prim.Native.Nat.{_-_}
 use lib.ListN.{take}
 use Rattle.blocks.proofs.Growth.{held-holds}

@@ -1,9 +1,9 @@
 -- `rounds::extend_all` meets its contract: the table holds the set so far, and what is left from basis j on gives the result.
 use borrow.Author.Needs.{needs}
 use native.Mathlib.Omega.{arith}
-use mathlib.Core.Path.{_≡_, sym, _∙_}
+use mathlib.Core.Path.{sym, _∙_}
 use Prim.Native.Nat.{_+_, _-_, _≤_}
-use lib.ListN.{length, take}
+use lib.ListN.{take}
 use Rattle.counting.specs.Counting.{fromTo}
 use Rattle.counting.proofs.Steps.{fromTo-done, fromTo-more}
 use Rattle.blocks.proofs.Growth.{held-holds}

@@ -1,7 +1,7 @@
 -- `rounds::extend_at` meets its contract: the parts of basis j fit their arrays, and S is filled for the part of the blocks before.
 use borrow.Author.Needs.{needs}
 use native.Mathlib.Omega.{arith}
-use mathlib.Core.Path.{_≡_, sym, _∙_}
+use mathlib.Core.Path.{sym, _∙_}
 use Prim.Native.Nat.{_+_, _-_, _*_}
 use lib.ListN.{getD}
 use Rattle.rounds.proofs.Passes.{taken-long, taken-bounded, labelled-long, extended-at, filled-at}
