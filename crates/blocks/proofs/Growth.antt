@@ -2,14 +2,14 @@
 use mathlib.Core.Path.{_≡_, refl, sym, ap, _∙_}
 use mathlib.Core.Bool.{Bool, true, false}
 use mathlib.Core.List.{List, [], _∷_, _++_}
-use Prim.Native.Nat.{ℕ, zero, suc, _+_, _-_, _≤_, _<_, min, zero-le, suc-le-suc}
-use native.Mathlib.Nat.{min-eq-left, min-eq-right, le-refl, le-trans, not-suc-le-zero, le-of-suc-le-suc, suc-inj}
+use Prim.Native.Nat.{ℕ, suc, _+_, _-_, _≤_, _<_, min, zero-le, suc-le-suc}
+use native.Mathlib.Nat.{min-eq-left, min-eq-right, le-refl, le-trans, suc-inj}
 use native.Mathlib.Omega.{arith}
 use native.Mathlib.Numerals.{add-one}
 use lib.ListN.{length, getD, take, drop, length-append, length-drop, take-append-drop, drop-of-length-le}
-use lib.Seq.{drop-cons, take-at, drop-at, drop-drop, length-take-le, take-append-seam, drop-append-add, drop-append-seam}
+use lib.Seq.{drop-cons, drop-drop, length-take-le, take-append-seam, drop-append-add}
 use lib.Dec.{eqb, ltb, leb}
-use borrow.Author.Tests.{le-leb, lt-leb, leb-true, leb-false, eq-eqb, ne-eqb}
+use borrow.Author.Tests.{leb-true, leb-false, eq-eqb, ne-eqb}
 use mathlib.Core.Bool.{cond}
 use Rattle.support.specs.Sets.{insert, Rising, In}
 use Rattle.support.specs.Table.{Holds, over, Put, Grown}
@@ -17,7 +17,7 @@ use Rattle.support.proofs.Laws.{insert-rising}
 use Rattle.counting.specs.Counting.{fromTo}
 use Rattle.counting.proofs.Steps.{fromTo-keeps}
 use Rattle.blocks.specs.Extend.{addTerms, addPair, addRow, extend}
-use Rattle.blocks.specs.Filled.{Filled, FullAt, Full}
+use Rattle.blocks.specs.Filled.{Filled, Full}
 use Rattle.blocks.proofs.Members.{insert-keeps}
 use Rattle.blocks.proofs.Full.{pair-done}
 

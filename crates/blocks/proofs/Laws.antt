@@ -1,18 +1,17 @@
 -- Laws of the joining rule's parts.
 use mathlib.Core.Path.{_≡_, refl, sym, ap, _∙_}
 use mathlib.Core.Bool.{Bool, true, false}
-use mathlib.Core.List.{List, [], _∷_, _++_, map, append-assoc}
-use Prim.Native.Nat.{ℕ, zero, suc, _+_, _-_, _≤_, _<_, min, max}
+use mathlib.Core.List.{List, [], _∷_, _++_, map}
+use Prim.Native.Nat.{ℕ, zero, suc, _+_, _≤_, _<_}
 use native.Mathlib.Nat.{min-eq-left, min-eq-right, max-eq-left, max-eq-right, le-of-suc-le-suc, not-suc-le-zero}
 use native.Mathlib.Omega.{arith}
 use native.Mathlib.Numerals.{add-one}
 use lib.ListN.{length, getD, take, drop, set, length-map, drop-of-length-le}
-use lib.Seq.{drop-cons, take-suc, set-append-seam, append-snoc}
+use lib.Seq.{drop-cons}
 use lib.Dec.{eqb}
 use borrow.Author.Tests.{eqb-true, eq-eqb, ne-eqb}
 use mathlib.Core.Bool.{cond}
 use Rattle.support.specs.Sets.{member}
-use Rattle.counting.specs.Counting.{fromTo}
 use Rattle.counting.proofs.Steps.{fromTo-keeps}
 use Rattle.blocks.specs.Join.{linked, renamed, merged, joinPair, joinRow, join}
 use Rattle.blocks.specs.Extend.{lowestFrom, blockCount}

@@ -1,5 +1,6 @@
 pub mod Laws
 pub mod Growth
+pub mod Index
 pub mod Pairs
 pub mod Labels
 pub mod Members

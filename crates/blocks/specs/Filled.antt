@@ -5,8 +5,7 @@ use mathlib.Core.List.{List}
 use Prim.Native.Nat.{ℕ, _+_, _≤_, _<_}
 use lib.ListN.{length, getD, take}
 use Rattle.support.specs.Sets.{In}
-use Rattle.support.specs.Table.{Holds}
-use Rattle.blocks.specs.Limits.{OneBasis}
+use Rattle.blocks.specs.Limits.{Joining}
 
 -- every t + b + b' of the indices i and k is in S, where the two are in one block
 pub record FullAt (T B L : List ℕ) (i k : ℕ) (S : List ℕ) : Type 0 where
@@ -20,9 +19,8 @@ pub record Full (T B L S : List ℕ) : Type 0 where
 pub record Filled (first : Bool) (T B L S : List ℕ) : Type 0 where
   pub full : first ≡ false → Full T B L S
 
--- what an extension asks: the support in its table, a basis with its blocks L, and the blocks L₀ of the round before
-pub record Extending (first : Bool) (t : List ℕ) (len : ℕ) (B T L L₀ : List ℕ) : Type 0 where
-  pub support : Holds t len
-  pub basis : OneBasis B T L
+-- what an extension asks: what a joining asks, and the blocks L₀ of the round before
+pub record Extending (first : Bool) (t idx : List ℕ) (len : ℕ) (B T L L₀ : List ℕ) : Type 0 where
+  pub joining : Joining t idx len B T L
   pub before : length L₀ ≡ length B
   pub filled : Filled first T B L₀ (take len t)

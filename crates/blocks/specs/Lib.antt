@@ -1,4 +1,5 @@
 pub mod Join
 pub mod Extend
-pub mod Filled
+pub mod Index
 pub mod Limits
+pub mod Filled

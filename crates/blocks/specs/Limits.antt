@@ -2,7 +2,9 @@
 use mathlib.Core.Path.{_≡_}
 use mathlib.Core.List.{List}
 use Prim.Native.Nat.{ℕ, _*_, _^_, _≤_}
-use lib.ListN.{length, getD}
+use lib.ListN.{length, getD, take}
+use Rattle.support.specs.Table.{Holds}
+use Rattle.blocks.specs.Index.{Indexed}
 
 -- each number of a list is at most m
 abbrev pub Bounded : ℕ → List ℕ → Type 0
@@ -14,3 +16,22 @@ pub record OneBasis (B T L : List ℕ) : Type 0 where
   pub keys : Bounded (8 * 2 ^ 56) B
   pub exponents : Bounded (16 * 2 ^ 56) T
   pub labels : length L ≡ length B
+
+-- what a look for a key asks: the support in its table, with its index, and that the index tells of the key
+pub record ForKey (t idx : List ℕ) (len k : ℕ) : Type 0 where
+  pub support : Holds t len
+  pub index : Indexed idx (take len t)
+  pub low : k ≤ 32 * 2 ^ 56
+
+-- the same for every t + s, with t among the exponents T
+pub record ForSums (t idx : List ℕ) (len : ℕ) (T : List ℕ) (s : ℕ) : Type 0 where
+  pub support : Holds t len
+  pub index : Indexed idx (take len t)
+  pub exponents : Bounded (16 * 2 ^ 56) T
+  pub low : s ≤ 16 * 2 ^ 56
+
+-- what a joining asks: the support in its table, with its index, and a basis with its blocks L
+pub record Joining (t idx : List ℕ) (len : ℕ) (B T L : List ℕ) : Type 0 where
+  pub support : Holds t len
+  pub index : Indexed idx (take len t)
+  pub basis : OneBasis B T L

@@ -1,11 +1,14 @@
 // The joining rule for one basis: `basis` has the keys of its monomials, `exponents` those of its multiplier, `labels` the
-// block number of each index, and the first `len` numbers of `table` are the support.
+// block number of each index. The first `len` numbers of `table` are the support, and `index` is its index, which spares most
+// searches of the table.
 ghost use mathlib.Core.Path.{_≡_};
-ghost use mathlib.Core.List.{map};
-ghost use Prim.Native.Nat.{ℕ, _+_, _*_, _^_, _≤_, _<_};
-ghost use lib.ListN.{length, getD, take};
-ghost use Rattle.support.specs.Table.{Holds, Grown};
-ghost use Rattle.blocks.specs.Limits.{Bounded, OneBasis};
+ghost use mathlib.Core.List.{[], map};
+ghost use Prim.Native.Nat.{_%_, _≤_, _<_};
+ghost use lib.ListN.{length, take};
+ghost use Rattle.support.specs.Sets.{member, insert};
+ghost use Rattle.support.specs.Table.{Holds};
+ghost use Rattle.blocks.specs.Index.{Indexed, Stored};
+ghost use Rattle.blocks.specs.Limits.{ForKey, ForSums, Joining};
 ghost use Rattle.blocks.specs.Filled.{Extending};
 ghost use Rattle.blocks.specs.Join.{linked, renamed, merged, joinPair, joinRow, join};
 ghost use Rattle.blocks.specs.Extend.{addTerms, addPair, addRow, extend, blockCount};
@@ -38,14 +41,70 @@ fn merge(labels: &mut [u8], a: u8, b: u8)
     }
 }
 
+// The largest sum of an exponent and two monomials of a basis: 32 × 256^7.
+const LARGEST: u64 = 2305843009213693952;
+
+// The place of a key in the index.
+fn slot(key: u64) -> usize
+    ensures { λ r. ⌜ r ≡ key % 4093 ⌝ }
+{
+    (key % 4093) as usize
+}
+
+// The index of a support, made in one that holds nothing.
+pub fn mark(index: &mut [u64], table: &[u64], len: usize)
+    requires { ⌜ Holds (now table) len × Indexed (now index) [] ⌝ }
+    ensures { λ _. ⌜ Indexed (now (index .exit)) (take len (now (table .entry))) ⌝ }
+{
+    let mut i = 0;
+    while i < len {
+        let key = table[i];
+        if key <= LARGEST {
+            let p = slot(key);
+            index[p] = key + 1;
+        }
+        i += 1;
+    }
+}
+
+// Whether a key is in the support. The index tells it at once, unless another member has the key's place.
+fn has(table: &[u64], index: &[u64], len: usize, key: u64) -> bool
+    requires { ⌜ ForKey (now table) (now index) len key ⌝ }
+    ensures { λ r. ⌜ r ≡ member key (take len (now (table .entry))) ⌝ }
+{
+    let i = slot(key);
+    let m = index[i];
+    if m == 0 {
+        return false;
+    }
+    if m == key + 1 {
+        return true;
+    }
+    support::contains(table, len, key)
+}
+
+// The support with a key put in, and the number of its keys: 2,049 where it has more than 2,048.
+fn add(table: &mut [u64], index: &mut [u64], len: usize, key: u64) -> usize
+    requires { ⌜ ForKey (now table) (now index) len key ⌝ }
+    ensures { λ r. ⌜ Stored (insert key (take len (now (table .entry)))) (now (table .entry)) r (now (table .exit)) (now (index .exit)) ⌝ }
+{
+    let i = slot(key);
+    if index[i] == key + 1 {
+        return len;
+    }
+    let n = support::put(table, len, key);
+    index[i] = key + 1;
+    n
+}
+
 // Whether t + s is in the support for some exponent t of the multiplier.
-fn is_linked(table: &[u64], len: usize, exponents: &[u64], s: u64) -> bool
-    requires { ⌜ Holds (now table) len × Bounded (16 * 2 ^ 56) (now exponents) × (s ≤ 16 * 2 ^ 56) ⌝ }
+fn is_linked(table: &[u64], index: &[u64], len: usize, exponents: &[u64], s: u64) -> bool
+    requires { ⌜ ForSums (now table) (now index) len (now exponents) s ⌝ }
     ensures { λ r. ⌜ r ≡ linked (take len (now (table .entry))) (now (exponents .entry)) s ⌝ }
 {
     let mut i = 0;
     while i < exponents.len() {
-        if support::contains(table, len, exponents[i] + s) {
+        if has(table, index, len, exponents[i] + s) {
             return true;
         }
         i += 1;
@@ -59,11 +118,12 @@ fn join_pair(
     basis: &[u64],
     exponents: &[u64],
     table: &[u64],
+    index: &[u64],
     len: usize,
     i: usize,
     k: usize,
 )
-    requires { ⌜ Holds (now table) len × OneBasis (now basis) (now exponents) (now labels) × (i < length (now basis)) × (k < length (now basis)) ⌝ }
+    requires { ⌜ Joining (now table) (now index) len (now basis) (now exponents) (now labels) × (i < length (now basis)) × (k < length (now basis)) ⌝ }
     ensures { λ _. ⌜ now (labels .exit) ≡ joinPair (take len (now (table .entry))) (now (exponents .entry)) (now (basis .entry)) i k (now (labels .entry)) ⌝ }
 {
     let a = labels[i];
@@ -71,7 +131,7 @@ fn join_pair(
     if a == b {
         return;
     }
-    if is_linked(table, len, exponents, basis[i] + basis[k]) {
+    if is_linked(table, index, len, exponents, basis[i] + basis[k]) {
         merge(labels, a, b);
     }
 }
@@ -82,40 +142,48 @@ fn join_row(
     basis: &[u64],
     exponents: &[u64],
     table: &[u64],
+    index: &[u64],
     len: usize,
     i: usize,
 )
-    requires { ⌜ Holds (now table) len × OneBasis (now basis) (now exponents) (now labels) × (i < length (now basis)) ⌝ }
+    requires { ⌜ Joining (now table) (now index) len (now basis) (now exponents) (now labels) × (i < length (now basis)) ⌝ }
     ensures { λ _. ⌜ now (labels .exit) ≡ joinRow (take len (now (table .entry))) (now (exponents .entry)) (now (basis .entry)) i (now (labels .entry)) ⌝ }
 {
     let mut k = i + 1;
     while k < basis.len() {
-        join_pair(labels, basis, exponents, table, len, i, k);
+        join_pair(labels, basis, exponents, table, index, len, i, k);
         k += 1;
     }
 }
 
 // Every pair of the basis.
-pub fn join_pass(labels: &mut [u8], basis: &[u64], exponents: &[u64], table: &[u64], len: usize)
-    requires { ⌜ Holds (now table) len × OneBasis (now basis) (now exponents) (now labels) ⌝ }
+pub fn join_pass(
+    labels: &mut [u8],
+    basis: &[u64],
+    exponents: &[u64],
+    table: &[u64],
+    index: &[u64],
+    len: usize,
+)
+    requires { ⌜ Joining (now table) (now index) len (now basis) (now exponents) (now labels) ⌝ }
     ensures { λ _. ⌜ now (labels .exit) ≡ join (take len (now (table .entry))) (now (exponents .entry)) (now (basis .entry)) (now (labels .entry)) ⌝ }
 {
     let mut i = 0;
     while i < basis.len() {
-        join_row(labels, basis, exponents, table, len, i);
+        join_row(labels, basis, exponents, table, index, len, i);
         i += 1;
     }
 }
 
-// The support with t + s for each exponent t of the multiplier, and the number of its keys: 2,049 where it has more than 2,048.
-fn add_terms(table: &mut [u64], len: usize, exponents: &[u64], s: u64) -> usize
-    requires { ⌜ Holds (now table) len × Bounded (16 * 2 ^ 56) (now exponents) × (s ≤ 16 * 2 ^ 56) ⌝ }
-    ensures { λ r. ⌜ Grown (addTerms (now (exponents .entry)) s (take len (now (table .entry)))) (now (table .entry)) r (now (table .exit)) ⌝ }
+// The same with t + s for each exponent t of the multiplier.
+fn add_terms(table: &mut [u64], index: &mut [u64], len: usize, exponents: &[u64], s: u64) -> usize
+    requires { ⌜ ForSums (now table) (now index) len (now exponents) s ⌝ }
+    ensures { λ r. ⌜ Stored (addTerms (now (exponents .entry)) s (take len (now (table .entry)))) (now (table .entry)) r (now (table .exit)) (now (index .exit)) ⌝ }
 {
     let mut n = len;
     let mut i = 0;
     while i < exponents.len() {
-        n = support::put(table, n, exponents[i] + s);
+        n = add(table, index, n, exponents[i] + s);
         if 2048 < n {
             return n;
         }
@@ -128,6 +196,7 @@ fn add_terms(table: &mut [u64], len: usize, exponents: &[u64], s: u64) -> usize
 // round, what a pair of one of those adds is in the support already.
 fn add_pair(
     table: &mut [u64],
+    index: &mut [u64],
     len: usize,
     labels: &[u8],
     old: &[u8],
@@ -137,8 +206,8 @@ fn add_pair(
     i: usize,
     k: usize,
 ) -> usize
-    requires { ⌜ Extending first (now table) len (now basis) (now exponents) (now labels) (now old) × (i ≤ k) × (k < length (now basis)) ⌝ }
-    ensures { λ r. ⌜ Grown (addPair (now (exponents .entry)) (now (basis .entry)) (now (labels .entry)) i k (take len (now (table .entry)))) (now (table .entry)) r (now (table .exit)) ⌝ }
+    requires { ⌜ Extending first (now table) (now index) len (now basis) (now exponents) (now labels) (now old) × (i ≤ k) × (k < length (now basis)) ⌝ }
+    ensures { λ r. ⌜ Stored (addPair (now (exponents .entry)) (now (basis .entry)) (now (labels .entry)) i k (take len (now (table .entry)))) (now (table .entry)) r (now (table .exit)) (now (index .exit)) ⌝ }
 {
     if labels[i] != labels[k] {
         return len;
@@ -148,12 +217,13 @@ fn add_pair(
             return len;
         }
     }
-    add_terms(table, len, exponents, basis[i] + basis[k])
+    add_terms(table, index, len, exponents, basis[i] + basis[k])
 }
 
 // Index i with itself and each index after it.
 fn add_row(
     table: &mut [u64],
+    index: &mut [u64],
     len: usize,
     labels: &[u8],
     old: &[u8],
@@ -162,13 +232,13 @@ fn add_row(
     exponents: &[u64],
     i: usize,
 ) -> usize
-    requires { ⌜ Extending first (now table) len (now basis) (now exponents) (now labels) (now old) × (i < length (now basis)) ⌝ }
-    ensures { λ r. ⌜ Grown (addRow (now (exponents .entry)) (now (basis .entry)) (now (labels .entry)) i (take len (now (table .entry)))) (now (table .entry)) r (now (table .exit)) ⌝ }
+    requires { ⌜ Extending first (now table) (now index) len (now basis) (now exponents) (now labels) (now old) × (i < length (now basis)) ⌝ }
+    ensures { λ r. ⌜ Stored (addRow (now (exponents .entry)) (now (basis .entry)) (now (labels .entry)) i (take len (now (table .entry)))) (now (table .entry)) r (now (table .exit)) (now (index .exit)) ⌝ }
 {
     let mut n = len;
     let mut k = i;
     while k < basis.len() {
-        n = add_pair(table, n, labels, old, first, basis, exponents, i, k);
+        n = add_pair(table, index, n, labels, old, first, basis, exponents, i, k);
         if 2048 < n {
             return n;
         }
@@ -180,6 +250,7 @@ fn add_row(
 // Every pair of the basis.
 pub fn extend_pass(
     table: &mut [u64],
+    index: &mut [u64],
     len: usize,
     labels: &[u8],
     old: &[u8],
@@ -187,13 +258,13 @@ pub fn extend_pass(
     basis: &[u64],
     exponents: &[u64],
 ) -> usize
-    requires { ⌜ Extending first (now table) len (now basis) (now exponents) (now labels) (now old) ⌝ }
-    ensures { λ r. ⌜ Grown (extend (now (exponents .entry)) (now (basis .entry)) (now (labels .entry)) (take len (now (table .entry)))) (now (table .entry)) r (now (table .exit)) ⌝ }
+    requires { ⌜ Extending first (now table) (now index) len (now basis) (now exponents) (now labels) (now old) ⌝ }
+    ensures { λ r. ⌜ Stored (extend (now (exponents .entry)) (now (basis .entry)) (now (labels .entry)) (take len (now (table .entry)))) (now (table .entry)) r (now (table .exit)) (now (index .exit)) ⌝ }
 {
     let mut n = len;
     let mut i = 0;
     while i < basis.len() {
-        n = add_row(table, n, labels, old, first, basis, exponents, i);
+        n = add_row(table, index, n, labels, old, first, basis, exponents, i);
         if 2048 < n {
             return n;
         }

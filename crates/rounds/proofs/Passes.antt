@@ -8,13 +8,14 @@ use native.Mathlib.Omega.{arith}
 use native.Mathlib.Numerals.{add-one}
 use lib.Dec.{ltb}
 use lib.ListN.{length, getD, take, drop, set, replicate, length-drop}
-use lib.Seq.{getD-take, getD-drop, length-take-le}
+use lib.Seq.{getD-drop, length-take-le}
 use Rattle.counting.specs.Counting.{listed, fromTo, sumTo}
 use Rattle.counting.proofs.Listed.{listed-length, listed-same, listed-at, listed-all}
 use Rattle.counting.proofs.Steps.{fromTo-reaches}
 use Rattle.support.specs.Table.{Grown}
 use Rattle.blocks.specs.Join.{join}
 use Rattle.blocks.specs.Extend.{extend, blockCount}
+use Rattle.blocks.specs.Index.{Stored}
 use Rattle.blocks.specs.Limits.{Bounded}
 use Rattle.blocks.specs.Filled.{Full, Filled}
 use Rattle.blocks.proofs.Laws.{join-long, blocks-few}
@@ -117,11 +118,11 @@ module _ (keys sizes exponents counts : List ℕ) (s : Sizes sizes) (j : ℕ) (h
       (rw (← w .bytes) at (bytes-set (labelsIn sizes l) (d .nine) m j (getD sizes j 0) h n (s .small j) (omega (arith, d .long j h)))
       ∙ ap (λ (k : List ℕ). blockBytes (set (labelsIn sizes l) j k)) f)
 
-  pub extended-at : (S l t : List ℕ) (r : ℕ) (t′ : List ℕ)
-      → Grown (extend (take (32 * j + getD counts j 0 - 32 * j) (drop (32 * j) exponents)) (take (64 * j + getD sizes j 0 - 64 * j) (drop (64 * j) keys)) (take (64 * j + getD sizes j 0 - 64 * j) (drop (64 * j) l)) S) t r t′
-      → Grown (extendAt (basesIn keys sizes exponents counts) (labelsIn sizes l) j S) t r t′
+  pub extended-at : (S l t : List ℕ) (r : ℕ) (t′ idx′ : List ℕ)
+      → Stored (extend (take (32 * j + getD counts j 0 - 32 * j) (drop (32 * j) exponents)) (take (64 * j + getD sizes j 0 - 64 * j) (drop (64 * j) keys)) (take (64 * j + getD sizes j 0 - 64 * j) (drop (64 * j) l)) S) t r t′ idx′
+      → Stored (extendAt (basesIn keys sizes exponents counts) (labelsIn sizes l) j S) t r t′ idx′
   unfolding basesIn
-  extended-at S l t r t′ g =
+  extended-at S l t r t′ idx′ g =
       let p = add-sub-cancel-left (64 * j) (getD sizes j 0) in
       let q = add-sub-cancel-left (32 * j) (getD counts j 0) in
       rw (labels-at sizes l j h) (rw (p, q) at g)

@@ -1,19 +1,21 @@
 -- Laws of the rounds, and of the loop that makes them in a table.
 use mathlib.Core.Path.{_≡_, refl, sym, ap, _∙_}
 use mathlib.Core.Bool.{Bool, true, false, cond}
-use mathlib.Core.List.{List, []}
+use mathlib.Core.List.{List}
 use Prim.Native.Nat.{ℕ, zero, suc, _+_, _-_, _≤_, _<_}
 use native.Mathlib.Omega.{arith}
-use lib.Dec.{eqb}
-use lib.ListN.{length, getD, take}
-use borrow.Author.Tests.{eq-eqb}
-use Rattle.support.specs.Table.{Holds, Grown}
-use Rattle.blocks.proofs.Growth.{Extends, extends-refl, extends-trans, Held, held-start, held-step, held-stop, held-end, count-held, grown-length, grown-take}
-use Rattle.rounds.specs.Rounds.{Bases, State, Closing, singles, start, joinAll, extendAll, round, sameState, closeFrom, closing}
-use Rattle.rounds.specs.Bytes.{blockBytes}
-use Rattle.rounds.specs.Arrays.{FilledAll, Settled}
-use Rattle.rounds.proofs.Passes.{all-extends, filled-next}
-use Rattle.rounds.proofs.Same.{state-same, state-differs}
+use lib.Dec.{eqb, ltb}
+use lib.ListN.{length, take}
+use borrow.Author.Tests.{eqb-true, eq-eqb, ltb-true, ltb-false, le-ltb}
+use Rattle.support.specs.Table.{Holds}
+use Rattle.blocks.specs.Index.{Indexed}
+use Rattle.blocks.proofs.Growth.{Extends, extends-refl, extends-trans, count-held, grown-length, grown-take}
+use Rattle.blocks.proofs.Index.{Indexing, indexing-start, indexing-step, indexing-stop, indexing-end}
+use Rattle.rounds.specs.Rounds.{Bases, State, Closing, singles, start, joinAll, round, same, sameState, closeFrom, closing}
+use Rattle.rounds.specs.Bytes.{blockBytes, labelsIn}
+use Rattle.rounds.specs.Arrays.{Sizes, Labelled, FilledAll, roundFrom, Rounded, Settled}
+use Rattle.rounds.proofs.Passes.{labelled-same, joined-labelled, joined-labels, all-extends, filled-next}
+use Rattle.rounds.proofs.Same.{never, same-true, same-apart, state-same, state-differs}
 
 module _ (g : Bases) where
   -- ---- a round only grows the support, and so do the rounds to the end
@@ -21,6 +23,10 @@ module _ (g : Bases) where
   round-extends : (s : State) → Extends (s .support) (round g s .support)
   unfolding round
   round-extends s = all-extends g (joinAll g (s .support) (s .labels)) (s .support)
+
+  round-fills : (first : Bool) (s : State) → FilledAll first g (round g s .labels) (round g s .support)
+  unfolding round
+  round-fills first s = filled-next g (joinAll g (s .support) (s .labels)) first (s .support)
 
   close-next : (m : ℕ) (s : State) (c : ℕ) → closeFrom g (suc m) s c ≡ cond (sameState s (round g s)) (record { state = round g s; rounds = c + 1 }) (closeFrom g m (round g s) (c + 1))
   unfolding closeFrom
@@ -40,93 +46,125 @@ module _ (g : Bases) where
       go true h = round-extends s
       go false h = extends-trans (s .support) (round g s .support) _ (round-extends s) h
 
-  -- ---- the loop: after c rounds, what is left of 578 gives the outcome o
+-- ---- what tells that a round is the last
 
-  pub record Rounding (t₀ : List ℕ) (o : Closing) (L : List (List ℕ)) (n : ℕ) (t : List ℕ) (c : ℕ) : Type 0 where
+module _ (few len : ℕ) (l l′ : List ℕ) where
+  abbrev last : Bool
+  last = cond (ltb 2048 len) true (cond (eqb len few) (same l l′) false)
+
+  last-true : {P : Type 0} → (2048 < len → P) → (len ≤ 2048 → len ≡ few → l ≡ l′ → P) → last ≡ true → P
+  last-true {P} full done = go (ltb 2048 len) refl (eqb len few) refl
+    where
+      go : (b : Bool) → ltb 2048 len ≡ b → (d : Bool) → eqb len few ≡ d → cond b true (cond d (same l l′) false) ≡ true → P
+      go true p d q e = full (ltb-true 2048 len p)
+      go false p true q e = done (ltb-false 2048 len p) (eqb-true len few q) (same-true l l′ e)
+      go false p false q e = never e
+
+  last-small : last ≡ false → len ≤ 2048
+  last-small = go (ltb 2048 len) refl
+    where
+      go : (b : Bool) → ltb 2048 len ≡ b → cond b true (cond (eqb len few) (same l l′) false) ≡ false → len ≤ 2048
+      go true p e = never (sym e)
+      go false p e = ltb-false 2048 len p
+
+  last-false : last ≡ false → len ≡ few → l ≡ l′ → ⊥
+  last-false e p q = same-apart l l′ (rw (le-ltb 2048 len (last-small e), eq-eqb len few p) at e) q
+
+-- ---- the loop: after c rounds, what is left of 578 gives the outcome o
+
+module _ (g : Bases) (sizes : List ℕ) where
+  pub record Rounding (t₀ : List ℕ) (o : Closing) (l : List ℕ) (n : ℕ) (t idx : List ℕ) (c : ℕ) : Type 0 where
     pub upto : c ≤ 578
-    pub held : Held t₀ (o .state .support) (λ S. closeFrom g (578 - c) (record { labels = L; support = S }) c .state .support) n t
-    pub rest : closeFrom g (578 - c) (record { labels = L; support = take n t }) c ≡ o
-    pub filled : FilledAll (eqb c 0) g L (take n t)
+    pub labels : Labelled sizes l
+    pub held : Indexing t₀ (o .state .support) (λ S. closeFrom g (578 - c) (record { labels = labelsIn sizes l; support = S }) c .state .support) n t idx
+    pub rest : closeFrom g (578 - c) (record { labels = labelsIn sizes l; support = take n t }) c ≡ o
+    pub filled : FilledAll (eqb c 0) g (labelsIn sizes l) (take n t)
 
-  module _ (t₀ : List ℕ) (wide : 2048 ≤ length t₀) where
-    pub rounding-start : (n : ℕ) → Holds t₀ n → Rounding t₀ (closing g (take n t₀)) (singles g) n t₀ 0
+  module _ (s : Sizes sizes) (t₀ : List ℕ) (wide : 2048 ≤ length t₀) where
+    pub rounding-start : (n : ℕ) (l idx : List ℕ) → Holds t₀ n → Indexed idx (take n t₀) → Labelled sizes l → labelsIn sizes l ≡ singles g → Rounding t₀ (closing g (take n t₀)) l n t₀ idx 0
     unfolding closing start
-    rounding-start n h = record {
+    rounding-start n l idx h x w e = record {
       upto = omega arith;
-      held = held-start t₀ wide (λ S. closeFrom g 578 (record { labels = singles g; support = S }) 0 .state .support) n h;
-      rest = refl;
-      filled = record { at = λ j b. record { full = λ e. let q = eq-eqb 0 0 refl in let z : _≡_ {A = ℕ} 0 1 = cc in absurd (omega arith) } };
+      labels = w;
+      held = rw e (indexing-start t₀ wide (λ S. closeFrom g 578 (record { labels = singles g; support = S }) 0 .state .support) n idx h x);
+      rest = rw e refl;
+      filled = record { at = λ j b. record { full = λ q. never (sym q ∙ eq-eqb 0 0 refl) } };
     }
 
-    module _ (o : Closing) (L : List (List ℕ)) (n : ℕ) (t : List ℕ) (c : ℕ) (r : Rounding t₀ o L n t c) where
-      pub rounding-out : 578 ≤ c → (l : List ℕ) → l ≡ blockBytes L → Settled o t₀ (record { labels = l; len = n; rounds = c }) t
+    module _ (o : Closing) (l : List ℕ) (n : ℕ) (t idx : List ℕ) (c : ℕ) (r : Rounding t₀ o l n t idx c) where
+      pub rounding-out : 578 ≤ c → Settled o t₀ (record { labels = l; len = n; rounds = c }) t
       unfolding closeFrom
-      rounding-out h l w =
+      rounding-out h =
           let z : 578 - c ≡ 0 = omega arith in
-          let e : record { state = record { labels = L; support = take n t }; rounds = c } ≡ o = rw z at (r .rest) in
+          let e : record { state = record { labels = labelsIn sizes l; support = take n t }; rounds = c } ≡ o = rw z at (r .rest) in
           record {
-            grown = held-end t₀ wide (o .state .support) _ n t (r .held) (rw z refl);
+            grown = indexing-end t₀ wide (o .state .support) _ n t idx (r .held) (rw z refl) .grown;
             rounds = λ _. ap (λ (v : Closing). v .rounds) e;
-            labels = λ _. w ∙ ap (λ (v : Closing). blockBytes (v .state .labels)) e;
+            labels = λ _. r .labels .bytes ∙ ap (λ (v : Closing). blockBytes (v .state .labels)) e;
           }
 
-      module _ (h : c < 578) (L′ : List (List ℕ)) (j : L′ ≡ joinAll g (take n t) L) (n′ : ℕ) (t′ : List ℕ) (k : Grown (extendAll g L′ (take n t)) t n′ t′) where
-        abbrev old : State
-        old = record { labels = L; support = take n t }
+      abbrev old : State
+      old = record { labels = labelsIn sizes l; support = take n t }
 
-        abbrev new : State
-        new = record { labels = L′; support = extendAll g L′ (take n t) }
-
-        next : round g old ≡ new
+      module _ (h : c < 578) (n′ : ℕ) (t′ idx′ l′ : List ℕ) (k : Rounded (roundFrom g (labelsIn sizes l) (take n t)) t n′ t′ idx′ l′) where
+        next-labelled : Labelled sizes l′
         unfolding round
-        next = ap (λ (M : List (List ℕ)). record { labels = M; support = extendAll g M (take n t) }) (sym j)
+        next-labelled = joined-labelled g (take n t) (labelsIn sizes l) sizes l s (r .labels) refl l′ (k .labels)
 
-        grows : Extends (take n t) (extendAll g L′ (take n t))
-        grows = all-extends g L′ (take n t)
+        next-labels : labelsIn sizes l′ ≡ round g old .labels
+        unfolding round
+        next-labels = joined-labels g (take n t) (labelsIn sizes l) sizes l s (r .labels) refl l′ (k .labels)
 
-        step : closeFrom g (578 - c) old c ≡ cond (sameState old new) (record { state = new; rounds = c + 1 }) (closeFrom g (578 - (c + 1)) new (c + 1))
-        step = let z : 578 - c ≡ suc (578 - (c + 1)) = omega arith in rw (z, ← next) (close-next _ old c)
+        step : closeFrom g (578 - c) old c ≡ cond (sameState old (round g old)) (record { state = round g old; rounds = c + 1 }) (closeFrom g (578 - (c + 1)) (round g old) (c + 1))
+        step = let z : 578 - c ≡ suc (578 - (c + 1)) = omega arith in rw z (close-next g _ old c)
 
-        pub rounding-full : 2048 < n′ → (l : List ℕ) → Settled o t₀ (record { labels = l; len = n′; rounds = c + 1 }) t′
-        rounding-full b l = record {
-          grown = held-stop t₀ wide (o .state .support) _ n t (r .held) _ n′ t′ k after (ap (λ (v : Closing). v .state .support) step) b (more (sameState old new));
+        full : 2048 < n′ → Settled o t₀ (record { labels = l′; len = n′; rounds = c + 1 }) t′
+        full b = record {
+          grown = indexing-stop t₀ wide (o .state .support) _ n t idx (r .held) _ n′ t′ idx′ (k .support) after (ap (λ (v : Closing). v .state .support) step) b (more (sameState old (round g old))) .grown;
           rounds = λ q. absurd (omega arith);
           labels = λ q. absurd (omega arith);
         }
           where
             after : List ℕ → List ℕ
-            after X = cond (sameState old new) (record { state = record { labels = L′; support = X }; rounds = c + 1 }) (closeFrom g (578 - (c + 1)) (record { labels = L′; support = X }) (c + 1)) .state .support
+            after X = cond (sameState old (round g old)) (record { state = record { labels = round g old .labels; support = X }; rounds = c + 1 }) (closeFrom g (578 - (c + 1)) (record { labels = round g old .labels; support = X }) (c + 1)) .state .support
 
-            more : (d : Bool) → Extends (extendAll g L′ (take n t)) (cond d (record { state = new; rounds = c + 1 }) (closeFrom g (578 - (c + 1)) new (c + 1)) .state .support)
+            more : (d : Bool) → Extends (round g old .support) (cond d (record { state = round g old; rounds = c + 1 }) (closeFrom g (578 - (c + 1)) (round g old) (c + 1)) .state .support)
             more true = extends-refl _
-            more false = close-extends (578 - (c + 1)) new (c + 1)
+            more false = close-extends g (578 - (c + 1)) (round g old) (c + 1)
 
         size : length (take n t) ≡ n
-        size = count-held t₀ wide (o .state .support) _ n t (r .held)
+        size = count-held t₀ wide (o .state .support) _ n t (r .held .held)
 
-        module _ (b : n′ ≤ 2048) where
-          pub rounding-done : n′ ≡ n → L′ ≡ L → (l : List ℕ) → l ≡ blockBytes L′ → Settled o t₀ (record { labels = l; len = n′; rounds = c + 1 }) t′
-          rounding-done e f l w =
-              let p : extendAll g L′ (take n t) ≡ take n t = grows .same (grown-length _ t n′ t′ k b ∙ e ∙ sym size) in
-              let u : sameState old new ≡ true = state-same old new f p in
-              let v : record { state = new; rounds = c + 1 } ≡ o = rw u at (sym step ∙ r .rest) in
-              record {
-                grown =
-                    held-end t₀ wide (o .state .support) (λ X. X) n′ t′
-                    (held-step t₀ wide (o .state .support) _ n t (r .held) _ n′ t′ k (λ X. X) (r .held .todo ∙ ap (λ (x : Closing). x .state .support) (sym v)) b grows)
-                    refl;
-                rounds = λ _. ap (λ (x : Closing). x .rounds) v;
-                labels = λ _. w ∙ ap (λ (x : Closing). blockBytes (x .state .labels)) v;
-              }
+        done : n′ ≤ 2048 → n′ ≡ n → l ≡ l′ → Settled o t₀ (record { labels = l′; len = n′; rounds = c + 1 }) t′
+        done b e f =
+            let x = round-extends g old in
+            let p : round g old .support ≡ take n t = x .same (grown-length _ t n′ t′ (k .support .grown) b ∙ e ∙ sym size) in
+            let u : sameState old (round g old) ≡ true = state-same old (round g old) (sym next-labels ∙ ap (labelsIn sizes) (sym f)) p in
+            let v : record { state = round g old; rounds = c + 1 } ≡ o = rw u at (sym step ∙ r .rest) in
+            record {
+              grown =
+                  indexing-end t₀ wide (o .state .support) (λ X. X) n′ t′ idx′
+                  (indexing-step t₀ wide (o .state .support) _ n t idx (r .held) _ n′ t′ idx′ (k .support) (λ X. X) (r .held .held .todo ∙ ap (λ (y : Closing). y .state .support) (sym v)) b x)
+                  refl .grown;
+              rounds = λ _. ap (λ (y : Closing). y .rounds) v;
+              labels = λ _. k .labels ∙ ap (λ (y : Closing). blockBytes (y .state .labels)) v;
+            }
 
-          pub rounding-more : (n′ ≡ n → L′ ≡ L → ⊥) → Rounding t₀ o L′ n′ t′ (c + 1)
-          rounding-more d =
-              let q : take n′ t′ ≡ extendAll g L′ (take n t) = grown-take _ t n′ t′ k b in
-              let u : sameState old new ≡ false = state-differs old new (λ x y. d (sym (grown-length _ t n′ t′ k b) ∙ ap length y ∙ size) x) in
-              let v : closeFrom g (578 - (c + 1)) new (c + 1) ≡ o = rw u at (sym step ∙ r .rest) in
-              record {
-                upto = omega arith;
-                held = held-step t₀ wide (o .state .support) _ n t (r .held) _ n′ t′ k (λ X. closeFrom g (578 - (c + 1)) (record { labels = L′; support = X }) (c + 1) .state .support) (r .held .todo ∙ ap (λ (x : Closing). x .state .support) (sym v)) b grows;
-                rest = rw q v;
-                filled = rw q (filled-next g L′ (eqb (c + 1) 0) (take n t));
-              }
+        pub rounding-last : cond (ltb 2048 n′) true (cond (eqb n′ n) (same l l′) false) ≡ true → Settled o t₀ (record { labels = l′; len = n′; rounds = c + 1 }) t′
+        rounding-last = last-true n n′ l l′ full done
+
+        pub rounding-more : cond (ltb 2048 n′) true (cond (eqb n′ n) (same l l′) false) ≡ false → Rounding t₀ o l′ n′ t′ idx′ (c + 1)
+        rounding-more e =
+            let b : n′ ≤ 2048 = last-small n n′ l l′ e in
+            let q : take n′ t′ ≡ round g old .support = grown-take _ t n′ t′ (k .support .grown) b in
+            let u : sameState old (round g old) ≡ false =
+            state-differs old (round g old)
+            (λ x y. last-false n n′ l l′ e (sym (grown-length _ t n′ t′ (k .support .grown) b) ∙ ap length y ∙ size) (labelled-same (r .labels) next-labelled (sym (next-labels ∙ x)))) in
+            let v : closeFrom g (578 - (c + 1)) (round g old) (c + 1) ≡ o = rw u at (sym step ∙ r .rest) in
+            record {
+              upto = omega arith;
+              labels = next-labelled;
+              held = rw next-labels (indexing-step t₀ wide (o .state .support) _ n t idx (r .held) _ n′ t′ idx′ (k .support) (λ X. closeFrom g (578 - (c + 1)) (record { labels = round g old .labels; support = X }) (c + 1) .state .support) (r .held .held .todo ∙ ap (λ (y : Closing). y .state .support) (sym v)) b (round-extends g old));
+              rest = rw (next-labels, q) v;
+              filled = rw (next-labels, q) (round-fills g (eqb (c + 1) 0) old);
+            }

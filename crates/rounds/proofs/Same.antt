@@ -14,7 +14,7 @@ use Rattle.counting.proofs.Steps.{fromTo-same}
 use Rattle.counting.proofs.Listed.{listed-same}
 use Rattle.rounds.specs.Rounds.{Bases, State, Closing, singles, start, joinAll, extendAll, round, same, sameAll, sameState, closeFrom, closing}
 
-never : {P : Type 0} → false ≡ true → P
+pub never : {P : Type 0} → false ≡ true → P
 never e = let z : _≡_ {A = ℕ} 0 1 = cc in absurd (omega arith)
 
 pub same-refl : (l : List ℕ) → same l l ≡ true

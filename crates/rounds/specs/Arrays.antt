@@ -7,9 +7,10 @@ use lib.ListN.{length, getD, take, set}
 use Rattle.support.specs.Table.{Holds, Grown}
 use Rattle.blocks.specs.Join.{join}
 use Rattle.blocks.specs.Extend.{extend}
+use Rattle.blocks.specs.Index.{Indexed, Stored}
 use Rattle.blocks.specs.Limits.{Bounded}
 use Rattle.blocks.specs.Filled.{Filled}
-use Rattle.rounds.specs.Rounds.{Bases, Closing, singles}
+use Rattle.rounds.specs.Rounds.{Bases, State, Closing, singles, round}
 use Rattle.rounds.specs.Bytes.{blockBytes, basesIn, labelsIn}
 use Rattle.rounds.specs.declared.Closed.{Closed}
 
@@ -43,13 +44,27 @@ extendAt g L j S = extend (g .multiplier j) (g .basis j) (getD L j []) S
 pub record FilledAll (first : Bool) (g : Bases) (L : List (List ℕ)) (S : List ℕ) : Type 0 where
   pub at : (j : ℕ) → j < 9 → Filled first (g .multiplier j) (g .basis j) (getD L j []) S
 
--- what an extension asks: the support in its table, the arrays, the blocks and those of the round before
-pub record ExtendingAll (first : Bool) (t : List ℕ) (len : ℕ) (keys sizes exponents counts l l₀ : List ℕ) : Type 0 where
+-- what a joining asks: the support in its table, with its index, the arrays, and the blocks
+pub record JoiningAll (t idx : List ℕ) (len : ℕ) (keys sizes exponents counts l : List ℕ) : Type 0 where
   pub support : Holds t len
+  pub index : Indexed idx (take len t)
   pub arrays : Arrays keys sizes exponents counts
-  pub labels : length l ≡ 576
-  pub before : length l₀ ≡ 576
+  pub labels : Labelled sizes l
+
+-- what an extension asks: what a joining asks, and the blocks of the round before
+pub record ExtendingAll (first : Bool) (t idx : List ℕ) (len : ℕ) (keys sizes exponents counts l l₀ : List ℕ) : Type 0 where
+  pub joining : JoiningAll t idx len keys sizes exponents counts l
+  pub before : Labelled sizes l₀
   pub filled : FilledAll first (basesIn keys sizes exponents counts) (labelsIn sizes l₀) (take len t)
+
+-- a round from the blocks L and the set S
+abbrev pub roundFrom : Bases → List (List ℕ) → List ℕ → State
+roundFrom g L S = round g (record { labels = L; support = S })
+
+-- what a round leaves: the state s′
+pub record Rounded (s′ : State) (t : List ℕ) (r : ℕ) (t′ idx′ l′ : List ℕ) : Type 0 where
+  pub labels : l′ ≡ blockBytes (s′ .labels)
+  pub support : Stored (s′ .support) t r t′ idx′
 
 -- what the closing asks: the support in its table, the arrays, and every basis as single blocks
 pub record Starting (t : List ℕ) (len : ℕ) (keys sizes exponents counts l : List ℕ) : Type 0 where

@@ -2,13 +2,15 @@
 // the exponents of its multiplier stand from place 32j on in `exponents`, counts[j] of them; its block numbers stand from
 // place 64j on in `labels`. The first `len` numbers of `table` are the support.
 ghost use mathlib.Core.Path.{_≡_};
-ghost use Prim.Native.Nat.{ℕ, _+_, _*_, _≤_, _<_};
+ghost use Prim.Native.Nat.{_+_, _*_, _≤_, _<_};
 ghost use lib.ListN.{length, getD, take};
+ghost use lib.Dec.{ltb, eqb};
+ghost use mathlib.Core.Bool.{true, false, cond};
 ghost use Rattle.counting.specs.Counting.{listed};
-ghost use Rattle.support.specs.Table.{Holds, Grown};
+ghost use Rattle.blocks.specs.Index.{Stored};
 ghost use Rattle.rounds.specs.Rounds.{joinAll, extendAll, same, closing, blocksIn};
 ghost use Rattle.rounds.specs.Bytes.{blockBytes, basesIn, labelsIn};
-ghost use Rattle.rounds.specs.Arrays.{Sizes, Arrays, Labelled, joinAt, extendAt, ExtendingAll, Starting, Settled};
+ghost use Rattle.rounds.specs.Arrays.{Sizes, joinAt, extendAt, JoiningAll, roundFrom, ExtendingAll, Rounded, Starting, Settled};
 
 // Each index of a basis is a block of its own.
 fn number(part: &mut [u8])
@@ -46,17 +48,25 @@ fn join_at(
     exponents: &[u64],
     counts: &[usize],
     table: &[u64],
+    index: &[u64],
     len: usize,
     j: usize,
 )
-    requires { ⌜ Holds (now table) len × Arrays (now keys) (now sizes) (now exponents) (now counts) × Labelled (now sizes) (now labels) × (j < 9) ⌝ }
+    requires { ⌜ JoiningAll (now table) (now index) len (now keys) (now sizes) (now exponents) (now counts) (now labels) × (j < 9) ⌝ }
     ensures { λ _. ⌜ now (labels .exit) ≡ blockBytes (joinAt (basesIn (now (keys .entry)) (now (sizes .entry)) (now (exponents .entry)) (now (counts .entry))) (take len (now (table .entry))) j (labelsIn (now (sizes .entry)) (now (labels .entry)))) ⌝ }
 {
     let a = 64 * j;
     let e = a + sizes[j];
     let b = 32 * j;
     let f = b + counts[j];
-    blocks::join_pass(&mut labels[a..e], &keys[a..e], &exponents[b..f], table, len);
+    blocks::join_pass(
+        &mut labels[a..e],
+        &keys[a..e],
+        &exponents[b..f],
+        table,
+        index,
+        len,
+    );
 }
 
 // Every basis joins, on the same support.
@@ -67,14 +77,15 @@ fn join_all(
     exponents: &[u64],
     counts: &[usize],
     table: &[u64],
+    index: &[u64],
     len: usize,
 )
-    requires { ⌜ Holds (now table) len × Arrays (now keys) (now sizes) (now exponents) (now counts) × Labelled (now sizes) (now labels) ⌝ }
+    requires { ⌜ JoiningAll (now table) (now index) len (now keys) (now sizes) (now exponents) (now counts) (now labels) ⌝ }
     ensures { λ _. ⌜ now (labels .exit) ≡ blockBytes (joinAll (basesIn (now (keys .entry)) (now (sizes .entry)) (now (exponents .entry)) (now (counts .entry))) (take len (now (table .entry))) (labelsIn (now (sizes .entry)) (now (labels .entry)))) ⌝ }
 {
     let mut j = 0;
     while j < 9 {
-        join_at(labels, keys, sizes, exponents, counts, table, len, j);
+        join_at(labels, keys, sizes, exponents, counts, table, index, len, j);
         j += 1;
     }
 }
@@ -82,6 +93,7 @@ fn join_all(
 // The support's extension by the blocks of basis j; `old` has the blocks before this round's joining.
 fn extend_at(
     table: &mut [u64],
+    index: &mut [u64],
     len: usize,
     labels: &[u8],
     old: &[u8],
@@ -92,8 +104,8 @@ fn extend_at(
     counts: &[usize],
     j: usize,
 ) -> usize
-    requires { ⌜ ExtendingAll first (now table) len (now keys) (now sizes) (now exponents) (now counts) (now labels) (now old) × (j < 9) ⌝ }
-    ensures { λ r. ⌜ Grown (extendAt (basesIn (now (keys .entry)) (now (sizes .entry)) (now (exponents .entry)) (now (counts .entry))) (labelsIn (now (sizes .entry)) (now (labels .entry))) j (take len (now (table .entry)))) (now (table .entry)) r (now (table .exit)) ⌝ }
+    requires { ⌜ ExtendingAll first (now table) (now index) len (now keys) (now sizes) (now exponents) (now counts) (now labels) (now old) × (j < 9) ⌝ }
+    ensures { λ r. ⌜ Stored (extendAt (basesIn (now (keys .entry)) (now (sizes .entry)) (now (exponents .entry)) (now (counts .entry))) (labelsIn (now (sizes .entry)) (now (labels .entry))) j (take len (now (table .entry)))) (now (table .entry)) r (now (table .exit)) (now (index .exit)) ⌝ }
 {
     let a = 64 * j;
     let e = a + sizes[j];
@@ -101,6 +113,7 @@ fn extend_at(
     let f = b + counts[j];
     blocks::extend_pass(
         table,
+        index,
         len,
         &labels[a..e],
         &old[a..e],
@@ -113,6 +126,7 @@ fn extend_at(
 // The support's extension by every basis.
 fn extend_all(
     table: &mut [u64],
+    index: &mut [u64],
     len: usize,
     labels: &[u8],
     old: &[u8],
@@ -122,14 +136,15 @@ fn extend_all(
     exponents: &[u64],
     counts: &[usize],
 ) -> usize
-    requires { ⌜ ExtendingAll first (now table) len (now keys) (now sizes) (now exponents) (now counts) (now labels) (now old) ⌝ }
-    ensures { λ r. ⌜ Grown (extendAll (basesIn (now (keys .entry)) (now (sizes .entry)) (now (exponents .entry)) (now (counts .entry))) (labelsIn (now (sizes .entry)) (now (labels .entry))) (take len (now (table .entry)))) (now (table .entry)) r (now (table .exit)) ⌝ }
+    requires { ⌜ ExtendingAll first (now table) (now index) len (now keys) (now sizes) (now exponents) (now counts) (now labels) (now old) ⌝ }
+    ensures { λ r. ⌜ Stored (extendAll (basesIn (now (keys .entry)) (now (sizes .entry)) (now (exponents .entry)) (now (counts .entry))) (labelsIn (now (sizes .entry)) (now (labels .entry))) (take len (now (table .entry)))) (now (table .entry)) r (now (table .exit)) (now (index .exit)) ⌝ }
 {
     let mut n = len;
     let mut j = 0;
     while j < 9 {
         n = extend_at(
             table,
+            index,
             n,
             labels,
             old,
@@ -148,6 +163,37 @@ fn extend_all(
     n
 }
 
+// A round: every basis joins, and then every basis extends the support. `old` has the blocks before it.
+fn round(
+    labels: &mut [u8],
+    old: &[u8],
+    first: bool,
+    keys: &[u64],
+    sizes: &[usize],
+    exponents: &[u64],
+    counts: &[usize],
+    table: &mut [u64],
+    index: &mut [u64],
+    len: usize,
+) -> usize
+    requires { ⌜ ExtendingAll first (now table) (now index) len (now keys) (now sizes) (now exponents) (now counts) (now labels) (now old) ⌝ }
+    ensures { λ r. ⌜ Rounded (roundFrom (basesIn (now (keys .entry)) (now (sizes .entry)) (now (exponents .entry)) (now (counts .entry))) (labelsIn (now (sizes .entry)) (now (labels .entry))) (take len (now (table .entry)))) (now (table .entry)) r (now (table .exit)) (now (index .exit)) (now (labels .exit)) ⌝ }
+{
+    join_all(labels, keys, sizes, exponents, counts, table, index, len);
+    extend_all(
+        table,
+        index,
+        len,
+        labels,
+        old,
+        first,
+        keys,
+        sizes,
+        exponents,
+        counts,
+    )
+}
+
 // Whether two arrays of block numbers are the same.
 fn is_same(a: &[u8], b: &[u8]) -> bool
     requires { ⌜ length (now a) ≡ length (now b) ⌝ }
@@ -161,6 +207,21 @@ fn is_same(a: &[u8], b: &[u8]) -> bool
         i += 1;
     }
     true
+}
+
+// Whether a round is the last: it left too many keys, or as many as before and the blocks as they were.
+fn is_last(few: usize, len: usize, old: &[u8], labels: &[u8]) -> bool
+    requires { ⌜ length (now old) ≡ length (now labels) ⌝ }
+    ensures { λ r. ⌜ r ≡ cond (ltb 2048 len) true (cond (eqb len few) (same (now (old .entry)) (now (labels .entry))) false) ⌝ }
+{
+    if 2048 < len {
+        return true;
+    }
+    if len == few {
+        is_same(old, labels)
+    } else {
+        false
+    }
 }
 
 // What the rounds leave: the block numbers, how many keys the support has (2,049 where it has too many), how many rounds.
@@ -184,39 +245,28 @@ pub fn close(
     ensures { λ r. ⌜ Settled (closing (basesIn (now (keys .entry)) (now (sizes .entry)) (now (exponents .entry)) (now (counts .entry))) (take len (now (table .entry)))) (now (table .entry)) r (now (table .exit)) ⌝ }
 {
     let mut labels = start;
+    let mut index = [0u64; 4096];
+    blocks::mark(&mut index, table, len);
     let mut n = len;
     let mut rounds = 0;
     while rounds < 578 {
         let old = labels;
         let few = n;
-        join_all(&mut labels, keys, sizes, exponents, counts, table, n);
-        n = extend_all(
-            table,
-            n,
-            &labels,
+        n = round(
+            &mut labels,
             &old,
             rounds == 0,
             keys,
             sizes,
             exponents,
             counts,
+            table,
+            &mut index,
+            n,
         );
         rounds += 1;
-        if 2048 < n {
-            return Closed {
-                labels,
-                len: n,
-                rounds,
-            };
-        }
-        if n == few {
-            if is_same(&old, &labels) {
-                return Closed {
-                    labels,
-                    len: n,
-                    rounds,
-                };
-            }
+        if is_last(few, n, &old, &labels) {
+            break;
         }
     }
     Closed {

@@ -2,7 +2,8 @@
 use borrow.Author.Needs.{needs}
 use native.Mathlib.Omega.{arith}
 use borrow.Author.Tests.{not-true}
-use Rattle.blocks.proofs.Growth.{one-same, one-apart, grown-none, pair-known}
+use Rattle.blocks.proofs.Growth.{one-same, one-apart, pair-known}
+use Rattle.blocks.proofs.Index.{stored-none}
 use Rattle.blocks.proofs.add_pair.Statement.{statement}
 use Rattle.blocks.proofs.add_pair.Tie as tie
 
@@ -14,8 +15,8 @@ shared-slice-read-if1-2 c = search needs
 
 returns : tie.Need-returns
 returns c =
-    let s = c .before .before .before .before .before .before .before .before in
-    rw (← one-apart _ _ _ _ _ _ (c .if1 .taken)) (grown-none _ _ (s .pre .0 .support))
+    let s = c .before .before .before .before .before .before .before .before .before in
+    rw (← one-apart _ _ _ _ _ _ (c .if1 .taken)) (stored-none _ _ _ (s .pre .0 .joining .support) (s .pre .0 .joining .index))
 
 shared-slice-read-if3 : tie.Need-shared-slice-read-if3
 shared-slice-read-if3 c = search needs
@@ -25,8 +26,9 @@ shared-slice-read-if3-2 c = search needs
 
 returns-2 : tie.Need-returns-2
 returns-2 c =
-    let s = c .before .before .before .before .before .before .before .before .before .before .before .before in
-    rw (← pair-known (s .args .first) _ _ _ _ _ _ _ (s .pre .0 .filled) (not-true _ (c .before .before .before .if2 .taken)) (s .pre .1) (s .pre .2) (c .if3 .taken) (s .pre .0 .support .rising)) (grown-none _ _ (s .pre .0 .support))
+    let s = c .before .before .before .before .before .before .before .before .before .before .before .before .before in
+    rw (← pair-known (s .args .first) _ _ _ _ _ _ _ (s .pre .0 .filled) (not-true _ (c .before .before .before .if2 .taken)) (s .pre .1) (s .pre .2) (c .if3 .taken) (s .pre .0 .joining .support .rising))
+    (stored-none _ _ _ (s .pre .0 .joining .support) (s .pre .0 .joining .index))
 
 mul-add-terms : tie.Need-mul-add-terms
 mul-add-terms c = search needs
@@ -42,19 +44,29 @@ shared-slice-read-add-terms-2 c = search needs
 
 add-add-terms : tie.Need-add-add-terms
 add-add-terms c =
-    let s = c .before .before .before .before .before .before .before .before .before .before .before .before in
-    omega (arith, s .pre .0 .basis .keys (s .args .i), s .pre .0 .basis .keys (s .args .k))
+    let s = c .before .before .before .before .before .before .before .before .before .before .before .before .before .before in
+    let k = s .pre .0 .joining .basis .keys in
+    omega (arith, k (s .args .i), k (s .args .k))
 
 add-terms-requires : tie.Need-add-terms-requires
 add-terms-requires c κs =
-    let s = c .before .before .before .before .before .before .before .before .before .before .before .before in
-    (s .pre .0 .support, s .pre .0 .basis .exponents, omega (arith, s .pre .0 .basis .keys (s .args .i), s .pre .0 .basis .keys (s .args .k)))
+    let s = c .before .before .before .before .before .before .before .before .before .before .before .before .before .before in
+    let p = s .pre .0 .joining in
+    record {
+      support = p .support;
+      index = p .index;
+      exponents = p .basis .exponents;
+      low = omega (arith, p .basis .keys (s .args .i), p .basis .keys (s .args .k));
+    }
 
 same-length : tie.Need-same-length
 same-length c = search needs
 
+same-length-2 : tie.Need-same-length-2
+same-length-2 c = search needs
+
 returns-3 : tie.Need-returns-3
-returns-3 c = rw (← one-same _ _ _ _ _ _ (c .before .before .before .before .before .before .before .if1 .left)) (c .before .before .add-terms .ensures)
+returns-3 c = rw (← one-same _ _ _ _ _ _ (c .before .before .before .before .before .before .before .before .before .before .if1 .left)) (c .before .before .before .before .add-terms .ensures)
 
 pub add-pair-spec : {M : Type 1} → statement M
 add-pair-spec =
@@ -73,4 +85,5 @@ add-pair-spec =
     add-add-terms
     add-terms-requires
     same-length
+    same-length-2
     returns-3)

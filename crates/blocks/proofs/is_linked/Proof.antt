@@ -10,30 +10,32 @@ use Rattle.blocks.proofs.is_linked.Statement.{statement}
 use Rattle.blocks.proofs.is_linked.Tie as tie
 
 abbrev Inv-loop : tie.InvT-loop
-Inv-loop table len exponents s i₀ i = (i ≤ length exponents) × (linked (take len table) (drop i exponents) s ≡ linked (take len table) exponents s)
+Inv-loop table index len exponents s i₀ i = (i ≤ length exponents) × (linked (take len table) (drop i exponents) s ≡ linked (take len table) exponents s)
 
 abbrev μ-loop : tie.MeasureT-loop
-μ-loop table len exponents s i₀ i = length exponents - i
+μ-loop table index len exponents s i₀ i = length exponents - i
 
 loop-holds : tie.Need-loop-holds Inv-loop μ-loop
 loop-holds c = search needs
 
-mul-contains : tie.Need-mul-contains Inv-loop μ-loop
-mul-contains c = search needs
+mul-has : tie.Need-mul-has Inv-loop μ-loop
+mul-has c = search needs
 
-shared-slice-read-contains : tie.Need-shared-slice-read-contains Inv-loop μ-loop
-shared-slice-read-contains c = search needs
+shared-slice-read-has : tie.Need-shared-slice-read-has Inv-loop μ-loop
+shared-slice-read-has c = search needs
 
-add-contains : tie.Need-add-contains Inv-loop μ-loop
-add-contains c = omega (arith, c .before .before .before .before .before .pre .1 (c .before .before .loop .i))
+add-has : tie.Need-add-has Inv-loop μ-loop
+add-has c = omega (arith, c .before .before .before .before .before .before .pre .exponents (c .before .before .loop .i))
 
-contains-requires : tie.Need-contains-requires Inv-loop μ-loop
-contains-requires c κs = search needs
+has-requires : tie.Need-has-requires Inv-loop μ-loop
+has-requires c κs =
+    let s = c .before .before .before .before .before .before in
+    record { support = s .pre .support; index = s .pre .index; low = omega (arith, s .pre .exponents (c .before .before .loop .i)) }
 
 returns : tie.Need-returns Inv-loop μ-loop
 returns c =
     let l = c .before .before .before .before in
-    linked-hit _ _ _ (l .loop .i) (omega arith) (l .loop .inv .1) (sym (c .before .contains .ensures) ∙ c .if1 .taken)
+    linked-hit _ _ _ (l .loop .i) (omega arith) (l .loop .inv .1) (sym (c .before .has .ensures) ∙ c .if1 .taken)
 
 add-i : tie.Need-add-i Inv-loop μ-loop
 add-i c = search needs
@@ -44,7 +46,7 @@ loop-less c = search needs
 loop-again : tie.Need-loop-again Inv-loop μ-loop
 loop-again c =
     let l = c .before .before .before .before in
-    (omega arith, linked-miss _ _ _ (l .loop .i) (omega arith) (l .loop .inv .1) (sym (c .before .contains .ensures) ∙ c .if1 .left))
+    (omega arith, linked-miss _ _ _ (l .loop .i) (omega arith) (l .loop .inv .1) (sym (c .before .has .ensures) ∙ c .if1 .left))
 
 returns-2 : tie.Need-returns-2 Inv-loop μ-loop
 returns-2 c = linked-done _ _ _ (c .before .loop .i) (omega arith) (c .before .loop .inv .1)
@@ -52,4 +54,4 @@ returns-2 c = linked-done _ _ _ (c .before .loop .i) (omega arith) (c .before .l
 pub is-linked-spec : {M : Type 1} → statement M
 is-linked-spec =
     tie.close
-    (tie.spec Inv-loop μ-loop loop-holds mul-contains shared-slice-read-contains add-contains contains-requires returns add-i loop-less loop-again returns-2)
+    (tie.spec Inv-loop μ-loop loop-holds mul-has shared-slice-read-has add-has has-requires returns add-i loop-less loop-again returns-2)

@@ -29,13 +29,18 @@ shared-slice-read-is-linked-2 c = search needs
 
 add-is-linked : tie.Need-add-is-linked
 add-is-linked c =
-    let s = c .before .before .before .before .before .before .before .before .before in
-    omega (arith, s .pre .1 .keys (s .args .i), s .pre .1 .keys (s .args .k))
+    let s = c .before .before .before .before .before .before .before .before .before .before in
+    omega (arith, s .pre .0 .basis .keys (s .args .i), s .pre .0 .basis .keys (s .args .k))
 
 is-linked-requires : tie.Need-is-linked-requires
 is-linked-requires c κs =
-    let s = c .before .before .before .before .before .before .before .before .before in
-    (s .pre .0, s .pre .1 .exponents, omega (arith, s .pre .1 .keys (s .args .i), s .pre .1 .keys (s .args .k)))
+    let s = c .before .before .before .before .before .before .before .before .before .before in
+    record {
+      support = s .pre .0 .support;
+      index = s .pre .0 .index;
+      exponents = s .pre .0 .basis .exponents;
+      low = omega (arith, s .pre .0 .basis .keys (s .args .i), s .pre .0 .basis .keys (s .args .k));
+    }
 
 merge-requires : tie.Need-merge-requires
 merge-requires c κs = search needs

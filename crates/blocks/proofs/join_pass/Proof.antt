@@ -11,10 +11,10 @@ use Rattle.blocks.proofs.join_pass.Statement.{statement}
 use Rattle.blocks.proofs.join_pass.Tie as tie
 
 abbrev Inv-loop : tie.InvT-loop
-Inv-loop labels₀ basis exponents table len i₀ labels i = (i ≤ length basis) × (length labels ≡ length labels₀) × (fromTo i (length basis) (joinRow (take len table) exponents basis) labels ≡ join (take len table) exponents basis labels₀)
+Inv-loop labels₀ basis exponents table index len i₀ labels i = (i ≤ length basis) × (length labels ≡ length labels₀) × (fromTo i (length basis) (joinRow (take len table) exponents basis) labels ≡ join (take len table) exponents basis labels₀)
 
 abbrev μ-loop : tie.MeasureT-loop
-μ-loop labels₀ basis exponents table len i₀ labels i = length basis - i
+μ-loop labels₀ basis exponents table index len i₀ labels i = length basis - i
 
 loop-holds : tie.Need-loop-holds Inv-loop μ-loop
 unfolding join
@@ -22,8 +22,14 @@ loop-holds c = (omega arith, refl, refl)
 
 join-row-requires : tie.Need-join-row-requires Inv-loop μ-loop
 join-row-requires c κs =
-    let s = c .before .before .before .before .before .before .before in
-    (s .pre .0, record { keys = s .pre .1 .keys; exponents = s .pre .1 .exponents; labels = omega arith }, omega arith)
+    let s = c .before .before .before .before .before .before .before .before in (
+      record {
+        support = s .pre .support;
+        index = s .pre .index;
+        basis = record { keys = s .pre .basis .keys; exponents = s .pre .basis .exponents; labels = omega arith };
+      },
+      omega arith,
+    )
 
 add-i : tie.Need-add-i Inv-loop μ-loop
 add-i c = search needs

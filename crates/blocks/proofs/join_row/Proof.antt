@@ -11,10 +11,10 @@ use Rattle.blocks.proofs.join_row.Statement.{statement}
 use Rattle.blocks.proofs.join_row.Tie as tie
 
 abbrev Inv-loop : tie.InvT-loop
-Inv-loop labels₀ basis exponents table len i k₀ labels k = (k ≤ length basis) × (length labels ≡ length labels₀) × (fromTo k (length basis) (joinPair (take len table) exponents basis i) labels ≡ joinRow (take len table) exponents basis i labels₀)
+Inv-loop labels₀ basis exponents table index len i k₀ labels k = (k ≤ length basis) × (length labels ≡ length labels₀) × (fromTo k (length basis) (joinPair (take len table) exponents basis i) labels ≡ joinRow (take len table) exponents basis i labels₀)
 
 abbrev μ-loop : tie.MeasureT-loop
-μ-loop labels₀ basis exponents table len i k₀ labels k = length basis - k
+μ-loop labels₀ basis exponents table index len i k₀ labels k = length basis - k
 
 add-k : tie.Need-add-k Inv-loop μ-loop
 add-k c = search needs
@@ -24,8 +24,15 @@ loop-holds c = search needs
 
 join-pair-requires : tie.Need-join-pair-requires Inv-loop μ-loop
 join-pair-requires c κs =
-    let s = c .before .before .before .before .before .before .before in
-    (s .pre .0, record { keys = s .pre .1 .keys; exponents = s .pre .1 .exponents; labels = omega arith }, s .pre .2, omega arith)
+    let s = c .before .before .before .before .before .before .before .before in (
+      record {
+        support = s .pre .0 .support;
+        index = s .pre .0 .index;
+        basis = record { keys = s .pre .0 .basis .keys; exponents = s .pre .0 .basis .exponents; labels = omega arith };
+      },
+      s .pre .1,
+      omega arith,
+    )
 
 add-k-2 : tie.Need-add-k-2 Inv-loop μ-loop
 add-k-2 c = search needs

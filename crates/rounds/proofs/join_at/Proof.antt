@@ -1,7 +1,7 @@
 -- `rounds::join_at` meets its contract: the parts of basis j fit their arrays, and what the joining leaves is put in place.
 use borrow.Author.Needs.{needs}
 use native.Mathlib.Omega.{arith}
-use mathlib.Core.Path.{_≡_, refl, sym, _∙_}
+use mathlib.Core.Path.{sym, _∙_}
 use Prim.Native.Nat.{_+_, _-_, _*_}
 use lib.ListN.{getD}
 use Rattle.rounds.proofs.Passes.{taken-long, taken-bounded, labelled-long, joined-at}
@@ -18,7 +18,7 @@ shared-slice-read-e : tie.Need-shared-slice-read-e
 shared-slice-read-e c = search needs
 
 add-e : tie.Need-add-e
-add-e c = let s = c .before .before .before .before .before .before .before in omega (arith, s .pre .1 .sized .small (s .args .j))
+add-e c = let s = c .before .before .before .before .before .before .before .before in omega (arith, s .pre .0 .arrays .sized .small (s .args .j))
 
 mul-b : tie.Need-mul-b
 mul-b c = search needs
@@ -30,7 +30,7 @@ shared-slice-read-f : tie.Need-shared-slice-read-f
 shared-slice-read-f c = search needs
 
 add-f : tie.Need-add-f
-add-f c = let s = c .before .before .before .before .before .before .before .before in omega (arith, s .pre .1 .counts-small (s .args .j))
+add-f c = let s = c .before .before .before .before .before .before .before .before .before in omega (arith, s .pre .0 .arrays .counts-small (s .args .j))
 
 sub-join-pass : tie.Need-sub-join-pass
 sub-join-pass c = search needs
@@ -39,7 +39,7 @@ part-join-pass-start : tie.Need-part-join-pass-start
 part-join-pass-start c = search needs
 
 part-join-pass-end : tie.Need-part-join-pass-end
-part-join-pass-end c = let s = c .before .before .before .before .before .before .before .before in omega (arith, s .pre .1 .sized .small (s .args .j), labelled-long (s .pre .2))
+part-join-pass-end c = let s = c .before .before .before .before .before .before .before .before .before in omega (arith, s .pre .0 .arrays .sized .small (s .args .j), labelled-long (s .pre .0 .labels))
 
 mul-join-pass : tie.Need-mul-join-pass
 mul-join-pass c = search needs
@@ -51,7 +51,7 @@ part-join-pass-start-2 : tie.Need-part-join-pass-start-2
 part-join-pass-start-2 c = search needs
 
 part-join-pass-end-2 : tie.Need-part-join-pass-end-2
-part-join-pass-end-2 c = let s = c .before .before .before .before .before .before .before .before .before in omega (arith, s .pre .1 .sized .small (s .args .j), s .pre .1 .keys-long)
+part-join-pass-end-2 c = let s = c .before .before .before .before .before .before .before .before .before .before in omega (arith, s .pre .0 .arrays .sized .small (s .args .j), s .pre .0 .arrays .keys-long)
 
 mul-join-pass-2 : tie.Need-mul-join-pass-2
 mul-join-pass-2 c = search needs
@@ -63,32 +63,34 @@ part-join-pass-start-3 : tie.Need-part-join-pass-start-3
 part-join-pass-start-3 c = search needs
 
 part-join-pass-end-3 : tie.Need-part-join-pass-end-3
-part-join-pass-end-3 c = let s = c .before .before .before .before .before .before .before .before .before .before in omega (arith, s .pre .1 .counts-small (s .args .j), s .pre .1 .exponents-long)
+part-join-pass-end-3 c = let s = c .before .before .before .before .before .before .before .before .before .before .before in omega (arith, s .pre .0 .arrays .counts-small (s .args .j), s .pre .0 .arrays .exponents-long)
 
 join-pass-requires : tie.Need-join-pass-requires
 join-pass-requires c κs =
-    let s = c .before .before .before .before .before .before .before .before .before .before .before in
-    let p = s .pre .1 in
+    let s = c .before .before .before .before .before .before .before .before .before .before .before .before in
+    let p = s .pre .0 .arrays in
     let z = p .sized .small (s .args .j) in
     let a = 64 * s .args .j in
     let n = getD (s .args .sizes .now) (s .args .j) 0 in
     let b = 32 * s .args .j in
-    let m = getD (s .args .counts .now) (s .args .j) 0 in (
-      s .pre .0,
-      record {
+    let m = getD (s .args .counts .now) (s .args .j) 0 in
+    record {
+      support = s .pre .0 .support;
+      index = s .pre .0 .index;
+      basis = record {
         keys = taken-bounded _ a (a + n - a) (s .args .keys .now) (p .keys-low);
         exponents = taken-bounded _ b (b + m - b) (s .args .exponents .now) (p .exponents-low);
-        labels = taken-long a n (s .args .labels .now) (omega (arith, labelled-long (s .pre .2))) ∙ sym (taken-long a n (s .args .keys .now) (omega (arith, p .keys-long)));
-      },
-    )
+        labels = taken-long a n (s .args .labels .now) (omega (arith, labelled-long (s .pre .0 .labels))) ∙ sym (taken-long a n (s .args .keys .now) (omega (arith, p .keys-long)));
+      };
+    }
 
 same-length : tie.Need-same-length
 same-length c = search needs
 
 returns : tie.Need-returns
 returns c =
-    let s = c .before .before .before .before .before .before .before .before .before .before .before .before .before .before in
-    joined-at (s .args .keys .now) (s .args .sizes .now) (s .args .exponents .now) (s .args .counts .now) (s .pre .1 .sized) (s .args .j) (s .pre .3) _ _ _ (s .pre .2) (c .before .before .join-pass .ensures)
+    let s = c .before .before .before .before .before .before .before .before .before .before .before .before .before .before .before in
+    joined-at (s .args .keys .now) (s .args .sizes .now) (s .args .exponents .now) (s .args .counts .now) (s .pre .0 .arrays .sized) (s .args .j) (s .pre .1) _ _ _ (s .pre .0 .labels) (c .before .before .join-pass .ensures)
 
 pub join-at-spec : {M : Type 1} → statement M
 join-at-spec =

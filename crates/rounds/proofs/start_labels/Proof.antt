@@ -1,7 +1,7 @@
 -- `rounds::start_labels` meets its contract: the bases before j are numbered.
 use borrow.Author.Needs.{needs}
 use native.Mathlib.Omega.{arith}
-use mathlib.Core.Path.{_≡_, refl, _∙_}
+use mathlib.Core.Path.{_≡_}
 use Prim.Native.Nat.{_-_, _*_, _≤_}
 use lib.ListN.{getD}
 use Rattle.rounds.specs.Bytes.{blockBytes}

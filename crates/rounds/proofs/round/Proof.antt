@@ -1,0 +1,51 @@
+-- `rounds::round` meets its contract: the extension goes by the blocks that the joining left.
+use borrow.Author.Needs.{needs}
+use mathlib.Core.Path.{refl}
+use Rattle.rounds.specs.Rounds.{round}
+use Rattle.rounds.specs.Bytes.{basesIn}
+use Rattle.rounds.proofs.Passes.{joined-labelled, joined-labels}
+use Rattle.rounds.proofs.round.Statement.{statement}
+use Rattle.rounds.proofs.round.Tie as tie
+
+join-all-requires : tie.Need-join-all-requires
+join-all-requires c κs = c .before .before .before .before .before .before .before .before .before .before .before .pre .joining
+
+extend-all-requires : tie.Need-extend-all-requires
+extend-all-requires c κs =
+    let s = c .before .before .before .before .before .before .before .before .before .before .before .before .before .before .before .before .before in
+    let p = s .pre .joining in
+    record {
+      joining = record {
+        support = p .support;
+        index = p .index;
+        arrays = p .arrays;
+        labels = joined-labelled (basesIn (s .args .keys .now) (s .args .sizes .now) (s .args .exponents .now) (s .args .counts .now)) _ _ _ _ (p .arrays .sized) (p .labels) refl _ (c .before .before .before .before .before .join-all .ensures);
+      };
+      before = s .pre .before;
+      filled = s .pre .filled;
+    }
+
+same-length : tie.Need-same-length
+same-length c = search needs
+
+same-length-2 : tie.Need-same-length-2
+same-length-2 c = search needs
+
+same-length-3 : tie.Need-same-length-3
+same-length-3 c = search needs
+
+returns : tie.Need-returns
+unfolding round
+returns c =
+    let s = c .before .before .before .before .before .before .before .before .before .before .before .before .before .before .before .before .before .before .before .before .before .before in
+    let p = s .pre .joining in
+    let j = c .before .before .before .before .before .before .before .before .before .before .join-all .ensures in
+    record {
+      labels = j;
+      support = rw (joined-labels (basesIn (s .args .keys .now) (s .args .sizes .now) (s .args .exponents .now) (s .args .counts .now)) _ _ _ _ (p .arrays .sized) (p .labels) refl _ j) at (c .before .before .before .before .extend-all .ensures);
+    }
+
+pub round-spec : {M : Type 1} → statement M
+round-spec =
+    tie.close
+    (tie.spec join-all-requires extend-all-requires same-length same-length-2 same-length-3 returns)
