@@ -15,6 +15,7 @@ use Rattle.fraction.specs.Fractions.{gapOf}
 use Rattle.fraction.specs.declared.Fraction.{Fraction}
 use Rattle.certificate.specs.Rules.{Certificate, shapeOf, readCertificate}
 use Rattle.identity.specs.Identity.{KeepsBlocks, Identity}
+use Rattle.identity.specs.Judgement as J
 use Rattle.identity.specs.Bounds.{BoundedBelow, BoundedAbove, WithinGap}
 use Rattle.checker.specs.Check.{boundOf}
 use Rattle.checker.specs.declared.PairVerdict.{PairVerdict}
@@ -60,16 +61,10 @@ pub record AcceptedExactly (short : Bool) (s t : List ℕ) (number : ℕ) : Type
   pub always : (p : Problem) (c : Certificate) → short ≡ false → readProblem s ≡ given p → tooLarge p ≡ false → readCertificate (shapeOf p) t ≡ given c → KeepsBlocks p (c .rows) → Identity p c → number ≡ 0
 
 -- ---- the pair
--- a certificate stream is accepted: it reads by its layouts, its rows keep to the blocks, and the identity holds
-pub record Holds (p : Problem) (t : List ℕ) (c : Certificate) : Type 0 where
-  pub read : readCertificate (shapeOf p) t ≡ given c
-  pub blocks : KeepsBlocks p (c .rows)
-  pub identity : Identity p c
-
 -- both certificates are accepted, "the first with side 0 and the second with side 1"
 pub record BothHold (p : Problem) (low high : List ℕ) (c d : Certificate) : Type 0 where
-  pub first : Holds p low c
-  pub second : Holds p high d
+  pub first : J.Accepted p low c
+  pub second : J.Accepted p high d
   pub lower : c .header .side ≡ 0
   pub upper : d .header .side ≡ 1
 

@@ -6,7 +6,7 @@ use Prim.Native.Nat.{ℕ, zero, suc, _+_, _-_, _≤_, _<_}
 use native.Mathlib.Omega.{arith}
 use lib.ListN.{length, getD}
 use lib.Dec.{eqb, leb, ltb}
-use borrow.Author.Tests.{lt-ltb, le-ltb, le-leb, lt-leb, eq-eqb, ne-eqb, ltb-false, leb-false, eqb-true, eqb-false}
+use borrow.Author.Tests.{lt-ltb, le-ltb, le-leb, lt-leb, eq-eqb, ne-eqb, ltb-true, ltb-false, leb-false, eqb-true, eqb-false}
 use Rattle.stream.specs.Commands.{Outcome, refused, given, firstRefusal, Language, run, readWhole, commandsFrom, commands}
 
 -- ---- a command that no check refuses passes each of them
@@ -119,3 +119,25 @@ module _ {A : Type 0} (l : Language A) (s : List ℕ) (R : A → ℕ → List �
   pub read-induction : (a b : A) → readWhole l a s ≡ given b → R a 0 (commands l s) b
   unfolding readWhole commands
   read-induction a b h = run-induction (length s + 1) a b 0 h
+
+-- ---- a refusal has a number
+module _ {A : Type 0} (l : Language A) (s : List ℕ) where
+  run-positive : (f : ℕ) (a : A) (at n place : ℕ) → run l f a s at ≡ refused n place → 0 < n
+  unfolding run
+  run-positive zero a at n place h = let e : n ≡ 2 = cc in omega arith
+  run-positive (suc f) a at n place h =
+      go (run-positive f (l .next a s at) (at + l .size (getD s at 0)) n place) (leb (length s) at) (ltb 0 (l .verdict a s at)) refl (eqb (getD s at 0) (l .ending)) (ltb (at + 1) (length s)) h
+    where
+      go : (run l f (l .next a s at) s (at + l .size (getD s at 0)) ≡ refused n place → 0 < n)
+          → (t u : Bool) → ltb 0 (l .verdict a s at) ≡ u → (v w : Bool)
+          → cond t (refused 2 (length s)) (cond u (refused (l .verdict a s at) at) (cond v (cond w (refused 2 (at + 1)) (given a)) (run l f (l .next a s at) s (at + l .size (getD s at 0))))) ≡ refused n place
+          → 0 < n
+      go i true u q v w h = let e : n ≡ 2 = cc in omega arith
+      go i false true q v w h = let e : n ≡ l .verdict a s at = cc in let k = ltb-true 0 (l .verdict a s at) q in omega arith
+      go i false false q true true h = let e : n ≡ 2 = cc in omega arith
+      go i false false q true false h = never n place a (sym h)
+      go i false false q false w h = i h
+
+  pub read-positive : (a : A) (n place : ℕ) → readWhole l a s ≡ refused n place → 0 < n
+  unfolding readWhole
+  read-positive a n place h = run-positive (length s + 1) a 0 n place h
