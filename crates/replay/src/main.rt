@@ -2,17 +2,7 @@
 // 32 bits, little-endian, and three byte runs, each of at most 65,536 bytes.
 ghost use Prim.Native.Nat.{ℕ, _+_, _*_, _≤_, _<_};
 ghost use lib.ListN.{length};
-use checker::Refusal;
 use libc::STDIN_FILENO;
-use libc::STDOUT_FILENO;
-
-fn put(text: &[u8]) {
-    io::write_all(STDOUT_FILENO, text);
-}
-
-fn put_number(n: u64) {
-    io::print_decimal(STDOUT_FILENO, n);
-}
 
 // The character of the last hexadecimal digit of a number.
 fn digit(n: u8) -> u8 {
@@ -30,7 +20,7 @@ fn put_hex(bytes: &[u8; 576]) {
         text[2 * i + 1] = digit(b);
         i += 1;
     }
-    put(&text);
+    report::put(&text);
 }
 
 // The length that four bytes of a record's head give.
@@ -54,18 +44,6 @@ fn cut(bytes: &[u8], n: usize) -> &[u8] {
     if n <= bytes.len() { &bytes[..n] } else { bytes }
 }
 
-fn put_refusal(r: Refusal) {
-    put(b"refused ");
-    put_number(r.number as u64);
-    put(b" ");
-    put_number(r.stream as u64);
-    put(b" ");
-    put_number(r.place as u64);
-    put(b" ");
-    put_number(r.key);
-    put(b"\n");
-}
-
 fn run_blocks(problem: &[u8]) {
     let mut out = [0u8; 576];
     let mut keys = [0u64; 2048];
@@ -74,15 +52,15 @@ fn run_blocks(problem: &[u8]) {
     let v = checker::blocks(problem, &mut out, &mut keys, &mut high, &mut low);
     let r = v.refusal;
     if r.number == 0 {
-        put(b"blocks ");
-        put_number(v.blocks as u64);
-        put(b" rounds ");
-        put_number(v.rounds as u64);
-        put(b" ");
+        report::put(b"blocks ");
+        report::put_number(v.blocks as u64);
+        report::put(b" rounds ");
+        report::put_number(v.rounds as u64);
+        report::put(b" ");
         put_hex(&out);
-        put(b"\n");
+        report::put(b"\n");
     } else {
-        put_refusal(r);
+        report::put_refusal(r);
     }
 }
 
