@@ -4,3 +4,4 @@ pub mod Blocks
 pub mod Check
 pub mod Pair
 pub mod Promises
+pub mod Steps

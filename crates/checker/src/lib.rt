@@ -1,16 +1,26 @@
 // The public calls.
 ghost use mathlib.Core.Path.{_≡_};
-ghost use mathlib.Core.Bool.{_||_};
+ghost use mathlib.Core.Bool.{true, _||_};
 ghost use mathlib.Core.List.{_++_};
 ghost use Prim.Native.Nat.{ℕ, _≤_};
 ghost use lib.Dec.{ltb};
 ghost use lib.ListN.{length, drop, replicate};
 ghost use lib.IntN.{pos};
 ghost use Rattle.problem.specs.Rules.{readProblem};
-ghost use Rattle.checker.specs.Tables.{tableLeft};
+ghost use Rattle.problem.specs.Stored.{problemOf, Kept};
+ghost use Rattle.identity.specs.Judgement as J;
+ghost use Rattle.checker.specs.Tables.{tablesShort, tableLeft};
 ghost use Rattle.checker.specs.Blocks.{blocksShort, refusedBlocks, blocksRead, bytesRead, blocksVerdict, bytesLeft};
-ghost use Rattle.checker.specs.Promises.{BlocksClosed, BlocksLeast, BlocksLowest, RoundsTaken, FewRounds, SevenExactly};
+ghost use Rattle.fraction.specs.Fractions.{Bound, fraction};
+ghost use Rattle.checker.specs.Refusals.{problemRefusal, certificateRefusal};
+ghost use Rattle.checker.specs.Check.{refusedCheck, checkRead, checkVerdict};
+ghost use Rattle.checker.specs.Pair.{refusedPair, pairFirst, pairRead, pairVerdict};
+ghost use Rattle.checker.specs.Steps.{Prepares, Joins, Rest, judgedOf, checkFrom, sidesFrom, pairFrom};
+ghost use Rattle.checker.specs.Promises.{BlocksClosed, BlocksLeast, BlocksLowest, RoundsTaken, FewRounds, SevenExactly, AcceptedExactly, PairExactly, HoldsBelow, HoldsAbove, HoldsGap};
+use certificate::Header;
 use fraction::Fraction;
+use joining::Joined;
+use problem::StoredProblem;
 
 // A refusal, as document 01's table numbers them: number is 0 where nothing is refused, and then the other fields are 0.
 pub struct Refusal {
@@ -168,6 +178,297 @@ pub fn blocks(
         return refuse_blocks(1, 0);
     }
     let v = answer_blocks(problem, out, keys);
+    clear(keys);
+    clear_signed(high);
+    clear(low);
+    v
+}
+
+// What becomes of a problem: number is 0 where it is read and within the limit of refusal 7, and then `joined` is what the joining
+// rule gives; else number and place are the refusal's.
+pub struct Prepared {
+    pub number: u8,
+    pub place: usize,
+    pub problem: StoredProblem,
+    pub joined: Joined,
+}
+
+// What becomes of one certificate: a refusal, or it is accepted, and what its first command states.
+pub enum Judged {
+    Refused(Refusal),
+    Accepted(Header),
+}
+
+// What stands in the place of a joining where the problem is refused.
+fn not_joined() -> Joined
+    ensures { λ r. ⌜ r .full ≡ true ⌝ }
+{
+    Joined {
+        full: true,
+        labels: [0; 576],
+        rounds: 0,
+        blocks: 0,
+        len: 0,
+    }
+}
+
+// Reads a problem and joins its blocks. The table then holds the compared keys.
+fn prepare(problem: &[u8], table: &mut [u64]) -> Prepared
+    requires { ⌜ 2048 ≤ length (now table) ⌝ }
+    ensures { λ r. ⌜ Prepares (readProblem (now (problem .entry))) (now (table .entry)) r (now (table .exit)) ⌝ }
+{
+    let r = problem::read(problem);
+    let number = r.number;
+    let p = r.problem;
+    if 0 < number {
+        return Prepared {
+            number,
+            place: r.place,
+            problem: p,
+            joined: not_joined(),
+        };
+    }
+    let j = joining::join(p, table);
+    let full = j.full;
+    Prepared {
+        number: if full { 7 } else { 0 },
+        place: 0,
+        problem: p,
+        joined: j,
+    }
+}
+
+// One certificate against a problem with its blocks. The compared keys stand in `keys`; the sums at them are kept in the other tables,
+// before place 2,048 only.
+fn judge(
+    stream: u8,
+    p: StoredProblem,
+    j: Joined,
+    s: &[u8],
+    keys: &[u64],
+    high: &mut [i64],
+    low: &mut [u64],
+) -> Judged
+    requires { ⌜ Joins p j (now keys) × (2048 ≤ length (now high)) × (2048 ≤ length (now low)) ⌝ }
+    ensures { λ r. ⌜ (r ≡ judgedOf stream (J.judge (problemOf p) (now (s .entry)))) × (drop 2048 (now (high .exit)) ≡ drop 2048 (now (high .entry))) × (drop 2048 (now (low .exit)) ≡ drop 2048 (now (low .entry))) ⌝ }
+{
+    Judged::Refused(problem_refusal(stream, 0))
+}
+
+fn problem_refusal(number: u8, place: usize) -> Refusal
+    ensures { λ r. ⌜ r ≡ problemRefusal number place ⌝ }
+{
+    Refusal {
+        number,
+        stream: 0,
+        place,
+        key: 0,
+    }
+}
+
+// The bound p/q that a certificate states.
+fn bound(p: i32, q: u16) -> Fraction
+    ensures { λ r. ⌜ (r ≡ fraction p q) × Bound r ⌝ }
+{
+    Fraction {
+        num: p as i64,
+        den: q as u64,
+    }
+}
+
+fn refuse_check(refusal: Refusal) -> CheckVerdict
+    ensures { λ r. ⌜ r ≡ refusedCheck refusal ⌝ }
+{
+    CheckVerdict {
+        refusal,
+        side: 0,
+        bound: fraction::no_fraction(),
+        rounds: 0,
+    }
+}
+
+// The verdict on one certificate.
+fn check_one(judged: Judged, rounds: usize) -> CheckVerdict
+    ensures { λ r. ⌜ r ≡ checkFrom judged rounds ⌝ }
+{
+    match judged {
+        Judged::Refused(f) => refuse_check(f),
+        Judged::Accepted(t) => CheckVerdict {
+            refusal: problem_refusal(0, 0),
+            side: t.side,
+            bound: bound(t.p, t.q),
+            rounds,
+        },
+    }
+}
+
+// The check, with tables that are long enough. They are changed before place 2,048 only.
+fn answer_check(
+    problem: &[u8],
+    certificate: &[u8],
+    keys: &mut [u64],
+    high: &mut [i64],
+    low: &mut [u64],
+) -> CheckVerdict
+    requires { ⌜ (2048 ≤ length (now keys)) × (2048 ≤ length (now high)) × (2048 ≤ length (now low)) ⌝ }
+    ensures { λ r. ⌜ (r ≡ checkRead (readProblem (now (problem .entry))) (now (certificate .entry))) × Rest (now (keys .entry)) (now (high .entry)) (now (low .entry)) (now (keys .exit)) (now (high .exit)) (now (low .exit)) ⌝ }
+{
+    let r = prepare(problem, keys);
+    let number = r.number;
+    if 0 < number {
+        return refuse_check(problem_refusal(number, r.place));
+    }
+    let p = r.problem;
+    let j = r.joined;
+    let judged = judge(1, p, j, certificate, keys, high, low);
+    check_one(judged, j.rounds)
+}
+
+// Whether one certificate holds for a problem. `keys`, `high` and `low` are the work tables.
+pub fn check(
+    problem: &[u8],
+    certificate: &[u8],
+    keys: &mut [u64],
+    high: &mut [i64],
+    low: &mut [u64],
+) -> CheckVerdict
+    ensures verdict { λ r. ⌜ r ≡ checkVerdict (tablesShort (now (keys .entry)) (now (high .entry)) (now (low .entry))) (now (problem .entry)) (now (certificate .entry)) ⌝ }
+    ensures keys_left { λ _. ⌜ now (keys .exit) ≡ tableLeft (tablesShort (now (keys .entry)) (now (high .entry)) (now (low .entry))) 0 (now (keys .entry)) ⌝ }
+    ensures high_left { λ _. ⌜ now (high .exit) ≡ tableLeft (tablesShort (now (keys .entry)) (now (high .entry)) (now (low .entry))) (pos 0) (now (high .entry)) ⌝ }
+    ensures low_left { λ _. ⌜ now (low .exit) ≡ tableLeft (tablesShort (now (keys .entry)) (now (high .entry)) (now (low .entry))) 0 (now (low .entry)) ⌝ }
+    ensures accepted { λ r. ⌜ AcceptedExactly (tablesShort (now (keys .entry)) (now (high .entry)) (now (low .entry))) (now (problem .entry)) (now (certificate .entry)) (r .refusal .number) ⌝ }
+    ensures rounds { λ r. ⌜ RoundsTaken (now (problem .entry)) (r .refusal .number) (r .rounds) ⌝ }
+    ensures few_rounds { λ r. ⌜ FewRounds (now (problem .entry)) (r .refusal .number) (r .rounds) ⌝ }
+{
+    if is_short(keys.len(), high.len(), low.len()) {
+        return refuse_check(problem_refusal(1, 0));
+    }
+    let v = answer_check(problem, certificate, keys, high, low);
+    clear(keys);
+    clear_signed(high);
+    clear(low);
+    v
+}
+
+fn refuse_pair(refusal: Refusal) -> PairVerdict
+    ensures { λ r. ⌜ r ≡ refusedPair refusal ⌝ }
+{
+    PairVerdict {
+        refusal,
+        lower: fraction::no_fraction(),
+        upper: fraction::no_fraction(),
+        gap: fraction::no_fraction(),
+        rounds: 0,
+    }
+}
+
+fn refuse_side(stream: u8) -> PairVerdict
+    ensures { λ r. ⌜ r ≡ refusedPair (certificateRefusal stream 10 0 0) ⌝ }
+{
+    refuse_pair(Refusal {
+        number: 10,
+        stream,
+        place: 0,
+        key: 0,
+    })
+}
+
+// The verdict on two certificates that are accepted.
+fn pair_sides(lower: Header, upper: Header, rounds: usize) -> PairVerdict
+    ensures { λ r. ⌜ r ≡ sidesFrom lower upper rounds ⌝ }
+{
+    if lower.side != 0 {
+        return refuse_side(1);
+    }
+    if upper.side != 1 {
+        return refuse_side(2);
+    }
+    let a = bound(lower.p, lower.q);
+    let b = bound(upper.p, upper.q);
+    PairVerdict {
+        refusal: problem_refusal(0, 0),
+        lower: a,
+        upper: b,
+        gap: a.gap(b),
+        rounds,
+    }
+}
+
+// The second certificate, after the first was accepted.
+fn pair_second(lower: Header, judged: Judged, rounds: usize) -> PairVerdict
+    ensures { λ r. ⌜ r ≡ pairFrom lower judged rounds ⌝ }
+{
+    match judged {
+        Judged::Refused(f) => refuse_pair(f),
+        Judged::Accepted(upper) => pair_sides(lower, upper, rounds),
+    }
+}
+
+// Two certificates against a problem with its blocks.
+fn pair_both(
+    p: StoredProblem,
+    j: Joined,
+    first: &[u8],
+    second: &[u8],
+    keys: &[u64],
+    high: &mut [i64],
+    low: &mut [u64],
+) -> PairVerdict
+    requires { ⌜ Joins p j (now keys) × (2048 ≤ length (now high)) × (2048 ≤ length (now low)) ⌝ }
+    ensures { λ r. ⌜ (r ≡ pairFirst (problemOf p) (J.judge (problemOf p) (now (first .entry))) (now (second .entry))) × (drop 2048 (now (high .exit)) ≡ drop 2048 (now (high .entry))) × (drop 2048 (now (low .exit)) ≡ drop 2048 (now (low .entry))) ⌝ }
+{
+    match judge(1, p, j, first, keys, high, low) {
+        Judged::Refused(f) => refuse_pair(f),
+        Judged::Accepted(lower) => pair_second(lower, judge(2, p, j, second, keys, high, low), j.rounds),
+    }
+}
+
+// The pair, with tables that are long enough. They are changed before place 2,048 only.
+fn answer_pair(
+    problem: &[u8],
+    first: &[u8],
+    second: &[u8],
+    keys: &mut [u64],
+    high: &mut [i64],
+    low: &mut [u64],
+) -> PairVerdict
+    requires { ⌜ (2048 ≤ length (now keys)) × (2048 ≤ length (now high)) × (2048 ≤ length (now low)) ⌝ }
+    ensures { λ r. ⌜ (r ≡ pairRead (readProblem (now (problem .entry))) (now (first .entry)) (now (second .entry))) × Rest (now (keys .entry)) (now (high .entry)) (now (low .entry)) (now (keys .exit)) (now (high .exit)) (now (low .exit)) ⌝ }
+{
+    let r = prepare(problem, keys);
+    let number = r.number;
+    if 0 < number {
+        return refuse_pair(problem_refusal(number, r.place));
+    }
+    let p = r.problem;
+    let j = r.joined;
+    pair_both(p, j, first, second, keys, high, low)
+}
+
+// Whether two certificates hold for a problem: `first` of a lower bound and `second` of an upper one.
+pub fn pair(
+    problem: &[u8],
+    first: &[u8],
+    second: &[u8],
+    keys: &mut [u64],
+    high: &mut [i64],
+    low: &mut [u64],
+) -> PairVerdict
+    ensures verdict { λ r. ⌜ r ≡ pairVerdict (tablesShort (now (keys .entry)) (now (high .entry)) (now (low .entry))) (now (problem .entry)) (now (first .entry)) (now (second .entry)) ⌝ }
+    ensures keys_left { λ _. ⌜ now (keys .exit) ≡ tableLeft (tablesShort (now (keys .entry)) (now (high .entry)) (now (low .entry))) 0 (now (keys .entry)) ⌝ }
+    ensures high_left { λ _. ⌜ now (high .exit) ≡ tableLeft (tablesShort (now (keys .entry)) (now (high .entry)) (now (low .entry))) (pos 0) (now (high .entry)) ⌝ }
+    ensures low_left { λ _. ⌜ now (low .exit) ≡ tableLeft (tablesShort (now (keys .entry)) (now (high .entry)) (now (low .entry))) 0 (now (low .entry)) ⌝ }
+    ensures accepted { λ r. ⌜ PairExactly (tablesShort (now (keys .entry)) (now (high .entry)) (now (low .entry))) (now (problem .entry)) (now (first .entry)) (now (second .entry)) r ⌝ }
+    ensures below { λ r. ⌜ HoldsBelow (now (problem .entry)) (r .refusal .number) (r .lower) ⌝ }
+    ensures above { λ r. ⌜ HoldsAbove (now (problem .entry)) (r .refusal .number) (r .upper) ⌝ }
+    ensures gap { λ r. ⌜ HoldsGap (now (problem .entry)) (r .refusal .number) (r .gap) ⌝ }
+    ensures rounds { λ r. ⌜ RoundsTaken (now (problem .entry)) (r .refusal .number) (r .rounds) ⌝ }
+    ensures few_rounds { λ r. ⌜ FewRounds (now (problem .entry)) (r .refusal .number) (r .rounds) ⌝ }
+{
+    if is_short(keys.len(), high.len(), low.len()) {
+        return refuse_pair(problem_refusal(1, 0));
+    }
+    let v = answer_pair(problem, first, second, keys, high, low);
     clear(keys);
     clear_signed(high);
     clear(low);

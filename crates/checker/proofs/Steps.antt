@@ -1,0 +1,108 @@
+-- Laws of the steps: what was prepared and judged decides the verdicts of the check and of the pair.
+use mathlib.Core.Path.{_≡_, refl, sym, ap, _∙_}
+use mathlib.Core.Bool.{Bool, true, false, cond}
+use mathlib.Core.List.{List}
+use Prim.Native.Nat.{ℕ, _<_}
+use native.Mathlib.Omega.{arith}
+use borrow.Author.Tests.{eq-eqb, ne-eqb}
+use Rattle.stream.specs.Commands.{Outcome, refused, given}
+use Rattle.problem.specs.Rules.{Problem}
+use Rattle.problem.specs.Stored.{problemOf}
+use Rattle.joining.specs.Joining.{closing, tooLarge}
+use Rattle.certificate.specs.Rules.{Certificate}
+use Rattle.identity.specs.Judgement.{Judgement, judge}
+use Rattle.identity.specs.Judgement as J
+use Rattle.checker.specs.declared.Prepared.{Prepared}
+use Rattle.checker.specs.declared.Judged.{Judged}
+use Rattle.checker.specs.declared.Judged.the-variants as Judged
+use Rattle.checker.specs.declared.CheckVerdict.{CheckVerdict}
+use Rattle.checker.specs.declared.PairVerdict.{PairVerdict}
+use Rattle.checker.specs.Refusals.{problemRefusal}
+use Rattle.checker.specs.Check.{refusedCheck, checkJudged, checkOf, checkRead}
+use Rattle.checker.specs.Pair.{refusedPair, pairSides, pairSecond, pairFirst, pairOf, pairRead}
+use Rattle.checker.specs.Steps.{limited, preparedOf, judgedOf, checkFrom, pairFrom}
+
+-- ---- what is prepared
+module _ (r : Prepared) where
+  pub prepared-refused : 0 < r .number → preparedOf r ≡ refused (r .number) (r .place)
+  unfolding preparedOf
+  prepared-refused h = rw (ne-eqb (r .number) 0 (λ q. omega arith)) refl
+
+  pub prepared-given : r .number ≡ 0 → preparedOf r ≡ given (problemOf (r .problem))
+  unfolding preparedOf
+  prepared-given h = rw (eq-eqb (r .number) 0 h) refl
+
+pub limited-full : (p : Problem) → tooLarge p ≡ true → refused 7 0 ≡ limited (given p)
+limited-full p e = rw e refl
+
+pub limited-given : (p : Problem) → tooLarge p ≡ false → given p ≡ limited (given p)
+limited-given p e = rw e refl
+
+-- ---- the check
+abbrev onOutcome : {A : Type 0} → (ℕ → ℕ → A) → (Problem → A) → Outcome Problem → A
+onOutcome f g (refused number place) = f number place
+onOutcome f g (given p) = g p
+
+module _ (t : List ℕ) where
+  abbrev checking : Outcome Problem → CheckVerdict
+  checking = onOutcome (λ n at. refusedCheck (problemRefusal n at)) (λ p. checkJudged p (judge p t))
+
+  check-steps : (o : Outcome Problem) → checking (limited o) ≡ checkRead o t
+  unfolding checkOf
+  check-steps (refused n at) = refl
+  check-steps (given p) = go (tooLarge p)
+    where
+      go : (b : Bool) → checking (cond b (refused 7 0) (given p)) ≡ cond b (refusedCheck (problemRefusal 7 0)) (checkJudged p (judge p t))
+      go true = refl
+      go false = refl
+
+  pub check-refused : (o : Outcome Problem) (n at : ℕ) → refused n at ≡ limited o → refusedCheck (problemRefusal n at) ≡ checkRead o t
+  check-refused o n at e = ap checking e ∙ check-steps o
+
+  pub check-given : (o : Outcome Problem) (p : Problem) → given p ≡ limited o → checkJudged p (judge p t) ≡ checkRead o t
+  check-given o p e = ap checking e ∙ check-steps o
+
+pub check-judged : (p : Problem) (j : Judgement) (d : Judged) (rounds : ℕ) → d ≡ judgedOf 1 j → rounds ≡ closing p .rounds → checkFrom d rounds ≡ checkJudged p j
+check-judged p (J.refused n at k) d rounds e f = rw e refl
+check-judged p (J.accepted c) d rounds e f = rw (e, f) refl
+
+-- ---- the pair
+module _ (low high : List ℕ) where
+  abbrev pairing : Outcome Problem → PairVerdict
+  pairing = onOutcome (λ n at. refusedPair (problemRefusal n at)) (λ p. pairFirst p (judge p low) high)
+
+  pair-steps : (o : Outcome Problem) → pairing (limited o) ≡ pairRead o low high
+  unfolding pairOf
+  pair-steps (refused n at) = refl
+  pair-steps (given p) = go (tooLarge p)
+    where
+      go : (b : Bool) → pairing (cond b (refused 7 0) (given p)) ≡ cond b (refusedPair (problemRefusal 7 0)) (pairFirst p (judge p low) high)
+      go true = refl
+      go false = refl
+
+  pub pair-refused : (o : Outcome Problem) (n at : ℕ) → refused n at ≡ limited o → refusedPair (problemRefusal n at) ≡ pairRead o low high
+  pair-refused o n at e = ap pairing e ∙ pair-steps o
+
+  pub pair-given : (o : Outcome Problem) (p : Problem) → given p ≡ limited o → pairFirst p (judge p low) high ≡ pairRead o low high
+  pair-given o p e = ap pairing e ∙ pair-steps o
+
+-- both judgements, by what is kept of them
+abbrev pairWith : Judged → Judged → ℕ → PairVerdict
+pairWith (Judged.Refused f) e rounds = refusedPair f
+pairWith (Judged.Accepted t) e rounds = pairFrom t e rounds
+
+module _ (p : Problem) (high : List ℕ) where
+  pair-from : (c : Certificate) (k : Judgement) → pairFrom (c .header) (judgedOf 2 k) (closing p .rounds) ≡ pairSecond p c k
+  unfolding pairSides
+  pair-from c (J.refused n at k) = refl
+  pair-from c (J.accepted d) = refl
+
+  pair-with : (i : Judgement) (d e : Judged) (rounds : ℕ) → judgedOf 1 i ≡ d → judgedOf 2 (judge p high) ≡ e → closing p .rounds ≡ rounds → pairWith d e rounds ≡ pairFirst p i high
+  pair-with (J.refused n at k) d e rounds f g h = rw (sym f) refl
+  pair-with (J.accepted c) d e rounds f g h = rw (sym f, sym g, sym h) (pair-from c (judge p high))
+
+  pub pair-first-refused : (i : Judgement) (f : _) → judgedOf 1 i ≡ Judged.Refused f → refusedPair f ≡ pairFirst p i high
+  pair-first-refused i f e = pair-with i (Judged.Refused f) (judgedOf 2 (judge p high)) (closing p .rounds) e refl refl
+
+  pub pair-both : (i : Judgement) (t : _) (d : Judged) (rounds : ℕ) → judgedOf 1 i ≡ Judged.Accepted t → judgedOf 2 (judge p high) ≡ d → closing p .rounds ≡ rounds → pairFrom t d rounds ≡ pairFirst p i high
+  pair-both i t d rounds e f h = pair-with i (Judged.Accepted t) d rounds e f h

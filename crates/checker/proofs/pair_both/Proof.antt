@@ -1,0 +1,74 @@
+-- `pair_both`: the first certificate, then the second.
+use borrow.Author.Needs.{needs}
+use native.Mathlib.Omega.{arith}
+use mathlib.Core.Path.{_≡_, refl, sym, ap, _∙_}
+use Prim.Native.Nat.{ℕ, _≤_}
+use lib.ListN.{length}
+use Rattle.problem.specs.Stored.{problemOf}
+use Rattle.identity.specs.Judgement.{judge}
+use Rattle.checker.proofs.Steps.{pair-first-refused, pair-both}
+use Rattle.checker.proofs.pair_both.Statement.{statement}
+use Rattle.checker.proofs.pair_both.Tie as tie
+
+judge-requires : tie.Need-judge-requires
+judge-requires c κs = search needs
+
+enum-known-f : tie.Need-enum-known-f
+enum-known-f c = search needs
+
+refuse-pair-requires : tie.Need-refuse-pair-requires
+refuse-pair-requires c κs = search needs
+
+enum-known-lower : tie.Need-enum-known-lower
+enum-known-lower c = search needs
+
+judge-requires-2 : tie.Need-judge-requires-2
+judge-requires-2 c κs = search needs
+
+pair-second-requires : tie.Need-pair-second-requires
+pair-second-requires c κs = search needs
+
+same-length : tie.Need-same-length
+same-length c = search needs
+
+same-length-2 : tie.Need-same-length-2
+same-length-2 c = search needs
+
+returns : tie.Need-returns
+returns c =
+    let f = c .before .before in
+    let j = f .before .before .before .before .before in
+    let s = j .before .before .before .before .before .before .before in
+    (c .refuse-pair .ensures ∙ pair-first-refused (problemOf (s .args .p)) (s .args .second .now) (judge (problemOf (s .args .p)) (s .args .first .now)) _ (sym (j .judge .ensures .0) ∙ f .f .given .1), j .judge .ensures .1, j .judge .ensures .2)
+
+same-length-3 : tie.Need-same-length-3
+same-length-3 c = search needs
+
+same-length-4 : tie.Need-same-length-4
+same-length-4 c = search needs
+
+returns-2 : tie.Need-returns-2
+returns-2 c =
+    let k = c .before .before .before .before in
+    let l = k .before .before .before .before in
+    let j = l .before .before .before .before .before in
+    let s = j .before .before .before .before .before .before .before in
+    let p = s .pre .0 in
+    (c .pair-second .ensures ∙ pair-both (problemOf (s .args .p)) (s .args .second .now) (judge (problemOf (s .args .p)) (s .args .first .now)) _ _ _ (sym (j .judge .ensures .0) ∙ l .lower .given .1) (sym (k .judge2 .ensures .0)) (sym (p .joining .rounds (p .few))), k .judge2 .ensures .1 ∙ j .judge .ensures .1, k .judge2 .ensures .2 ∙ j .judge .ensures .2)
+
+pub pair-both-spec : {M : Type 1} → statement M
+pair-both-spec =
+    tie.close
+    (tie.spec
+    judge-requires
+    enum-known-f
+    refuse-pair-requires
+    enum-known-lower
+    judge-requires-2
+    pair-second-requires
+    same-length
+    same-length-2
+    returns
+    same-length-3
+    same-length-4
+    returns-2)

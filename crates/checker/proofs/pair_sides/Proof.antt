@@ -1,0 +1,84 @@
+-- `pair_sides`: refusal 10, or the bounds and their gap.
+use borrow.Author.Needs.{needs}
+use native.Mathlib.Omega.{arith}
+use mathlib.Core.Path.{_≡_, refl, sym, ap, _∙_}
+use Prim.Native.Nat.{ℕ}
+use mir.Syntax.{w32}
+use mir.Val.{toZ, ofZ}
+use borrow.Author.Tests.{eq-eqb, ne-eqb}
+use Rattle.certificate.specs.declared.Header.{Header}
+use Rattle.fraction.specs.declared.Fraction.{Fraction}
+use Rattle.fraction.specs.Fractions.{fraction, gapOf}
+use Rattle.checker.specs.declared.Refusal.{Refusal}
+use Rattle.checker.specs.declared.PairVerdict.{PairVerdict}
+use Rattle.checker.specs.Refusals.{noRefusal, certificateRefusal}
+use Rattle.checker.specs.Pair.{refusedPair}
+use Rattle.checker.specs.Steps.{sidesFrom}
+use Rattle.checker.proofs.pair_sides.Statement.{statement}
+use Rattle.checker.proofs.pair_sides.Tie as tie
+
+module _ (t u : Header) (rounds : ℕ) where
+  first-wrong : (t .side ≡ 0 → ⊥) → refusedPair (certificateRefusal 1 10 0 0) ≡ sidesFrom t u rounds
+  first-wrong h = rw (ne-eqb (t .side) 0 h) refl
+
+  module _ (z : t .side ≡ 0) where
+    second-wrong : (u .side ≡ 1 → ⊥) → refusedPair (certificateRefusal 2 10 0 0) ≡ sidesFrom t u rounds
+    second-wrong h = rw (eq-eqb (t .side) 0 z, ne-eqb (u .side) 1 h) refl
+
+    both-right : (r : Refusal) (a b g : Fraction) → u .side ≡ 1 → r ≡ noRefusal → a ≡ fraction (t .p) (t .q) → b ≡ fraction (u .p) (u .q) → g ≡ gapOf a b → record { refusal = r; lower = a; upper = b; gap = g; rounds = rounds } ≡ sidesFrom t u rounds
+    both-right r a b g o e f h k = rw (eq-eqb (t .side) 0 z, eq-eqb (u .side) 1 o, k, e, f, h) refl
+
+lower-kept : (c : tie.After-struct-told) → let p = c .before .before .before .before .before .args .lower .p in toZ w32 (ofZ w32 p) ≡ p
+lower-kept c = search needs
+
+upper-kept : (c : tie.After-struct-told2) → let p = c .before .before .before .before .before .before .before .args .upper .p in toZ w32 (ofZ w32 p) ≡ p
+upper-kept c = search needs
+
+refuse-side-requires : tie.Need-refuse-side-requires
+refuse-side-requires c κs = search needs
+
+returns : tie.Need-returns
+returns c = let s = c .before .before .before in c .refuse-side .ensures ∙ first-wrong (s .args .lower) (s .args .upper) (s .args .rounds) (c .before .if1 .taken)
+
+refuse-side-requires-2 : tie.Need-refuse-side-requires-2
+refuse-side-requires-2 c κs = search needs
+
+returns-2 : tie.Need-returns-2
+returns-2 c =
+    let i = c .before .before .before in
+    let s = i .before .before in
+    c .refuse-side2 .ensures ∙ second-wrong (s .args .lower) (s .args .upper) (s .args .rounds) (i .if1 .left) (c .before .if2 .taken)
+
+bound-requires : tie.Need-bound-requires
+bound-requires c κs = search needs
+
+bound-requires-2 : tie.Need-bound-requires-2
+bound-requires-2 c κs = search needs
+
+problem-refusal-requires : tie.Need-problem-refusal-requires
+problem-refusal-requires c κs = search needs
+
+gap-requires : tie.Need-gap-requires
+gap-requires c κs = (c .before .before .before .bound .ensures .1, c .before .bound2 .ensures .1)
+
+returns-3 : tie.Need-returns-3
+returns-3 c =
+    let b = c .before .before in
+    let a = b .before .before in
+    let i = a .before .before in
+    let s = i .before .before .before .before in
+    both-right (s .args .lower) (s .args .upper) (s .args .rounds) (i .before .before .if1 .left) _ _ _ _ (i .if2 .left) (c .before .problem-refusal .ensures) (rw (lower-kept (a .before)) at (a .bound .ensures .0)) (rw (upper-kept (b .before)) at (b .bound2 .ensures .0)) (c .gap .ensures)
+
+pub pair-sides-spec : {M : Type 1} → statement M
+pair-sides-spec =
+    tie.close
+    (tie.spec
+    refuse-side-requires
+    returns
+    refuse-side-requires-2
+    returns-2
+    bound-requires
+    bound-requires-2
+    problem-refusal-requires
+    gap-requires
+    returns-3)
