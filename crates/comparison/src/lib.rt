@@ -2,7 +2,10 @@
 // certificate's bytes again, one at a time.
 ghost use mathlib.Core.Path.{_≡_};
 ghost use Prim.Native.Nat.{ℕ, _+_, _*_, _^_, _≤_, _<_};
+ghost use lib.IntN.{natAbs, _*ℤ_};
 ghost use lib.ListN.{length};
+ghost use Rattle.polynomial.specs.Terms.{termsIn};
+ghost use Rattle.polynomial.specs.Algebra.{sum, match};
 ghost use Rattle.stream.specs.Commands.{given};
 ghost use Rattle.problem.specs.Rules.{Problem};
 ghost use Rattle.problem.specs.Limits.{Limits};
@@ -12,6 +15,7 @@ ghost use Rattle.certificate.specs.Rules.{Certificate, shapeOf, readCertificate
 ghost use Rattle.certificate.specs.Rows.{rowOf};
 ghost use Rattle.identity.specs.Judgement.{rowSplit, splitPlace};
 ghost use Rattle.comparison.specs.Places.{placeOf, byteAt, Walkable, Indexed};
+ghost use Rattle.comparison.specs.Tables.{unit, Ready, Grown, Addable};
 
 // Where a row leaves its block.
 pub enum Place {
@@ -59,4 +63,37 @@ pub fn split_place(s: &[u8], labels: &[u8]) -> Place
         at = row.next;
     }
     Place::Nowhere
+}
+
+// Adds a product at the place of a key, where it has one.
+fn add_term(table: &[u64], n: usize, high: &mut [i64], low: &mut [u64], key: u64, x: i64, c: i32)
+    requires { ⌜ Ready (now table) n (now high) (now low) unit × (natAbs x ≤ 2 ^ 53) ⌝ }
+    ensures { λ _. ⌜ Grown (now (table .entry)) n (now (high .entry)) (now (low .entry)) (λ k. x *ℤ c *ℤ match k key) unit (now (high .exit)) (now (low .exit)) ⌝ }
+{
+    match support::find(table, n, key) {
+        support::Found::At(p) => sums::add_scaled(high, low, p, x, c as i64),
+        support::Found::Gap(_) => {}
+    }
+}
+
+// Adds x times a polynomial, moved by a key.
+fn add_terms(
+    table: &[u64],
+    n: usize,
+    high: &mut [i64],
+    low: &mut [u64],
+    exponents: &[u64],
+    coefficients: &[i32],
+    key: u64,
+    x: i64,
+)
+    requires { ⌜ Ready (now table) n (now high) (now low) (length (now exponents) * unit) ⌝ }
+    requires { ⌜ Addable (now exponents) (now coefficients) key x ⌝ }
+    ensures { λ _. ⌜ Grown (now (table .entry)) n (now (high .entry)) (now (low .entry)) (λ k. x *ℤ sum (λ t. match k (key + t)) (termsIn (length (now (exponents .entry))) (now (exponents .entry)) (now (coefficients .entry)))) (length (now (exponents .entry)) * unit) (now (high .exit)) (now (low .exit)) ⌝ }
+{
+    let mut t = 0;
+    while t < exponents.len() {
+        add_term(table, n, high, low, key + exponents[t], x, coefficients[t]);
+        t += 1;
+    }
 }
