@@ -1,3 +1,4 @@
 pub mod Splits
 pub mod Growth
 pub mod Products
+pub mod Claims

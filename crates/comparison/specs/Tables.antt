@@ -1,12 +1,17 @@
 -- The sums at the compared keys, in two lent tables: what they need so that a number can be added, and how they grow.
 use mathlib.Core.Path.{_≡_}
-use mathlib.Core.List.{List}
+use mathlib.Core.List.{List, [], _∷_, _++_}
 use Prim.Native.Nat.{ℕ, _+_, _*_, _^_, _≤_, _<_}
-use lib.IntN.{ℤ, pos, natAbs, _+ℤ_}
+use lib.IntN.{ℤ, pos, natAbs, negℤ, _+ℤ_, _*ℤ_}
 use lib.ListN.{length, getD}
 use Rattle.support.specs.Table.{Holds}
 use Rattle.sums.specs.Sums.{base, valueAt}
 use Rattle.blocks.specs.Limits.{Bounded}
+use Rattle.polynomial.specs.Terms.{Term, term}
+use Rattle.polynomial.specs.Algebra.{scale}
+use Rattle.certificate.specs.declared.Header.{Header}
+use Rattle.identity.specs.Identity.{turned}
+use Rattle.comparison.specs.declared.Negated.{Negated}
 
 -- what one product at most adds: a number of at most 2^53 times a coefficient of at most 2^31
 abbrev pub unit : ℕ
@@ -36,3 +41,15 @@ pub record Addable (exponents : List ℕ) (coefficients : List ℤ) (key : ℕ) 
   pub low : Bounded (32 * 2 ^ 56) exponents
   pub key-low : key ≤ 16 * 2 ^ 56
   pub small : natAbs x ≤ 2 ^ 53
+
+-- ---- the claim, taken away
+-- "D × (q × objective − p)", with both signs turned for side 1, of an objective
+unfoldable pub claimed : List Term → Header → List Term
+claimed P h = scale (pos (h .scale)) (scale (turned (h .side) (pos (h .q))) P ++ (term 0 (turned (h .side) (negℤ (h .p))) ∷ []))
+
+-- the factors of the objective and of 1 in minus the claim
+pub record Negates (side scale : ℕ) (p : ℤ) (q : ℕ) (r : Negated) : Type 0 where
+  pub objective : r .objective ≡ negℤ (pos scale *ℤ turned side (pos q))
+  pub constant : r .constant ≡ negℤ (pos scale *ℤ turned side (negℤ p))
+  pub objective-small : natAbs (r .objective) ≤ 2 ^ 53
+  pub constant-small : natAbs (r .constant) ≤ 2 ^ 53

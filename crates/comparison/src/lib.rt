@@ -2,10 +2,10 @@
 // certificate's bytes again, one at a time.
 ghost use mathlib.Core.Path.{_≡_};
 ghost use Prim.Native.Nat.{ℕ, _+_, _*_, _^_, _≤_, _<_};
-ghost use lib.IntN.{natAbs, _*ℤ_};
+ghost use lib.IntN.{pos, natAbs, negℤ, _*ℤ_};
 ghost use lib.ListN.{length};
 ghost use Rattle.polynomial.specs.Terms.{termsIn};
-ghost use Rattle.polynomial.specs.Algebra.{sum, match};
+ghost use Rattle.polynomial.specs.Algebra.{sum, match, coefficient};
 ghost use Rattle.stream.specs.Commands.{given};
 ghost use Rattle.problem.specs.Rules.{Problem};
 ghost use Rattle.problem.specs.Limits.{Limits};
@@ -15,7 +15,7 @@ ghost use Rattle.certificate.specs.Rules.{Certificate, shapeOf, readCertificate
 ghost use Rattle.certificate.specs.Rows.{rowOf};
 ghost use Rattle.identity.specs.Judgement.{rowSplit, splitPlace};
 ghost use Rattle.comparison.specs.Places.{placeOf, byteAt, Walkable, Indexed};
-ghost use Rattle.comparison.specs.Tables.{unit, Ready, Grown, Addable};
+ghost use Rattle.comparison.specs.Tables.{unit, Ready, Grown, Addable, claimed, Negates};
 
 // Where a row leaves its block.
 pub enum Place {
@@ -96,4 +96,50 @@ fn add_terms(
         add_term(table, n, high, low, key + exponents[t], x, coefficients[t]);
         t += 1;
     }
+}
+
+// The factors of the objective and of 1 in minus the claim.
+pub struct Negated {
+    pub objective: i64,
+    pub constant: i64,
+}
+
+// An upper bound's claim has both signs turned.
+fn negate(side: usize, scale: u16, p: i32, q: u16) -> Negated
+    ensures { λ r. ⌜ Negates side scale p q r ⌝ }
+{
+    let m = (scale as i64) * (q as i64);
+    let c = (scale as i64) * (p as i64);
+    if side == 0 {
+        Negated {
+            objective: 0 - m,
+            constant: c,
+        }
+    } else {
+        Negated {
+            objective: m,
+            constant: 0 - c,
+        }
+    }
+}
+
+// Takes the claim away: D * (q * objective - p), or with both signs turned.
+fn add_claim(
+    table: &[u64],
+    n: usize,
+    high: &mut [i64],
+    low: &mut [u64],
+    exponents: &[u64],
+    coefficients: &[i32],
+    t: certificate::Header,
+)
+    requires { ⌜ Ready (now table) n (now high) (now low) ((length (now exponents) + 1) * unit) ⌝ }
+    requires { ⌜ Addable (now exponents) (now coefficients) 0 (pos 0) ⌝ }
+    ensures { λ _. ⌜ Grown (now (table .entry)) n (now (high .entry)) (now (low .entry)) (λ k. negℤ (coefficient k (claimed (termsIn (length (now (exponents .entry))) (now (exponents .entry)) (now (coefficients .entry))) t))) ((length (now (exponents .entry)) + 1) * unit) (now (high .exit)) (now (low .exit)) ⌝ }
+{
+    let f = negate(t.side, t.scale, t.p, t.q);
+    let x = f.objective;
+    let y = f.constant;
+    add_terms(table, n, high, low, exponents, coefficients, 0, x);
+    add_term(table, n, high, low, 0, y, 1);
 }
