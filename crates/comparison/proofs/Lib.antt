@@ -2,3 +2,4 @@ pub mod Splits
 pub mod Growth
 pub mod Products
 pub mod Claims
+pub mod Spreading

@@ -16,6 +16,7 @@ ghost use Rattle.certificate.specs.Rows.{rowOf};
 ghost use Rattle.identity.specs.Judgement.{rowSplit, splitPlace};
 ghost use Rattle.comparison.specs.Places.{placeOf, byteAt, Walkable, Indexed};
 ghost use Rattle.comparison.specs.Tables.{unit, Ready, Grown, Addable, claimed, Negates};
+ghost use Rattle.comparison.specs.Spread.{entryUnit, tableUnit, share, Framed, Spreadable, Entered, Spread, multiplierIn};
 
 // Where a row leaves its block.
 pub enum Place {
@@ -142,4 +143,62 @@ fn add_claim(
     let y = f.constant;
     add_terms(table, n, high, low, exponents, coefficients, 0, x);
     add_term(table, n, high, low, 0, y, 1);
+}
+
+// Adds one entry of the table of sums: a times b * b' for the indices of its place, times the multiplier.
+fn add_entry(
+    basis: &[u64],
+    exponents: &[u64],
+    coefficients: &[i32],
+    table: &[u64],
+    n: usize,
+    high: &mut [i64],
+    low: &mut [u64],
+    x: usize,
+    a: i64,
+)
+    requires { ⌜ Ready (now table) n (now high) (now low) entryUnit ⌝ }
+    requires { ⌜ Spreadable (now basis) (now exponents) (now coefficients) × Entered (now basis) x a ⌝ }
+    ensures { λ _. ⌜ Grown (now (table .entry)) n (now (high .entry)) (now (low .entry)) (λ k. a *ℤ share (now (basis .entry)) (termsIn (length (now (exponents .entry))) (now (exponents .entry)) (now (coefficients .entry))) k x) entryUnit (now (high .exit)) (now (low .exit)) ⌝ }
+{
+    if a == 0 {
+        return;
+    }
+    let i = x / 64;
+    let k = x % 64;
+    add_terms(
+        table,
+        n,
+        high,
+        low,
+        exponents,
+        coefficients,
+        basis[i] + basis[k],
+        a,
+    );
+}
+
+// Adds the whole table of sums, and clears it. Past the basis's last index there is nothing to add.
+fn spread(
+    g: &mut [i64; 4096],
+    basis: &[u64],
+    exponents: &[u64],
+    coefficients: &[i32],
+    table: &[u64],
+    n: usize,
+    high: &mut [i64],
+    low: &mut [u64],
+)
+    requires { ⌜ Ready (now table) n (now high) (now low) tableUnit ⌝ }
+    requires { ⌜ Spreadable (now basis) (now exponents) (now coefficients) × Framed (length (now basis)) (now g) ⌝ }
+    ensures { λ _. ⌜ Spread (now (table .entry)) n (now (basis .entry)) (termsIn (length (now (exponents .entry))) (now (exponents .entry)) (now (coefficients .entry))) (now (g .entry)) (now (high .entry)) (now (low .entry)) (now (g .exit)) (now (high .exit)) (now (low .exit)) ⌝ }
+{
+    let last = 64 * basis.len();
+    let mut x = 0;
+    while x < last {
+        let a = g[x];
+        g[x] = 0;
+        add_entry(basis, exponents, coefficients, table, n, high, low, x, a);
+        x += 1;
+    }
 }
