@@ -3,3 +3,4 @@ pub mod Growth
 pub mod Products
 pub mod Claims
 pub mod Spreading
+pub mod Parts

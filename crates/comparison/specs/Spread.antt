@@ -9,6 +9,7 @@ use Rattle.blocks.specs.Limits.{Bounded}
 use Rattle.polynomial.specs.Terms.{Term, termsIn}
 use Rattle.polynomial.specs.Algebra.{sum, match}
 use Rattle.identity.specs.Gram.{pairKey, placed}
+use Rattle.rounds.specs.Arrays.{Arrays}
 use Rattle.comparison.specs.Tables.{unit, Grown}
 
 -- what one entry at most adds to a sum: a product for each of 32 terms
@@ -57,3 +58,8 @@ pub record Spread (keys : List ℕ) (n : ℕ) (B : List ℕ) (G : List Term) (g�
 -- the terms of g_j, from place 32j on in two arrays
 unfoldable pub multiplierIn : List ℕ → List ℤ → List ℕ → ℕ → List Term
 multiplierIn exponents coefficients counts j = termsIn (getD counts j 0) (drop (32 * j) exponents) (drop (32 * j) coefficients)
+
+-- the flat arrays of a problem
+pub record Flattened (keys sizes exponents : List ℕ) (coefficients : List ℤ) (counts : List ℕ) : Type 0 where
+  pub arrays : Arrays keys sizes exponents counts
+  pub coefficients-long : length coefficients ≡ 288

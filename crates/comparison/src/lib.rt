@@ -3,20 +3,20 @@
 ghost use mathlib.Core.Path.{_≡_};
 ghost use Prim.Native.Nat.{ℕ, _+_, _*_, _^_, _≤_, _<_};
 ghost use lib.IntN.{pos, natAbs, negℤ, _*ℤ_};
-ghost use lib.ListN.{length};
+ghost use lib.ListN.{length, getD};
 ghost use Rattle.polynomial.specs.Terms.{termsIn};
 ghost use Rattle.polynomial.specs.Algebra.{sum, match, coefficient};
 ghost use Rattle.stream.specs.Commands.{given};
 ghost use Rattle.problem.specs.Rules.{Problem};
 ghost use Rattle.problem.specs.Limits.{Limits};
-ghost use Rattle.rounds.specs.Bytes.{blockBytes};
+ghost use Rattle.rounds.specs.Bytes.{blockBytes, part};
 ghost use Rattle.joining.specs.Joining.{closing};
 ghost use Rattle.certificate.specs.Rules.{Certificate, shapeOf, readCertificate};
 ghost use Rattle.certificate.specs.Rows.{rowOf};
 ghost use Rattle.identity.specs.Judgement.{rowSplit, splitPlace};
 ghost use Rattle.comparison.specs.Places.{placeOf, byteAt, Walkable, Indexed};
 ghost use Rattle.comparison.specs.Tables.{unit, Ready, Grown, Addable, claimed, Negates};
-ghost use Rattle.comparison.specs.Spread.{entryUnit, tableUnit, share, Framed, Spreadable, Entered, Spread, multiplierIn};
+ghost use Rattle.comparison.specs.Spread.{entryUnit, tableUnit, share, Framed, Spreadable, Entered, Spread, multiplierIn, Flattened};
 
 // Where a row leaves its block.
 pub enum Place {
@@ -201,4 +201,38 @@ fn spread(
         add_entry(basis, exponents, coefficients, table, n, high, low, x, a);
         x += 1;
     }
+}
+
+// Adds the table of sums of basis j, and clears it.
+fn flush(
+    g: &mut [i64; 4096],
+    j: usize,
+    keys: &[u64],
+    sizes: &[usize],
+    exponents: &[u64],
+    coefficients: &[i32],
+    counts: &[usize],
+    table: &[u64],
+    n: usize,
+    high: &mut [i64],
+    low: &mut [u64],
+)
+    requires { ⌜ Ready (now table) n (now high) (now low) tableUnit ⌝ }
+    requires { ⌜ Flattened (now keys) (now sizes) (now exponents) (now coefficients) (now counts) × (j < 9) × Framed (getD (now sizes) j 0) (now g) ⌝ }
+    ensures { λ _. ⌜ Spread (now (table .entry)) n (part 64 (now (sizes .entry)) (now (keys .entry)) j) (multiplierIn (now (exponents .entry)) (now (coefficients .entry)) (now (counts .entry)) j) (now (g .entry)) (now (high .entry)) (now (low .entry)) (now (g .exit)) (now (high .exit)) (now (low .exit)) ⌝ }
+{
+    let a = 64 * j;
+    let e = a + sizes[j];
+    let b = 32 * j;
+    let f = b + counts[j];
+    spread(
+        g,
+        &keys[a..e],
+        &exponents[b..f],
+        &coefficients[b..f],
+        table,
+        n,
+        high,
+        low,
+    );
 }
