@@ -4,3 +4,4 @@ pub mod Products
 pub mod Claims
 pub mod Spreading
 pub mod Parts
+pub mod Outers

@@ -32,7 +32,7 @@ module _ (m : ℕ → ℤ) (f : ℕ → Term) where
       rw (*ℤ-assoc x (f n .coefficient) (m (f n .key)), ← *ℤ-+ℤ x (sum m (listed n f)) (f n .coefficient *ℤ m (f n .key)))
       (ap (λ (z : ℤ). x *ℤ z) (sum-more n))
 
-abbrev at : List ℕ → List ℤ → ℕ → Term
+abbrev pub at : List ℕ → List ℤ → ℕ → Term
 at exponents coefficients i = term (getD exponents i 0) (getD coefficients i (pos 0))
 
 -- ---- the turns of a loop over the terms that two arrays hold: x times the sum over the first t of them, each under m

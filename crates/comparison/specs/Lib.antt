@@ -1,3 +1,4 @@
 pub mod Places
 pub mod Tables
 pub mod Spread
+pub mod Outer

@@ -17,6 +17,7 @@ ghost use Rattle.identity.specs.Judgement.{rowSplit, splitPlace};
 ghost use Rattle.comparison.specs.Places.{placeOf, byteAt, Walkable, Indexed};
 ghost use Rattle.comparison.specs.Tables.{unit, Ready, Grown, Addable, claimed, Negates};
 ghost use Rattle.comparison.specs.Spread.{entryUnit, tableUnit, share, Framed, Spreadable, Entered, Spread, multiplierIn, Flattened};
+ghost use Rattle.comparison.specs.Outer.{Entries, Below, Raised, inRow, outerAt};
 
 // Where a row leaves its block.
 pub enum Place {
@@ -235,4 +236,45 @@ fn flush(
         high,
         low,
     );
+}
+
+// Adds a times each factor of a row, in the table's row i.
+fn add_products(
+    g: &mut [i64; 4096],
+    indices: &[u8; 64],
+    factors: &[i16; 64],
+    count: usize,
+    i: usize,
+    a: i64,
+)
+    requires { ⌜ Entries (now indices) (now factors) count × Below (2 ^ 54) (now g) × (i < 64) × (natAbs a ≤ 2 ^ 31) ⌝ }
+    ensures { λ _. ⌜ Raised (now (g .entry)) (λ x. a *ℤ inRow (termsIn count (now (indices .entry)) (now (factors .entry))) x i) (now (g .exit)) ⌝ }
+{
+    let from = 64 * i;
+    let mut k = 0;
+    while k < count {
+        let x = from + (indices[k] as usize);
+        let y = a * (factors[k] as i64);
+        let z = g[x];
+        g[x] = z + y;
+        k += 1;
+    }
+}
+
+// Adds the products w * l * l' of each two entries of a row to the table of sums.
+fn add_outer(g: &mut [i64; 4096], row: certificate::StoredRow)
+    requires { ⌜ Entries (row .indices) (row .factors) (row .count) × Below (2 ^ 53) (now g) ⌝ }
+    ensures { λ _. ⌜ Raised (now (g .entry)) (outerAt (row .weight) (termsIn (row .count) (row .indices) (row .factors))) (now (g .exit)) ⌝ }
+{
+    let indices = row.indices;
+    let factors = row.factors;
+    let count = row.count;
+    let w = row.weight as i64;
+    let mut k = 0;
+    while k < count {
+        let i = indices[k] as usize;
+        let a = w * (factors[k] as i64);
+        add_products(g, &indices, &factors, count, i, a);
+        k += 1;
+    }
 }
