@@ -14,6 +14,7 @@ use Rattle.counting.proofs.Listed.{listed-same}
 use Rattle.blocks.specs.Limits.{Bounded}
 use Rattle.rounds.specs.Bytes.{part}
 use Rattle.polynomial.specs.Terms.{Term, term, termsIn}
+use Rattle.comparison.specs.declared.Lengths.{Lengths}
 use Rattle.comparison.specs.Spread.{Spreadable, Flattened, multiplierIn}
 
 -- the part of a list that a borrow of the places from a up to a + n has
@@ -39,12 +40,12 @@ first-low m n l h i = go (ltb i n) refl
 low-part : (m a n : ℕ) (l : List ℕ) → Bounded m l → Bounded m (take n (drop a l))
 low-part m a n l h = first-low m n (drop a l) (λ i. rw (getD-drop a l i 0) (h (a + i)))
 
-module _ (keys sizes exponents : List ℕ) (coefficients : List ℤ) (counts : List ℕ) (f : Flattened keys sizes exponents coefficients counts) (j : ℕ) (h : j < 9) where
+module _ (keys exponents : List ℕ) (coefficients : List ℤ) (l : Lengths) (f : Flattened keys exponents coefficients l) (j : ℕ) (h : j < 9) where
   abbrev size : ℕ
-  size = getD sizes j 0
+  size = getD (l .sizes) j 0
 
   abbrev count : ℕ
-  count = getD counts j 0
+  count = getD (l .counts) j 0
 
   pub basis-end : 64 * j + size ≤ length keys
   basis-end = omega (arith, f .arrays .sized .small j, f .arrays .keys-long)
@@ -55,13 +56,13 @@ module _ (keys sizes exponents : List ℕ) (coefficients : List ℤ) (counts : L
   pub coefficients-end : 32 * j + count ≤ length coefficients
   coefficients-end = omega (arith, f .arrays .counts-small j, f .coefficients-long)
 
-  pub basis-long : length (part 64 sizes keys j) ≡ size
+  pub basis-long : length (part 64 (l .sizes) keys j) ≡ size
   basis-long = part-long (64 * j) size keys basis-end
 
   exponents-long : length (take count (drop (32 * j) exponents)) ≡ count
   exponents-long = part-long (32 * j) count exponents exponents-end
 
-  pub parts-spreadable : Spreadable (part 64 sizes keys j) (take count (drop (32 * j) exponents)) (take count (drop (32 * j) coefficients))
+  pub parts-spreadable : Spreadable (part 64 (l .sizes) keys j) (take count (drop (32 * j) exponents)) (take count (drop (32 * j) coefficients))
   parts-spreadable =
       let a = f .arrays in
       let x = basis-long in
@@ -75,7 +76,7 @@ module _ (keys sizes exponents : List ℕ) (coefficients : List ℤ) (counts : L
         low = low-part (16 * 2 ^ 56) (32 * j) count exponents (a .exponents-low);
       }
 
-  pub multiplier-is : termsIn (length (take count (drop (32 * j) exponents))) (take count (drop (32 * j) exponents)) (take count (drop (32 * j) coefficients)) ≡ multiplierIn exponents coefficients counts j
+  pub multiplier-is : termsIn (length (take count (drop (32 * j) exponents))) (take count (drop (32 * j) exponents)) (take count (drop (32 * j) coefficients)) ≡ multiplierIn exponents coefficients (l .counts) j
   unfolding termsIn multiplierIn
   multiplier-is =
       rw exponents-long

@@ -2,3 +2,4 @@ pub mod Places
 pub mod Tables
 pub mod Spread
 pub mod Outer
+pub mod Walk

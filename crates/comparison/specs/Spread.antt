@@ -10,6 +10,7 @@ use Rattle.polynomial.specs.Terms.{Term, termsIn}
 use Rattle.polynomial.specs.Algebra.{sum, match}
 use Rattle.identity.specs.Gram.{pairKey, placed}
 use Rattle.rounds.specs.Arrays.{Arrays}
+use Rattle.comparison.specs.declared.Lengths.{Lengths}
 use Rattle.comparison.specs.Tables.{unit, Grown}
 
 -- what one entry at most adds to a sum: a product for each of 32 terms
@@ -60,6 +61,6 @@ unfoldable pub multiplierIn : List ℕ → List ℤ → List ℕ → ℕ → Lis
 multiplierIn exponents coefficients counts j = termsIn (getD counts j 0) (drop (32 * j) exponents) (drop (32 * j) coefficients)
 
 -- the flat arrays of a problem
-pub record Flattened (keys sizes exponents : List ℕ) (coefficients : List ℤ) (counts : List ℕ) : Type 0 where
-  pub arrays : Arrays keys sizes exponents counts
+pub record Flattened (keys exponents : List ℕ) (coefficients : List ℤ) (l : Lengths) : Type 0 where
+  pub arrays : Arrays keys (l .sizes) exponents (l .counts)
   pub coefficients-long : length coefficients ≡ 288

@@ -18,6 +18,7 @@ ghost use Rattle.comparison.specs.Places.{placeOf, byteAt, Walkable, Ind
 ghost use Rattle.comparison.specs.Tables.{unit, Ready, Grown, Addable, claimed, Negates};
 ghost use Rattle.comparison.specs.Spread.{entryUnit, tableUnit, share, Framed, Spreadable, Entered, Spread, multiplierIn, Flattened};
 ghost use Rattle.comparison.specs.Outer.{Entries, Below, Raised, inRow, outerAt};
+ghost use Rattle.comparison.specs.Walk.{Shaped, Changed, Summed};
 
 // Where a row leaves its block.
 pub enum Place {
@@ -68,12 +69,12 @@ pub fn split_place(s: &[u8], labels: &[u8]) -> Place
 }
 
 // Adds a product at the place of a key, where it has one.
-fn add_term(table: &[u64], n: usize, high: &mut [i64], low: &mut [u64], key: u64, x: i64, c: i32)
-    requires { ⌜ Ready (now table) n (now high) (now low) unit × (natAbs x ≤ 2 ^ 53) ⌝ }
-    ensures { λ _. ⌜ Grown (now (table .entry)) n (now (high .entry)) (now (low .entry)) (λ k. x *ℤ c *ℤ match k key) unit (now (high .exit)) (now (low .exit)) ⌝ }
+fn add_term(table: &[u64], n: usize, hi: &mut [i64], lo: &mut [u64], key: u64, x: i64, c: i32)
+    requires { ⌜ Ready (now table) n (now hi) (now lo) unit × (natAbs x ≤ 2 ^ 53) ⌝ }
+    ensures { λ _. ⌜ Grown (now (table .entry)) n (now (hi .entry)) (now (lo .entry)) (λ k. x *ℤ c *ℤ match k key) unit (now (hi .exit)) (now (lo .exit)) ⌝ }
 {
     match support::find(table, n, key) {
-        support::Found::At(p) => sums::add_scaled(high, low, p, x, c as i64),
+        support::Found::At(p) => sums::add_scaled(hi, lo, p, x, c as i64),
         support::Found::Gap(_) => {}
     }
 }
@@ -82,20 +83,20 @@ fn add_term(table: &[u64], n: usize, high: &mut [i64], low: &mut [u64], key: u64
 fn add_terms(
     table: &[u64],
     n: usize,
-    high: &mut [i64],
-    low: &mut [u64],
+    hi: &mut [i64],
+    lo: &mut [u64],
     exponents: &[u64],
     coefficients: &[i32],
     key: u64,
     x: i64,
 )
-    requires { ⌜ Ready (now table) n (now high) (now low) (length (now exponents) * unit) ⌝ }
+    requires { ⌜ Ready (now table) n (now hi) (now lo) (length (now exponents) * unit) ⌝ }
     requires { ⌜ Addable (now exponents) (now coefficients) key x ⌝ }
-    ensures { λ _. ⌜ Grown (now (table .entry)) n (now (high .entry)) (now (low .entry)) (λ k. x *ℤ sum (λ t. match k (key + t)) (termsIn (length (now (exponents .entry))) (now (exponents .entry)) (now (coefficients .entry)))) (length (now (exponents .entry)) * unit) (now (high .exit)) (now (low .exit)) ⌝ }
+    ensures { λ _. ⌜ Grown (now (table .entry)) n (now (hi .entry)) (now (lo .entry)) (λ k. x *ℤ sum (λ t. match k (key + t)) (termsIn (length (now (exponents .entry))) (now (exponents .entry)) (now (coefficients .entry)))) (length (now (exponents .entry)) * unit) (now (hi .exit)) (now (lo .exit)) ⌝ }
 {
     let mut t = 0;
     while t < exponents.len() {
-        add_term(table, n, high, low, key + exponents[t], x, coefficients[t]);
+        add_term(table, n, hi, lo, key + exponents[t], x, coefficients[t]);
         t += 1;
     }
 }
@@ -129,21 +130,21 @@ fn negate(side: usize, scale: u16, p: i32, q: u16) -> Negated
 fn add_claim(
     table: &[u64],
     n: usize,
-    high: &mut [i64],
-    low: &mut [u64],
+    hi: &mut [i64],
+    lo: &mut [u64],
     exponents: &[u64],
     coefficients: &[i32],
     t: certificate::Header,
 )
-    requires { ⌜ Ready (now table) n (now high) (now low) ((length (now exponents) + 1) * unit) ⌝ }
+    requires { ⌜ Ready (now table) n (now hi) (now lo) ((length (now exponents) + 1) * unit) ⌝ }
     requires { ⌜ Addable (now exponents) (now coefficients) 0 (pos 0) ⌝ }
-    ensures { λ _. ⌜ Grown (now (table .entry)) n (now (high .entry)) (now (low .entry)) (λ k. negℤ (coefficient k (claimed (termsIn (length (now (exponents .entry))) (now (exponents .entry)) (now (coefficients .entry))) t))) ((length (now (exponents .entry)) + 1) * unit) (now (high .exit)) (now (low .exit)) ⌝ }
+    ensures { λ _. ⌜ Grown (now (table .entry)) n (now (hi .entry)) (now (lo .entry)) (λ k. negℤ (coefficient k (claimed (termsIn (length (now (exponents .entry))) (now (exponents .entry)) (now (coefficients .entry))) t))) ((length (now (exponents .entry)) + 1) * unit) (now (hi .exit)) (now (lo .exit)) ⌝ }
 {
     let f = negate(t.side, t.scale, t.p, t.q);
     let x = f.objective;
     let y = f.constant;
-    add_terms(table, n, high, low, exponents, coefficients, 0, x);
-    add_term(table, n, high, low, 0, y, 1);
+    add_terms(table, n, hi, lo, exponents, coefficients, 0, x);
+    add_term(table, n, hi, lo, 0, y, 1);
 }
 
 // Adds one entry of the table of sums: a times b * b' for the indices of its place, times the multiplier.
@@ -153,30 +154,22 @@ fn add_entry(
     coefficients: &[i32],
     table: &[u64],
     n: usize,
-    high: &mut [i64],
-    low: &mut [u64],
+    hi: &mut [i64],
+    lo: &mut [u64],
     x: usize,
     a: i64,
 )
-    requires { ⌜ Ready (now table) n (now high) (now low) entryUnit ⌝ }
+    requires { ⌜ Ready (now table) n (now hi) (now lo) entryUnit ⌝ }
     requires { ⌜ Spreadable (now basis) (now exponents) (now coefficients) × Entered (now basis) x a ⌝ }
-    ensures { λ _. ⌜ Grown (now (table .entry)) n (now (high .entry)) (now (low .entry)) (λ k. a *ℤ share (now (basis .entry)) (termsIn (length (now (exponents .entry))) (now (exponents .entry)) (now (coefficients .entry))) k x) entryUnit (now (high .exit)) (now (low .exit)) ⌝ }
+    ensures { λ _. ⌜ Grown (now (table .entry)) n (now (hi .entry)) (now (lo .entry)) (λ k. a *ℤ share (now (basis .entry)) (termsIn (length (now (exponents .entry))) (now (exponents .entry)) (now (coefficients .entry))) k x) entryUnit (now (hi .exit)) (now (lo .exit)) ⌝ }
 {
     if a == 0 {
         return;
     }
     let i = x / 64;
     let k = x % 64;
-    add_terms(
-        table,
-        n,
-        high,
-        low,
-        exponents,
-        coefficients,
-        basis[i] + basis[k],
-        a,
-    );
+    let key = basis[i] + basis[k];
+    add_terms(table, n, hi, lo, exponents, coefficients, key, a);
 }
 
 // Adds the whole table of sums, and clears it. Past the basis's last index there is nothing to add.
@@ -187,21 +180,27 @@ fn spread(
     coefficients: &[i32],
     table: &[u64],
     n: usize,
-    high: &mut [i64],
-    low: &mut [u64],
+    hi: &mut [i64],
+    lo: &mut [u64],
 )
-    requires { ⌜ Ready (now table) n (now high) (now low) tableUnit ⌝ }
+    requires { ⌜ Ready (now table) n (now hi) (now lo) tableUnit ⌝ }
     requires { ⌜ Spreadable (now basis) (now exponents) (now coefficients) × Framed (length (now basis)) (now g) ⌝ }
-    ensures { λ _. ⌜ Spread (now (table .entry)) n (now (basis .entry)) (termsIn (length (now (exponents .entry))) (now (exponents .entry)) (now (coefficients .entry))) (now (g .entry)) (now (high .entry)) (now (low .entry)) (now (g .exit)) (now (high .exit)) (now (low .exit)) ⌝ }
+    ensures { λ _. ⌜ Spread (now (table .entry)) n (now (basis .entry)) (termsIn (length (now (exponents .entry))) (now (exponents .entry)) (now (coefficients .entry))) (now (g .entry)) (now (hi .entry)) (now (lo .entry)) (now (g .exit)) (now (hi .exit)) (now (lo .exit)) ⌝ }
 {
     let last = 64 * basis.len();
     let mut x = 0;
     while x < last {
         let a = g[x];
         g[x] = 0;
-        add_entry(basis, exponents, coefficients, table, n, high, low, x, a);
+        add_entry(basis, exponents, coefficients, table, n, hi, lo, x, a);
         x += 1;
     }
+}
+
+// How many places of the flat arrays' parts are used: the length of each basis, and the number of each multiplier's terms.
+pub struct Lengths {
+    pub sizes: [usize; 9],
+    pub counts: [usize; 9],
 }
 
 // Adds the table of sums of basis j, and clears it.
@@ -209,33 +208,25 @@ fn flush(
     g: &mut [i64; 4096],
     j: usize,
     keys: &[u64],
-    sizes: &[usize],
     exponents: &[u64],
     coefficients: &[i32],
-    counts: &[usize],
+    l: Lengths,
     table: &[u64],
     n: usize,
-    high: &mut [i64],
-    low: &mut [u64],
+    hi: &mut [i64],
+    lo: &mut [u64],
 )
-    requires { ⌜ Ready (now table) n (now high) (now low) tableUnit ⌝ }
-    requires { ⌜ Flattened (now keys) (now sizes) (now exponents) (now coefficients) (now counts) × (j < 9) × Framed (getD (now sizes) j 0) (now g) ⌝ }
-    ensures { λ _. ⌜ Spread (now (table .entry)) n (part 64 (now (sizes .entry)) (now (keys .entry)) j) (multiplierIn (now (exponents .entry)) (now (coefficients .entry)) (now (counts .entry)) j) (now (g .entry)) (now (high .entry)) (now (low .entry)) (now (g .exit)) (now (high .exit)) (now (low .exit)) ⌝ }
+    requires { ⌜ Ready (now table) n (now hi) (now lo) tableUnit ⌝ }
+    requires { ⌜ Flattened (now keys) (now exponents) (now coefficients) l × (j < 9) × Framed (getD (l .sizes) j 0) (now g) ⌝ }
+    ensures { λ _. ⌜ Spread (now (table .entry)) n (part 64 (l .sizes) (now (keys .entry)) j) (multiplierIn (now (exponents .entry)) (now (coefficients .entry)) (l .counts) j) (now (g .entry)) (now (hi .entry)) (now (lo .entry)) (now (g .exit)) (now (hi .exit)) (now (lo .exit)) ⌝ }
 {
     let a = 64 * j;
-    let e = a + sizes[j];
-    let b = 32 * j;
-    let f = b + counts[j];
-    spread(
-        g,
-        &keys[a..e],
-        &exponents[b..f],
-        &coefficients[b..f],
-        table,
-        n,
-        high,
-        low,
-    );
+    let b = a + l.sizes[j];
+    let c = 32 * j;
+    let d = c + l.counts[j];
+    let es = &exponents[c..d];
+    let cs = &coefficients[c..d];
+    spread(g, &keys[a..b], es, cs, table, n, hi, lo);
 }
 
 // Adds a times each factor of a row, in the table's row i.
@@ -277,4 +268,90 @@ fn add_outer(g: &mut [i64; 4096], row: certificate::StoredRow)
         add_products(g, &indices, &factors, count, i, a);
         k += 1;
     }
+}
+
+// Flushes the table of sums of basis j before a row on basis b, unless it is the same.
+fn change_basis(
+    g: &mut [i64; 4096],
+    j: usize,
+    b: usize,
+    keys: &[u64],
+    exponents: &[u64],
+    coefficients: &[i32],
+    l: Lengths,
+    table: &[u64],
+    n: usize,
+    hi: &mut [i64],
+    lo: &mut [u64],
+)
+    requires { ⌜ Ready (now table) n (now hi) (now lo) tableUnit ⌝ }
+    requires { ⌜ Flattened (now keys) (now exponents) (now coefficients) l × (j < 9) × Framed (getD (l .sizes) j 0) (now g) ⌝ }
+    ensures { λ _. ⌜ Changed j b (now (keys .entry)) (now (exponents .entry)) (now (coefficients .entry)) l (now (table .entry)) n (now (g .entry)) (now (hi .entry)) (now (lo .entry)) (now (g .exit)) (now (hi .exit)) (now (lo .exit)) ⌝ }
+{
+    if j == b {
+        return;
+    }
+    flush(g, j, keys, exponents, coefficients, l, table, n, hi, lo);
+}
+
+// Adds the weighted square of every row times its multiplier. The products of rows on one basis are summed first, by their indices,
+// in a table that is flushed when a row on another basis comes: a product with a multiplier is then made once for all of them.
+fn sum_rows(
+    g: &mut [i64; 4096],
+    s: &[u8],
+    keys: &[u64],
+    exponents: &[u64],
+    coefficients: &[i32],
+    l: Lengths,
+    table: &[u64],
+    n: usize,
+    hi: &mut [i64],
+    lo: &mut [u64],
+)
+    requires { ⌜ Ready (now table) n (now hi) (now lo) (129 * tableUnit) × Below 0 (now g) ⌝ }
+    requires { ⌜ Flattened (now keys) (now exponents) (now coefficients) l × Shaped (l .sizes) (now s) ⌝ }
+    ensures { λ _. ⌜ Summed (now (s .entry)) (now (keys .entry)) (now (exponents .entry)) (now (coefficients .entry)) l (now (table .entry)) n (now (hi .entry)) (now (lo .entry)) (now (hi .exit)) (now (lo .exit)) ⌝ }
+{
+    let mut j: usize = 0;
+    let mut at = 10;
+    while certificate::stands_at(0x11, s, at) {
+        let row = certificate::row_at(s, at);
+        let b = row.basis;
+        change_basis(g, j, b, keys, exponents, coefficients, l, table, n, hi, lo);
+        add_outer(g, row);
+        j = b;
+        at = row.next;
+    }
+    flush(g, j, keys, exponents, coefficients, l, table, n, hi, lo);
+}
+
+// The same, with the table of sums made here.
+fn add_rows(
+    s: &[u8],
+    keys: &[u64],
+    exponents: &[u64],
+    coefficients: &[i32],
+    l: Lengths,
+    table: &[u64],
+    n: usize,
+    hi: &mut [i64],
+    lo: &mut [u64],
+)
+    requires { ⌜ Ready (now table) n (now hi) (now lo) (129 * tableUnit) ⌝ }
+    requires { ⌜ Flattened (now keys) (now exponents) (now coefficients) l × Shaped (l .sizes) (now s) ⌝ }
+    ensures { λ _. ⌜ Summed (now (s .entry)) (now (keys .entry)) (now (exponents .entry)) (now (coefficients .entry)) l (now (table .entry)) n (now (hi .entry)) (now (lo .entry)) (now (hi .exit)) (now (lo .exit)) ⌝ }
+{
+    let mut g: [i64; 4096] = [0; 4096];
+    sum_rows(
+        &mut g,
+        s,
+        keys,
+        exponents,
+        coefficients,
+        l,
+        table,
+        n,
+        hi,
+        lo,
+    );
 }

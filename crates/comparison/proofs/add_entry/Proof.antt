@@ -32,62 +32,62 @@ module _ (c : tie.Else1) where
   column : s .args .x % 64 < length (s .args .basis .now)
   column = entered-column _ (s .args .x) (s .args .a) (s .pre .1 .1) not-zero
 
+-- src/lib.rt:167:9
 returns : tie.Need-returns
-returns c =
+returns c = 
     let s = c .before .before .before .before .before in
     let a = s .args in
     let e : a .a ≡ pos 0 = zero-bits (s .fits .a) (c .if1 .taken) in
     let G = termsIn (length (a .exponents .now)) (a .exponents .now) (a .coefficients .now) in
     grown-none (s .pre .0) (λ q b. rw e (zero-*ℤ (share (a .basis .now) G (getD (a .table .now) q 0) (a .x))))
 
--- src/lib.rt:169:61
-mul-add-terms : tie.Need-mul-add-terms
-mul-add-terms c = search needs
+-- src/lib.rt:171:15
+mul-key : tie.Need-mul-key
+mul-key c = search needs
 
--- src/lib.rt:169:61
-shared-slice-read-add-terms : tie.Need-shared-slice-read-add-terms
-shared-slice-read-add-terms c = row (c .before .before .before)
+-- src/lib.rt:171:15
+shared-slice-read-key : tie.Need-shared-slice-read-key
+shared-slice-read-key c = row (c .before)
 
--- src/lib.rt:169:72
-mul-add-terms-2 : tie.Need-mul-add-terms-2
-mul-add-terms-2 c = search needs
+-- src/lib.rt:171:26
+mul-key-2 : tie.Need-mul-key-2
+mul-key-2 c = search needs
 
--- src/lib.rt:169:72
-shared-slice-read-add-terms-2 : tie.Need-shared-slice-read-add-terms-2
-shared-slice-read-add-terms-2 c = column (c .before .before .before .before)
+-- src/lib.rt:171:26
+shared-slice-read-key-2 : tie.Need-shared-slice-read-key-2
+shared-slice-read-key-2 c = column (c .before .before)
 
--- src/lib.rt:169:61
-add-add-terms : tie.Need-add-add-terms
-add-add-terms c =
-    let e = c .before .before .before .before in
+-- src/lib.rt:171:15
+add-key : tie.Need-add-key
+add-key c = 
+    let e = c .before .before in
     let p = s e .pre .1 .0 in
     omega (arith, p .basis-low (s e .args .x / 64), p .basis-low (s e .args .x % 64))
 
--- src/lib.rt:169:5
+-- src/lib.rt:172:5
 add-terms-requires : tie.Need-add-terms-requires
-add-terms-requires c κs =
+add-terms-requires c κs = 
     let e = c .before .before .before .before in
-    let p = s e .pre .1 .0 in (
-      ready-less (s e .pre .0) (omega (arith, p .few)),
-      simp (toZ-ofZ (s e .fits .a)) record {
-        paired = p .paired;
-        low = λ i. omega (arith, p .low i);
-        key-low = omega (arith, p .basis-low (s e .args .x / 64), p .basis-low (s e .args .x % 64));
-        small = s e .pre .1 .1 .small;
-      },
-    )
+    let p = s e .pre .1 .0 in
+    (ready-less (s e .pre .0) (omega (arith, p .few)),
+    simp (toZ-ofZ (s e .fits .a)) record {
+      paired = p .paired;
+      low = λ i. omega (arith, p .low i);
+      key-low = omega (arith, p .basis-low (s e .args .x / 64), p .basis-low (s e .args .x % 64));
+      small = s e .pre .1 .1 .small;
+    })
 
--- src/lib.rt:149:1
+-- src/lib.rt:151:1
 same-length : tie.Need-same-length
 same-length c = search needs
 
--- src/lib.rt:149:1
+-- src/lib.rt:151:1
 same-length-2 : tie.Need-same-length-2
 same-length-2 c = search needs
 
--- src/lib.rt:149:1
+-- src/lib.rt:151:1
 returns-2 : tie.Need-returns-2
-returns-2 c =
+returns-2 c = 
     let a = c .before .before .before in
     let e = a .before .before .before .before .before in
     let p = s e .pre .1 .0 in
@@ -98,11 +98,11 @@ add-entry-spec =
     tie.close
     (tie.spec
     returns
-    mul-add-terms
-    shared-slice-read-add-terms
-    mul-add-terms-2
-    shared-slice-read-add-terms-2
-    add-add-terms
+    mul-key
+    shared-slice-read-key
+    mul-key-2
+    shared-slice-read-key-2
+    add-key
     add-terms-requires
     same-length
     same-length-2
