@@ -5,3 +5,4 @@ pub mod Claims
 pub mod Spreading
 pub mod Parts
 pub mod Outers
+pub mod Walks

@@ -9,7 +9,7 @@ use native.Mathlib.Omega.{arith}
 use borrow.Author.Tests.{eq-eqb, ne-eqb}
 use lib.Dec.{eqb}
 use lib.IntN.{ℤ, pos, one, natAbs, _+ℤ_, _*ℤ_, +ℤ-assoc, +ℤ-idl, +ℤ-idr, *ℤ-zero, *ℤ-one}
-use lib.ListN.{length, getD, set, length-set}
+use lib.ListN.{length, getD, set, replicate, length-set, length-replicate, getD-replicate}
 use lib.Seq.{getD-set-same, getD-set-other}
 use Rattle.integers.proofs.Ranges.{abs-sum, abs-mul-le}
 use Rattle.counting.specs.Counting.{listed}
@@ -126,6 +126,10 @@ module _ {g₀ : List ℤ} {m : ℕ → ℕ → ℤ} {x : ℤ} {E : List ℕ} {C
 pub raising-all : {g₀ g₁ : List ℤ} {w count t : ℕ} {E : List ℕ} {C : List ℤ} → Raising g₀ (inRow (termsIn count E C)) (pos w) E C t g₁ → t ≡ count → Raised g₀ (outerAt w (termsIn count E C)) g₁
 unfolding outerAt
 raising-all {g₀} {g₁} {w} {count} {t} {E} {C} h e = subst (λ (n : ℕ). Raised g₀ (λ y. pos w *ℤ sum (inRow (termsIn count E C) y) (termsIn n E C)) g₁) e (h .raised)
+
+-- a table of zeros
+pub none-below : Below 0 (replicate 4096 (pos 0))
+none-below = record { long = length-replicate 4096 (pos 0); small = λ x h. let e = ap natAbs (getD-replicate 4096 x (pos 0) (pos 0) h) in omega arith }
 
 -- one number added at a place
 pub raised-set : (g : List ℤ) (y : ℕ) (v : ℤ) → length g ≡ 4096 → y < 4096 → Raised g (λ z. v *ℤ match z y) (set g y (getD g y (pos 0) +ℤ v))

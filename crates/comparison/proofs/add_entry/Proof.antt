@@ -34,7 +34,7 @@ module _ (c : tie.Else1) where
 
 -- src/lib.rt:167:9
 returns : tie.Need-returns
-returns c = 
+returns c =
     let s = c .before .before .before .before .before in
     let a = s .args in
     let e : a .a ≡ pos 0 = zero-bits (s .fits .a) (c .if1 .taken) in
@@ -59,23 +59,24 @@ shared-slice-read-key-2 c = column (c .before .before)
 
 -- src/lib.rt:171:15
 add-key : tie.Need-add-key
-add-key c = 
+add-key c =
     let e = c .before .before in
     let p = s e .pre .1 .0 in
     omega (arith, p .basis-low (s e .args .x / 64), p .basis-low (s e .args .x % 64))
 
 -- src/lib.rt:172:5
 add-terms-requires : tie.Need-add-terms-requires
-add-terms-requires c κs = 
+add-terms-requires c κs =
     let e = c .before .before .before .before in
-    let p = s e .pre .1 .0 in
-    (ready-less (s e .pre .0) (omega (arith, p .few)),
-    simp (toZ-ofZ (s e .fits .a)) record {
-      paired = p .paired;
-      low = λ i. omega (arith, p .low i);
-      key-low = omega (arith, p .basis-low (s e .args .x / 64), p .basis-low (s e .args .x % 64));
-      small = s e .pre .1 .1 .small;
-    })
+    let p = s e .pre .1 .0 in (
+      ready-less (s e .pre .0) (omega (arith, p .few)),
+      simp (toZ-ofZ (s e .fits .a)) record {
+        paired = p .paired;
+        low = λ i. omega (arith, p .low i);
+        key-low = omega (arith, p .basis-low (s e .args .x / 64), p .basis-low (s e .args .x % 64));
+        small = s e .pre .1 .1 .small;
+      },
+    )
 
 -- src/lib.rt:151:1
 same-length : tie.Need-same-length
@@ -87,7 +88,7 @@ same-length-2 c = search needs
 
 -- src/lib.rt:151:1
 returns-2 : tie.Need-returns-2
-returns-2 c = 
+returns-2 c =
     let a = c .before .before .before in
     let e = a .before .before .before .before .before in
     let p = s e .pre .1 .0 in

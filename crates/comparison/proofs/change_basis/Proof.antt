@@ -27,7 +27,7 @@ same-length-2 c = search needs
 
 -- src/lib.rt:274:1
 returns-2 : tie.Need-returns-2
-returns-2 c = 
+returns-2 c =
     let e = c .before .before .before in
     let b = e .before .before .before .before in
     record { same = λ q. absurd (b .if1 .left q); other = λ f. e .flush .ensures }

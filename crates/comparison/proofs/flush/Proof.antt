@@ -123,12 +123,13 @@ part-spread-end c = omega (arith, keys-end (c .before .before .before .before .b
 
 -- src/lib.rt:229:5
 spread-requires : tie.Need-spread-requires
-spread-requires c κs = 
+spread-requires c κs =
     let b = c .before .before .before .before .before .before .before .before in
-    let a = s b .args in
-    (s b .pre .0,
-    rw (cut-is (64 * j b) (size b) (a .keys .now), cut-is (32 * j b) (count b) (a .exponents .now), cut-is (32 * j b) (count b) (a .coefficients .now))
-    (spreadable b, framed b))
+    let a = s b .args in (
+      s b .pre .0,
+      rw (cut-is (64 * j b) (size b) (a .keys .now), cut-is (32 * j b) (count b) (a .exponents .now), cut-is (32 * j b) (count b) (a .coefficients .now))
+          (spreadable b, framed b),
+    )
 
 -- src/lib.rt:207:1
 same-length : tie.Need-same-length
@@ -140,7 +141,7 @@ same-length-2 c = search needs
 
 -- src/lib.rt:207:1
 returns : tie.Need-returns
-returns c = 
+returns c =
     let e = c .before .before .before in
     let b = e .before .before .before .before .before .before .before .before .before in
     let a = s b .args in
