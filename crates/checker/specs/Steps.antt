@@ -5,7 +5,7 @@ use mathlib.Core.List.{List}
 use Prim.Native.Nat.{ℕ, _≤_}
 use lib.Dec.{eqb}
 use lib.IntN.{ℤ}
-use lib.ListN.{length, drop}
+use lib.ListN.{length, take, drop}
 use Rattle.stream.specs.Commands.{Outcome, refused, given}
 use Rattle.problem.specs.Rules.{Problem}
 use Rattle.problem.specs.Stored.{problemOf, Kept}
@@ -15,8 +15,10 @@ use Rattle.joining.specs.Joining.{closing, tooLarge}
 use Rattle.joining.specs.Tables.{Joining}
 use Rattle.joining.specs.declared.Joined.{Joined}
 use Rattle.fraction.specs.Fractions.{fraction, gapOf}
+use Rattle.support.specs.Table.{Holds}
+use Rattle.certificate.specs.Rules.{Certificate, shapeOf, readCertificate}
 use Rattle.certificate.specs.declared.Header.{Header}
-use Rattle.identity.specs.Judgement.{Judgement}
+use Rattle.identity.specs.Judgement.{Judgement, comparedKeys}
 use Rattle.identity.specs.Judgement as J
 use Rattle.checker.specs.declared.Prepared.{Prepared}
 use Rattle.checker.specs.declared.Judged.{Judged}
@@ -48,6 +50,18 @@ pub record Prepares (o : Outcome Problem) (t : List ℕ) (r : Prepared) (t′ : 
   pub outcome : preparedOf r ≡ limited o
   pub joins : r .number ≡ 0 → Joins (r .problem) (r .joined) t′
   pub rest : drop 2048 t′ ≡ drop 2048 t
+
+-- the compared keys are the first n numbers of a table
+pub record Compares (p : Problem) (n : ℕ) (table : List ℕ) : Type 0 where
+  pub limits : Limits p
+  pub holds : Holds table n
+  pub keys : take n table ≡ comparedKeys p
+
+-- the stream gives a certificate with this header
+pub record Stands (p : Problem) (s : List ℕ) (header : Header) : Type 0 where
+  pub certificate : Certificate
+  pub read : readCertificate (shapeOf p) s ≡ given certificate
+  pub header-is : header ≡ certificate .header
 
 -- "extra length .. is untouched"
 pub record Rest (k : List ℕ) (h : List ℤ) (l : List ℕ) (k′ : List ℕ) (h′ : List ℤ) (l′ : List ℕ) : Type 0 where

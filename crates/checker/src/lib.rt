@@ -8,16 +8,24 @@ ghost use lib.ListN.{length, drop, replicate};
 ghost use lib.IntN.{pos};
 ghost use Rattle.problem.specs.Rules.{readProblem};
 ghost use Rattle.problem.specs.Stored.{problemOf, Kept};
+ghost use Rattle.stream.specs.Commands.{given};
+ghost use Rattle.certificate.specs.Rules.{Certificate, shapeOf, readCertificate};
 ghost use Rattle.identity.specs.Judgement as J;
+ghost use Rattle.comparison.specs.Compare.{differenceOf, Untouched};
+ghost use Rattle.checker.specs.declared.Judged.the-variants as Judged;
 ghost use Rattle.checker.specs.Tables.{tablesShort, tableLeft};
 ghost use Rattle.checker.specs.Blocks.{blocksShort, refusedBlocks, blocksRead, bytesRead, blocksVerdict, bytesLeft};
 ghost use Rattle.fraction.specs.Fractions.{Bound, fraction};
 ghost use Rattle.checker.specs.Refusals.{problemRefusal, certificateRefusal};
 ghost use Rattle.checker.specs.Check.{refusedCheck, checkRead, checkVerdict};
 ghost use Rattle.checker.specs.Pair.{refusedPair, pairFirst, pairRead, pairVerdict};
-ghost use Rattle.checker.specs.Steps.{Prepares, Joins, Rest, judgedOf, checkFrom, sidesFrom, pairFrom};
+ghost use Rattle.checker.specs.Steps.{Prepares, Joins, Compares, Stands, Rest, judgedOf, checkFrom, sidesFrom, pairFrom};
 ghost use Rattle.checker.specs.Promises.{BlocksClosed, BlocksLeast, BlocksLowest, RoundsTaken, FewRounds, SevenExactly, AcceptedExactly, PairExactly, HoldsBelow, HoldsAbove, HoldsGap};
 use certificate::Header;
+use certificate::Shape;
+use comparison::Difference;
+use comparison::Lengths;
+use comparison::Place;
 use fraction::Fraction;
 use joining::Joined;
 use problem::StoredProblem;
@@ -238,8 +246,59 @@ fn prepare(problem: &[u8], table: &mut [u64]) -> Prepared
     }
 }
 
-// One certificate against a problem with its blocks. The compared keys stand in `keys`; the sums at them are kept in the other tables,
-// before place 2,048 only.
+// Whether the identity of a certificate that was read holds; if not, at which key it first differs. The compared keys are the first
+// n numbers of `table`; the sums at them are kept in the other tables, before place 2,048 only.
+fn difference(
+    p: StoredProblem,
+    n: usize,
+    header: Header,
+    s: &[u8],
+    table: &[u64],
+    high: &mut [i64],
+    low: &mut [u64],
+) -> Difference
+    requires { ⌜ Kept p × Compares (problemOf p) n (now table) × Stands (problemOf p) (now s) header × (2048 ≤ length (now high)) × (2048 ≤ length (now low)) ⌝ }
+    ensures { λ r. ⌜ ((c : Certificate) → readCertificate (shapeOf (problemOf p)) (now (s .entry)) ≡ given c → r ≡ differenceOf (J.differenceKey (problemOf p) c)) × Untouched (now (high .entry)) (now (high .exit)) × Untouched (now (low .entry)) (now (low .exit)) ⌝ }
+{
+    clear_signed(high);
+    clear(low);
+    let constraints = p.constraints;
+    let m = problem::multipliers_of(constraints, p.count);
+    let coefficients = problem::coefficients_of(constraints, p.count);
+    let bases = p.keys;
+    let exponents = m.keys;
+    let lengths = Lengths {
+        sizes: p.sizes,
+        counts: m.counts,
+    };
+    comparison::compare(
+        s,
+        header,
+        &bases,
+        &exponents,
+        &coefficients,
+        lengths,
+        p.objective,
+        table,
+        n,
+        high,
+        low,
+    )
+}
+
+// A refusal of a certificate.
+fn refuse(stream: u8, number: u8, place: usize, key: u64) -> Judged
+    ensures { λ r. ⌜ r ≡ Judged.Refused (certificateRefusal stream number place key) ⌝ }
+{
+    Judged::Refused(Refusal {
+        number,
+        stream,
+        place,
+        key,
+    })
+}
+
+// One certificate against a problem with its blocks: it by commands, 8 by rows, 9.
 fn judge(
     stream: u8,
     p: StoredProblem,
@@ -252,7 +311,23 @@ fn judge(
     requires { ⌜ Joins p j (now keys) × (2048 ≤ length (now high)) × (2048 ≤ length (now low)) ⌝ }
     ensures { λ r. ⌜ (r ≡ judgedOf stream (J.judge (problemOf p) (now (s .entry)))) × (drop 2048 (now (high .exit)) ≡ drop 2048 (now (high .entry))) × (drop 2048 (now (low .exit)) ≡ drop 2048 (now (low .entry))) ⌝ }
 {
-    Judged::Refused(problem_refusal(stream, 0))
+    let shape = Shape {
+        constraints: p.count,
+        sizes: p.sizes,
+    };
+    let r = certificate::validate(shape, s);
+    let number = r.number;
+    if 0 < number {
+        return refuse(stream, number, r.place, 0);
+    }
+    let labels = j.labels;
+    if let Place::At(place) = comparison::split_place(s, &labels) {
+        return refuse(stream, 8, place, 0);
+    }
+    match difference(p, j.len, r.header, s, keys, high, low) {
+        Difference::Differs(key) => refuse(stream, 9, 0, key),
+        Difference::Same => Judged::Accepted(r.header),
+    }
 }
 
 fn problem_refusal(number: u8, place: usize) -> Refusal

@@ -1,22 +1,24 @@
 -- Laws of the bases and the multipliers: a basis is its part of the keys, and the multipliers are flattened one after the other.
-use mathlib.Core.Path.{_≡_, refl, sym, _∙_}
-use mathlib.Core.List.{List, [], _∷_, _++_}
+use mathlib.Core.Path.{_≡_, refl, sym, _∙_, subst}
+use mathlib.Core.List.{List, [], _∷_, _++_, map}
 use mathlib.Core.Logic.{_⊎_, inl, inr, ⊎-elim}
 use Prim.Native.Nat.{ℕ, zero, suc, _+_, _-_, _*_, _≤_, _<_, zero-le}
 use native.Mathlib.Decide.{decLt}
 use native.Mathlib.Nat.{eq-or-lt-of-le}
 use native.Mathlib.Numerals.{add-one}
 use native.Mathlib.Omega.{arith}
+use lib.IntN.{ℤ, pos}
 use lib.ListN.{length, take, drop, set, getD, replicate, length-append, length-drop, length-set, length-replicate, take-append-drop, List·getD-eq-default}
 use lib.Seq.{length-take-le, take-append-le, drop-append-le, drop-at, getD-drop, getD-set-same, getD-set-other}
-use Rattle.counting.proofs.Listed.{listed-at}
-use Rattle.polynomial.specs.Terms.{keysOf, terms, Low, Filled}
+use Rattle.counting.specs.Counting.{listed}
+use Rattle.counting.proofs.Listed.{listed-at, listed-take}
+use Rattle.polynomial.specs.Terms.{Term, term, keysOf, termsIn, terms, Low, Filled}
 use Rattle.polynomial.specs.declared.Polynomial.{Polynomial}
 use Rattle.polynomial.proofs.Terms.{terms-keys, set-all, low-none}
 use Rattle.problem.specs.declared.StoredProblem.{StoredProblem}
 use Rattle.problem.specs.Rules.{Problem}
 use Rattle.problem.specs.Stored.{noTerms, constraintsOf, basesOf, problemOf, KeptConstraints, Kept}
-use Rattle.problem.specs.Bases.{basisOf, multiplierOf, Flat}
+use Rattle.problem.specs.Bases.{basisOf, multiplierOf, Flat, coefficientsOf, FlatCoefficients}
 use Rattle.problem.proofs.Stored.{constraints-count, bases-count, basis-stored}
 
 below-or-not : (i n : ℕ) → (i < n) ⊎ (n ≤ i)
@@ -58,22 +60,22 @@ low-append d (x ∷ l) m h k zero = h zero
 low-append d (x ∷ l) m h k (suc i) = low-append d l m (λ j. h (suc j)) k i
 
 -- ---- a part of a list is replaced
-module _ (l : List ℕ) (a : ℕ) (h : a ≤ length l) where
+module _ {A : Type 0} (l : List A) (a : ℕ) (h : a ≤ length l) where
   front : length (take a l) ≡ a
   front = length-take-le a l h
 
   -- what stands before it stays
-  before : (m n : ℕ) (r : List ℕ) → n + m ≤ a → take m (drop n (take a l ++ r)) ≡ take m (drop n l)
+  before : (m n : ℕ) (r : List A) → n + m ≤ a → take m (drop n (take a l ++ r)) ≡ take m (drop n l)
   before m n r p = half r ∙ sym (rw (take-append-drop a l) at (half (drop a l)))
     where
-      half : (r : List ℕ) → take m (drop n (take a l ++ r)) ≡ take m (drop n (take a l))
+      half : (r : List A) → take m (drop n (take a l ++ r)) ≡ take m (drop n (take a l))
       half r =
           let f = front in
           let w : n ≤ length (take a l) = omega arith in
           rw (drop-append-le n (take a l) r w) (take-append-le m (drop n (take a l)) r (rw (length-drop n (take a l)) (omega arith)))
 
   -- and it starts with what is put there
-  placed : (m : ℕ) (y r : List ℕ) → m ≤ length y → take m (drop a (take a l ++ (y ++ r))) ≡ take m y
+  placed : (m : ℕ) (y r : List A) → m ≤ length y → take m (drop a (take a l ++ (y ++ r))) ≡ take m y
   placed m y r p = rw (drop-at (take a l) (y ++ r) a front) (take-append-le m y r p)
 
 -- ---- the multipliers up to number j stand in their parts
@@ -181,4 +183,113 @@ module _ (qs : List Polynomial) where
           (λ l.
           let c = constraints-count n qs in
           rw (f .none (suc i) (omega arith), e, List·getD-eq-default (constraintsOf n qs) [] {n = i} (omega arith)))
+          (below-or-not i n)
+
+-- ---- the coefficients up to number j stand in the same parts
+unfoldable pub factors : List Polynomial → ℕ → List ℤ
+factors qs zero = pos 1 ∷ []
+factors qs (suc i) = take (getD qs i noTerms .count) (getD qs i noTerms .coefficients)
+
+pub record Filling (qs : List Polynomial) (j : ℕ) (cs : List ℤ) : Type 0 where
+  pub each : (i : ℕ) → i ≤ j → take (length (factors qs i)) (drop (32 * i) cs) ≡ factors qs i
+  pub long : length cs ≡ 288
+
+module _ (qs : List Polynomial) where
+  pub filling-start : Filling qs 0 (set (replicate 288 (pos 0)) 0 (pos 1))
+  unfolding factors
+  filling-start = record { each = first; long = length-set (replicate 288 (pos 0)) 0 (pos 1) ∙ length-replicate {A = ℤ} 288 (pos 0) }
+    where
+      first : (i : ℕ) → i ≤ 0 → take (length (factors qs i)) (drop (32 * i) (set (replicate 288 (pos 0)) 0 (pos 1))) ≡ factors qs i
+      first zero h = refl
+      first (suc i) h = absurd (omega arith)
+
+  module _ (n j : ℕ) (cs : List ℤ) (k : KeptConstraints n qs) (f : Filling qs j cs) (h : j < n) where
+    abbrev here : Polynomial
+    here = getD qs j noTerms
+
+    pub filled-here : Filled 16 32 (here .keys) (here .coefficients) (here .count)
+    filled-here = let u = k .count-low in k .each j (omega arith)
+
+    abbrev from : ℕ
+    from = 32 * (j + 1)
+
+    abbrev after : List ℤ
+    after = drop (from + 32 - from) (drop from cs)
+
+    abbrev filled : List ℤ
+    filled = take from cs ++ (here .coefficients ++ after)
+
+    pub filling-room : from + 32 ≤ length cs
+    filling-room = let u = k .count-low in let l = f .long in omega arith
+
+    -- at most 32 of them
+    factors-few : (i : ℕ) → i ≤ j → length (factors qs i) ≤ 32
+    unfolding factors
+    factors-few zero l = omega arith
+    factors-few (suc i) l =
+        let u = k .count-low in
+        let o = k .each i (omega arith) in
+        let e = length-take-le (getD qs i noTerms .count) (getD qs i noTerms .coefficients) (omega arith) in
+        omega arith
+
+    factors-next : factors qs (j + 1) ≡ take (here .count) (here .coefficients)
+    unfolding factors
+    factors-next = rw (add-one j)
+
+    last-is : take (length (factors qs (j + 1))) (drop from filled) ≡ factors qs (j + 1)
+    last-is =
+        let r = filling-room in
+        let o = filled-here in
+        let w : here .count ≤ length (here .coefficients) = omega arith in
+        rw (factors-next, length-take-le (here .count) (here .coefficients) w) (placed cs from (omega arith) (here .count) (here .coefficients) after w)
+
+    pub filling-more : Filling qs (j + 1) filled
+    filling-more =
+        let r = filling-room in
+        let o = filled-here in
+        let g = length-take-le from cs (omega arith) in
+        record {
+          each = λ i l.
+              ⊎-elim
+              (λ e. subst (λ (m : ℕ). take (length (factors qs m)) (drop (32 * m) filled) ≡ factors qs m) (sym e) last-is)
+              (λ d. let b = factors-few i (omega arith) in before cs from (omega arith) (length (factors qs i)) (32 * i) (here .coefficients ++ after) (omega arith) ∙ f .each i (omega arith))
+              (eq-or-lt-of-le l);
+          long = rw (length-append (take from cs) (here .coefficients ++ after), length-append (here .coefficients) after, length-drop (from + 32 - from) (drop from cs), length-drop from cs) (let l = f .long in omega arith);
+        }
+
+-- ---- the coefficients of the terms that two arrays hold
+map-append : (l m : List Term) → map (λ (t : Term). t .coefficient) (l ++ m) ≡ map (λ (t : Term). t .coefficient) l ++ map (λ (t : Term). t .coefficient) m
+map-append [] m = refl
+map-append (x ∷ l) m = rw (map-append l m)
+
+map-listed : (n : ℕ) (f : ℕ → Term) → map (λ (t : Term). t .coefficient) (listed n f) ≡ listed n (λ i. f i .coefficient)
+unfolding listed
+map-listed zero f = refl
+map-listed (suc n) f = rw (map-append (listed n f) (f n ∷ []), map-listed n f)
+
+terms-coefficients : (n : ℕ) (keys : List ℕ) (cs : List ℤ) → n ≤ length cs → map (λ (t : Term). t .coefficient) (termsIn n keys cs) ≡ take n cs
+unfolding termsIn
+terms-coefficients n keys cs h = map-listed n (λ i. term (getD keys i 0) (getD cs i (pos 0))) ∙ listed-take n cs (pos 0) h
+
+module _ (qs : List Polynomial) where
+  pub filling-done : (n : ℕ) (cs : List ℤ) → KeptConstraints n qs → Filling qs n cs → (p : Problem) → p .constraints ≡ constraintsOf n qs → FlatCoefficients p cs
+  unfolding factors multiplierOf coefficientsOf constraintsOf keysOf
+  filling-done n cs k f p e = record { each = all; long = f .long }
+    where
+      all : (i : ℕ) → take (length (multiplierOf p i)) (drop (32 * i) cs) ≡ coefficientsOf p i
+      all zero = f .each 0 zero-le
+      all (suc i) =
+          ⊎-elim
+          (λ l.
+          let u = k .count-low in
+          let o = k .each i (omega arith) in
+          let q = getD qs i noTerms in
+          let v : q .count ≤ length (q .keys) = omega arith in
+          let w : q .count ≤ length (q .coefficients) = omega arith in
+          let g : getD (p .constraints) i [] ≡ terms q = rw (e, listed-at n (λ j. terms (getD qs j noTerms)) i [] l) in
+          let m : length (take (q .count) (q .keys)) ≡ length (take (q .count) (q .coefficients)) = length-take-le (q .count) (q .keys) v ∙ sym (length-take-le (q .count) (q .coefficients) w) in
+          rw (g, terms-keys (q .count) (q .keys) (q .coefficients) v, m, terms-coefficients (q .count) (q .keys) (q .coefficients) w) (f .each (suc i) (omega arith)))
+          (λ l.
+          let c = constraints-count n qs in
+          rw (e, List·getD-eq-default (constraintsOf n qs) [] {n = i} (omega arith)))
           (below-or-not i n)

@@ -6,7 +6,7 @@ ghost use Rattle.problem.specs.Layout.{commandOf, size, decode};
 ghost use Rattle.problem.specs.Rules.{Problem, placed, fitting, nonzero, allowed, commandAt, readProblem};
 ghost use Rattle.problem.specs.Checks.{early, lateIn};
 ghost use Rattle.problem.specs.Stored.{outcomeOf, constraintsOf, KeptConstraints, Kept};
-ghost use Rattle.problem.specs.Bases.{Flat};
+ghost use Rattle.problem.specs.Bases.{Flat, FlatCoefficients};
 use polynomial::Objective;
 use polynomial::Polynomial;
 
@@ -303,4 +303,31 @@ pub fn multipliers_of(constraints: [Polynomial; 8], count: usize) -> Multipliers
         copy_all(&mut keys[32 * j..32 * j + 32], &q.keys);
     }
     Multipliers { keys, counts }
+}
+
+fn copy_signed(to: &mut [i32], from: &[i32])
+    requires { ⌜ length (now to) ≡ length (now from) ⌝ }
+    ensures { λ _. ⌜ now (to .exit) ≡ now (from .entry) ⌝ }
+{
+    let mut i = 0;
+    while i < from.len() {
+        to[i] = from[i];
+        i += 1;
+    }
+}
+
+// The coefficients of the multipliers, at the places that their exponents have. g_0 is 1.
+pub fn coefficients_of(constraints: [Polynomial; 8], count: usize) -> [i32; 288]
+    requires { ⌜ KeptConstraints count constraints ⌝ }
+    ensures { λ r. ⌜ ((p : Problem) → p .constraints ≡ constraintsOf count constraints → FlatCoefficients p r) ⌝ }
+{
+    let mut coefficients: [i32; 288] = [0; 288];
+    coefficients[0] = 1;
+    let mut j = 0;
+    while j < count {
+        let q = constraints[j];
+        j += 1;
+        copy_signed(&mut coefficients[32 * j..32 * j + 32], &q.coefficients);
+    }
+    coefficients
 }

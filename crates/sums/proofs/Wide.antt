@@ -36,14 +36,14 @@ pub record Three (a b ah yh ph : ℤ) (al yl pl : ℕ) : Type 0 where
   pub parted : Parted base (pos yl *ℤ pos root +ℤ pos al *ℤ b) ph pl
 
 module _ {a b ah : ℤ} {al : ℕ} (k : One a b ah al) where
-  ah-small : natAbs ah ≤ 2 ^ 32
-  ah-small = high-small (k .parted) (2 ^ 32) (k .factors .first)
+  ah-small : natAbs ah ≤ 2 ^ 31
+  ah-small = high-small (k .parted) (2 ^ 31) (k .factors .first)
 
   pub ah-fits : SFits w64 ah
   ah-fits = abs-fits (omega (arith, ah-small))
 
-  y-small : natAbs (ah *ℤ b) ≤ 2 ^ 32 * 2147483647
-  y-small = abs-mul-le ah b (2 ^ 32) 2147483647 ah-small (omega (arith, k .factors .second))
+  y-small : natAbs (ah *ℤ b) ≤ 2 ^ 31 * 2 ^ 31
+  y-small = abs-mul-le ah b (2 ^ 31) (2 ^ 31) ah-small (k .factors .second)
 
   pub y-fits : SFits w64 (ah *ℤ b)
   y-fits = abs-fits (omega (arith, y-small))
@@ -52,7 +52,7 @@ module _ {a b ah : ℤ} {al : ℕ} (k : One a b ah al) where
   al-fits = abs-fits (omega (arith, k .parted .low))
 
   t-small : natAbs (pos al *ℤ b) ≤ 2 ^ 30 * 2 ^ 31
-  t-small = abs-mul-le (pos al) b (2 ^ 30) (2 ^ 31) (omega (arith, k .parted .low)) (omega (arith, k .factors .second))
+  t-small = abs-mul-le (pos al) b (2 ^ 30) (2 ^ 31) (omega (arith, k .parted .low)) (k .factors .second)
 
   pub t-fits : SFits w64 (pos al *ℤ b)
   t-fits = abs-fits (omega (arith, t-small))

@@ -33,8 +33,8 @@ pub record Addend (hi : ℤ) (lo : ℕ) : Type 0 where
 
 -- factors whose product `mul_parts` takes
 pub record Factors (a b : ℤ) : Type 0 where
-  pub first : natAbs a ≤ 2 ^ 62
-  pub second : natAbs b < 2 ^ 31
+  pub first : natAbs a ≤ 2 ^ 61
+  pub second : natAbs b ≤ 2 ^ 31
 
 -- place k is in both tables, and its number is small enough for one more to be added
 pub record Room (hi : List ℤ) (lo : List ℕ) (k : ℕ) : Type 0 where

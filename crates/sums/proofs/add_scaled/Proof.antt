@@ -21,7 +21,7 @@ parts c =
     let s = c .before .before in
     let f = s .pre .1 in
     addend (parted c)
-    (omega (arith, abs-mul-le (s .args .a) (s .args .b) (2 ^ 62) (2 ^ 31) (f .first) (omega (arith, f .second))))
+    (omega (arith, abs-mul-le (s .args .a) (s .args .b) (2 ^ 61) (2 ^ 31) (f .first) (f .second)))
 
 add-parts-requires : tie.Need-add-parts-requires
 add-parts-requires c κs =

@@ -1,0 +1,151 @@
+-- How the tables grow: by nothing, by one number, by one growth after another.
+use mathlib.Core.Path.{_≡_, refl, sym, ap, _∙_}
+use mathlib.Core.Bool.{Bool, true, false, cond}
+use mathlib.Core.List.{List}
+use mathlib.Core.Logic.{⊎-elim}
+use Prim.Native.Nat.{ℕ, _+_, _*_, _≤_, _<_}
+use native.Mathlib.Nat.{eq-or-lt-of-le}
+use native.Mathlib.Omega.{arith}
+use borrow.Author.Tests.{eqb-true, eqb-false, eq-eqb, ne-eqb, ltb-true, ltb-false}
+use lib.Dec.{eqb, ltb}
+use lib.IntN.{ℤ, pos, natAbs, one, _+ℤ_, _*ℤ_, +ℤ-assoc, +ℤ-idr, *ℤ-zero, *ℤ-one}
+use lib.ListN.{length, getD, take}
+use lib.Seq.{getD-take, length-take-le}
+use Rattle.support.specs.Table.{findIn, rank}
+use Rattle.support.specs.Sets.{member}
+use Rattle.support.specs.declared.Found.the-variants.{At, Gap}
+use Rattle.support.proofs.Laws.{inside, rising-in, member-at, at-tells, gap-tells, told-in, miss-in}
+use Rattle.sums.specs.Sums.{base, valueAt, Room, Added, Sums}
+use Rattle.sums.proofs.Tables.{added-at, bound-at, sums-kept}
+use Rattle.polynomial.specs.Algebra.{match}
+use Rattle.comparison.specs.Tables.{Ready, Grown}
+
+module _ {keys : List ℕ} {n : ℕ} {hi₀ hi₁ : List ℤ} {lo₀ lo₁ : List ℕ} where
+  pub ready-after : {f : ℕ → ℤ} {c d e : ℕ} → Ready keys n hi₀ lo₀ e → Grown keys n hi₀ lo₀ f c hi₁ lo₁ → c + d ≤ e → Ready keys n hi₁ lo₁ d
+  ready-after r h l =
+      record {
+        support = r .support;
+        in-hi = omega (arith, r .in-hi, h .hi-length);
+        in-lo = omega (arith, r .in-lo, h .lo-length);
+        low = h .low;
+        small = λ q b. omega (arith, h .near q b, r .small q b);
+      }
+
+  pub grown-same : {f g : ℕ → ℤ} {c d : ℕ} → Grown keys n hi₀ lo₀ f c hi₁ lo₁ → ((k : ℕ) → f k ≡ g k) → c ≤ d → Grown keys n hi₀ lo₀ g d hi₁ lo₁
+  grown-same h e l =
+      record {
+        there = λ q b. h .there q b ∙ ap (λ (z : ℤ). valueAt hi₀ lo₀ q +ℤ z) (e (getD keys q 0));
+        near = λ q b. omega (arith, h .near q b);
+        low = h .low;
+        hi-rest = h .hi-rest;
+        lo-rest = h .lo-rest;
+        hi-length = h .hi-length;
+        lo-length = h .lo-length;
+      }
+
+  -- one growth after another
+  pub grown-then : {hi₂ : List ℤ} {lo₂ : List ℕ} {f g h : ℕ → ℤ} {c d e : ℕ} → Grown keys n hi₀ lo₀ f c hi₁ lo₁ → Grown keys n hi₁ lo₁ g d hi₂ lo₂
+      → ((k : ℕ) → f k +ℤ g k ≡ h k) → c + d ≤ e → Grown keys n hi₀ lo₀ h e hi₂ lo₂
+  grown-then {f = f} {g = g} x y e l =
+      record {
+        there = λ q b.
+            y .there q b
+            ∙ ap (λ (z : ℤ). z +ℤ g (getD keys q 0)) (x .there q b)
+            ∙ +ℤ-assoc (valueAt hi₀ lo₀ q) (f (getD keys q 0)) (g (getD keys q 0))
+            ∙ ap (λ (z : ℤ). valueAt hi₀ lo₀ q +ℤ z) (e (getD keys q 0));
+        near = λ q b. omega (arith, x .near q b, y .near q b);
+        low = y .low;
+        hi-rest = λ q b. y .hi-rest q b ∙ x .hi-rest q b;
+        lo-rest = λ q b. y .lo-rest q b ∙ x .lo-rest q b;
+        hi-length = y .hi-length ∙ x .hi-length;
+        lo-length = y .lo-length ∙ x .lo-length;
+      }
+
+pub ready-less : {keys : List ℕ} {n : ℕ} {hi : List ℤ} {lo : List ℕ} {c d : ℕ} → Ready keys n hi lo c → d ≤ c → Ready keys n hi lo d
+ready-less r l =
+    record { support = r .support; in-hi = r .in-hi; in-lo = r .in-lo; low = r .low; small = λ q b. omega (arith, r .small q b) }
+
+pub grown-none : {keys : List ℕ} {n : ℕ} {hi : List ℤ} {lo : List ℕ} {f : ℕ → ℤ} {c d : ℕ} → Ready keys n hi lo c → ((q : ℕ) → q < n → f (getD keys q 0) ≡ pos 0) → Grown keys n hi lo f d hi lo
+grown-none {hi = hi} {lo = lo} r e =
+    record {
+      there = λ q b. sym (ap (λ (z : ℤ). valueAt hi lo q +ℤ z) (e q b) ∙ +ℤ-idr (valueAt hi lo q));
+      near = λ q b. omega arith;
+      low = r .low;
+      hi-rest = λ q b. refl;
+      lo-rest = λ q b. refl;
+      hi-length = refl;
+      lo-length = refl;
+    }
+
+-- ---- one number added at the place that a search gives
+matched : (x : ℤ) (k j : ℕ) → (k ≡ j → ⊥) → x *ℤ match k j ≡ pos 0
+matched x k j f = rw (ne-eqb j k (λ e. f (sym e)), *ℤ-zero)
+
+module _ {keys : List ℕ} {n : ℕ} {hi : List ℤ} {lo : List ℕ} {c : ℕ} (r : Ready keys n hi lo c) (key p : ℕ) where
+  within : n ≤ length keys
+  within = inside (r .support)
+
+  other-key : (a b : ℕ) → a < n → b < n → (a ≡ b → ⊥) → getD keys a 0 ≡ getD keys b 0 → ⊥
+  other-key a b x y f e = go (ltb a b) refl
+    where
+      go : (t : Bool) → ltb a b ≡ t → ⊥
+      go true h = omega (arith, rising-in keys n within a b (r .support .rising) (ltb-true a b h) y)
+      go false h =
+          let l = ltb-false a b h in
+          ⊎-elim (λ q. f (sym q)) (λ (d : b < a). omega (arith, rising-in keys n within b a (r .support .rising) d x)) (eq-or-lt-of-le {n = b} {m = a} l)
+
+  rank-of : findIn key (take n keys) ≡ At p → p ≡ rank key (take n keys)
+  rank-of = go (member key (take n keys))
+    where
+      go : (b : Bool) → cond b (At (rank key (take n keys))) (Gap (rank key (take n keys))) ≡ At p → p ≡ rank key (take n keys)
+      go true e = cc
+      go false e = absurd (let z : _≡_ {A = ℕ} 0 1 = cc in omega arith)
+
+  found-in : findIn key (take n keys) ≡ At p → (p < n) × (getD keys p 0 ≡ key)
+  found-in e =
+      let t = at-tells key (take n keys) p e in
+      let k = rank-of e in
+      let b : p < n = before t k (ltb p n) refl in
+      (b, eqb-true _ _ (sym (told-in keys n within key p k (r .support .rising) b) ∙ t))
+    where
+      before : member key (take n keys) ≡ true → p ≡ rank key (take n keys) → (x : Bool) → ltb p n ≡ x → p < n
+      before t k true x = ltb-true p n x
+      before t k false x =
+          let h = ltb-false p n x in
+          let m = miss-in keys n within key p k (λ b q. omega arith) (r .support .rising) in
+          absurd (let z : _≡_ {A = ℕ} 0 1 = cc in omega arith)
+
+  pub room-in : findIn key (take n keys) ≡ At p → Room hi lo p
+  room-in e =
+      let b = found-in e .0 in
+      record { in-hi = omega (arith, r .in-hi); in-lo = omega (arith, r .in-lo); small = omega (arith, r .small p b); low = r .low p b }
+
+  sums : Sums hi lo n
+  sums = record { in-hi = r .in-hi; in-lo = r .in-lo; low = r .low }
+
+  pub grown-at : {hi₁ : List ℤ} {lo₁ : List ℕ} (z : ℤ) → findIn key (take n keys) ≡ At p → natAbs z ≤ c → Added hi lo p z hi₁ lo₁ → Grown keys n hi lo (λ k. z *ℤ match k key) c hi₁ lo₁
+  unfolding one
+  grown-at z e s d =
+      let f = found-in e in
+      let b = f .0 in
+      record {
+        there = λ q b. added-at d q ∙ ap (λ (y : ℤ). valueAt hi lo q +ℤ y) (go q b (f .0) (f .1) (eqb p q) refl);
+        near = λ q b. omega (arith, bound-at d q (natAbs (valueAt hi lo q)) (omega arith));
+        low = sums-kept d sums .low;
+        hi-rest = λ q l. d .hi-kept q (λ w. omega arith);
+        lo-rest = λ q l. d .lo-kept q (λ w. omega arith);
+        hi-length = d .hi-length;
+        lo-length = d .lo-length;
+      }
+    where
+      go : (q : ℕ) → q < n → p < n → getD keys p 0 ≡ key → (t : Bool) → eqb p q ≡ t → cond t z (pos 0) ≡ z *ℤ match (getD keys q 0) key
+      go q b a f true x = rw (eq-eqb key (getD keys q 0) (sym f ∙ ap (λ (i : ℕ). getD keys i 0) (eqb-true p q x))) (sym (*ℤ-one z))
+      go q b a f false x = sym (matched z (getD keys q 0) key (λ w. other-key p q a b (eqb-false p q x) (f ∙ sym w)))
+
+  pub grown-gap : (z : ℤ) → findIn key (take n keys) ≡ Gap p → Grown keys n hi lo (λ k. z *ℤ match k key) c hi lo
+  grown-gap z e =
+      grown-none r (λ q b. matched z (getD keys q 0) key (λ w.
+      let m = gap-tells key (take n keys) p e .0 in
+      let l = length-take-le n keys within in
+      let t = member-at key (take n keys) q (omega arith) (getD-take n keys q 0 b ∙ w) in
+      absurd (let z : _≡_ {A = ℕ} 0 1 = cc in omega arith)))

@@ -1,0 +1,102 @@
+-- The table of sums, spread over the compared keys entry by entry.
+use mathlib.Core.Path.{_≡_, refl, sym, ap, _∙_}
+use mathlib.Core.Bool.{Bool, true, false}
+use mathlib.Core.List.{List, [], _∷_}
+use mathlib.Core.Logic.{⊎-elim}
+use Prim.Native.Nat.{ℕ, zero, suc, _+_, _-_, _*_, _/_, _%_, _≤_, _<_}
+use native.Mathlib.Nat.{eq-or-lt-of-le}
+use native.Mathlib.Omega.{arith}
+use borrow.Author.Tests.{ltb-true, ltb-false}
+use lib.Dec.{ltb}
+use lib.IntN.{ℤ, pos, _+ℤ_, _*ℤ_, +ℤ-idr, zero-*ℤ}
+use lib.ListN.{length, getD, set, length-set}
+use lib.Seq.{getD-set-same, getD-set-other}
+use Rattle.counting.specs.Counting.{listed}
+use Rattle.polynomial.specs.Terms.{Term, term}
+use Rattle.polynomial.specs.Algebra.{sum}
+use Rattle.identity.specs.Gram.{placed}
+use Rattle.comparison.specs.Tables.{Ready, Grown}
+use Rattle.comparison.specs.Spread.{entryUnit, tableUnit, share, spreadAt, Framed, Entered, Spread}
+use Rattle.comparison.proofs.Growth.{grown-none, grown-same, grown-then, ready-after}
+use Rattle.comparison.proofs.Products.{sum-none, sum-more}
+
+-- an entry that is not 0 is at indices of the basis
+module _ (basis : List ℕ) (x : ℕ) (a : ℤ) (e : Entered basis x a) (f : a ≡ pos 0 → ⊥) where
+  pub entered-row : x / 64 < length basis
+  entered-row = go (ltb (x / 64) (length basis)) refl
+    where
+      go : (b : Bool) → ltb (x / 64) (length basis) ≡ b → x / 64 < length basis
+      go true q = ltb-true _ _ q
+      go false q = absurd (f (e .row (ltb-false _ _ q)))
+
+  pub entered-column : x % 64 < length basis
+  entered-column = go (ltb (x % 64) (length basis)) refl
+    where
+      go : (b : Bool) → ltb (x % 64) (length basis) ≡ b → x % 64 < length basis
+      go true q = ltb-true _ _ q
+      go false q = absurd (f (e .column (ltb-false _ _ q)))
+
+-- the terms past a place of the table have coefficient 0
+rest-none : (m : ℕ → ℤ) (f : ℕ → Term) (n d : ℕ) → ((i : ℕ) → n ≤ i → i < n + d → f i .coefficient ≡ pos 0) → sum m (listed n f) ≡ sum m (listed (n + d) f)
+rest-none m f n zero h = ap (λ (k : ℕ). sum m (listed k f)) (omega arith)
+rest-none m f n (suc d) h =
+    rest-none m f n d (λ i l u. h i l (omega arith))
+    ∙ sym (+ℤ-idr _)
+    ∙ ap (λ (z : ℤ). sum m (listed (n + d) f) +ℤ z) (sym (zero-*ℤ (m (f (n + d) .key))) ∙ ap (λ (z : ℤ). z *ℤ m (f (n + d) .key)) (sym (h (n + d) (omega arith) (omega arith))))
+    ∙ sum-more m f (n + d)
+    ∙ ap (λ (k : ℕ). sum m (listed k f)) (omega arith)
+
+-- ---- the places before x are spread and 0
+pub record Spreading (keys : List ℕ) (n : ℕ) (B : List ℕ) (G : List Term) (g₀ : List ℤ) (hi₀ : List ℤ) (lo₀ : List ℕ) (x : ℕ) (g₁ : List ℤ) (hi₁ : List ℤ) (lo₁ : List ℕ) : Type 0 where
+  pub within : x ≤ 64 * length B
+  pub grown : Grown keys n hi₀ lo₀ (λ k. sum (share B G k) (listed x (λ y. term y (getD g₀ y (pos 0))))) (x * entryUnit) hi₁ lo₁
+  pub behind : (y : ℕ) → y < x → getD g₁ y (pos 0) ≡ pos 0
+  pub ahead : (y : ℕ) → x ≤ y → getD g₁ y (pos 0) ≡ getD g₀ y (pos 0)
+  pub long : length g₁ ≡ 4096
+
+module _ {keys : List ℕ} {n : ℕ} {B : List ℕ} {G : List Term} {g₀ : List ℤ} {hi₀ : List ℤ} {lo₀ : List ℕ} where
+  pub spreading-start : {c : ℕ} → Ready keys n hi₀ lo₀ c → length g₀ ≡ 4096 → Spreading keys n B G g₀ hi₀ lo₀ 0 g₀ hi₀ lo₀
+  spreading-start r l =
+      record {
+        within = omega arith;
+        grown = grown-none r (λ q b. sum-none (share B G (getD keys q 0)) (λ y. term y (getD g₀ y (pos 0))));
+        behind = λ y b. absurd (omega arith);
+        ahead = λ y b. refl;
+        long = l;
+      }
+
+  module _ {x : ℕ} {g₁ : List ℤ} {hi₁ : List ℤ} {lo₁ : List ℕ} (h : Spreading keys n B G g₀ hi₀ lo₀ x g₁ hi₁ lo₁) (few : length B ≤ 64) where
+    module _ (b : x < 64 * length B) where
+      pub spreading-entered : Framed (length B) g₀ → Entered B x (getD g₁ x (pos 0))
+      spreading-entered f =
+          rw (h .ahead x (omega arith))
+          record { row = f .rows x (omega arith); column = f .columns x (omega arith); small = f .small x (omega arith) }
+
+      pub spreading-more : {hi₂ : List ℤ} {lo₂ : List ℕ} → Grown keys n hi₁ lo₁ (λ k. getD g₁ x (pos 0) *ℤ share B G k x) entryUnit hi₂ lo₂ → Spreading keys n B G g₀ hi₀ lo₀ (x + 1) (set g₁ x (pos 0)) hi₂ lo₂
+      spreading-more k =
+          let l = h .long in
+          let i : x < length g₁ = omega arith in
+          record {
+            within = omega arith;
+            grown = grown-then (h .grown) (rw (h .ahead x (omega arith)) at k) (λ k. sum-more (share B G k) (λ y. term y (getD g₀ y (pos 0))) x) (omega arith);
+            behind = λ y l. ⊎-elim (λ e. rw e (getD-set-same g₁ x (pos 0) (pos 0) i)) (λ d. getD-set-other g₁ x y (pos 0) (pos 0) (λ e. omega arith) ∙ h .behind y d) (eq-or-lt-of-le {n = y} {m = x} (omega arith));
+            ahead = λ y l. getD-set-other g₁ x y (pos 0) (pos 0) (λ e. omega arith) ∙ h .ahead y (omega arith);
+            long = length-set g₁ x (pos 0) ∙ h .long;
+          }
+
+    pub spreading-end : Framed (length B) g₀ → 64 * length B ≤ x → Spread keys n B G g₀ hi₀ lo₀ g₁ hi₁ lo₁
+    unfolding spreadAt
+    spreading-end f l =
+        let w = h .within in
+        record {
+          grown = grown-same (h .grown) (λ k.
+              rest-none (share B G k) (λ y. term y (getD g₀ y (pos 0))) x (4096 - x) (λ i a b. f .rows i (omega arith) (omega arith))
+              ∙ ap (λ (z : ℕ). sum (share B G k) (listed z (λ y. term y (getD g₀ y (pos 0))))) (omega arith))
+              (omega arith);
+          cleared = λ y b. go y b (ltb y x) refl;
+          long = h .long;
+        }
+      where
+        go : (y : ℕ) → y < 4096 → (t : Bool) → ltb y x ≡ t → getD g₁ y (pos 0) ≡ pos 0
+        go y b true e = h .behind y (ltb-true y x e)
+        go y b false e = let q = ltb-false y x e in h .ahead y q ∙ f .rows y b (omega arith)

@@ -1,0 +1,176 @@
+use borrow.Author.Needs.{needs}
+use borrow.Author.Needs.{sfits-of}
+use Prim.Native.Nat.{_^_}
+use lib.IntN.{ℤ, pos, natAbs, _+ℤ_, _*ℤ_}
+use mir.Facts.{toZ-ofZ, sfits-widen}
+use mir.Syntax.{w16, w64}
+use mir.Val.{SFits, toZ}
+use Rattle.integers.proofs.Ranges.{abs-fits, abs-sum, abs-mul-le}
+use Rattle.polynomial.specs.Algebra.{match}
+use Rattle.comparison.specs.Outer.{rowUnit, Below}
+use Rattle.comparison.proofs.Outers.{Raising, raising-start, raising-more, raising-below, raised-set, inner-bound}
+use native.Mathlib.Omega.{arith}
+use mathlib.Core.Path.{_≡_, refl, sym, ap, _∙_, subst}
+use Prim.Native.Nat.{ℕ, zero, suc, _+_, _-_, _*_, _≤_, _<_}
+use lib.ListN.{length, getD, take, drop, set, length-set}
+use Rattle.comparison.proofs.add_products.Statement.{statement}
+use Rattle.comparison.proofs.add_products.Tie as tie
+use Rattle.comparison.proofs.add_products.Reads as reads
+use Rattle.comparison.proofs.add_products.Lts as lts
+
+abbrev Inv-loop : tie.InvT-loop
+Inv-loop g₀ indices factors count i a from k₀ g k =
+    (k ≤ count) × Raising g₀ (λ x e. match x (64 * i + e)) (toZ w64 a) indices factors k g
+
+abbrev μ-loop : tie.MeasureT-loop
+μ-loop g₀ indices factors count i a from k₀ g k = count - k
+
+-- one product
+module _ (c : tie.After-y Inv-loop μ-loop) where
+  abbrev l : tie.At-loop Inv-loop μ-loop
+  l = c .before .before .before
+
+  abbrev s : tie.Start Inv-loop μ-loop
+  s = l .before
+
+  abbrev factor : ℤ
+  factor = getD (s .args .factors .now) (l .loop .k) (pos 0)
+
+  abbrev place : ℕ
+  place = 64 * s .args .i + getD (s .args .indices .now) (l .loop .k) 0
+
+  here : l .loop .k < s .args .count
+  here = c .before .before .loop-test .taken
+
+  place-in : place < 4096
+  place-in = omega (arith, s .pre .0 .indices-low (l .loop .k) here, s .pre .2)
+
+  fits-factor : SFits w16 factor
+  fits-factor = sfits-of (c .y .given)
+
+  wide-factor : SFits w64 factor
+  wide-factor = sfits-widen tt fits-factor
+
+  product-small : natAbs (s .args .a *ℤ factor) ≤ rowUnit
+  product-small = abs-mul-le (s .args .a) factor (2 ^ 31) (2 ^ 15) (s .pre .3) (s .pre .0 .factors-small (l .loop .k) here)
+
+  fits-product : SFits w64 (s .args .a *ℤ factor)
+  fits-product = abs-fits (omega (arith, product-small))
+
+  turning : Raising (s .args .g .now) (λ x e. match x (64 * s .args .i + e)) (s .args .a) (s .args .indices .now) (s .args .factors .now) (l .loop .k) (l .loop .g)
+  turning = simp (toZ-ofZ (s .fits .a)) at (l .loop .inv .1)
+
+  below : Below (2 ^ 54 + rowUnit) (l .loop .g)
+  below = raising-below turning (s .pre .1) (λ y. inner-bound _ _ _ (s .pre .0) (s .args .a) (s .pre .3) y (s .args .i) (l .loop .k) (omega (arith, here)))
+
+  fits-sum : SFits w64 (getD (l .loop .g) place (pos 0) +ℤ s .args .a *ℤ factor)
+  fits-sum = abs-fits (omega (arith, below .small place place-in, product-small, abs-sum (getD (l .loop .g) place (pos 0)) (s .args .a *ℤ factor)))
+
+mul-from : tie.Need-mul-from Inv-loop μ-loop
+mul-from c = omega (arith, c .pre .2)
+
+-- src/lib.rt:255:5
+loop-holds : tie.Need-loop-holds Inv-loop μ-loop
+loop-holds c = (omega arith, raising-start (c .pre .1 .long))
+
+-- src/lib.rt:256:25
+element-copy-out-x : tie.Need-element-copy-out-x Inv-loop μ-loop
+element-copy-out-x c = omega (arith, c .before .before .pre .0 .few, c .loop-test .taken)
+
+-- src/lib.rt:256:25
+cast-x : tie.Need-cast-x Inv-loop μ-loop
+cast-x c = let l = c .before .before in omega (arith, l .before .pre .0 .indices-low (l .loop .k) (c .before .loop-test .taken))
+
+-- src/lib.rt:256:17
+add-x : tie.Need-add-x Inv-loop μ-loop
+add-x c = let l = c .before .before in omega (arith, l .before .pre .0 .indices-low (l .loop .k) (c .before .loop-test .taken), l .before .pre .2)
+
+-- src/lib.rt:257:22
+mul-y : tie.Need-mul-y Inv-loop μ-loop
+mul-y c = search needs
+
+-- src/lib.rt:257:22
+element-copy-out-y : tie.Need-element-copy-out-y Inv-loop μ-loop
+element-copy-out-y c = omega (arith, c .before .before .before .pre .0 .few, c .before .loop-test .taken)
+
+-- src/lib.rt:257:22
+cast-y : tie.Need-cast-y Inv-loop μ-loop
+cast-y c = simp (toZ-ofZ (fits-factor c)) (wide-factor c)
+
+-- src/lib.rt:257:17
+mul-y-2 : tie.Need-mul-y-2 Inv-loop μ-loop
+mul-y-2 c = simp (toZ-ofZ, s c .fits .a, fits-factor c, wide-factor c) (fits-product c)
+
+-- src/lib.rt:258:17
+mul-z : tie.Need-mul-z Inv-loop μ-loop
+mul-z c = omega (arith, place-in c)
+
+-- src/lib.rt:258:17
+element-copy-out-z : tie.Need-element-copy-out-z Inv-loop μ-loop
+element-copy-out-z c = place-in c
+
+-- src/lib.rt:259:16
+add-g : tie.Need-add-g Inv-loop μ-loop
+add-g c =
+    let y = c .before in
+    let v : SFits w64 (getD (l y .loop .g) (place y) (pos 0)) = sfits-of (c .z .given) in
+    simp (toZ-ofZ, s y .fits .a, v, fits-factor y, wide-factor y, fits-product y) (fits-sum y)
+
+-- src/lib.rt:259:9
+mul-t16 : tie.Need-mul-t16 Inv-loop μ-loop
+mul-t16 c = omega (arith, place-in (c .before))
+
+-- src/lib.rt:259:9
+element-set-from-g : tie.Need-element-set-from-g Inv-loop μ-loop
+element-set-from-g c = place-in (c .before)
+
+-- src/lib.rt:260:9
+add-k : tie.Need-add-k Inv-loop μ-loop
+add-k c = search needs
+
+-- src/lib.rt:255:5
+loop-less : tie.Need-loop-less Inv-loop μ-loop
+loop-less c = search needs
+
+-- src/lib.rt:255:5
+loop-again : tie.Need-loop-again Inv-loop μ-loop
+loop-again c =
+    let y = c .before in
+    let v : SFits w64 (getD (l y .loop .g) (place y) (pos 0)) = sfits-of (c .z .given) in (
+      omega (arith, here y),
+      simp (toZ-ofZ, s y .fits .a, v, fits-factor y, wide-factor y, fits-product y, fits-sum y)
+          (raising-more (turning y) (raised-set (l y .loop .g) (place y) (s y .args .a *ℤ factor y) (below y .long) (place-in y))),
+    )
+
+-- src/lib.rt:242:1
+returns : tie.Need-returns Inv-loop μ-loop
+returns c =
+    let l = c .before in
+    let s = l .before in
+    let e : l .loop .k ≡ s .args .count = omega (arith, l .loop .inv .0, c .loop-test .left) in
+    rw (← e) (simp (toZ-ofZ (s .fits .a)) at (l .loop .inv .1 .raised))
+
+pub add-products-spec : {M : Type 1} → statement M
+add-products-spec =
+    tie.close
+    (tie.spec
+    Inv-loop
+    μ-loop
+    mul-from
+    loop-holds
+    element-copy-out-x
+    cast-x
+    add-x
+    mul-y
+    element-copy-out-y
+    cast-y
+    mul-y-2
+    mul-z
+    element-copy-out-z
+    add-g
+    mul-t16
+    element-set-from-g
+    add-k
+    loop-less
+    loop-again
+    returns)

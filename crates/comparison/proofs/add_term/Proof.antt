@@ -1,0 +1,87 @@
+use borrow.Author.Needs.{needs}
+use Prim.Native.Nat.{_^_}
+use lib.IntN.{ℤ, natAbs, _*ℤ_}
+use mir.Facts.{toZ-ofZ, sfits-widen}
+use mir.Syntax.{w64}
+use mir.Val.{SFits}
+use Rattle.integers.proofs.Ranges.{fits-abs, abs-mul-le}
+use Rattle.support.specs.Table.{findIn}
+use Rattle.support.specs.declared.Found.the-variants.{At}
+use Rattle.comparison.specs.Tables.{unit}
+use Rattle.comparison.proofs.Growth.{room-in, grown-at, grown-gap}
+use native.Mathlib.Omega.{arith}
+use mathlib.Core.Path.{_≡_, refl, sym, ap, _∙_, subst}
+use Prim.Native.Nat.{ℕ, zero, suc, _+_, _-_, _*_, _≤_, _<_}
+use lib.ListN.{length, getD, take, drop, set, length-set}
+use Rattle.comparison.proofs.add_term.Statement.{statement}
+use Rattle.comparison.proofs.add_term.Tie as tie
+use Rattle.comparison.proofs.add_term.Reads as reads
+use Rattle.comparison.proofs.add_term.Lts as lts
+use Rattle.sums.proofs.add_scaled.Reads as add-scaled-reads
+use Rattle.support.proofs.find.Reads as find-reads
+
+module _ (c : tie.Start) where
+  -- the coefficient as a number of 64 bits
+  wide : SFits w64 (c .args .c)
+  wide = sfits-widen tt (c .fits .c)
+
+  small : natAbs (c .args .x *ℤ c .args .c) ≤ unit
+  small = abs-mul-le (c .args .x) (c .args .c) (2 ^ 53) (2 ^ 31) (c .pre .1) (fits-abs (c .fits .c))
+
+find-requires : tie.Need-find-requires
+find-requires c κs = search needs
+
+-- src/lib.rt:74:28
+enum-known-p : tie.Need-enum-known-p
+enum-known-p c = search needs
+
+-- src/lib.rt:74:68
+cast-add-scaled : tie.Need-cast-add-scaled
+cast-add-scaled c = let s = c .before .before .before .before .before .before .before .before in simp (toZ-ofZ (s .fits .c)) (wide s)
+
+-- src/lib.rt:74:34
+add-scaled-requires : tie.Need-add-scaled-requires
+add-scaled-requires c κs =
+    let f = c .before .before .before .before .before in
+    let s = f .before .before .before in (
+      room-in (s .pre .0) (s .args .key) _ (sym (f .find .ensures) ∙ c .before .before .before .p .given .1),
+      simp (toZ-ofZ, s .fits .x, s .fits .c, wide s) record { first = omega (arith, s .pre .1); second = fits-abs (s .fits .c) },
+    )
+
+enum-told : tie.Need-enum-told
+enum-told c = search needs
+
+-- src/lib.rt:69:1
+same-length : tie.Need-same-length
+same-length c = search needs
+
+-- src/lib.rt:69:1
+same-length-2 : tie.Need-same-length-2
+same-length-2 c = search needs
+
+-- src/lib.rt:69:1
+returns : tie.Need-returns
+returns c =
+    let a = c .before .before .before in
+    let f = a .before .before .before .before .before .before in
+    let s = f .before .before .before in
+    grown-at (s .pre .0) (s .args .key) _ (s .args .x *ℤ s .args .c) (sym (f .find .ensures) ∙ a .before .before .before .before .p .given .1) (small s)
+    (simp (toZ-ofZ, s .fits .x, s .fits .c, wide s) at (a .add-scaled .ensures))
+
+-- src/lib.rt:69:1
+returns-2 : tie.Need-returns-2
+returns-2 c = let s = c .before .before .before .before .before in grown-gap (s .pre .0) (s .args .key) _ (s .args .x *ℤ s .args .c) (sym (c .before .before .find .ensures) ∙ c .enum-told .given .1)
+
+pub add-term-spec : {M : Type 1} → statement M
+add-term-spec =
+    tie.close
+    (tie.spec
+    find-requires
+    enum-known-p
+    cast-add-scaled
+    add-scaled-requires
+    enum-told
+    same-length
+    same-length-2
+    returns
+    returns-2)

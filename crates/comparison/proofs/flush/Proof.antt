@@ -1,0 +1,178 @@
+use borrow.Author.Needs.{needs}
+use lib.IntN.{ℤ, pos}
+use Rattle.comparison.specs.Spread.{Spreadable, Framed}
+use Rattle.comparison.proofs.Parts.{cut-is, basis-end, exponents-end, coefficients-end, basis-long, parts-spreadable, multiplier-is}
+use native.Mathlib.Omega.{arith}
+use mathlib.Core.Path.{_≡_, refl, sym, ap, _∙_, subst}
+use Prim.Native.Nat.{ℕ, zero, suc, _+_, _-_, _*_, _≤_, _<_}
+use lib.ListN.{length, getD, take, drop, set, length-set}
+use Rattle.comparison.proofs.flush.Statement.{statement}
+use Rattle.comparison.proofs.flush.Tie as tie
+use Rattle.comparison.proofs.flush.Reads as reads
+use Rattle.comparison.proofs.flush.Lts as lts
+use Rattle.comparison.proofs.spread.Reads as spread-reads
+
+-- the parts of basis j
+module _ (c : tie.After-slice-known) where
+  abbrev s : tie.Start
+  s = c .before .before .before .before
+
+  abbrev j : ℕ
+  j = s .args .j
+
+  abbrev size : ℕ
+  size = getD (s .args .t6 .sizes) j 0
+
+  abbrev count : ℕ
+  count = getD (s .args .t6 .counts) j 0
+
+  keys-end : 64 * j + size ≤ length (s .args .keys .now)
+  keys-end = basis-end _ _ _ _ (s .pre .1 .0) j (s .pre .1 .1)
+
+  terms-end : 32 * j + count ≤ length (s .args .exponents .now)
+  terms-end = exponents-end _ _ _ _ (s .pre .1 .0) j (s .pre .1 .1)
+
+  factors-end : 32 * j + count ≤ length (s .args .coefficients .now)
+  factors-end = coefficients-end _ _ _ _ (s .pre .1 .0) j (s .pre .1 .1)
+
+  spreadable : Spreadable (take size (drop (64 * j) (s .args .keys .now))) (take count (drop (32 * j) (s .args .exponents .now))) (take count (drop (32 * j) (s .args .coefficients .now)))
+  spreadable = parts-spreadable _ _ _ _ (s .pre .1 .0) j (s .pre .1 .1)
+
+  framed : Framed (length (take size (drop (64 * j) (s .args .keys .now)))) (s .args .g .now)
+  framed = rw (basis-long _ _ _ _ (s .pre .1 .0) j (s .pre .1 .1)) (s .pre .1 .2)
+
+-- src/lib.rt:223:13
+mul-a : tie.Need-mul-a
+mul-a c = search needs
+
+-- src/lib.rt:224:17
+mul-b : tie.Need-mul-b
+mul-b c = search needs
+
+-- src/lib.rt:224:17
+element-copy-out-b : tie.Need-element-copy-out-b
+element-copy-out-b c = search needs
+
+-- src/lib.rt:224:13
+add-b : tie.Need-add-b
+add-b c = omega (arith, keys-end (c .before))
+
+-- src/lib.rt:225:13
+mul-c : tie.Need-mul-c
+mul-c c = search needs
+
+-- src/lib.rt:226:17
+mul-d : tie.Need-mul-d
+mul-d c = search needs
+
+-- src/lib.rt:226:17
+element-copy-out-d : tie.Need-element-copy-out-d
+element-copy-out-d c = search needs
+
+-- src/lib.rt:226:13
+add-d : tie.Need-add-d
+add-d c = omega (arith, terms-end (c .before .before))
+
+-- src/lib.rt:227:14
+mul-es : tie.Need-mul-es
+mul-es c = search needs
+
+-- src/lib.rt:227:14
+sub-es : tie.Need-sub-es
+sub-es c = search needs
+
+-- src/lib.rt:227:14
+part-es-start : tie.Need-part-es-start
+part-es-start c = search needs
+
+-- src/lib.rt:227:14
+part-es-end : tie.Need-part-es-end
+part-es-end c = omega (arith, terms-end (c .before .before))
+
+-- src/lib.rt:228:14
+mul-cs : tie.Need-mul-cs
+mul-cs c = search needs
+
+-- src/lib.rt:228:14
+sub-cs : tie.Need-sub-cs
+sub-cs c = search needs
+
+-- src/lib.rt:228:14
+part-cs-start : tie.Need-part-cs-start
+part-cs-start c = search needs
+
+-- src/lib.rt:228:14
+part-cs-end : tie.Need-part-cs-end
+part-cs-end c = omega (arith, factors-end (c .before .before .before))
+
+-- src/lib.rt:229:15
+mul-spread : tie.Need-mul-spread
+mul-spread c = search needs
+
+-- src/lib.rt:229:15
+sub-spread : tie.Need-sub-spread
+sub-spread c = search needs
+
+-- src/lib.rt:229:15
+part-spread-start : tie.Need-part-spread-start
+part-spread-start c = search needs
+
+-- src/lib.rt:229:15
+part-spread-end : tie.Need-part-spread-end
+part-spread-end c = omega (arith, keys-end (c .before .before .before .before .before))
+
+-- src/lib.rt:229:5
+spread-requires : tie.Need-spread-requires
+spread-requires c κs =
+    let b = c .before .before .before .before .before .before .before .before in
+    let a = s b .args in (
+      s b .pre .0,
+      rw (cut-is (64 * j b) (size b) (a .keys .now), cut-is (32 * j b) (count b) (a .exponents .now), cut-is (32 * j b) (count b) (a .coefficients .now))
+          (spreadable b, framed b),
+    )
+
+-- src/lib.rt:207:1
+same-length : tie.Need-same-length
+same-length c = search needs
+
+-- src/lib.rt:207:1
+same-length-2 : tie.Need-same-length-2
+same-length-2 c = search needs
+
+-- src/lib.rt:207:1
+returns : tie.Need-returns
+returns c =
+    let e = c .before .before .before in
+    let b = e .before .before .before .before .before .before .before .before .before in
+    let a = s b .args in
+    rw (cut-is (64 * j b) (size b) (a .keys .now), cut-is (32 * j b) (count b) (a .exponents .now), cut-is (32 * j b) (count b) (a .coefficients .now), multiplier-is _ _ _ _ (s b .pre .1 .0) (j b) (s b .pre .1 .1)) at
+    (e .spread .ensures)
+
+pub flush-spec : {M : Type 1} → statement M
+flush-spec =
+    tie.close
+    (tie.spec
+    mul-a
+    mul-b
+    element-copy-out-b
+    add-b
+    mul-c
+    mul-d
+    element-copy-out-d
+    add-d
+    mul-es
+    sub-es
+    part-es-start
+    part-es-end
+    mul-cs
+    sub-cs
+    part-cs-start
+    part-cs-end
+    mul-spread
+    sub-spread
+    part-spread-start
+    part-spread-end
+    spread-requires
+    same-length
+    same-length-2
+    returns)

@@ -1,0 +1,5 @@
+pub mod Places
+pub mod Tables
+pub mod Spread
+pub mod Outer
+pub mod Walk

@@ -1,0 +1,357 @@
+// Whether a certificate that was read is accepted: each row in one block, and the identity, key by key. The rows are read off the
+// certificate's bytes again, one at a time.
+ghost use mathlib.Core.Path.{_≡_};
+ghost use Prim.Native.Nat.{ℕ, _+_, _*_, _^_, _≤_, _<_};
+ghost use lib.IntN.{pos, natAbs, negℤ, _*ℤ_};
+ghost use lib.ListN.{length, getD};
+ghost use Rattle.polynomial.specs.Terms.{termsIn};
+ghost use Rattle.polynomial.specs.Algebra.{sum, match, coefficient};
+ghost use Rattle.stream.specs.Commands.{given};
+ghost use Rattle.problem.specs.Rules.{Problem};
+ghost use Rattle.problem.specs.Limits.{Limits};
+ghost use Rattle.rounds.specs.Bytes.{blockBytes, part};
+ghost use Rattle.joining.specs.Joining.{closing};
+ghost use Rattle.certificate.specs.Rules.{Certificate, shapeOf, readCertificate};
+ghost use Rattle.certificate.specs.Rows.{rowOf};
+ghost use Rattle.identity.specs.Judgement.{rowSplit, splitPlace};
+ghost use Rattle.comparison.specs.Places.{placeOf, byteAt, Walkable, Indexed};
+ghost use Rattle.comparison.specs.Tables.{unit, Ready, Grown, Addable, claimed, Negates};
+ghost use Rattle.comparison.specs.Spread.{entryUnit, tableUnit, share, Framed, Spreadable, Entered, Spread, multiplierIn, Flattened};
+ghost use Rattle.comparison.specs.Outer.{Entries, Below, Raised, inRow, outerAt};
+ghost use Rattle.comparison.specs.Walk.{Shaped, Changed, Summed};
+
+// Where a row leaves its block.
+pub enum Place {
+    At(usize),
+    Nowhere,
+}
+
+// The place of the first entry outside the row's first block, for a row whose entries begin at an offset.
+fn row_split(row: certificate::StoredRow, labels: &[u8], at: usize) -> Place
+    requires { ⌜ Indexed row (now labels) × (at + 256 < 2 ^ 64) ⌝ }
+    ensures { λ r. ⌜ r ≡ placeOf (rowSplit (byteAt (now (labels .entry)) (row .basis)) (rowOf row at .entries)) ⌝ }
+{
+    let indices = row.indices;
+    let count = row.count;
+    if count == 0 {
+        return Place::Nowhere;
+    }
+    let from = 64 * row.basis;
+    let i = from + (indices[0] as usize);
+    let first = labels[i];
+    let mut k = 1;
+    while k < count {
+        let i = from + (indices[k] as usize);
+        if labels[i] != first {
+            return Place::At(at + 4 * k);
+        }
+        k += 1;
+    }
+    Place::Nowhere
+}
+
+// The place of the first entry of a certificate outside its row's first block. Byte 64j + i of `labels` is the block number of index
+// i in basis j.
+pub fn split_place(s: &[u8], labels: &[u8]) -> Place
+    requires { ⌜ Walkable (now s) × (length (now labels) ≡ 576) ⌝ }
+    ensures { λ r. ⌜ ((p : Problem) (c : Certificate) → Limits p → readCertificate (shapeOf p) (now (s .entry)) ≡ given c → now (labels .entry) ≡ blockBytes (closing p .state .labels) → r ≡ placeOf (splitPlace p (c .rows))) ⌝ }
+{
+    let mut at = 10;
+    while certificate::stands_at(0x11, s, at) {
+        let row = certificate::row_at(s, at);
+        let found = row_split(row, labels, at + 4);
+        if let Place::At(place) = found {
+            return Place::At(place);
+        }
+        at = row.next;
+    }
+    Place::Nowhere
+}
+
+// Adds a product at the place of a key, where it has one.
+fn add_term(table: &[u64], n: usize, hi: &mut [i64], lo: &mut [u64], key: u64, x: i64, c: i32)
+    requires { ⌜ Ready (now table) n (now hi) (now lo) unit × (natAbs x ≤ 2 ^ 53) ⌝ }
+    ensures { λ _. ⌜ Grown (now (table .entry)) n (now (hi .entry)) (now (lo .entry)) (λ k. x *ℤ c *ℤ match k key) unit (now (hi .exit)) (now (lo .exit)) ⌝ }
+{
+    match support::find(table, n, key) {
+        support::Found::At(p) => sums::add_scaled(hi, lo, p, x, c as i64),
+        support::Found::Gap(_) => {}
+    }
+}
+
+// Adds x times a polynomial, moved by a key.
+fn add_terms(
+    table: &[u64],
+    n: usize,
+    hi: &mut [i64],
+    lo: &mut [u64],
+    exponents: &[u64],
+    coefficients: &[i32],
+    key: u64,
+    x: i64,
+)
+    requires { ⌜ Ready (now table) n (now hi) (now lo) (length (now exponents) * unit) ⌝ }
+    requires { ⌜ Addable (now exponents) (now coefficients) key x ⌝ }
+    ensures { λ _. ⌜ Grown (now (table .entry)) n (now (hi .entry)) (now (lo .entry)) (λ k. x *ℤ sum (λ t. match k (key + t)) (termsIn (length (now (exponents .entry))) (now (exponents .entry)) (now (coefficients .entry)))) (length (now (exponents .entry)) * unit) (now (hi .exit)) (now (lo .exit)) ⌝ }
+{
+    let mut t = 0;
+    while t < exponents.len() {
+        add_term(table, n, hi, lo, key + exponents[t], x, coefficients[t]);
+        t += 1;
+    }
+}
+
+// The factors of the objective and of 1 in minus the claim.
+pub struct Negated {
+    pub objective: i64,
+    pub constant: i64,
+}
+
+// An upper bound's claim has both signs turned.
+fn negate(side: usize, scale: u16, p: i32, q: u16) -> Negated
+    ensures { λ r. ⌜ Negates side scale p q r ⌝ }
+{
+    let m = (scale as i64) * (q as i64);
+    let c = (scale as i64) * (p as i64);
+    if side == 0 {
+        Negated {
+            objective: 0 - m,
+            constant: c,
+        }
+    } else {
+        Negated {
+            objective: m,
+            constant: 0 - c,
+        }
+    }
+}
+
+// Takes the claim away: D * (q * objective - p), or with both signs turned.
+fn add_claim(
+    table: &[u64],
+    n: usize,
+    hi: &mut [i64],
+    lo: &mut [u64],
+    exponents: &[u64],
+    coefficients: &[i32],
+    t: certificate::Header,
+)
+    requires { ⌜ Ready (now table) n (now hi) (now lo) ((length (now exponents) + 1) * unit) ⌝ }
+    requires { ⌜ Addable (now exponents) (now coefficients) 0 (pos 0) ⌝ }
+    ensures { λ _. ⌜ Grown (now (table .entry)) n (now (hi .entry)) (now (lo .entry)) (λ k. negℤ (coefficient k (claimed (termsIn (length (now (exponents .entry))) (now (exponents .entry)) (now (coefficients .entry))) t))) ((length (now (exponents .entry)) + 1) * unit) (now (hi .exit)) (now (lo .exit)) ⌝ }
+{
+    let f = negate(t.side, t.scale, t.p, t.q);
+    let x = f.objective;
+    let y = f.constant;
+    add_terms(table, n, hi, lo, exponents, coefficients, 0, x);
+    add_term(table, n, hi, lo, 0, y, 1);
+}
+
+// Adds one entry of the table of sums: a times b * b' for the indices of its place, times the multiplier.
+fn add_entry(
+    basis: &[u64],
+    exponents: &[u64],
+    coefficients: &[i32],
+    table: &[u64],
+    n: usize,
+    hi: &mut [i64],
+    lo: &mut [u64],
+    x: usize,
+    a: i64,
+)
+    requires { ⌜ Ready (now table) n (now hi) (now lo) entryUnit ⌝ }
+    requires { ⌜ Spreadable (now basis) (now exponents) (now coefficients) × Entered (now basis) x a ⌝ }
+    ensures { λ _. ⌜ Grown (now (table .entry)) n (now (hi .entry)) (now (lo .entry)) (λ k. a *ℤ share (now (basis .entry)) (termsIn (length (now (exponents .entry))) (now (exponents .entry)) (now (coefficients .entry))) k x) entryUnit (now (hi .exit)) (now (lo .exit)) ⌝ }
+{
+    if a == 0 {
+        return;
+    }
+    let i = x / 64;
+    let k = x % 64;
+    let key = basis[i] + basis[k];
+    add_terms(table, n, hi, lo, exponents, coefficients, key, a);
+}
+
+// Adds the whole table of sums, and clears it. Past the basis's last index there is nothing to add.
+fn spread(
+    g: &mut [i64; 4096],
+    basis: &[u64],
+    exponents: &[u64],
+    coefficients: &[i32],
+    table: &[u64],
+    n: usize,
+    hi: &mut [i64],
+    lo: &mut [u64],
+)
+    requires { ⌜ Ready (now table) n (now hi) (now lo) tableUnit ⌝ }
+    requires { ⌜ Spreadable (now basis) (now exponents) (now coefficients) × Framed (length (now basis)) (now g) ⌝ }
+    ensures { λ _. ⌜ Spread (now (table .entry)) n (now (basis .entry)) (termsIn (length (now (exponents .entry))) (now (exponents .entry)) (now (coefficients .entry))) (now (g .entry)) (now (hi .entry)) (now (lo .entry)) (now (g .exit)) (now (hi .exit)) (now (lo .exit)) ⌝ }
+{
+    let last = 64 * basis.len();
+    let mut x = 0;
+    while x < last {
+        let a = g[x];
+        g[x] = 0;
+        add_entry(basis, exponents, coefficients, table, n, hi, lo, x, a);
+        x += 1;
+    }
+}
+
+// How many places of the flat arrays' parts are used: the length of each basis, and the number of each multiplier's terms.
+pub struct Lengths {
+    pub sizes: [usize; 9],
+    pub counts: [usize; 9],
+}
+
+// Adds the table of sums of basis j, and clears it.
+fn flush(
+    g: &mut [i64; 4096],
+    j: usize,
+    keys: &[u64],
+    exponents: &[u64],
+    coefficients: &[i32],
+    l: Lengths,
+    table: &[u64],
+    n: usize,
+    hi: &mut [i64],
+    lo: &mut [u64],
+)
+    requires { ⌜ Ready (now table) n (now hi) (now lo) tableUnit ⌝ }
+    requires { ⌜ Flattened (now keys) (now exponents) (now coefficients) l × (j < 9) × Framed (getD (l .sizes) j 0) (now g) ⌝ }
+    ensures { λ _. ⌜ Spread (now (table .entry)) n (part 64 (l .sizes) (now (keys .entry)) j) (multiplierIn (now (exponents .entry)) (now (coefficients .entry)) (l .counts) j) (now (g .entry)) (now (hi .entry)) (now (lo .entry)) (now (g .exit)) (now (hi .exit)) (now (lo .exit)) ⌝ }
+{
+    let a = 64 * j;
+    let b = a + l.sizes[j];
+    let c = 32 * j;
+    let d = c + l.counts[j];
+    let es = &exponents[c..d];
+    let cs = &coefficients[c..d];
+    spread(g, &keys[a..b], es, cs, table, n, hi, lo);
+}
+
+// Adds a times each factor of a row, in the table's row i.
+fn add_products(
+    g: &mut [i64; 4096],
+    indices: &[u8; 64],
+    factors: &[i16; 64],
+    count: usize,
+    i: usize,
+    a: i64,
+)
+    requires { ⌜ Entries (now indices) (now factors) count × Below (2 ^ 54) (now g) × (i < 64) × (natAbs a ≤ 2 ^ 31) ⌝ }
+    ensures { λ _. ⌜ Raised (now (g .entry)) (λ x. a *ℤ inRow (termsIn count (now (indices .entry)) (now (factors .entry))) x i) (now (g .exit)) ⌝ }
+{
+    let from = 64 * i;
+    let mut k = 0;
+    while k < count {
+        let x = from + (indices[k] as usize);
+        let y = a * (factors[k] as i64);
+        let z = g[x];
+        g[x] = z + y;
+        k += 1;
+    }
+}
+
+// Adds the products w * l * l' of each two entries of a row to the table of sums.
+fn add_outer(g: &mut [i64; 4096], row: certificate::StoredRow)
+    requires { ⌜ Entries (row .indices) (row .factors) (row .count) × Below (2 ^ 53) (now g) ⌝ }
+    ensures { λ _. ⌜ Raised (now (g .entry)) (outerAt (row .weight) (termsIn (row .count) (row .indices) (row .factors))) (now (g .exit)) ⌝ }
+{
+    let indices = row.indices;
+    let factors = row.factors;
+    let count = row.count;
+    let w = row.weight as i64;
+    let mut k = 0;
+    while k < count {
+        let i = indices[k] as usize;
+        let a = w * (factors[k] as i64);
+        add_products(g, &indices, &factors, count, i, a);
+        k += 1;
+    }
+}
+
+// Flushes the table of sums of basis j before a row on basis b, unless it is the same.
+fn change_basis(
+    g: &mut [i64; 4096],
+    j: usize,
+    b: usize,
+    keys: &[u64],
+    exponents: &[u64],
+    coefficients: &[i32],
+    l: Lengths,
+    table: &[u64],
+    n: usize,
+    hi: &mut [i64],
+    lo: &mut [u64],
+)
+    requires { ⌜ Ready (now table) n (now hi) (now lo) tableUnit ⌝ }
+    requires { ⌜ Flattened (now keys) (now exponents) (now coefficients) l × (j < 9) × Framed (getD (l .sizes) j 0) (now g) ⌝ }
+    ensures { λ _. ⌜ Changed j b (now (keys .entry)) (now (exponents .entry)) (now (coefficients .entry)) l (now (table .entry)) n (now (g .entry)) (now (hi .entry)) (now (lo .entry)) (now (g .exit)) (now (hi .exit)) (now (lo .exit)) ⌝ }
+{
+    if j == b {
+        return;
+    }
+    flush(g, j, keys, exponents, coefficients, l, table, n, hi, lo);
+}
+
+// Adds the weighted square of every row times its multiplier. The products of rows on one basis are summed first, by their indices,
+// in a table that is flushed when a row on another basis comes: a product with a multiplier is then made once for all of them.
+fn sum_rows(
+    g: &mut [i64; 4096],
+    s: &[u8],
+    keys: &[u64],
+    exponents: &[u64],
+    coefficients: &[i32],
+    l: Lengths,
+    table: &[u64],
+    n: usize,
+    hi: &mut [i64],
+    lo: &mut [u64],
+)
+    requires { ⌜ Ready (now table) n (now hi) (now lo) (129 * tableUnit) × Below 0 (now g) ⌝ }
+    requires { ⌜ Flattened (now keys) (now exponents) (now coefficients) l × Shaped (l .sizes) (now s) ⌝ }
+    ensures { λ _. ⌜ Summed (now (s .entry)) (now (keys .entry)) (now (exponents .entry)) (now (coefficients .entry)) l (now (table .entry)) n (now (hi .entry)) (now (lo .entry)) (now (hi .exit)) (now (lo .exit)) ⌝ }
+{
+    let mut j: usize = 0;
+    let mut at = 10;
+    while certificate::stands_at(0x11, s, at) {
+        let row = certificate::row_at(s, at);
+        let b = row.basis;
+        change_basis(g, j, b, keys, exponents, coefficients, l, table, n, hi, lo);
+        add_outer(g, row);
+        j = b;
+        at = row.next;
+    }
+    flush(g, j, keys, exponents, coefficients, l, table, n, hi, lo);
+}
+
+// The same, with the table of sums made here.
+fn add_rows(
+    s: &[u8],
+    keys: &[u64],
+    exponents: &[u64],
+    coefficients: &[i32],
+    l: Lengths,
+    table: &[u64],
+    n: usize,
+    hi: &mut [i64],
+    lo: &mut [u64],
+)
+    requires { ⌜ Ready (now table) n (now hi) (now lo) (129 * tableUnit) ⌝ }
+    requires { ⌜ Flattened (now keys) (now exponents) (now coefficients) l × Shaped (l .sizes) (now s) ⌝ }
+    ensures { λ _. ⌜ Summed (now (s .entry)) (now (keys .entry)) (now (exponents .entry)) (now (coefficients .entry)) l (now (table .entry)) n (now (hi .entry)) (now (lo .entry)) (now (hi .exit)) (now (lo .exit)) ⌝ }
+{
+    let mut g: [i64; 4096] = [0; 4096];
+    sum_rows(
+        &mut g,
+        s,
+        keys,
+        exponents,
+        coefficients,
+        l,
+        table,
+        n,
+        hi,
+        lo,
+    );
+}
