@@ -20,6 +20,8 @@ use Rattle.certificate.specs.Rules.{Certificate, shapeOf, readCertificate}
 use Rattle.certificate.specs.declared.Header.{Header}
 use Rattle.identity.specs.Judgement.{Judgement, comparedKeys}
 use Rattle.identity.specs.Judgement as J
+use Rattle.comparison.specs.declared.Difference.{Difference}
+use Rattle.comparison.specs.declared.Difference.the-variants as Difference
 use Rattle.checker.specs.declared.Prepared.{Prepared}
 use Rattle.checker.specs.declared.Judged.{Judged}
 use Rattle.checker.specs.declared.Judged.the-variants as Judged
@@ -73,6 +75,11 @@ pub record Rest (k : List ℕ) (h : List ℤ) (l : List ℕ) (k′ : List ℕ) (
 abbrev pub judgedOf : ℕ → Judgement → Judged
 judgedOf stream (J.refused number place key) = Judged.Refused (certificateRefusal stream number place key)
 judgedOf stream (J.accepted c) = Judged.Accepted (c .header)
+
+-- refusal 9 with its key, or the header
+abbrev pub judgedFrom : ℕ → Header → Difference → Judged
+judgedFrom stream t (Difference.Differs key) = Judged.Refused (certificateRefusal stream 9 0 key)
+judgedFrom stream t Difference.Same = Judged.Accepted t
 
 abbrev pub checkFrom : Judged → ℕ → CheckVerdict
 checkFrom (Judged.Refused r) rounds = refusedCheck r

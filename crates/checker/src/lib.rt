@@ -19,7 +19,7 @@ ghost use Rattle.fraction.specs.Fractions.{Bound, fraction};
 ghost use Rattle.checker.specs.Refusals.{problemRefusal, certificateRefusal};
 ghost use Rattle.checker.specs.Check.{refusedCheck, checkRead, checkVerdict};
 ghost use Rattle.checker.specs.Pair.{refusedPair, pairFirst, pairRead, pairVerdict};
-ghost use Rattle.checker.specs.Steps.{Prepares, Joins, Compares, Stands, Rest, judgedOf, checkFrom, sidesFrom, pairFrom};
+ghost use Rattle.checker.specs.Steps.{Prepares, Joins, Compares, Stands, Rest, judgedOf, judgedFrom, checkFrom, sidesFrom, pairFrom};
 ghost use Rattle.checker.specs.Promises.{BlocksClosed, BlocksLeast, BlocksLowest, RoundsTaken, FewRounds, SevenExactly, AcceptedExactly, PairExactly, HoldsBelow, HoldsAbove, HoldsGap};
 use certificate::Header;
 use certificate::Shape;
@@ -298,6 +298,16 @@ fn refuse(stream: u8, number: u8, place: usize, key: u64) -> Judged
     })
 }
 
+// A certificate whose rows keep to the blocks, by its identity.
+fn by_identity(stream: u8, header: Header, found: Difference) -> Judged
+    ensures { λ r. ⌜ r ≡ judgedFrom stream header found ⌝ }
+{
+    match found {
+        Difference::Differs(key) => refuse(stream, 9, 0, key),
+        Difference::Same => Judged::Accepted(header),
+    }
+}
+
 // One certificate against a problem with its blocks: it by commands, 8 by rows, 9.
 fn judge(
     stream: u8,
@@ -321,12 +331,10 @@ fn judge(
         return refuse(stream, number, r.place, 0);
     }
     let labels = j.labels;
-    if let Place::At(place) = comparison::split_place(s, &labels) {
-        return refuse(stream, 8, place, 0);
-    }
-    match difference(p, j.len, r.header, s, keys, high, low) {
-        Difference::Differs(key) => refuse(stream, 9, 0, key),
-        Difference::Same => Judged::Accepted(r.header),
+    let t = r.header;
+    match comparison::split_place(s, &labels) {
+        Place::At(place) => refuse(stream, 8, place, 0),
+        Place::Nowhere => by_identity(stream, t, difference(p, j.len, t, s, keys, high, low)),
     }
 }
 
