@@ -6,3 +6,4 @@ pub mod Spreading
 pub mod Parts
 pub mod Outers
 pub mod Walks
+pub mod Differences

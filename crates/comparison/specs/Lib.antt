@@ -3,3 +3,4 @@ pub mod Tables
 pub mod Spread
 pub mod Outer
 pub mod Walk
+pub mod Compare

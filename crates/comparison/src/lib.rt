@@ -13,12 +13,14 @@ ghost use Rattle.rounds.specs.Bytes.{blockBytes, part};
 ghost use Rattle.joining.specs.Joining.{closing};
 ghost use Rattle.certificate.specs.Rules.{Certificate, shapeOf, readCertificate};
 ghost use Rattle.certificate.specs.Rows.{rowOf};
-ghost use Rattle.identity.specs.Judgement.{rowSplit, splitPlace};
+ghost use Rattle.identity.specs.Judgement.{rowSplit, splitPlace, differenceKey};
 ghost use Rattle.comparison.specs.Places.{placeOf, byteAt, Walkable, Indexed};
 ghost use Rattle.comparison.specs.Tables.{unit, Ready, Grown, Addable, claimed, Negates};
 ghost use Rattle.comparison.specs.Spread.{entryUnit, tableUnit, share, Framed, Spreadable, Entered, Spread, multiplierIn, Flattened};
 ghost use Rattle.comparison.specs.Outer.{Entries, Below, Raised, inRow, outerAt};
 ghost use Rattle.comparison.specs.Walk.{Shaped, Changed, Summed};
+ghost use Rattle.comparison.specs.Compare.{differenceOf, Zeroed, Comparable, Given, Untouched};
+use polynomial::Objective;
 
 // Where a row leaves its block.
 pub enum Place {
@@ -354,4 +356,42 @@ fn add_rows(
         hi,
         lo,
     );
+}
+
+// Whether the identity holds; if not, the smallest key at which its sides differ.
+pub enum Difference {
+    Same,
+    Differs(u64),
+}
+
+// Compares the claim with the weighted squares, at the first n numbers of `table`: minus the claim and all squares are added up at
+// each key, and a sum that is not 0 is a difference. Basis j stands from place 64j on in `keys`, and the multiplier g_j from place
+// 32j on in `exponents` and `coefficients`.
+pub fn compare(
+    s: &[u8],
+    header: certificate::Header,
+    keys: &[u64],
+    exponents: &[u64],
+    coefficients: &[i32],
+    l: Lengths,
+    objective: Objective,
+    table: &[u64],
+    n: usize,
+    hi: &mut [i64],
+    lo: &mut [u64],
+) -> Difference
+    requires { ⌜ Zeroed (now table) n (now hi) (now lo) × Comparable (now s) (now keys) (now exponents) (now coefficients) l objective ⌝ }
+    ensures difference { λ r. ⌜ ((p : Problem) (c : Certificate) → Given p c (now (s .entry)) header (now (keys .entry)) (now (exponents .entry)) (now (coefficients .entry)) l objective (now (table .entry)) n → r ≡ differenceOf (differenceKey p c)) ⌝ }
+    ensures tables { λ _. ⌜ Untouched (now (hi .entry)) (now (hi .exit)) × Untouched (now (lo .entry)) (now (lo .exit)) ⌝ }
+{
+    let es = objective.keys;
+    let cs = objective.coefficients;
+    let m = objective.count;
+    add_claim(table, n, hi, lo, &es[..m], &cs[..m], header);
+    add_rows(s, keys, exponents, coefficients, l, table, n, hi, lo);
+    let first = sums::first_nonzero(hi, lo, n);
+    if first < n {
+        return Difference::Differs(table[first]);
+    }
+    Difference::Same
 }

@@ -1,0 +1,236 @@
+-- The first place whose sum is not 0 is the first key at which the claim and the squares differ.
+use mathlib.Core.Path.{_≡_, refl, sym, ap, ap₂, _∙_, subst}
+use mathlib.Core.Bool.{Bool, true, false}
+use mathlib.Core.List.{List, [], _∷_, map}
+use mathlib.Core.Option.{Option, none, some}
+use Prim.Native.Nat.{ℕ, zero, suc, _+_, _-_, _*_, _^_, _≤_, _<_}
+use native.Mathlib.Omega.{arith}
+use borrow.Author.Tests.{eqb-true, eqb-false, eq-eqb, ne-eqb}
+use lib.Dec.{eqb}
+use lib.IntN.{ℤ, pos, negsuc, negℤ, natAbs, _+ℤ_, +ℤ-idl}
+use lib.ListN.{length, getD, take, drop, length-drop}
+use lib.Seq.{getD-take, getD-drop, length-take-le, ext-getD}
+use Rattle.integers.proofs.Ring.{view, diffs, ⊖-eq, ⊖-eq⁻¹}
+use Rattle.counting.specs.Counting.{listed}
+use Rattle.counting.proofs.Listed.{listed-same, listed-all}
+use Rattle.polynomial.specs.Terms.{Term, term, keysOf, termsIn, objectiveTerms, Filled}
+use Rattle.polynomial.specs.declared.Objective.{Objective}
+use Rattle.polynomial.specs.Algebra.{coefficient}
+use Rattle.problem.specs.Rules.{Problem}
+use Rattle.problem.specs.Limits.{Limits}
+use Rattle.problem.specs.Bases.{basisOf, multiplierOf, Flat, coefficientsOf, FlatCoefficients}
+use Rattle.support.proofs.Laws.{inside}
+use Rattle.sums.specs.Sums.{base, valueAt, Sums, First}
+use Rattle.certificate.specs.Rules.{Row, Certificate, shapeOf}
+use Rattle.certificate.specs.Rows.{rowsOf}
+use Rattle.certificate.specs.declared.Header.{Header}
+use Rattle.certificate.proofs.Limits.{shape-within}
+use Rattle.certificate.proofs.Rows.{rows-read}
+use Rattle.identity.specs.Identity.{multiplier, squares, claim}
+use Rattle.identity.specs.Judgement.{sameNumber, firstDifference, comparedKeys, differenceKey}
+use Rattle.comparison.specs.declared.Difference.the-variants.{Same, Differs}
+use Rattle.comparison.specs.declared.Lengths.{Lengths}
+use Rattle.comparison.specs.Tables.{unit, Ready, Grown, claimed}
+use Rattle.comparison.specs.Spread.{multiplierIn, Flattened}
+use Rattle.comparison.specs.Walk.{Stands, Summed}
+use Rattle.comparison.specs.Compare.{differenceOf, Zeroed, Given, Untouched}
+use Rattle.comparison.proofs.Growth.{grown-same}
+use Rattle.comparison.proofs.Claims.{problem-claim}
+
+-- ---- one comparison
+same-self : (a b : ℤ) → a ≡ b → sameNumber a b ≡ true
+same-self a b e = subst (λ (c : ℤ). sameNumber a c ≡ true) e (go a)
+  where
+    go : (a : ℤ) → sameNumber a a ≡ true
+    go (pos n) = eq-eqb n n refl
+    go (negsuc n) = eq-eqb n n refl
+
+same-not : (a b : ℤ) → (a ≡ b → ⊥) → sameNumber a b ≡ false
+same-not (pos a) (pos b) f = ne-eqb a b (λ e. f (ap pos e))
+same-not (pos a) (negsuc b) f = refl
+same-not (negsuc a) (pos b) f = refl
+same-not (negsuc a) (negsuc b) f = ne-eqb a b (λ e. f (ap negsuc e))
+
+module _ (P Q : List Term) where
+  difference-none : (ks : List ℕ) → ((i : ℕ) → i < length ks → coefficient (getD ks i 0) P ≡ coefficient (getD ks i 0) Q) → firstDifference P Q ks ≡ none
+  unfolding firstDifference
+  difference-none [] h = refl
+  difference-none (k ∷ ks) h = rw (same-self (coefficient k P) (coefficient k Q) (h 0 (omega arith))) (difference-none ks (λ i b. h (suc i) (omega arith)))
+
+  difference-at : (ks : List ℕ) (r : ℕ) → r < length ks → ((i : ℕ) → i < r → coefficient (getD ks i 0) P ≡ coefficient (getD ks i 0) Q)
+      → (coefficient (getD ks r 0) P ≡ coefficient (getD ks r 0) Q → ⊥) → firstDifference P Q ks ≡ some (getD ks r 0)
+  unfolding firstDifference
+  difference-at [] r b h f = absurd (omega arith)
+  difference-at (k ∷ ks) zero b h f = rw (same-not (coefficient k P) (coefficient k Q) f)
+  difference-at (k ∷ ks) (suc r) b h f = rw (same-self (coefficient k P) (coefficient k Q) (h 0 (omega arith))) (difference-at ks r (omega arith) (λ i c. h (suc i) (omega arith)) f)
+
+-- ---- a sum is 0 where the two sides are equal
+zero-equal : (a b : ℤ) → negℤ a +ℤ b ≡ pos 0 → a ≡ b
+zero-equal a b e =
+    let k = ⊖-eq⁻¹ _ _ _ _ (simp diffs at (rw (view a .eq, view b .eq) at e)) in
+    rw (view a .eq, view b .eq) (⊖-eq _ _ _ _ (omega arith))
+
+equal-zero : (a b : ℤ) → a ≡ b → negℤ a +ℤ b ≡ pos 0
+equal-zero a b e = rw (e, view b .eq) (simp diffs (⊖-eq _ _ _ _ (omega arith)))
+
+module _ (P Q : List Term) (table : List ℕ) (n : ℕ) (hi : List ℤ) (lo : List ℕ) (l : n ≤ length table)
+    (v : (q : ℕ) → q < n → valueAt hi lo q ≡ negℤ (coefficient (getD table q 0) P) +ℤ coefficient (getD table q 0) Q) (r : ℕ) (f : First hi lo n r) where
+  long : length (take n table) ≡ n
+  long = length-take-le n table l
+
+  equal : (i : ℕ) → i < n → valueAt hi lo i ≡ pos 0 → coefficient (getD (take n table) i 0) P ≡ coefficient (getD (take n table) i 0) Q
+  equal i b e = rw (getD-take n table i 0 b) (zero-equal (coefficient (getD table i 0) P) (coefficient (getD table i 0) Q) (sym (v i b) ∙ e))
+
+  pub tables-same : n ≤ r → firstDifference P Q (take n table) ≡ none
+  tables-same h = let w = f .within in let e = long in difference-none P Q (take n table) (λ i b. equal i (omega arith) (f .before i (omega arith)))
+
+  pub tables-differ : r < n → firstDifference P Q (take n table) ≡ some (getD table r 0)
+  tables-differ h =
+      let e = long in
+      difference-at P Q (take n table) r (omega arith) (λ i b. equal i (omega arith) (f .before i b))
+      (λ d. f .there h (v r h ∙ equal-zero _ _ (rw (getD-take n table r 0 h) at d)))
+      ∙ ap some (getD-take n table r 0 h)
+
+-- ---- the tables at the start and at the end
+pub zeroed-ready : {table : List ℕ} {n : ℕ} {hi : List ℤ} {lo : List ℕ} → Zeroed table n hi lo → (c : ℕ) → c ≤ 2 ^ 120 → Ready table n hi lo c
+zeroed-ready {table} {n} {hi} {lo} z c h =
+    let few = z .support .few in
+    record {
+      support = z .support;
+      in-hi = omega (arith, z .in-hi);
+      in-lo = omega (arith, z .in-lo);
+      low = λ q b. let e = z .lo-zero q b in omega arith;
+      small = λ q b. let e : natAbs (valueAt hi lo q) ≡ 0 = rw (z .hi-zero q b, z .lo-zero q b) in omega arith;
+    }
+
+pub zeroed-value : {table : List ℕ} {n : ℕ} {hi : List ℤ} {lo : List ℕ} → Zeroed table n hi lo → (q : ℕ) → q < n → valueAt hi lo q ≡ pos 0
+zeroed-value z q b = rw (z .hi-zero q b, z .lo-zero q b)
+
+kept : {A : Type 0} (d : A) (t₀ t₁ : List A) → length t₁ ≡ length t₀ → ((q : ℕ) → 2048 ≤ q → getD t₁ q d ≡ getD t₀ q d) → Untouched t₀ t₁
+kept d t₀ t₁ e f =
+    record {
+      long = e;
+      rest = ext-getD d _ _ (length-drop 2048 t₁ ∙ ap (λ (n : ℕ). n - 2048) e ∙ sym (length-drop 2048 t₀))
+          (λ q b. getD-drop 2048 t₁ q d ∙ f (2048 + q) (omega arith) ∙ sym (getD-drop 2048 t₀ q d));
+    }
+
+module _ {table : List ℕ} {n : ℕ} {hi₀ hi₁ : List ℤ} {lo₀ lo₁ : List ℕ} {f : ℕ → ℤ} {c : ℕ} (few : n ≤ 2048) (g : Grown table n hi₀ lo₀ f c hi₁ lo₁) where
+  pub grown-hi : Untouched hi₀ hi₁
+  grown-hi = kept (pos 0) hi₀ hi₁ (g .hi-length) (λ q b. g .hi-rest q (omega arith))
+
+  pub grown-lo : Untouched lo₀ lo₁
+  grown-lo = kept 0 lo₀ lo₁ (g .lo-length) (λ q b. g .lo-rest q (omega arith))
+
+-- ---- the first places of two arrays
+first-terms : (n : ℕ) (E : List ℕ) (C : List ℤ) → n ≤ length E → termsIn (length (take n E)) (take n E) (take n C) ≡ termsIn n E C
+unfolding termsIn
+first-terms n E C h = rw (length-take-le n E h) (listed-same n _ _ (λ i b. ap₂ term (getD-take n E i 0 b) (getD-take n C i (pos 0) b)))
+
+-- the claim over the first places is the claim over the objective
+pub claim-first : {table : List ℕ} {n : ℕ} {hi₀ hi₁ : List ℤ} {lo₀ lo₁ : List ℕ} (q : Objective) (h : Header) → Filled 32 256 (q .keys) (q .coefficients) (q .count)
+    → let E = take (q .count) (q .keys) in
+    Grown table n hi₀ lo₀ (λ k. negℤ (coefficient k (claimed (termsIn (length E) E (take (q .count) (q .coefficients))) h))) ((length E + 1) * unit) hi₁ lo₁
+    → Grown table n hi₀ lo₀ (λ k. negℤ (coefficient k (claimed (objectiveTerms q) h))) (257 * unit) hi₁ lo₁
+claim-first q h f g =
+    let w : q .count ≤ length (q .keys) = omega (arith, f .count-low, f .keys-length) in
+    let e = length-take-le (q .count) (q .keys) w in
+    grown-same g (λ k. ap (λ (P : List Term). negℤ (coefficient k (claimed P h))) (first-terms (q .count) (q .keys) (q .coefficients) w)) (omega (arith, f .count-low))
+
+-- ---- a polynomial from its keys and its coefficients
+key-at : (T : List Term) (d : Term) (i : ℕ) → i < length T → getD (keysOf T) i 0 ≡ getD T i d .key
+unfolding keysOf
+key-at [] d i h = absurd (omega arith)
+key-at (t ∷ T) d zero h = refl
+key-at (t ∷ T) d (suc i) h = key-at T d i (omega arith)
+
+coefficient-at : (T : List Term) (d : Term) (i : ℕ) → i < length T → getD (map (λ (t : Term). t .coefficient) T) i (pos 0) ≡ getD T i d .coefficient
+coefficient-at [] d i h = absurd (omega arith)
+coefficient-at (t ∷ T) d zero h = refl
+coefficient-at (t ∷ T) d (suc i) h = coefficient-at T d i (omega arith)
+
+keys-length : (T : List Term) → length (keysOf T) ≡ length T
+unfolding keysOf
+keys-length [] = refl
+keys-length (t ∷ T) = ap suc (keys-length T)
+
+module _ (p : Problem) where
+  multiplier-keys : (j : ℕ) → multiplierOf p j ≡ keysOf (multiplier p j)
+  unfolding multiplierOf multiplier keysOf
+  multiplier-keys zero = refl
+  multiplier-keys (suc j) = refl
+
+  multiplier-coefficients : (j : ℕ) → coefficientsOf p j ≡ map (λ (t : Term). t .coefficient) (multiplier p j)
+  unfolding coefficientsOf multiplier
+  multiplier-coefficients zero = refl
+  multiplier-coefficients (suc j) = refl
+
+  module _ (exponents counts : List ℕ) (coefficients : List ℤ) (flat : Flat p (record { keys = exponents; counts = counts })) (factors : FlatCoefficients p coefficients) (j : ℕ) (h : j < 9) where
+    abbrev count : ℕ
+    count = getD counts j 0
+
+    abbrev G : List Term
+    G = multiplier p j
+
+    -- the place of g_j's terms has all of them
+    count-is : count ≡ length G
+    count-is =
+        sym (length-take-le count (drop (32 * j) exponents) (rw (length-drop (32 * j) exponents) (omega (arith, flat .counts-low j, flat .keys-length))))
+        ∙ ap length (flat .each j ∙ multiplier-keys j)
+        ∙ keys-length G
+
+    exponent-is : (d : Term) (i : ℕ) → i < count → getD (drop (32 * j) exponents) i 0 ≡ getD G i d .key
+    exponent-is d i b =
+        sym (getD-take count (drop (32 * j) exponents) i 0 b)
+        ∙ ap (λ (l : List ℕ). getD l i 0) (flat .each j ∙ multiplier-keys j)
+        ∙ key-at G d i (omega (arith, count-is))
+
+    factor-is : (d : Term) (i : ℕ) → i < count → getD (drop (32 * j) coefficients) i (pos 0) ≡ getD G i d .coefficient
+    factor-is d i b =
+        let n : length (multiplierOf p j) ≡ count = ap length (multiplier-keys j) ∙ keys-length G ∙ sym count-is in
+        sym (getD-take count (drop (32 * j) coefficients) i (pos 0) b)
+        ∙ ap (λ (m : ℕ). getD (take m (drop (32 * j) coefficients)) i (pos 0)) (sym n)
+        ∙ ap (λ (l : List ℤ). getD l i (pos 0)) (factors .each j ∙ multiplier-coefficients j)
+        ∙ coefficient-at G d i (omega (arith, count-is))
+
+    multiplier-in : multiplierIn exponents coefficients counts j ≡ multiplier p j
+    unfolding multiplierIn termsIn
+    multiplier-in =
+        let d = term 0 (pos 0) in
+        listed-same count _ (λ i. getD G i d) (λ i b. ap₂ term (exponent-is d i b) (factor-is d i b))
+        ∙ ap (λ (m : ℕ). listed m (λ i. getD G i d)) count-is
+        ∙ listed-all G d
+
+-- ---- the answer
+module _ (p : Problem) (c : Certificate) (s : List ℕ) (header : Header) (keys exponents : List ℕ) (coefficients : List ℤ) (l : Lengths) (objective : Objective) (table : List ℕ) (n : ℕ)
+    (given : Given p c s header keys exponents coefficients l objective table n) where
+  stands : Stands p keys exponents coefficients l
+  stands = record { bases = given .bases; multipliers = multiplier-in p exponents (l .counts) coefficients (given .multipliers) (given .factors) }
+
+  module _ {hi₀ hi₁ hi₂ : List ℤ} {lo₀ lo₁ lo₂ : List ℕ} {a r : ℕ} (z : Zeroed table n hi₀ lo₀)
+      (g : Grown table n hi₀ lo₀ (λ k. negℤ (coefficient k (claimed (objectiveTerms objective) header))) a hi₁ lo₁)
+      (m : Summed s keys exponents coefficients l table n hi₁ lo₁ hi₂ lo₂) (f : First hi₂ lo₂ n r) where
+    claim-is : (k : ℕ) → coefficient k (claimed (objectiveTerms objective) header) ≡ coefficient k (claim p (c .header))
+    claim-is k = rw (given .objective-is, given .header-is, problem-claim p (c .header))
+
+    squares-are : (k : ℕ) → m .sums k ≡ coefficient k (squares p (c .rows))
+    squares-are k = m .are p stands k ∙ ap (λ (rs : List Row). coefficient k (squares p rs)) (rows-read (shapeOf p) (shape-within p (given .limits)) s c (given .read))
+
+    sum-is : (q : ℕ) → q < n → valueAt hi₂ lo₂ q ≡ negℤ (coefficient (getD table q 0) (claim p (c .header))) +ℤ coefficient (getD table q 0) (squares p (c .rows))
+    sum-is q b =
+        let k = getD table q 0 in
+        let x = negℤ (coefficient k (claimed (objectiveTerms objective) header)) in
+        let e : valueAt hi₁ lo₁ q ≡ x = g .there q b ∙ ap (λ (v : ℤ). v +ℤ x) (zeroed-value z q b) ∙ +ℤ-idl x in
+        m .grown .there q b
+        ∙ ap (λ (v : ℤ). v +ℤ m .sums k) e
+        ∙ ap (λ (v : ℤ). negℤ v +ℤ m .sums k) (claim-is k)
+        ∙ ap (λ (v : ℤ). negℤ (coefficient k (claim p (c .header))) +ℤ v) (squares-are k)
+
+    key-is : firstDifference (claim p (c .header)) (squares p (c .rows)) (take n table) ≡ differenceKey p c
+    unfolding differenceKey
+    key-is = rw (given .compared)
+
+    pub found-same : n ≤ r → Same ≡ differenceOf (differenceKey p c)
+    found-same h = ap differenceOf (sym (tables-same _ _ table n hi₂ lo₂ (inside (z .support)) sum-is r f h) ∙ key-is)
+
+    pub found-differs : r < n → Differs (getD table r 0) ≡ differenceOf (differenceKey p c)
+    found-differs h = ap differenceOf (sym (tables-differ _ _ table n hi₂ lo₂ (inside (z .support)) sum-is r f h) ∙ key-is)

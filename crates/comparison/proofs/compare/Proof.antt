@@ -1,0 +1,164 @@
+use borrow.Author.Needs.{needs}
+use Rattle.polynomial.specs.declared.Objective.{Objective}
+use Prim.Native.Nat.{_^_}
+use lib.IntN.{ℤ, negℤ}
+use lib.Seq.{length-take-le}
+use Rattle.polynomial.specs.Terms.{objectiveTerms}
+use Rattle.polynomial.specs.Algebra.{coefficient}
+use Rattle.support.proofs.Laws.{inside}
+use Rattle.joining.proofs.Start.{first-low}
+use Rattle.comparison.specs.Tables.{unit, Grown, claimed}
+use Rattle.comparison.specs.Spread.{tableUnit}
+use Rattle.comparison.proofs.Growth.{ready-after, grown-same, grown-then}
+use Rattle.comparison.proofs.Differences.{zeroed-ready, grown-hi, grown-lo, claim-first, found-same, found-differs}
+use native.Mathlib.Omega.{arith}
+use mathlib.Core.Path.{_≡_, refl, sym, ap, _∙_, subst}
+use Prim.Native.Nat.{ℕ, zero, suc, _+_, _-_, _*_, _≤_, _<_}
+use lib.ListN.{length, getD, take, drop, set, length-set}
+use Rattle.comparison.proofs.compare.Statement.{statement}
+use Rattle.comparison.proofs.compare.Tie as tie
+use Rattle.comparison.proofs.compare.Reads as reads
+use Rattle.comparison.proofs.compare.Lts as lts
+use Rattle.comparison.proofs.add_claim.Reads as add-claim-reads
+use Rattle.comparison.proofs.add_rows.Reads as add-rows-reads
+use Rattle.sums.proofs.first_nonzero.Reads as first-nonzero-reads
+
+-- the objective's terms in the first places of two arrays
+module _ (c : tie.Start) where
+  abbrev q : Objective
+  q = c .args .objective
+
+  keys-long : length (take (q .count) (q .keys)) ≡ q .count
+  keys-long = let f = c .pre .1 .objective-filled in length-take-le (q .count) (q .keys) (omega (arith, f .count-low, f .keys-length))
+
+  coefficients-long : length (take (q .count) (q .coefficients)) ≡ q .count
+  coefficients-long = let f = c .pre .1 .objective-filled in length-take-le (q .count) (q .coefficients) (omega (arith, f .count-low, f .coefficients-length))
+
+abbrev at-start : tie.After-add-claim → tie.Start
+at-start c = c .before .before .before .before .before .before .before .before .before .before .before .before
+
+-- src/lib.rt:391:33
+array-share-prefix-es : tie.Need-array-share-prefix-es
+array-share-prefix-es c = search needs
+
+-- src/lib.rt:391:33
+slice-aggregate-add-claim : tie.Need-slice-aggregate-add-claim
+slice-aggregate-add-claim c = sym (keys-long (c .before .before .before .before .before .before .before .before .before .before))
+
+-- src/lib.rt:391:43
+array-share-prefix-cs : tie.Need-array-share-prefix-cs
+array-share-prefix-cs c = search needs
+
+-- src/lib.rt:391:43
+slice-aggregate-add-claim-2 : tie.Need-slice-aggregate-add-claim-2
+slice-aggregate-add-claim-2 c = sym (coefficients-long (c .before .before .before .before .before .before .before .before .before .before .before))
+
+-- src/lib.rt:391:5
+add-claim-requires : tie.Need-add-claim-requires
+add-claim-requires c κs =
+    let s = c .before .before .before .before .before .before .before .before .before .before .before in
+    let f = s .pre .1 .objective-filled in
+    let k = keys-long s in
+    let l = coefficients-long s in (
+      zeroed-ready (s .pre .0) _ (omega (arith, f .count-low)),
+      record {
+        paired = omega arith;
+        low = first-low _ (q s .count) (q s .keys) (f .keys-low);
+        key-low = omega arith;
+        small = omega arith;
+      },
+    )
+
+-- src/lib.rt:392:5
+add-rows-requires : tie.Need-add-rows-requires
+add-rows-requires c κs =
+    let a = c .before .before .before .before .before in
+    let p = at-start a .pre in
+    (ready-after (zeroed-ready (p .0) (257 * unit + 129 * tableUnit) (omega arith)) (claim-first _ _ (at-start a .pre .1 .objective-filled) (a .add-claim .ensures)) (omega arith), (p .1 .flat, p .1 .rows))
+
+-- src/lib.rt:393:9
+first-nonzero-requires : tie.Need-first-nonzero-requires
+first-nonzero-requires c κs =
+    let r = c .before .before .before .before .before in
+    let a = r .before .before .before .before .before .before in
+    let z = at-start a .pre .0 in
+    let g = claim-first _ _ (at-start a .pre .1 .objective-filled) (a .add-claim .ensures) in
+    let h = r .add-rows .ensures .grown in
+    record {
+      in-hi = omega (arith, z .in-hi, z .support .few, g .hi-length, h .hi-length);
+      in-lo = omega (arith, z .in-lo, z .support .few, g .lo-length, h .lo-length);
+      low = h .low;
+    }
+
+-- src/lib.rt:395:36
+mul-t34 : tie.Need-mul-t34
+mul-t34 c =
+    let f = c .before in
+    let a = f .before .before .before .before .before .before .before .before .before .before .before .before in
+    let z = at-start a .pre .0 in
+    omega (arith, z .support .few, c .if1 .taken)
+
+-- src/lib.rt:395:36
+shared-slice-read-t36 : tie.Need-shared-slice-read-t36
+shared-slice-read-t36 c =
+    let f = c .before .before in
+    let a = f .before .before .before .before .before .before .before .before .before .before .before .before in
+    omega (arith, inside (at-start a .pre .0 .support), c .before .if1 .taken)
+
+-- src/lib.rt:395:9
+same-length : tie.Need-same-length
+same-length c = search needs
+
+-- src/lib.rt:395:9
+same-length-2 : tie.Need-same-length-2
+same-length-2 c = search needs
+
+-- src/lib.rt:395:9
+returns : tie.Need-returns
+returns c =
+    let f = c .before .before in
+    let r = f .before .before .before .before .before .before in
+    let a = r .before .before .before .before .before .before in
+    let z = at-start a .pre .0 in
+    let m = r .add-rows .ensures in
+    let w = grown-then {e = 257 * unit + 129 * tableUnit} (claim-first _ _ (at-start a .pre .1 .objective-filled) (a .add-claim .ensures)) (m .grown) (λ k. refl) (omega arith) in
+    (λ p k given. found-differs p k _ _ _ _ _ _ _ _ _ given z (claim-first _ _ (at-start a .pre .1 .objective-filled) (a .add-claim .ensures)) m (f .first-nonzero .ensures) (c .before .if1 .taken), (grown-hi (z .support .few) w, grown-lo (z .support .few) w))
+
+-- src/lib.rt:371:1
+same-length-3 : tie.Need-same-length-3
+same-length-3 c = search needs
+
+-- src/lib.rt:371:1
+same-length-4 : tie.Need-same-length-4
+same-length-4 c = search needs
+
+-- src/lib.rt:371:1
+returns-2 : tie.Need-returns-2
+returns-2 c =
+    let f = c .before in
+    let r = f .before .before .before .before .before .before in
+    let a = r .before .before .before .before .before .before in
+    let z = at-start a .pre .0 in
+    let m = r .add-rows .ensures in
+    let w = grown-then {e = 257 * unit + 129 * tableUnit} (claim-first _ _ (at-start a .pre .1 .objective-filled) (a .add-claim .ensures)) (m .grown) (λ k. refl) (omega arith) in
+    (λ p k given. found-same p k _ _ _ _ _ _ _ _ _ given z (claim-first _ _ (at-start a .pre .1 .objective-filled) (a .add-claim .ensures)) m (f .first-nonzero .ensures) (c .if1 .left), (grown-hi (z .support .few) w, grown-lo (z .support .few) w))
+
+pub compare-spec : {M : Type 1} → statement M
+compare-spec =
+    tie.close
+    (tie.spec
+    array-share-prefix-es
+    slice-aggregate-add-claim
+    array-share-prefix-cs
+    slice-aggregate-add-claim-2
+    add-claim-requires
+    add-rows-requires
+    first-nonzero-requires
+    mul-t34
+    shared-slice-read-t36
+    same-length
+    same-length-2
+    returns
+    same-length-3
+    same-length-4
+    returns-2)

@@ -1,0 +1,58 @@
+-- Refusal 9 by the tables: what the comparison asks for, and its answer's cases.
+use mathlib.Core.Path.{_≡_}
+use mathlib.Core.List.{List}
+use mathlib.Core.Option.{Option, none, some}
+use Prim.Native.Nat.{ℕ, _≤_, _<_}
+use lib.IntN.{ℤ, pos}
+use lib.ListN.{length, getD, take, drop}
+use Rattle.stream.specs.Commands.{given}
+use Rattle.polynomial.specs.Terms.{objectiveTerms, Filled}
+use Rattle.polynomial.specs.declared.Objective.{Objective}
+use Rattle.problem.specs.Rules.{Problem}
+use Rattle.problem.specs.Limits.{Limits}
+use Rattle.problem.specs.Bases.{basisOf, Flat, FlatCoefficients}
+use Rattle.support.specs.Table.{Holds}
+use Rattle.rounds.specs.Bytes.{part}
+use Rattle.certificate.specs.Rules.{Certificate, shapeOf, readCertificate}
+use Rattle.certificate.specs.declared.Header.{Header}
+use Rattle.identity.specs.Judgement.{comparedKeys}
+use Rattle.comparison.specs.declared.Difference.{Difference}
+use Rattle.comparison.specs.declared.Difference.the-variants.{Same, Differs}
+use Rattle.comparison.specs.declared.Lengths.{Lengths}
+use Rattle.comparison.specs.Spread.{Flattened}
+use Rattle.comparison.specs.Walk.{Shaped}
+
+-- the answer's cases: the key of refusal 9, or none
+abbrev pub differenceOf : Option ℕ → Difference
+differenceOf (some k) = Differs k
+differenceOf none = Same
+
+-- the first n numbers of the table rise, and the sums at their places are 0
+pub record Zeroed (table : List ℕ) (n : ℕ) (hi : List ℤ) (lo : List ℕ) : Type 0 where
+  pub support : Holds table n
+  pub in-hi : 2048 ≤ length hi
+  pub in-lo : 2048 ≤ length lo
+  pub hi-zero : (q : ℕ) → q < n → getD hi q (pos 0) ≡ pos 0
+  pub lo-zero : (q : ℕ) → q < n → getD lo q 0 ≡ 0
+
+-- the arrays have their lengths, and the rows keep their limits
+pub record Comparable (s keys exponents : List ℕ) (coefficients : List ℤ) (l : Lengths) (objective : Objective) : Type 0 where
+  pub flat : Flattened keys exponents coefficients l
+  pub rows : Shaped (l .sizes) s
+  pub objective-filled : Filled 32 256 (objective .keys) (objective .coefficients) (objective .count)
+
+-- the arrays stand for the problem p, and the stream for the certificate c; the table holds the keys that are compared
+pub record Given (p : Problem) (c : Certificate) (s : List ℕ) (header : Header) (keys exponents : List ℕ) (coefficients : List ℤ) (l : Lengths) (objective : Objective) (table : List ℕ) (n : ℕ) : Type 0 where
+  pub limits : Limits p
+  pub read : readCertificate (shapeOf p) s ≡ given c
+  pub header-is : header ≡ c .header
+  pub bases : (j : ℕ) → j < 9 → part 64 (l .sizes) keys j ≡ basisOf p j
+  pub multipliers : Flat p (record { keys = exponents; counts = l .counts })
+  pub factors : FlatCoefficients p coefficients
+  pub objective-is : objectiveTerms objective ≡ p .objective
+  pub compared : take n table ≡ comparedKeys p
+
+-- what a call leaves of a lent table from place 2,048 on
+pub record Untouched {ℓ} {A : Type ℓ} (t₀ t₁ : List A) : Type ℓ where
+  pub long : length t₁ ≡ length t₀
+  pub rest : drop 2048 t₁ ≡ drop 2048 t₀
