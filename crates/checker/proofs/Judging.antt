@@ -66,7 +66,7 @@ module _ (p : StoredProblem) (kept : Kept p) where
 
 -- ---- the compared keys in the table
 pub joins-compare : (p : StoredProblem) (j : Joined) (keys : List ℕ) → Joins p j keys → Compares (problemOf p) (j .len) keys
-unfolding comparedKeys closedSupport
+unfolding comparedKeys
 joins-compare p j keys h =
     let S = comparedKeys (problemOf p) in
     let n : j .len ≡ length S = h .joining .len (h .few) in

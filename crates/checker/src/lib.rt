@@ -267,10 +267,10 @@ fn difference(
     let coefficients = problem::coefficients_of(constraints, p.count);
     let bases = p.keys;
     let exponents = m.keys;
-    let lengths = Lengths {
-        sizes: p.sizes,
-        counts: m.counts,
-    };
+    let sizes = p.sizes;
+    let counts = m.counts;
+    let lengths = Lengths { sizes, counts };
+    let objective = p.objective;
     comparison::compare(
         s,
         header,
@@ -278,7 +278,7 @@ fn difference(
         &exponents,
         &coefficients,
         lengths,
-        p.objective,
+        objective,
         table,
         n,
         high,
@@ -321,9 +321,10 @@ fn judge(
     requires { ⌜ Joins p j (now keys) × (2048 ≤ length (now high)) × (2048 ≤ length (now low)) ⌝ }
     ensures { λ r. ⌜ (r ≡ judgedOf stream (J.judge (problemOf p) (now (s .entry)))) × (drop 2048 (now (high .exit)) ≡ drop 2048 (now (high .entry))) × (drop 2048 (now (low .exit)) ≡ drop 2048 (now (low .entry))) ⌝ }
 {
+    let sizes = p.sizes;
     let shape = Shape {
         constraints: p.count,
-        sizes: p.sizes,
+        sizes,
     };
     let r = certificate::validate(shape, s);
     let number = r.number;
@@ -502,7 +503,11 @@ fn pair_both(
 {
     match judge(1, p, j, first, keys, high, low) {
         Judged::Refused(f) => refuse_pair(f),
-        Judged::Accepted(lower) => pair_second(lower, judge(2, p, j, second, keys, high, low), j.rounds),
+        Judged::Accepted(lower) => pair_second(
+            lower,
+            judge(2, p, j, second, keys, high, low),
+            j.rounds,
+        ),
     }
 }
 

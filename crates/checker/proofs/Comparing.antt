@@ -1,0 +1,85 @@
+-- What the comparison asks, from a stored problem and two cleared tables.
+use mathlib.Core.Path.{_≡_, refl, sym, ap, _∙_}
+use mathlib.Core.List.{List, [], _++_}
+use Prim.Native.Nat.{ℕ, _+_, _-_, _*_, _≤_, _<_}
+use native.Mathlib.Omega.{arith}
+use lib.IntN.{ℤ, pos}
+use lib.ListN.{length, getD, take, drop, replicate, length-replicate, length-append, length-drop, getD-replicate, List·getD-append}
+use lib.Seq.{drop-append-seam}
+use Rattle.counting.proofs.Listed.{listed-at}
+use Rattle.stream.specs.Commands.{Outcome, refused, given}
+use Rattle.polynomial.specs.Terms.{objectiveTerms}
+use Rattle.problem.specs.Bases.{basisOf, Flat, FlatCoefficients}
+use Rattle.problem.specs.Stored.{problemOf, constraintsOf, basesOf, Kept}
+use Rattle.problem.specs.declared.StoredProblem.{StoredProblem}
+use Rattle.problem.specs.declared.Multipliers.{Multipliers}
+use Rattle.rounds.specs.Bytes.{part}
+use Rattle.joining.proofs.Laid.{arrays}
+use Rattle.certificate.specs.Rules.{Certificate, shapeOf, readCertificate}
+use Rattle.certificate.specs.declared.Header.{Header}
+use Rattle.comparison.specs.Compare.{Zeroed, Comparable, Given, Untouched}
+use Rattle.checker.specs.Steps.{Compares, Stands}
+use Rattle.checker.proofs.Judging.{sizes-are, rows-of}
+
+-- ---- a cleared table
+module _ {A : Type 0} (z : A) (t t′ : List A) (cleared : t′ ≡ replicate 2048 z ++ drop 2048 t) where
+  pub cleared-at : (q : ℕ) → q < 2048 → getD t′ q z ≡ z
+  cleared-at q h = rw cleared (List·getD-append (replicate 2048 z) (drop 2048 t) z q (omega (arith, h, length-replicate 2048 z)) ∙ getD-replicate 2048 q z z h)
+
+  cleared-rest : drop 2048 t′ ≡ drop 2048 t
+  cleared-rest = rw cleared (rw (length-replicate 2048 z) at (drop-append-seam (replicate 2048 z) (drop 2048 t)))
+
+  -- and what a comparison leaves of it
+  pub cleared-untouched : (t″ : List A) → length t′ ≡ length t → Untouched t′ t″ → Untouched t t″
+  cleared-untouched t″ l u = record { long = u .long ∙ l; rest = u .rest ∙ cleared-rest }
+
+-- ---- what the comparison asks
+module _ (p : StoredProblem) (kept : Kept p) (n : ℕ) (table : List ℕ) (compares : Compares (problemOf p) n table) where
+  pub zeroed : (h h′ : List ℤ) (l l′ : List ℕ) → 2048 ≤ length h′ → 2048 ≤ length l′ → h′ ≡ replicate 2048 (pos 0) ++ drop 2048 h → l′ ≡ replicate 2048 0 ++ drop 2048 l → Zeroed table n h′ l′
+  zeroed h h′ l l′ a b e f = record {
+    support = compares .holds;
+    in-hi = a;
+    in-lo = b;
+    hi-zero = λ q k. cleared-at (pos 0) h h′ e q (omega (arith, k, compares .holds .few));
+    lo-zero = λ q k. cleared-at 0 l l′ f q (omega (arith, k, compares .holds .few));
+  }
+
+  pub same-constraints : problemOf p .constraints ≡ constraintsOf (p .count) (p .constraints)
+  unfolding problemOf
+  same-constraints = refl
+
+  same-basis : (j : ℕ) → j < 9 → part 64 (p .sizes) (p .keys) j ≡ basisOf (problemOf p) j
+  unfolding problemOf basisOf basesOf
+  same-basis j h = sym (listed-at 9 (λ (j : ℕ). take (getD (p .sizes) j 0) (drop (64 * j) (p .keys))) j [] h)
+
+  same-objective : objectiveTerms (p .objective) ≡ problemOf p .objective
+  unfolding problemOf
+  same-objective = refl
+
+  module _ (m : Multipliers) (flat : Flat (problemOf p) m) (cs : List ℤ) (factors : FlatCoefficients (problemOf p) cs) (s : List ℕ) (t : Header) (stands : Stands (problemOf p) s t) where
+    pub comparable : Comparable s (p .keys) (m .keys) cs (record { sizes = p .sizes; counts = m .counts }) (p .objective)
+    comparable = record {
+      flat = record { arrays = arrays p kept m flat; coefficients-long = factors .long };
+      rows = record {
+        shape = shapeOf (problemOf p);
+        sizes-are = sizes-are p kept;
+        rows = rows-of (problemOf p) (compares .limits) s (stands .certificate) (stands .read);
+      };
+      objective-filled = kept .objective;
+    }
+
+    abbrev headerIn : Outcome Certificate → Header
+    headerIn (given c) = c .header
+    headerIn (refused number place) = t
+
+    pub compared : (c : Certificate) → readCertificate (shapeOf (problemOf p)) s ≡ given c → Given (problemOf p) c s t (p .keys) (m .keys) cs (record { sizes = p .sizes; counts = m .counts }) (p .objective) table n
+    compared c e = record {
+      limits = compares .limits;
+      read = e;
+      header-is = stands .header-is ∙ ap headerIn (sym (stands .read) ∙ e);
+      bases = same-basis;
+      multipliers = flat;
+      factors = factors;
+      objective-is = same-objective;
+      compared = compares .keys;
+    }

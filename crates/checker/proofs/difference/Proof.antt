@@ -1,0 +1,90 @@
+-- `difference`: the comparison, with the problem's arrays and cleared tables.
+use borrow.Author.Needs.{needs}
+use native.Mathlib.Omega.{arith}
+use mathlib.Core.Path.{_≡_, refl, sym, ap, _∙_}
+use Prim.Native.Nat.{ℕ, _≤_}
+use lib.IntN.{pos}
+use lib.ListN.{length}
+use Rattle.problem.specs.Stored.{problemOf}
+use Rattle.problem.specs.Bases.{Flat, FlatCoefficients}
+use Rattle.checker.proofs.Comparing.{cleared-untouched, zeroed, same-constraints, comparable, compared}
+use Rattle.checker.proofs.difference.Statement.{statement}
+use Rattle.checker.proofs.difference.Tie as tie
+
+abbrev start : tie.After-multipliers-of → tie.Start
+start c = c .before .before .before .before .before .before .before .before .before .before .before .before
+
+flat : (c : tie.After-multipliers-of) → Flat (problemOf (start c .args .p)) (c .multipliers-of .result)
+flat c = let s = start c in c .multipliers-of .ensures (problemOf (s .args .p)) (same-constraints (s .args .p) (s .pre .0) _ _ (s .pre .1))
+
+factors : (c : tie.After-coefficients-of) → FlatCoefficients (problemOf (start (c .before) .args .p)) (c .coefficients-of .result)
+factors c = let s = start (c .before) in c .coefficients-of .ensures (problemOf (s .args .p)) (same-constraints (s .args .p) (s .pre .0) _ _ (s .pre .1))
+
+clear-signed-requires : tie.Need-clear-signed-requires
+clear-signed-requires c κs = search needs
+
+clear-requires : tie.Need-clear-requires
+clear-requires c κs = search needs
+
+multipliers-of-requires : tie.Need-multipliers-of-requires
+multipliers-of-requires c κs = search needs
+
+coefficients-of-requires : tie.Need-coefficients-of-requires
+coefficients-of-requires c κs = search needs
+
+slice-aggregate-compare : tie.Need-slice-aggregate-compare
+slice-aggregate-compare c = search needs
+
+slice-aggregate-compare-2 : tie.Need-slice-aggregate-compare-2
+slice-aggregate-compare-2 c = search needs
+
+slice-aggregate-compare-3 : tie.Need-slice-aggregate-compare-3
+slice-aggregate-compare-3 c = search needs
+
+compare-requires : tie.Need-compare-requires
+compare-requires c κs =
+    let k = c .before .before .before .before .before .before .before .before .before .before in
+    let m = k .before in
+    let l = m .before .before .before .before in
+    let h = l .before .before .before in
+    let s = start m in
+    let p = s .pre in (
+      zeroed (s .args .p) (p .0) _ _ (p .1) (s .args .high .now) _ (s .args .low .now) _ (omega (arith, p .3, h .clear-signed .kept)) (omega (arith, p .4, l .clear .kept)) (h .clear-signed .ensures) (l .clear .ensures),
+      comparable (s .args .p) (p .0) _ _ (p .1) _ (flat m) _ (factors k) _ _ (p .2),
+    )
+
+same-length : tie.Need-same-length
+same-length c = search needs
+
+same-length-2 : tie.Need-same-length-2
+same-length-2 c = search needs
+
+returns : tie.Need-returns
+returns c =
+    let d = c .before .before .before in
+    let k = d .before .before .before .before .before .before .before .before .before .before .before in
+    let m = k .before in
+    let l = m .before .before .before .before in
+    let h = l .before .before .before in
+    let s = start m in
+    let p = s .pre in (
+      λ x e. d .compare .ensures .0 (problemOf (s .args .p)) x (compared (s .args .p) (p .0) _ _ (p .1) _ (flat m) _ (factors k) _ _ (p .2) x e),
+      cleared-untouched (pos 0) (s .args .high .now) _ (h .clear-signed .ensures) _ (omega (arith, h .clear-signed .kept)) (d .compare .ensures .1 .0),
+      cleared-untouched 0 (s .args .low .now) _ (l .clear .ensures) _ (omega (arith, l .clear .kept)) (d .compare .ensures .1 .1),
+    )
+
+pub difference-spec : {M : Type 1} → statement M
+difference-spec =
+    tie.close
+    (tie.spec
+    clear-signed-requires
+    clear-requires
+    multipliers-of-requires
+    coefficients-of-requires
+    slice-aggregate-compare
+    slice-aggregate-compare-2
+    slice-aggregate-compare-3
+    compare-requires
+    same-length
+    same-length-2
+    returns)
