@@ -1,4 +1,4 @@
-// Answers the records of the standard input, one line for each, until it ends. A record is a kind byte (b: blocks), three lengths of
+// Answers the records of the standard input, one line for each, until it ends. A record is a kind byte (b: blocks, c: check, p: pair), three lengths of
 // 32 bits, little-endian, and three byte runs, each of at most 65,536 bytes.
 ghost use Prim.Native.Nat.{ℕ, _+_, _*_, _≤_, _<_};
 ghost use lib.ListN.{length};
@@ -39,11 +39,6 @@ fn fill(bytes: &mut [u8], n: usize) -> bool {
     }
 }
 
-// The first n bytes, or all.
-fn cut(bytes: &[u8], n: usize) -> &[u8] {
-    if n <= bytes.len() { &bytes[..n] } else { bytes }
-}
-
 fn run_blocks(problem: &[u8]) {
     let mut out = [0u8; 576];
     let mut keys = [0u64; 2048];
@@ -64,10 +59,58 @@ fn run_blocks(problem: &[u8]) {
     }
 }
 
+fn run_check(problem: &[u8], certificate: &[u8]) {
+    let mut keys = [0u64; 2048];
+    let mut high = [0i64; 2048];
+    let mut low = [0u64; 2048];
+    let v = checker::check(problem, certificate, &mut keys, &mut high, &mut low);
+    let r = v.refusal;
+    if r.number == 0 {
+        report::put(b"check ");
+        report::put_number(v.side as u64);
+        report::put(b" ");
+        report::put_fraction(v.bound);
+        report::put(b" rounds ");
+        report::put_number(v.rounds as u64);
+        report::put(b"\n");
+    } else {
+        report::put_refusal(r);
+    }
+}
+
+fn run_pair(problem: &[u8], first: &[u8], second: &[u8]) {
+    let mut keys = [0u64; 2048];
+    let mut high = [0i64; 2048];
+    let mut low = [0u64; 2048];
+    let v = checker::pair(problem, first, second, &mut keys, &mut high, &mut low);
+    let r = v.refusal;
+    if r.number == 0 {
+        report::put(b"pair ");
+        report::put_fraction(v.lower);
+        report::put(b" ");
+        report::put_fraction(v.upper);
+        report::put(b" gap ");
+        report::put_fraction(v.gap);
+        report::put(b" rounds ");
+        report::put_number(v.rounds as u64);
+        report::put(b"\n");
+    } else {
+        report::put_refusal(r);
+    }
+}
+
 // Answers a record of a kind; whether the kind is known.
 fn run(kind: u8, problem: &[u8], first: &[u8], second: &[u8]) -> bool {
     if kind == b'b' {
         run_blocks(problem);
+        return true;
+    }
+    if kind == b'c' {
+        run_check(problem, first);
+        return true;
+    }
+    if kind == b'p' {
+        run_pair(problem, first, second);
         return true;
     }
     false
@@ -94,7 +137,12 @@ fn answer() -> bool {
     if !fill(&mut second, c) {
         return false;
     }
-    run(head[0], cut(&problem, a), cut(&first, b), cut(&second, c))
+    run(
+        head[0],
+        report::cut(&problem, a),
+        report::cut(&first, b),
+        report::cut(&second, c),
+    )
 }
 
 fn main() {

@@ -1,4 +1,4 @@
-// Verdicts as text on standard output, for the programs. What is written is tested and not proved; each function is safe and ends.
+// For the programs: verdicts as text on standard output, and the part of a buffer that was read. What is written is tested and not proved; each function is safe and ends.
 use checker::Refusal;
 use fraction::Fraction;
 use libc::STDOUT_FILENO;
@@ -44,4 +44,9 @@ pub fn put_refusal(r: Refusal) {
     put(b" ");
     put_number(r.key);
     put(b"\n");
+}
+
+// The first n bytes, or all.
+pub fn cut(bytes: &[u8], n: usize) -> &[u8] {
+    if n <= bytes.len() { &bytes[..n] } else { bytes }
 }

@@ -5,8 +5,8 @@ use mathlib.Core.Path.{_≡_, refl, sym, ap, _∙_, subst}
 use Prim.Native.Nat.{ℕ, zero, suc, _+_, _-_, _*_, _≤_, _<_}
 use lib.Seq.{length-take-le}
 use lib.ListN.{length, getD, take, drop, set, length-set}
-use Rattle.replay.proofs.cut.Statement.{statement}
-use Rattle.replay.proofs.cut.Tie as tie
+use Rattle.report.proofs.cut.Statement.{statement}
+use Rattle.report.proofs.cut.Tie as tie
 
 slice-aggregate-result : tie.Need-slice-aggregate-result
 slice-aggregate-result c = let s = c .before .before in sym (length-take-le (s .args .n) (s .args .bytes .now) (c .before .if1 .taken))
