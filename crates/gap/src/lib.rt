@@ -1,4 +1,5 @@
-// The pair on three files: problem.bin, low.bin and high.bin of the working folder, each to at most 65,536 bytes.
+// The pair on three files, each to at most 65,536 bytes: problem.bin, low.bin and high.bin of the working folder, or those that the
+// program's arguments name.
 use checker::PairVerdict;
 use fraction::Fraction;
 
@@ -15,6 +16,16 @@ fn read_file(path: &[u8], bytes: &mut [u8]) -> usize {
     let n = io::read_full(fd, bytes);
     libc::close(fd);
     n
+}
+
+// The bytes of the file that argument i names, or of another where there is no such argument.
+fn read_stream(i: usize, other: &[u8], bytes: &mut [u8]) -> usize {
+    if os::arg_count() <= i {
+        return read_file(other, bytes);
+    }
+    let mut path = io::buffer();
+    let n = os::arg(i, &mut path);
+    read_file(&path[..n], bytes)
 }
 
 // A line with a name and a fraction.
@@ -39,14 +50,14 @@ fn put_verdict(v: PairVerdict) {
     report::put(b"\n");
 }
 
-// The verdict on the files of the working folder.
+// The verdict on the three files.
 pub fn answer() {
     let mut problem = io::large_buffer();
     let mut low = io::large_buffer();
     let mut high = io::large_buffer();
-    let a = read_file(b"problem.bin", &mut problem);
-    let b = read_file(b"low.bin", &mut low);
-    let c = read_file(b"high.bin", &mut high);
+    let a = read_stream(1, b"problem.bin", &mut problem);
+    let b = read_stream(2, b"low.bin", &mut low);
+    let c = read_stream(3, b"high.bin", &mut high);
     let mut keys = [0u64; 2048];
     let mut sums_high = [0i64; 2048];
     let mut sums_low = [0u64; 2048];
