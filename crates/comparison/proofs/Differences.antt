@@ -1,12 +1,11 @@
 -- The first place whose sum is not 0 is the first key at which the claim and the squares differ.
 use mathlib.Core.Path.{_≡_, refl, sym, ap, ap₂, _∙_, subst}
-use mathlib.Core.Bool.{Bool, true, false}
+use mathlib.Core.Bool.{true, false}
 use mathlib.Core.List.{List, [], _∷_, map}
-use mathlib.Core.Option.{Option, none, some}
+use mathlib.Core.Option.{none, some}
 use Prim.Native.Nat.{ℕ, zero, suc, _+_, _-_, _*_, _^_, _≤_, _<_}
 use native.Mathlib.Omega.{arith}
-use borrow.Author.Tests.{eqb-true, eqb-false, eq-eqb, ne-eqb}
-use lib.Dec.{eqb}
+use borrow.Author.Tests.{eq-eqb, ne-eqb}
 use lib.IntN.{ℤ, pos, negsuc, negℤ, natAbs, _+ℤ_, +ℤ-idl}
 use lib.ListN.{length, getD, take, drop, length-drop}
 use lib.Seq.{getD-take, getD-drop, length-take-le, ext-getD}
@@ -17,21 +16,19 @@ use Rattle.polynomial.specs.Terms.{Term, term, keysOf, termsIn, objectiveTerms,
 use Rattle.polynomial.specs.declared.Objective.{Objective}
 use Rattle.polynomial.specs.Algebra.{coefficient}
 use Rattle.problem.specs.Rules.{Problem}
-use Rattle.problem.specs.Limits.{Limits}
-use Rattle.problem.specs.Bases.{basisOf, multiplierOf, Flat, coefficientsOf, FlatCoefficients}
+use Rattle.problem.specs.Bases.{multiplierOf, Flat, coefficientsOf, FlatCoefficients}
 use Rattle.support.proofs.Laws.{inside}
-use Rattle.sums.specs.Sums.{base, valueAt, Sums, First}
+use Rattle.sums.specs.Sums.{valueAt, First}
 use Rattle.certificate.specs.Rules.{Row, Certificate, shapeOf}
-use Rattle.certificate.specs.Rows.{rowsOf}
 use Rattle.certificate.specs.declared.Header.{Header}
 use Rattle.certificate.proofs.Limits.{shape-within}
 use Rattle.certificate.proofs.Rows.{rows-read}
 use Rattle.identity.specs.Identity.{multiplier, squares, claim}
-use Rattle.identity.specs.Judgement.{sameNumber, firstDifference, comparedKeys, differenceKey}
+use Rattle.identity.specs.Judgement.{sameNumber, firstDifference, differenceKey}
 use Rattle.comparison.specs.declared.Difference.the-variants.{Same, Differs}
 use Rattle.comparison.specs.declared.Lengths.{Lengths}
 use Rattle.comparison.specs.Tables.{unit, Ready, Grown, claimed}
-use Rattle.comparison.specs.Spread.{multiplierIn, Flattened}
+use Rattle.comparison.specs.Spread.{multiplierIn}
 use Rattle.comparison.specs.Walk.{Stands, Summed}
 use Rattle.comparison.specs.Compare.{differenceOf, Zeroed, Given, Untouched}
 use Rattle.comparison.proofs.Growth.{grown-same}

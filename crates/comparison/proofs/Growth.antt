@@ -11,13 +11,13 @@ use lib.Dec.{eqb, ltb}
 use lib.IntN.{ℤ, pos, natAbs, one, _+ℤ_, _*ℤ_, +ℤ-assoc, +ℤ-idr, *ℤ-zero, *ℤ-one}
 use lib.ListN.{length, getD, take}
 use lib.Seq.{getD-take, length-take-le}
+use Rattle.polynomial.specs.Algebra.{match}
 use Rattle.support.specs.Table.{findIn, rank}
 use Rattle.support.specs.Sets.{member}
 use Rattle.support.specs.declared.Found.the-variants.{At, Gap}
 use Rattle.support.proofs.Laws.{inside, rising-in, member-at, at-tells, gap-tells, told-in, miss-in}
-use Rattle.sums.specs.Sums.{base, valueAt, Room, Added, Sums}
+use Rattle.sums.specs.Sums.{valueAt, Room, Added, Sums}
 use Rattle.sums.proofs.Tables.{added-at, bound-at, sums-kept}
-use Rattle.polynomial.specs.Algebra.{match}
 use Rattle.comparison.specs.Tables.{Ready, Grown}
 
 module _ {keys : List ℕ} {n : ℕ} {hi₀ hi₁ : List ℤ} {lo₀ lo₁ : List ℕ} where

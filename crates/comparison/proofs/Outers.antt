@@ -1,9 +1,9 @@
 -- The products of a row: what each place of the table gets, and how large it is at most.
 use mathlib.Core.Path.{_≡_, refl, sym, ap, _∙_, subst}
 use mathlib.Core.Bool.{Bool, true, false, cond}
-use mathlib.Core.List.{List, [], _∷_}
+use mathlib.Core.List.{List}
 use mathlib.Core.Logic.{⊎-elim}
-use Prim.Native.Nat.{ℕ, zero, suc, _+_, _-_, _*_, _/_, _%_, _^_, _≤_, _<_}
+use Prim.Native.Nat.{ℕ, zero, suc, _+_, _-_, _*_, _/_, _^_, _≤_, _<_}
 use native.Mathlib.Numerals.{add-one}
 use native.Mathlib.Omega.{arith}
 use borrow.Author.Tests.{eq-eqb, ne-eqb}
@@ -12,7 +12,6 @@ use lib.IntN.{ℤ, pos, one, natAbs, _+ℤ_, _*ℤ_, +ℤ-assoc, +ℤ-idl, +ℤ-
 use lib.ListN.{length, getD, set, replicate, length-set, length-replicate, getD-replicate}
 use lib.Seq.{getD-set-same, getD-set-other}
 use Rattle.integers.proofs.Ranges.{abs-sum, abs-mul-le}
-use Rattle.counting.specs.Counting.{listed}
 use Rattle.counting.proofs.Listed.{same-or-not}
 use Rattle.polynomial.specs.Terms.{Term, term, termsIn}
 use Rattle.polynomial.specs.Algebra.{sum, match}

@@ -1,5 +1,5 @@
 -- The parts of the flat arrays that belong to one basis.
-use mathlib.Core.Path.{_≡_, refl, sym, ap, ap₂, _∙_}
+use mathlib.Core.Path.{_≡_, refl, ap, ap₂}
 use mathlib.Core.Bool.{Bool, true, false}
 use mathlib.Core.List.{List}
 use Prim.Native.Nat.{ℕ, _+_, _-_, _*_, _^_, _≤_, _<_}
@@ -9,11 +9,11 @@ use borrow.Author.Tests.{ltb-true, ltb-false}
 use lib.Dec.{ltb}
 use lib.IntN.{ℤ, pos}
 use lib.ListN.{length, getD, take, drop, length-take, length-drop, List·getD-eq-default}
-use lib.Seq.{getD-take, getD-drop, length-take-le}
+use lib.Seq.{getD-take, getD-drop}
 use Rattle.counting.proofs.Listed.{listed-same}
+use Rattle.polynomial.specs.Terms.{term, termsIn}
 use Rattle.blocks.specs.Limits.{Bounded}
 use Rattle.rounds.specs.Bytes.{part}
-use Rattle.polynomial.specs.Terms.{Term, term, termsIn}
 use Rattle.comparison.specs.declared.Lengths.{Lengths}
 use Rattle.comparison.specs.Spread.{Spreadable, Flattened, multiplierIn}
 

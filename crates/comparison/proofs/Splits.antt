@@ -1,15 +1,13 @@
 -- Refusal 8: the loop over a row's entries, the walk over the rows, and the bytes as the problem's block numbers.
-use mathlib.Core.Path.{_≡_, refl, sym, ap, _∙_, subst}
-use mathlib.Core.Bool.{Bool, true, false, cond}
+use mathlib.Core.Path.{_≡_, refl, sym, ap, _∙_}
+use mathlib.Core.Bool.{true, false}
 use mathlib.Core.List.{List, [], _∷_}
 use mathlib.Core.Option.{Option, none, some}
 use Prim.Native.Nat.{ℕ, zero, suc, _+_, _*_, _/_, _%_, _≤_, _<_}
-use native.Mathlib.Numerals.{add-one}
 use native.Mathlib.Omega.{arith}
-use lib.Dec.{eqb}
+use borrow.Author.Tests.{eq-eqb, ne-eqb}
 use lib.ListN.{length, getD, drop}
 use lib.Seq.{drop-cons, drop-length}
-use borrow.Author.Tests.{eq-eqb, ne-eqb}
 use Rattle.counting.specs.Counting.{listed}
 use Rattle.counting.proofs.Listed.{listed-at, listed-length}
 use Rattle.stream.specs.Commands.{given}
@@ -20,19 +18,18 @@ use Rattle.rounds.specs.Bytes.{blockBytes}
 use Rattle.rounds.proofs.Closing.{closing-shaped}
 use Rattle.joining.specs.Joining.{basesOf, startSet, closing}
 use Rattle.certificate.specs.Kept.{Within}
-use Rattle.certificate.specs.Limits.{SoundRow}
 use Rattle.certificate.specs.Rules.{Entry, Row, Certificate, shapeOf, readCertificate}
-use Rattle.certificate.specs.Rows.{stands, rowAt, afterRow, rowsFrom, rowsOf, storedEntry, rowOf, Holds, Chain}
+use Rattle.certificate.specs.Rows.{stands, afterRow, rowsFrom, rowsOf, storedEntry, rowOf, Holds, Chain}
 use Rattle.certificate.specs.declared.Shape.{Shape}
 use Rattle.certificate.specs.declared.StoredRow.{StoredRow}
-use Rattle.certificate.proofs.Limits.{read-sound, shape-within}
+use Rattle.certificate.proofs.Limits.{shape-within}
 use Rattle.certificate.proofs.Rows.{no-row, one-row, rows-read}
 use Rattle.certificate.proofs.Walk.{onward, holds-sound, sound-basis, sound-index}
-use Rattle.identity.specs.Identity.{blockOf, RowFits, RowsFit}
+use Rattle.identity.specs.Identity.{blockOf, RowsFit}
 use Rattle.identity.specs.Judgement.{firstOutside, rowSplit, orElse, splitPlace}
 use Rattle.identity.proofs.Fits.{read-fits}
 use Rattle.comparison.specs.declared.Place.the-variants.{At, Nowhere}
-use Rattle.comparison.specs.Places.{placeOf, byteAt, splitIn, Rows, Walkable, Indexed}
+use Rattle.comparison.specs.Places.{placeOf, byteAt, splitIn, Walkable, Indexed}
 
 -- ---- the entries of a row
 module _ (b : ℕ → ℕ) where

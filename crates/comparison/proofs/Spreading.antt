@@ -1,7 +1,7 @@
 -- The table of sums, spread over the compared keys entry by entry.
 use mathlib.Core.Path.{_≡_, refl, sym, ap, _∙_}
 use mathlib.Core.Bool.{Bool, true, false}
-use mathlib.Core.List.{List, [], _∷_}
+use mathlib.Core.List.{List}
 use mathlib.Core.Logic.{⊎-elim}
 use Prim.Native.Nat.{ℕ, zero, suc, _+_, _-_, _*_, _/_, _%_, _≤_, _<_}
 use native.Mathlib.Nat.{eq-or-lt-of-le}
@@ -14,10 +14,9 @@ use lib.Seq.{getD-set-same, getD-set-other}
 use Rattle.counting.specs.Counting.{listed}
 use Rattle.polynomial.specs.Terms.{Term, term}
 use Rattle.polynomial.specs.Algebra.{sum}
-use Rattle.identity.specs.Gram.{placed}
 use Rattle.comparison.specs.Tables.{Ready, Grown}
-use Rattle.comparison.specs.Spread.{entryUnit, tableUnit, share, spreadAt, Framed, Entered, Spread}
-use Rattle.comparison.proofs.Growth.{grown-none, grown-same, grown-then, ready-after}
+use Rattle.comparison.specs.Spread.{entryUnit, share, spreadAt, Framed, Entered, Spread}
+use Rattle.comparison.proofs.Growth.{grown-none, grown-same, grown-then}
 use Rattle.comparison.proofs.Products.{sum-none, sum-more}
 
 -- an entry that is not 0 is at indices of the basis

@@ -1,20 +1,20 @@
 -- The walk over the rows: the sums hold the squares of the rows that were flushed, and the table of sums holds the products of the
 -- rows since, which are all on one basis.
-use mathlib.Core.Path.{_≡_, refl, sym, ap, _∙_, subst}
-use mathlib.Core.Bool.{Bool, true, false}
+use mathlib.Core.Path.{_≡_, refl, sym, ap, _∙_}
+use mathlib.Core.Bool.{true, false}
 use mathlib.Core.List.{List, [], _∷_, _++_, append-assoc, append-nil}
 use mathlib.Core.Logic.{⊎-elim}
 use Prim.Native.Nat.{ℕ, zero, suc, _+_, _-_, _*_, _/_, _%_, _^_, _≤_, _<_}
 use native.Mathlib.Nat.{eq-or-lt-of-le}
 use native.Mathlib.Omega.{arith}
-use lib.IntN.{ℤ, pos, natAbs, _+ℤ_, _*ℤ_, +ℤ-assoc, +ℤ-idl, +ℤ-idr}
+use lib.IntN.{ℤ, pos, natAbs, _+ℤ_, _*ℤ_, +ℤ-assoc, +ℤ-idl}
 use lib.ListN.{length, getD}
 use Rattle.integers.proofs.Ranges.{abs-zero, abs-sum, fits-abs}
 use Rattle.counting.specs.Counting.{listed}
 use Rattle.counting.proofs.Listed.{listed-at, listed-length, same-or-not}
-use Rattle.stream.specs.Operands.{number, signed}
+use Rattle.stream.specs.Operands.{number}
 use Rattle.polynomial.specs.Terms.{Term, term, termsIn}
-use Rattle.polynomial.specs.Algebra.{sum, match, coefficient, scale, _⊗_, Keys}
+use Rattle.polynomial.specs.Algebra.{sum, match, coefficient, _⊗_, Keys}
 use Rattle.polynomial.proofs.Sums.{coefficient-append, coefficient-none}
 use Rattle.polynomial.proofs.Products.{keys-append, keys-scale, keys-⊗, keys-map}
 use Rattle.problem.specs.Rules.{Problem}
@@ -39,7 +39,7 @@ use Rattle.comparison.specs.Tables.{Ready, Grown}
 use Rattle.comparison.specs.Spread.{tableUnit, spreadAt, Framed, Spread, multiplierIn, Flattened}
 use Rattle.comparison.specs.Outer.{rowUnit, Entries, Below, Raised, outerAt}
 use Rattle.comparison.specs.Walk.{Stands, Shaped, Changed, Summed}
-use Rattle.comparison.proofs.Growth.{grown-none, grown-same, grown-then, ready-after}
+use Rattle.comparison.proofs.Growth.{grown-none, grown-then, ready-after}
 use Rattle.comparison.proofs.Outers.{outer-bound}
 
 -- ---- a row in arrays, as the table of sums takes it

@@ -4,7 +4,7 @@ use mathlib.Core.List.{List}
 use Prim.Native.Nat.{ℕ, _+_, _*_, _^_, _≤_, _<_}
 use lib.IntN.{ℤ, pos, natAbs, _+ℤ_, _*ℤ_}
 use lib.ListN.{length, getD}
-use Rattle.polynomial.specs.Terms.{Term, termsIn}
+use Rattle.polynomial.specs.Terms.{Term}
 use Rattle.polynomial.specs.Algebra.{sum, match}
 
 -- what one row at most adds to an entry: its indices rise, so each place gets one product

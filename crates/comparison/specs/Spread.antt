@@ -5,11 +5,11 @@ use mathlib.Core.List.{List}
 use Prim.Native.Nat.{ℕ, _+_, _*_, _/_, _%_, _^_, _≤_, _<_}
 use lib.IntN.{ℤ, pos, natAbs}
 use lib.ListN.{length, getD, drop}
-use Rattle.blocks.specs.Limits.{Bounded}
 use Rattle.polynomial.specs.Terms.{Term, termsIn}
 use Rattle.polynomial.specs.Algebra.{sum, match}
-use Rattle.identity.specs.Gram.{pairKey, placed}
+use Rattle.blocks.specs.Limits.{Bounded}
 use Rattle.rounds.specs.Arrays.{Arrays}
+use Rattle.identity.specs.Gram.{pairKey, placed}
 use Rattle.comparison.specs.declared.Lengths.{Lengths}
 use Rattle.comparison.specs.Tables.{unit, Grown}
 

@@ -4,11 +4,11 @@ use mathlib.Core.List.{List, [], _∷_, _++_}
 use Prim.Native.Nat.{ℕ, _+_, _*_, _^_, _≤_, _<_}
 use lib.IntN.{ℤ, pos, natAbs, negℤ, _+ℤ_, _*ℤ_}
 use lib.ListN.{length, getD}
+use Rattle.polynomial.specs.Terms.{Term, term}
+use Rattle.polynomial.specs.Algebra.{scale}
 use Rattle.support.specs.Table.{Holds}
 use Rattle.sums.specs.Sums.{base, valueAt}
 use Rattle.blocks.specs.Limits.{Bounded}
-use Rattle.polynomial.specs.Terms.{Term, term}
-use Rattle.polynomial.specs.Algebra.{scale}
 use Rattle.certificate.specs.declared.Header.{Header}
 use Rattle.identity.specs.Identity.{turned}
 use Rattle.comparison.specs.declared.Negated.{Negated}

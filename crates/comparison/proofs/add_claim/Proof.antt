@@ -1,23 +1,17 @@
+-- `add_claim`: the objective's terms, and the term of 1, make minus the claim.
+use mathlib.Core.Path.{_≡_}
+use Prim.Native.Nat.{_-_}
+use native.Mathlib.Omega.{arith}
 use borrow.Author.Needs.{needs}
-use lib.IntN.{ℤ, pos, natAbs}
 use mir.Facts.{toZ-ofZ}
 use mir.Syntax.{w32, w64}
 use mir.Val.{SFits, toZ, ofZ}
 use Rattle.integers.proofs.Ranges.{abs-fits}
-use Rattle.comparison.specs.Tables.{unit, Negates}
+use Rattle.comparison.specs.Tables.{Negates}
 use Rattle.comparison.proofs.Growth.{ready-less, ready-after, grown-then}
 use Rattle.comparison.proofs.Claims.{claim-sum}
-use native.Mathlib.Omega.{arith}
-use mathlib.Core.Path.{_≡_, refl, sym, ap, _∙_, subst}
-use Prim.Native.Nat.{ℕ, zero, suc, _+_, _-_, _*_, _≤_, _<_}
-use lib.ListN.{length, getD, take, drop, set, length-set}
 use Rattle.comparison.proofs.add_claim.Statement.{statement}
 use Rattle.comparison.proofs.add_claim.Tie as tie
-use Rattle.comparison.proofs.add_claim.Reads as reads
-use Rattle.comparison.proofs.add_claim.Lts as lts
-use Rattle.comparison.proofs.add_term.Reads as add-term-reads
-use Rattle.comparison.proofs.add_terms.Reads as add-terms-reads
-use Rattle.comparison.proofs.negate.Reads as negate-reads
 
 p-kept : (c : tie.After-struct-told) → let p = c .before .before .before .before .args .t .p in toZ w32 (ofZ w32 p) ≡ p
 p-kept c = search needs
@@ -39,29 +33,24 @@ module _ (c : tie.After-negate) where
 negate-requires : tie.Need-negate-requires
 negate-requires c κs = search needs
 
--- src/lib.rt:143:5
 add-terms-requires : tie.Need-add-terms-requires
 add-terms-requires c κs =
     let g = c .before .before .before .before in
     let p = s g .pre in
     (ready-less (p .0) (omega arith), simp (toZ-ofZ (fits-x g)) record { paired = p .1 .paired; low = p .1 .low; key-low = p .1 .key-low; small = factors g .objective-small })
 
--- src/lib.rt:144:5
 add-term-requires : tie.Need-add-term-requires
 add-term-requires c κs =
     let a = c .before .before .before .before .before in
     let g = a .before .before .before .before .before in
     (ready-after (s g .pre .0) (a .add-terms .ensures) (omega arith), simp (toZ-ofZ (fits-y g)) (factors g .constant-small))
 
--- src/lib.rt:127:1
 same-length : tie.Need-same-length
 same-length c = search needs
 
--- src/lib.rt:127:1
 same-length-2 : tie.Need-same-length-2
 same-length-2 c = search needs
 
--- src/lib.rt:127:1
 returns : tie.Need-returns
 returns c =
     let b = c .before .before .before in

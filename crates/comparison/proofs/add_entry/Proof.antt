@@ -1,22 +1,18 @@
+-- `add_entry`: an entry that is 0 adds nothing; any other is at indices of the basis.
+use mathlib.Core.Path.{_≡_, refl}
+use Prim.Native.Nat.{_/_, _%_, _-_, _*_, _<_}
+use native.Mathlib.Omega.{arith}
 use borrow.Author.Needs.{needs}
-use Rattle.polynomial.specs.Terms.{termsIn}
-use Rattle.comparison.specs.Spread.{share}
-use Prim.Native.Nat.{_/_, _%_}
 use lib.IntN.{ℤ, pos, _*ℤ_, zero-*ℤ}
+use lib.ListN.{length, getD}
 use mir.Facts.{toZ-ofZ}
 use Rattle.integers.proofs.Ranges.{zero-bits}
-use Rattle.comparison.specs.Tables.{unit}
+use Rattle.polynomial.specs.Terms.{termsIn}
+use Rattle.comparison.specs.Spread.{share}
 use Rattle.comparison.proofs.Growth.{ready-less, grown-none, grown-same}
 use Rattle.comparison.proofs.Spreading.{entered-row, entered-column}
-use native.Mathlib.Omega.{arith}
-use mathlib.Core.Path.{_≡_, refl, sym, ap, _∙_, subst}
-use Prim.Native.Nat.{ℕ, zero, suc, _+_, _-_, _*_, _≤_, _<_}
-use lib.ListN.{length, getD, take, drop, set, length-set}
 use Rattle.comparison.proofs.add_entry.Statement.{statement}
 use Rattle.comparison.proofs.add_entry.Tie as tie
-use Rattle.comparison.proofs.add_entry.Reads as reads
-use Rattle.comparison.proofs.add_entry.Lts as lts
-use Rattle.comparison.proofs.add_terms.Reads as add-terms-reads
 
 -- an entry that is not 0
 module _ (c : tie.Else1) where
@@ -32,7 +28,6 @@ module _ (c : tie.Else1) where
   column : s .args .x % 64 < length (s .args .basis .now)
   column = entered-column _ (s .args .x) (s .args .a) (s .pre .1 .1) not-zero
 
--- src/lib.rt:167:9
 returns : tie.Need-returns
 returns c =
     let s = c .before .before .before .before .before in
@@ -41,30 +36,24 @@ returns c =
     let G = termsIn (length (a .exponents .now)) (a .exponents .now) (a .coefficients .now) in
     grown-none (s .pre .0) (λ q b. rw e (zero-*ℤ (share (a .basis .now) G (getD (a .table .now) q 0) (a .x))))
 
--- src/lib.rt:171:15
 mul-key : tie.Need-mul-key
 mul-key c = search needs
 
--- src/lib.rt:171:15
 shared-slice-read-key : tie.Need-shared-slice-read-key
 shared-slice-read-key c = row (c .before)
 
--- src/lib.rt:171:26
 mul-key-2 : tie.Need-mul-key-2
 mul-key-2 c = search needs
 
--- src/lib.rt:171:26
 shared-slice-read-key-2 : tie.Need-shared-slice-read-key-2
 shared-slice-read-key-2 c = column (c .before .before)
 
--- src/lib.rt:171:15
 add-key : tie.Need-add-key
 add-key c =
     let e = c .before .before in
     let p = s e .pre .1 .0 in
     omega (arith, p .basis-low (s e .args .x / 64), p .basis-low (s e .args .x % 64))
 
--- src/lib.rt:172:5
 add-terms-requires : tie.Need-add-terms-requires
 add-terms-requires c κs =
     let e = c .before .before .before .before in
@@ -78,15 +67,12 @@ add-terms-requires c κs =
       },
     )
 
--- src/lib.rt:151:1
 same-length : tie.Need-same-length
 same-length c = search needs
 
--- src/lib.rt:151:1
 same-length-2 : tie.Need-same-length-2
 same-length-2 c = search needs
 
--- src/lib.rt:151:1
 returns-2 : tie.Need-returns-2
 returns-2 c =
     let a = c .before .before .before in

@@ -1,23 +1,19 @@
-use borrow.Author.Needs.{needs}
-use borrow.Author.Needs.{sfits-of}
-use Prim.Native.Nat.{_^_}
-use lib.IntN.{ℤ, pos, natAbs, _+ℤ_, _*ℤ_}
+-- `add_outer`: after k turns the products of the first k entries with all are added.
+use mathlib.Core.Path.{_≡_}
+use Prim.Native.Nat.{_^_, _-_, _*_, _≤_, _<_}
+use native.Mathlib.Omega.{arith}
+use borrow.Author.Needs.{needs, sfits-of}
+use lib.IntN.{ℤ, pos, natAbs, _*ℤ_}
+use lib.ListN.{getD}
 use mir.Facts.{toZ-ofZ, sfits-widen}
 use mir.Syntax.{w16, w64}
-use mir.Val.{SFits, toZ, ofZ}
+use mir.Val.{SFits, toZ}
 use Rattle.integers.proofs.Ranges.{abs-fits, abs-mul-le}
 use Rattle.polynomial.specs.Terms.{termsIn}
-use Rattle.comparison.specs.Outer.{rowUnit, Below, inRow}
+use Rattle.comparison.specs.Outer.{Below, inRow}
 use Rattle.comparison.proofs.Outers.{Raising, raising-start, raising-more, raising-below, raising-all, outer-bound}
-use native.Mathlib.Omega.{arith}
-use mathlib.Core.Path.{_≡_, refl, sym, ap, _∙_, subst}
-use Prim.Native.Nat.{ℕ, zero, suc, _+_, _-_, _*_, _≤_, _<_}
-use lib.ListN.{length, getD, take, drop, set, length-set}
 use Rattle.comparison.proofs.add_outer.Statement.{statement}
 use Rattle.comparison.proofs.add_outer.Tie as tie
-use Rattle.comparison.proofs.add_outer.Reads as reads
-use Rattle.comparison.proofs.add_outer.Lts as lts
-use Rattle.comparison.proofs.add_products.Reads as add-products-reads
 
 abbrev Inv-loop : tie.InvT-loop
 Inv-loop g₀ indices factors count w k₀ g k =
@@ -61,34 +57,27 @@ module _ (l : tie.At-loop Inv-loop μ-loop) where
 cast-w : tie.Need-cast-w Inv-loop μ-loop
 cast-w c = search needs
 
--- src/lib.rt:274:5
 loop-holds : tie.Need-loop-holds Inv-loop μ-loop
 loop-holds c = let s = c .before .before .before in (omega arith, raising-start (s .pre .1 .long))
 
--- src/lib.rt:275:17
 array-read-i : tie.Need-array-read-i Inv-loop μ-loop
 array-read-i c = let s = c .before .before .before .before .before in omega (arith, s .pre .0 .few)
 
--- src/lib.rt:275:17
 cast-i : tie.Need-cast-i Inv-loop μ-loop
 cast-i c = search needs
 
--- src/lib.rt:276:22
 mul-a : tie.Need-mul-a Inv-loop μ-loop
 mul-a c = search needs
 
--- src/lib.rt:276:22
 array-copy-out-a : tie.Need-array-copy-out-a Inv-loop μ-loop
 array-copy-out-a c = let s = c .before .before .before .before .before in omega (arith, s .pre .0 .few)
 
--- src/lib.rt:276:22
 cast-a : tie.Need-cast-a Inv-loop μ-loop
 cast-a c =
     let l = c .before .before in
     let v : SFits w16 (factor l) = sfits-of (c .a .given) in
     simp (toZ-ofZ v) (sfits-widen tt v)
 
--- src/lib.rt:276:17
 mul-a-2 : tie.Need-mul-a-2 Inv-loop μ-loop
 mul-a-2 c =
     let l = c .before .before in
@@ -96,7 +85,6 @@ mul-a-2 c =
     let u : SFits w64 (factor l) = sfits-widen tt v in
     simp (toZ-ofZ, fits-weight l, v, u) (fits-product l (c .before .loop-test .taken))
 
--- src/lib.rt:277:9
 add-products-requires : tie.Need-add-products-requires Inv-loop μ-loop
 add-products-requires c κs =
     let a = c .before .before .before in
@@ -106,15 +94,12 @@ add-products-requires c κs =
     let u : SFits w64 (factor l) = sfits-widen tt v in
     (s l .pre .0, below l h, s l .pre .0 .indices-low (l .loop .k) h, simp (toZ-ofZ, fits-weight l, v, u, fits-product l h) (product-small l h))
 
--- src/lib.rt:278:9
 add-k : tie.Need-add-k Inv-loop μ-loop
 add-k c = search needs
 
--- src/lib.rt:274:5
 loop-less : tie.Need-loop-less Inv-loop μ-loop
 loop-less c = search needs
 
--- src/lib.rt:274:5
 loop-again : tie.Need-loop-again Inv-loop μ-loop
 loop-again c =
     let a = c .before .before .before .before in
@@ -124,7 +109,6 @@ loop-again c =
     let u : SFits w64 (factor l) = sfits-widen tt v in
     (omega arith, simp (toZ-ofZ (fits-weight l)) (raising-more (turning l) (simp (toZ-ofZ, fits-weight l, v, u, fits-product l h) at (c .add-products .ensures))))
 
--- src/lib.rt:265:1
 returns : tie.Need-returns Inv-loop μ-loop
 returns c =
     let l = c .before in

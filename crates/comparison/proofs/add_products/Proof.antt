@@ -1,7 +1,10 @@
-use borrow.Author.Needs.{needs}
-use borrow.Author.Needs.{sfits-of}
-use Prim.Native.Nat.{_^_}
+-- `add_products`: after k turns the first k products are added. The indices rise, so no place gets two, and every sum fits.
+use mathlib.Core.Path.{_≡_}
+use Prim.Native.Nat.{_^_, ℕ, _+_, _-_, _*_, _≤_, _<_}
+use native.Mathlib.Omega.{arith}
+use borrow.Author.Needs.{needs, sfits-of}
 use lib.IntN.{ℤ, pos, natAbs, _+ℤ_, _*ℤ_}
+use lib.ListN.{getD}
 use mir.Facts.{toZ-ofZ, sfits-widen}
 use mir.Syntax.{w16, w64}
 use mir.Val.{SFits, toZ}
@@ -9,14 +12,8 @@ use Rattle.integers.proofs.Ranges.{abs-fits, abs-sum, abs-mul-le}
 use Rattle.polynomial.specs.Algebra.{match}
 use Rattle.comparison.specs.Outer.{rowUnit, Below}
 use Rattle.comparison.proofs.Outers.{Raising, raising-start, raising-more, raising-below, raised-set, inner-bound}
-use native.Mathlib.Omega.{arith}
-use mathlib.Core.Path.{_≡_, refl, sym, ap, _∙_, subst}
-use Prim.Native.Nat.{ℕ, zero, suc, _+_, _-_, _*_, _≤_, _<_}
-use lib.ListN.{length, getD, take, drop, set, length-set}
 use Rattle.comparison.proofs.add_products.Statement.{statement}
 use Rattle.comparison.proofs.add_products.Tie as tie
-use Rattle.comparison.proofs.add_products.Reads as reads
-use Rattle.comparison.proofs.add_products.Lts as lts
 
 abbrev Inv-loop : tie.InvT-loop
 Inv-loop g₀ indices factors count i a from k₀ g k =
@@ -69,70 +66,54 @@ module _ (c : tie.After-y Inv-loop μ-loop) where
 mul-from : tie.Need-mul-from Inv-loop μ-loop
 mul-from c = omega (arith, c .pre .2)
 
--- src/lib.rt:255:5
 loop-holds : tie.Need-loop-holds Inv-loop μ-loop
 loop-holds c = (omega arith, raising-start (c .pre .1 .long))
 
--- src/lib.rt:256:25
 element-copy-out-x : tie.Need-element-copy-out-x Inv-loop μ-loop
 element-copy-out-x c = omega (arith, c .before .before .pre .0 .few, c .loop-test .taken)
 
--- src/lib.rt:256:25
 cast-x : tie.Need-cast-x Inv-loop μ-loop
 cast-x c = let l = c .before .before in omega (arith, l .before .pre .0 .indices-low (l .loop .k) (c .before .loop-test .taken))
 
--- src/lib.rt:256:17
 add-x : tie.Need-add-x Inv-loop μ-loop
 add-x c = let l = c .before .before in omega (arith, l .before .pre .0 .indices-low (l .loop .k) (c .before .loop-test .taken), l .before .pre .2)
 
--- src/lib.rt:257:22
 mul-y : tie.Need-mul-y Inv-loop μ-loop
 mul-y c = search needs
 
--- src/lib.rt:257:22
 element-copy-out-y : tie.Need-element-copy-out-y Inv-loop μ-loop
 element-copy-out-y c = omega (arith, c .before .before .before .pre .0 .few, c .before .loop-test .taken)
 
--- src/lib.rt:257:22
 cast-y : tie.Need-cast-y Inv-loop μ-loop
 cast-y c = simp (toZ-ofZ (fits-factor c)) (wide-factor c)
 
--- src/lib.rt:257:17
 mul-y-2 : tie.Need-mul-y-2 Inv-loop μ-loop
 mul-y-2 c = simp (toZ-ofZ, s c .fits .a, fits-factor c, wide-factor c) (fits-product c)
 
--- src/lib.rt:258:17
 mul-z : tie.Need-mul-z Inv-loop μ-loop
 mul-z c = omega (arith, place-in c)
 
--- src/lib.rt:258:17
 element-copy-out-z : tie.Need-element-copy-out-z Inv-loop μ-loop
 element-copy-out-z c = place-in c
 
--- src/lib.rt:259:16
 add-g : tie.Need-add-g Inv-loop μ-loop
 add-g c =
     let y = c .before in
     let v : SFits w64 (getD (l y .loop .g) (place y) (pos 0)) = sfits-of (c .z .given) in
     simp (toZ-ofZ, s y .fits .a, v, fits-factor y, wide-factor y, fits-product y) (fits-sum y)
 
--- src/lib.rt:259:9
 mul-t16 : tie.Need-mul-t16 Inv-loop μ-loop
 mul-t16 c = omega (arith, place-in (c .before))
 
--- src/lib.rt:259:9
 element-set-from-g : tie.Need-element-set-from-g Inv-loop μ-loop
 element-set-from-g c = place-in (c .before)
 
--- src/lib.rt:260:9
 add-k : tie.Need-add-k Inv-loop μ-loop
 add-k c = search needs
 
--- src/lib.rt:255:5
 loop-less : tie.Need-loop-less Inv-loop μ-loop
 loop-less c = search needs
 
--- src/lib.rt:255:5
 loop-again : tie.Need-loop-again Inv-loop μ-loop
 loop-again c =
     let y = c .before in
@@ -142,7 +123,6 @@ loop-again c =
           (raising-more (turning y) (raised-set (l y .loop .g) (place y) (s y .args .a *ℤ factor y) (below y .long) (place-in y))),
     )
 
--- src/lib.rt:242:1
 returns : tie.Need-returns Inv-loop μ-loop
 returns c =
     let l = c .before in

@@ -1,24 +1,17 @@
+-- `add_term`: the search finds the key's place, or the key has none and nothing is added.
+use mathlib.Core.Path.{sym, _∙_}
+use Prim.Native.Nat.{_^_, _-_, _*_, _≤_}
+use native.Mathlib.Omega.{arith}
 use borrow.Author.Needs.{needs}
-use Prim.Native.Nat.{_^_}
 use lib.IntN.{ℤ, natAbs, _*ℤ_}
 use mir.Facts.{toZ-ofZ, sfits-widen}
 use mir.Syntax.{w64}
 use mir.Val.{SFits}
 use Rattle.integers.proofs.Ranges.{fits-abs, abs-mul-le}
-use Rattle.support.specs.Table.{findIn}
-use Rattle.support.specs.declared.Found.the-variants.{At}
 use Rattle.comparison.specs.Tables.{unit}
 use Rattle.comparison.proofs.Growth.{room-in, grown-at, grown-gap}
-use native.Mathlib.Omega.{arith}
-use mathlib.Core.Path.{_≡_, refl, sym, ap, _∙_, subst}
-use Prim.Native.Nat.{ℕ, zero, suc, _+_, _-_, _*_, _≤_, _<_}
-use lib.ListN.{length, getD, take, drop, set, length-set}
 use Rattle.comparison.proofs.add_term.Statement.{statement}
 use Rattle.comparison.proofs.add_term.Tie as tie
-use Rattle.comparison.proofs.add_term.Reads as reads
-use Rattle.comparison.proofs.add_term.Lts as lts
-use Rattle.sums.proofs.add_scaled.Reads as add-scaled-reads
-use Rattle.support.proofs.find.Reads as find-reads
 
 module _ (c : tie.Start) where
   -- the coefficient as a number of 64 bits
@@ -31,15 +24,12 @@ module _ (c : tie.Start) where
 find-requires : tie.Need-find-requires
 find-requires c κs = search needs
 
--- src/lib.rt:74:28
 enum-known-p : tie.Need-enum-known-p
 enum-known-p c = search needs
 
--- src/lib.rt:74:68
 cast-add-scaled : tie.Need-cast-add-scaled
 cast-add-scaled c = let s = c .before .before .before .before .before .before .before .before in simp (toZ-ofZ (s .fits .c)) (wide s)
 
--- src/lib.rt:74:34
 add-scaled-requires : tie.Need-add-scaled-requires
 add-scaled-requires c κs =
     let f = c .before .before .before .before .before in
@@ -51,15 +41,12 @@ add-scaled-requires c κs =
 enum-told : tie.Need-enum-told
 enum-told c = search needs
 
--- src/lib.rt:69:1
 same-length : tie.Need-same-length
 same-length c = search needs
 
--- src/lib.rt:69:1
 same-length-2 : tie.Need-same-length-2
 same-length-2 c = search needs
 
--- src/lib.rt:69:1
 returns : tie.Need-returns
 returns c =
     let a = c .before .before .before in
@@ -68,7 +55,6 @@ returns c =
     grown-at (s .pre .0) (s .args .key) _ (s .args .x *ℤ s .args .c) (sym (f .find .ensures) ∙ a .before .before .before .before .p .given .1) (small s)
     (simp (toZ-ofZ, s .fits .x, s .fits .c, wide s) at (a .add-scaled .ensures))
 
--- src/lib.rt:69:1
 returns-2 : tie.Need-returns-2
 returns-2 c = let s = c .before .before .before .before .before in grown-gap (s .pre .0) (s .args .key) _ (s .args .x *ℤ s .args .c) (sym (c .before .before .find .ensures) ∙ c .enum-told .given .1)
 

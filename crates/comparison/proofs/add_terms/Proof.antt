@@ -1,23 +1,18 @@
-use borrow.Author.Needs.{needs}
-use borrow.Author.Needs.{sfits-of}
-use lib.IntN.{ℤ, pos, _*ℤ_}
+-- `add_terms`: after t turns x times the first t terms are added.
+use mathlib.Core.Path.{_≡_}
+use Prim.Native.Nat.{_+_, _-_, _≤_}
+use native.Mathlib.Omega.{arith}
+use borrow.Author.Needs.{needs, sfits-of}
+use lib.IntN.{pos}
+use lib.ListN.{length, getD}
 use mir.Facts.{toZ-ofZ}
 use mir.Syntax.{w32, w64}
 use mir.Val.{SFits, toZ}
-use Rattle.polynomial.specs.Terms.{termsIn}
-use Rattle.polynomial.specs.Algebra.{sum, match}
-use Rattle.comparison.specs.Tables.{unit, Grown}
+use Rattle.polynomial.specs.Algebra.{match}
 use Rattle.comparison.proofs.Growth.{ready-after}
 use Rattle.comparison.proofs.Products.{Summing, summing-start, summing-more}
-use native.Mathlib.Omega.{arith}
-use mathlib.Core.Path.{_≡_, refl, sym, ap, _∙_, subst}
-use Prim.Native.Nat.{ℕ, zero, suc, _+_, _-_, _*_, _≤_, _<_}
-use lib.ListN.{length, getD, take, drop, set, length-set}
 use Rattle.comparison.proofs.add_terms.Statement.{statement}
 use Rattle.comparison.proofs.add_terms.Tie as tie
-use Rattle.comparison.proofs.add_terms.Reads as reads
-use Rattle.comparison.proofs.add_terms.Lts as lts
-use Rattle.comparison.proofs.add_term.Reads as add-term-reads
 
 abbrev Inv-loop : tie.InvT-loop
 Inv-loop table n high₀ low₀ exponents coefficients key x t₀ high low t =
@@ -26,19 +21,15 @@ Inv-loop table n high₀ low₀ exponents coefficients key x t₀ high low t =
 abbrev μ-loop : tie.MeasureT-loop
 μ-loop table n high₀ low₀ exponents coefficients key x t₀ high low t = length exponents - t
 
--- src/lib.rt:95:5
 loop-holds : tie.Need-loop-holds Inv-loop μ-loop
 loop-holds c = let s = c .before .before .before in (omega arith, summing-start (s .pre .0))
 
--- src/lib.rt:96:45
 mul-add-term : tie.Need-mul-add-term Inv-loop μ-loop
 mul-add-term c = search needs
 
--- src/lib.rt:96:45
 shared-slice-read-add-term : tie.Need-shared-slice-read-add-term Inv-loop μ-loop
 shared-slice-read-add-term c = search needs
 
--- src/lib.rt:96:39
 add-add-term : tie.Need-add-add-term Inv-loop μ-loop
 add-add-term c =
     let l = c .before .before .before .before in
@@ -46,30 +37,24 @@ add-add-term c =
     let p = s .pre .1 in
     omega (arith, p .low (l .loop .t), p .key-low)
 
--- src/lib.rt:96:62
 mul-add-term-2 : tie.Need-mul-add-term-2 Inv-loop μ-loop
 mul-add-term-2 c = search needs
 
--- src/lib.rt:96:62
 shared-slice-copy-out-add-term : tie.Need-shared-slice-copy-out-add-term Inv-loop μ-loop
 shared-slice-copy-out-add-term c = let s = c .before .before .before .before .before .before .before .before in omega (arith, s .pre .1 .paired)
 
--- src/lib.rt:96:9
 add-term-requires : tie.Need-add-term-requires Inv-loop μ-loop
 add-term-requires c κs =
     let l = c .before .before .before .before .before in
     let s = l .before .before .before .before in
     (ready-after (s .pre .0) (l .loop .inv .1 .grown) (omega arith), simp (toZ-ofZ (s .fits .x)) (s .pre .1 .small))
 
--- src/lib.rt:97:9
 add-t : tie.Need-add-t Inv-loop μ-loop
 add-t c = search needs
 
--- src/lib.rt:95:5
 loop-less : tie.Need-loop-less Inv-loop μ-loop
 loop-less c = search needs
 
--- src/lib.rt:95:5
 loop-again : tie.Need-loop-again Inv-loop μ-loop
 loop-again c =
     let a = c .before .before .before in
@@ -78,15 +63,12 @@ loop-again c =
     let q : SFits w32 (getD (s .args .coefficients .now) (l .loop .t) (pos 0)) = sfits-of (a .before .add-term-arg3 .given) in
     (omega arith, summing-more (l .loop .inv .1) (rw (toZ-ofZ q) at (a .add-term .ensures)))
 
--- src/lib.rt:80:1
 same-length : tie.Need-same-length Inv-loop μ-loop
 same-length c = search needs
 
--- src/lib.rt:80:1
 same-length-2 : tie.Need-same-length-2 Inv-loop μ-loop
 same-length-2 c = search needs
 
--- src/lib.rt:80:1
 returns : tie.Need-returns Inv-loop μ-loop
 returns c =
     let l = c .before in

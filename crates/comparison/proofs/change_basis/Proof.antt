@@ -1,31 +1,22 @@
+-- `change_basis`: nothing is changed, or the table was flushed.
+use mathlib.Core.Path.{refl}
+use Prim.Native.Nat.{_-_}
 use borrow.Author.Needs.{needs}
-use native.Mathlib.Omega.{arith}
-use mathlib.Core.Path.{_≡_, refl, sym, ap, _∙_, subst}
-use Prim.Native.Nat.{ℕ, zero, suc, _+_, _-_, _*_, _≤_, _<_}
-use lib.ListN.{length, getD, take, drop, set, length-set}
 use Rattle.comparison.proofs.change_basis.Statement.{statement}
 use Rattle.comparison.proofs.change_basis.Tie as tie
-use Rattle.comparison.proofs.change_basis.Reads as reads
-use Rattle.comparison.proofs.change_basis.Lts as lts
-use Rattle.comparison.proofs.flush.Reads as flush-reads
 
--- src/lib.rt:292:9
 returns : tie.Need-returns
 returns c = record { same = λ e. (refl, refl, refl); other = λ f. absurd (f (c .if1 .taken)) }
 
--- src/lib.rt:294:5
 flush-requires : tie.Need-flush-requires
 flush-requires c κs = search needs
 
--- src/lib.rt:274:1
 same-length : tie.Need-same-length
 same-length c = search needs
 
--- src/lib.rt:274:1
 same-length-2 : tie.Need-same-length-2
 same-length-2 c = search needs
 
--- src/lib.rt:274:1
 returns-2 : tie.Need-returns-2
 returns-2 c =
     let e = c .before .before .before in

@@ -1,27 +1,19 @@
+-- `compare`: the sum at a key is the coefficient of the squares less that of the claim.
+use mathlib.Core.Path.{_≡_, refl, sym}
+use Prim.Native.Nat.{_+_, _-_, _*_}
+use native.Mathlib.Omega.{arith}
 use borrow.Author.Needs.{needs}
-use Rattle.polynomial.specs.declared.Objective.{Objective}
-use Prim.Native.Nat.{_^_}
-use lib.IntN.{ℤ, negℤ}
 use lib.Seq.{length-take-le}
-use Rattle.polynomial.specs.Terms.{objectiveTerms}
-use Rattle.polynomial.specs.Algebra.{coefficient}
+use lib.ListN.{length, take}
+use Rattle.polynomial.specs.declared.Objective.{Objective}
 use Rattle.support.proofs.Laws.{inside}
 use Rattle.joining.proofs.Start.{first-low}
-use Rattle.comparison.specs.Tables.{unit, Grown, claimed}
+use Rattle.comparison.specs.Tables.{unit}
 use Rattle.comparison.specs.Spread.{tableUnit}
-use Rattle.comparison.proofs.Growth.{ready-after, grown-same, grown-then}
+use Rattle.comparison.proofs.Growth.{ready-after, grown-then}
 use Rattle.comparison.proofs.Differences.{zeroed-ready, grown-hi, grown-lo, claim-first, found-same, found-differs}
-use native.Mathlib.Omega.{arith}
-use mathlib.Core.Path.{_≡_, refl, sym, ap, _∙_, subst}
-use Prim.Native.Nat.{ℕ, zero, suc, _+_, _-_, _*_, _≤_, _<_}
-use lib.ListN.{length, getD, take, drop, set, length-set}
 use Rattle.comparison.proofs.compare.Statement.{statement}
 use Rattle.comparison.proofs.compare.Tie as tie
-use Rattle.comparison.proofs.compare.Reads as reads
-use Rattle.comparison.proofs.compare.Lts as lts
-use Rattle.comparison.proofs.add_claim.Reads as add-claim-reads
-use Rattle.comparison.proofs.add_rows.Reads as add-rows-reads
-use Rattle.sums.proofs.first_nonzero.Reads as first-nonzero-reads
 
 -- the objective's terms in the first places of two arrays
 module _ (c : tie.Start) where
@@ -37,23 +29,18 @@ module _ (c : tie.Start) where
 abbrev at-start : tie.After-add-claim → tie.Start
 at-start c = c .before .before .before .before .before .before .before .before .before .before .before .before
 
--- src/lib.rt:391:33
 array-share-prefix-es : tie.Need-array-share-prefix-es
 array-share-prefix-es c = search needs
 
--- src/lib.rt:391:33
 slice-aggregate-add-claim : tie.Need-slice-aggregate-add-claim
 slice-aggregate-add-claim c = sym (keys-long (c .before .before .before .before .before .before .before .before .before .before))
 
--- src/lib.rt:391:43
 array-share-prefix-cs : tie.Need-array-share-prefix-cs
 array-share-prefix-cs c = search needs
 
--- src/lib.rt:391:43
 slice-aggregate-add-claim-2 : tie.Need-slice-aggregate-add-claim-2
 slice-aggregate-add-claim-2 c = sym (coefficients-long (c .before .before .before .before .before .before .before .before .before .before .before))
 
--- src/lib.rt:391:5
 add-claim-requires : tie.Need-add-claim-requires
 add-claim-requires c κs =
     let s = c .before .before .before .before .before .before .before .before .before .before .before in
@@ -69,14 +56,12 @@ add-claim-requires c κs =
       },
     )
 
--- src/lib.rt:392:5
 add-rows-requires : tie.Need-add-rows-requires
 add-rows-requires c κs =
     let a = c .before .before .before .before .before in
     let p = at-start a .pre in
     (ready-after (zeroed-ready (p .0) (257 * unit + 129 * tableUnit) (omega arith)) (claim-first _ _ (at-start a .pre .1 .objective-filled) (a .add-claim .ensures)) (omega arith), (p .1 .flat, p .1 .rows))
 
--- src/lib.rt:393:9
 first-nonzero-requires : tie.Need-first-nonzero-requires
 first-nonzero-requires c κs =
     let r = c .before .before .before .before .before in
@@ -90,7 +75,6 @@ first-nonzero-requires c κs =
       low = h .low;
     }
 
--- src/lib.rt:395:36
 mul-t34 : tie.Need-mul-t34
 mul-t34 c =
     let f = c .before in
@@ -98,22 +82,18 @@ mul-t34 c =
     let z = at-start a .pre .0 in
     omega (arith, z .support .few, c .if1 .taken)
 
--- src/lib.rt:395:36
 shared-slice-read-t36 : tie.Need-shared-slice-read-t36
 shared-slice-read-t36 c =
     let f = c .before .before in
     let a = f .before .before .before .before .before .before .before .before .before .before .before .before in
     omega (arith, inside (at-start a .pre .0 .support), c .before .if1 .taken)
 
--- src/lib.rt:395:9
 same-length : tie.Need-same-length
 same-length c = search needs
 
--- src/lib.rt:395:9
 same-length-2 : tie.Need-same-length-2
 same-length-2 c = search needs
 
--- src/lib.rt:395:9
 returns : tie.Need-returns
 returns c =
     let f = c .before .before in
@@ -124,15 +104,12 @@ returns c =
     let w = grown-then {e = 257 * unit + 129 * tableUnit} (claim-first _ _ (at-start a .pre .1 .objective-filled) (a .add-claim .ensures)) (m .grown) (λ k. refl) (omega arith) in
     (λ p k given. found-differs p k _ _ _ _ _ _ _ _ _ given z (claim-first _ _ (at-start a .pre .1 .objective-filled) (a .add-claim .ensures)) m (f .first-nonzero .ensures) (c .before .if1 .taken), (grown-hi (z .support .few) w, grown-lo (z .support .few) w))
 
--- src/lib.rt:371:1
 same-length-3 : tie.Need-same-length-3
 same-length-3 c = search needs
 
--- src/lib.rt:371:1
 same-length-4 : tie.Need-same-length-4
 same-length-4 c = search needs
 
--- src/lib.rt:371:1
 returns-2 : tie.Need-returns-2
 returns-2 c =
     let f = c .before in

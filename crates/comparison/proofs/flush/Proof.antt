@@ -1,16 +1,12 @@
+-- `flush`: the parts of the flat arrays are those of basis j.
+use Prim.Native.Nat.{ℕ, _+_, _-_, _*_, _≤_}
+use native.Mathlib.Omega.{arith}
 use borrow.Author.Needs.{needs}
-use lib.IntN.{ℤ, pos}
+use lib.ListN.{length, getD, take, drop}
 use Rattle.comparison.specs.Spread.{Spreadable, Framed}
 use Rattle.comparison.proofs.Parts.{cut-is, basis-end, exponents-end, coefficients-end, basis-long, parts-spreadable, multiplier-is}
-use native.Mathlib.Omega.{arith}
-use mathlib.Core.Path.{_≡_, refl, sym, ap, _∙_, subst}
-use Prim.Native.Nat.{ℕ, zero, suc, _+_, _-_, _*_, _≤_, _<_}
-use lib.ListN.{length, getD, take, drop, set, length-set}
 use Rattle.comparison.proofs.flush.Statement.{statement}
 use Rattle.comparison.proofs.flush.Tie as tie
-use Rattle.comparison.proofs.flush.Reads as reads
-use Rattle.comparison.proofs.flush.Lts as lts
-use Rattle.comparison.proofs.spread.Reads as spread-reads
 
 -- the parts of basis j
 module _ (c : tie.After-slice-known) where
@@ -41,87 +37,66 @@ module _ (c : tie.After-slice-known) where
   framed : Framed (length (take size (drop (64 * j) (s .args .keys .now)))) (s .args .g .now)
   framed = rw (basis-long _ _ _ _ (s .pre .1 .0) j (s .pre .1 .1)) (s .pre .1 .2)
 
--- src/lib.rt:223:13
 mul-a : tie.Need-mul-a
 mul-a c = search needs
 
--- src/lib.rt:224:17
 mul-b : tie.Need-mul-b
 mul-b c = search needs
 
--- src/lib.rt:224:17
 element-copy-out-b : tie.Need-element-copy-out-b
 element-copy-out-b c = search needs
 
--- src/lib.rt:224:13
 add-b : tie.Need-add-b
 add-b c = omega (arith, keys-end (c .before))
 
--- src/lib.rt:225:13
 mul-c : tie.Need-mul-c
 mul-c c = search needs
 
--- src/lib.rt:226:17
 mul-d : tie.Need-mul-d
 mul-d c = search needs
 
--- src/lib.rt:226:17
 element-copy-out-d : tie.Need-element-copy-out-d
 element-copy-out-d c = search needs
 
--- src/lib.rt:226:13
 add-d : tie.Need-add-d
 add-d c = omega (arith, terms-end (c .before .before))
 
--- src/lib.rt:227:14
 mul-es : tie.Need-mul-es
 mul-es c = search needs
 
--- src/lib.rt:227:14
 sub-es : tie.Need-sub-es
 sub-es c = search needs
 
--- src/lib.rt:227:14
 part-es-start : tie.Need-part-es-start
 part-es-start c = search needs
 
--- src/lib.rt:227:14
 part-es-end : tie.Need-part-es-end
 part-es-end c = omega (arith, terms-end (c .before .before))
 
--- src/lib.rt:228:14
 mul-cs : tie.Need-mul-cs
 mul-cs c = search needs
 
--- src/lib.rt:228:14
 sub-cs : tie.Need-sub-cs
 sub-cs c = search needs
 
--- src/lib.rt:228:14
 part-cs-start : tie.Need-part-cs-start
 part-cs-start c = search needs
 
--- src/lib.rt:228:14
 part-cs-end : tie.Need-part-cs-end
 part-cs-end c = omega (arith, factors-end (c .before .before .before))
 
--- src/lib.rt:229:15
 mul-spread : tie.Need-mul-spread
 mul-spread c = search needs
 
--- src/lib.rt:229:15
 sub-spread : tie.Need-sub-spread
 sub-spread c = search needs
 
--- src/lib.rt:229:15
 part-spread-start : tie.Need-part-spread-start
 part-spread-start c = search needs
 
--- src/lib.rt:229:15
 part-spread-end : tie.Need-part-spread-end
 part-spread-end c = omega (arith, keys-end (c .before .before .before .before .before))
 
--- src/lib.rt:229:5
 spread-requires : tie.Need-spread-requires
 spread-requires c κs =
     let b = c .before .before .before .before .before .before .before .before in
@@ -131,15 +106,12 @@ spread-requires c κs =
           (spreadable b, framed b),
     )
 
--- src/lib.rt:207:1
 same-length : tie.Need-same-length
 same-length c = search needs
 
--- src/lib.rt:207:1
 same-length-2 : tie.Need-same-length-2
 same-length-2 c = search needs
 
--- src/lib.rt:207:1
 returns : tie.Need-returns
 returns c =
     let e = c .before .before .before in

@@ -1,19 +1,16 @@
+-- `negate`: the two products fit 64 bits, and each side has its signs.
+use mathlib.Core.Path.{_≡_, refl}
+use Prim.Native.Nat.{_^_, _-_, _*_, _≤_}
+use native.Mathlib.Omega.{arith}
 use borrow.Author.Needs.{needs}
-use Prim.Native.Nat.{_^_}
 use lib.IntN.{ℤ, pos, negℤ, natAbs, _*ℤ_, _-ℤ_}
 use mir.Facts.{toZ-ofZ, sfits-widen}
 use mir.Syntax.{w64}
 use mir.Val.{SFits}
 use Rattle.integers.proofs.Ranges.{abs-fits, fits-abs, abs-mul-le, abs-neg}
 use Rattle.comparison.proofs.Claims.{minus, back, back-twice, turned-other}
-use native.Mathlib.Omega.{arith}
-use mathlib.Core.Path.{_≡_, refl, sym, ap, _∙_, subst}
-use Prim.Native.Nat.{ℕ, zero, suc, _+_, _-_, _*_, _≤_, _<_}
-use lib.ListN.{length, getD, take, drop, set, length-set}
 use Rattle.comparison.proofs.negate.Statement.{statement}
 use Rattle.comparison.proofs.negate.Tie as tie
-use Rattle.comparison.proofs.negate.Reads as reads
-use Rattle.comparison.proofs.negate.Lts as lts
 
 -- the two products, D × q and D × p, and what stands on the way, as numbers of 64 bits
 module _ (c : tie.Start) where
@@ -53,35 +50,27 @@ module _ (c : tie.Start) where
 cast-m : tie.Need-cast-m
 cast-m c = search needs
 
--- src/lib.rt:111:31
 cast-m-2 : tie.Need-cast-m-2
 cast-m-2 c = search needs
 
--- src/lib.rt:111:13
 mul-m : tie.Need-mul-m
 mul-m c = simp (toZ-ofZ, fits-scale c, fits-q c) (fits-M c)
 
--- src/lib.rt:112:14
 cast-c : tie.Need-cast-c
 cast-c c = search needs
 
--- src/lib.rt:112:31
 cast-c-2 : tie.Need-cast-c-2
 cast-c-2 c = simp (toZ-ofZ (c .fits .p)) (fits-p c)
 
--- src/lib.rt:112:13
 mul-c : tie.Need-mul-c
 mul-c c = simp (toZ-ofZ, c .fits .p, fits-scale c, fits-p c) (fits-N c)
 
--- src/lib.rt:115:24
 sub-t11 : tie.Need-sub-t11
 sub-t11 c = let s = c .before in simp (toZ-ofZ, fits-scale s, fits-q s, fits-M s) (less-M s)
 
--- src/lib.rt:121:23
 sub-t12 : tie.Need-sub-t12
 sub-t12 c = let s = c .before in simp (toZ-ofZ, s .fits .p, fits-scale s, fits-p s, fits-N s) (less-N s)
 
--- src/lib.rt:108:1
 returns : tie.Need-returns
 returns c =
     let s = c .before in
@@ -95,7 +84,6 @@ returns c =
       constant-small = small-N s;
     })
 
--- src/lib.rt:108:1
 returns-2 : tie.Need-returns-2
 returns-2 c =
     let s = c .before in

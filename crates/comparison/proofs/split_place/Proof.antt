@@ -1,21 +1,17 @@
-use borrow.Author.Needs.{needs}
+-- `split_place`: the rows from here on give the answer, and the walk ends where the chain of rows does.
 use mathlib.Core.Bool.{true}
+use mathlib.Core.Path.{_≡_, sym, ap, _∙_}
+use Prim.Native.Nat.{_-_}
+use native.Mathlib.Omega.{arith}
+use borrow.Author.Needs.{needs}
+use lib.ListN.{length}
 use Rattle.certificate.specs.Rows.{stands}
 use Rattle.certificate.proofs.Stored.{stands-within}
 use Rattle.certificate.proofs.Walk.{after-more}
 use Rattle.comparison.specs.Places.{placeOf}
 use Rattle.comparison.proofs.Splits.{Splitting, splitting-start, splitting-end, splitting-indexed, splitting-found, splitting-more, place-some, place-none, split-is}
-use native.Mathlib.Omega.{arith}
-use mathlib.Core.Path.{_≡_, refl, sym, ap, _∙_, subst}
-use Prim.Native.Nat.{ℕ, zero, suc, _+_, _-_, _*_, _≤_, _<_}
-use lib.ListN.{length, getD, take, drop, set, length-set}
 use Rattle.comparison.proofs.split_place.Statement.{statement}
 use Rattle.comparison.proofs.split_place.Tie as tie
-use Rattle.comparison.proofs.split_place.Reads as reads
-use Rattle.comparison.proofs.split_place.Lts as lts
-use Rattle.certificate.proofs.row_at.Reads as row-at-reads
-use Rattle.certificate.proofs.stands_at.Reads as stands-at-reads
-use Rattle.comparison.proofs.row_split.Reads as row-split-reads
 
 abbrev Inv-loop : tie.InvT-loop
 Inv-loop s labels at₀ at = Splitting s labels at
@@ -26,46 +22,36 @@ abbrev μ-loop : tie.MeasureT-loop
 standing : (c : tie.Then1 Inv-loop μ-loop) → stands 0x11 (c .before .before .before .before .before .args .s .now) (c .before .before .loop .at) ≡ true
 standing c = sym (c .before .stands-at .ensures) ∙ c .if1 .taken
 
--- src/lib.rt:53:5
 loop-holds : tie.Need-loop-holds Inv-loop μ-loop
 loop-holds c = splitting-start _ _ (c .before .before .pre .0)
 
--- src/lib.rt:53:11
 stands-at-requires : tie.Need-stands-at-requires Inv-loop μ-loop
 stands-at-requires c κs = search needs
 
--- src/lib.rt:54:13
 row-at-requires : tie.Need-row-at-requires Inv-loop μ-loop
 row-at-requires c κs = standing c
 
--- src/lib.rt:55:44
 add-row-split : tie.Need-add-row-split Inv-loop μ-loop
 add-row-split c = let w = stands-within 0x11 _ _ (standing (c .before)) in omega arith
 
--- src/lib.rt:55:13
 row-split-requires : tie.Need-row-split-requires Inv-loop μ-loop
 row-split-requires c κs = let l = c .before .before .before in let s = l .before .before .before in let w = stands-within 0x11 _ _ (standing (c .before)) in (splitting-indexed _ _ _ (l .loop .inv) (standing (c .before)) _ (c .row-at .ensures) (s .pre .1), omega (arith, s .good .0))
 
--- src/lib.rt:56:26
 enum-known-found : tie.Need-enum-known-found Inv-loop μ-loop
 enum-known-found c = search needs
 
--- src/lib.rt:57:13
 returns : tie.Need-returns Inv-loop μ-loop
 returns c = let m = c .before .before .before in let r = m .before in let l = r .before .before .before in λ p k limits read labels. ap placeOf (sym (splitting-found _ _ _ (l .loop .inv) (standing (r .before)) _ (r .row-at .ensures) _ (place-some _ _ (sym (m .row-split .ensures) ∙ c .before .found .given .1))) ∙ split-is p limits _ _ k read labels)
 
 enum-told : tie.Need-enum-told Inv-loop μ-loop
 enum-told c = search needs
 
--- src/lib.rt:53:5
 loop-less : tie.Need-loop-less Inv-loop μ-loop
 loop-less c = let m = c .before .before in let r = m .before in let w = stands-within 0x11 _ _ (standing (r .before)) in omega (arith, r .row-at .ensures .next, after-more (r .before .before .before .before .before .before .args .s .now) (r .before .before .before .loop .at))
 
--- src/lib.rt:53:5
 loop-again : tie.Need-loop-again Inv-loop μ-loop
 loop-again c = let m = c .before .before in let r = m .before in let l = r .before .before .before in splitting-more _ _ _ (l .loop .inv) (standing (r .before)) _ (r .row-at .ensures) (place-none _ (sym (m .row-split .ensures) ∙ c .enum-told .given .1))
 
--- src/lib.rt:48:1
 returns-2 : tie.Need-returns-2 Inv-loop μ-loop
 returns-2 c = let l = c .before .before in λ p k limits read labels. ap placeOf (sym (splitting-end _ _ _ (l .loop .inv) (sym (c .before .stands-at .ensures) ∙ c .if1 .left)) ∙ split-is p limits _ _ k read labels)
 

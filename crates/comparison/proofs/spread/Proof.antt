@@ -1,21 +1,18 @@
-use borrow.Author.Needs.{needs}
-use borrow.Author.Needs.{sfits-of}
-use lib.IntN.{ℤ, pos}
+-- `spread`: the places before x are spread and 0, those from x on are as they were.
+use mathlib.Core.Path.{_≡_, refl}
+use Prim.Native.Nat.{_-_, _*_, _<_}
+use native.Mathlib.Omega.{arith}
+use borrow.Author.Needs.{needs, sfits-of}
+use lib.IntN.{pos}
+use lib.ListN.{length, getD}
 use mir.Facts.{toZ-ofZ}
 use mir.Syntax.{w64}
 use mir.Val.{SFits}
 use Rattle.polynomial.specs.Terms.{termsIn}
 use Rattle.comparison.proofs.Growth.{ready-after}
 use Rattle.comparison.proofs.Spreading.{Spreading, spreading-start, spreading-entered, spreading-more, spreading-end}
-use native.Mathlib.Omega.{arith}
-use mathlib.Core.Path.{_≡_, refl, sym, ap, _∙_, subst}
-use Prim.Native.Nat.{ℕ, zero, suc, _+_, _-_, _*_, _≤_, _<_}
-use lib.ListN.{length, getD, take, drop, set, length-set}
 use Rattle.comparison.proofs.spread.Statement.{statement}
 use Rattle.comparison.proofs.spread.Tie as tie
-use Rattle.comparison.proofs.spread.Reads as reads
-use Rattle.comparison.proofs.spread.Lts as lts
-use Rattle.comparison.proofs.add_entry.Reads as add-entry-reads
 
 abbrev Inv-loop : tie.InvT-loop
 Inv-loop g₀ basis exponents coefficients table n high₀ low₀ last x₀ g high low x =
@@ -41,33 +38,27 @@ module _ (c : tie.After-a Inv-loop μ-loop) where
 mul-last : tie.Need-mul-last Inv-loop μ-loop
 mul-last c = let s = c .before .before .before .before in let p = s .pre .1 .0 in omega arith
 
--- src/lib.rt:189:5
 loop-holds : tie.Need-loop-holds Inv-loop μ-loop
 loop-holds c = let s = c .before .before .before .before in (refl, spreading-start (s .pre .0) (s .pre .1 .1 .long))
 
--- src/lib.rt:190:17
 mul-a : tie.Need-mul-a Inv-loop μ-loop
 mul-a c = search needs
 
--- src/lib.rt:190:17
 element-copy-out-a : tie.Need-element-copy-out-a Inv-loop μ-loop
 element-copy-out-a c =
     let l = c .before in
     let s = l .before .before .before .before .before in
     omega (arith, l .loop .inv .0, s .pre .1 .0 .basis-few)
 
--- src/lib.rt:191:9
 mul-g : tie.Need-mul-g Inv-loop μ-loop
 mul-g c = search needs
 
--- src/lib.rt:191:9
 element-set-of-g : tie.Need-element-set-of-g Inv-loop μ-loop
 element-set-of-g c =
     let l = c .before .before in
     let s = l .before .before .before .before .before in
     omega (arith, l .loop .inv .0, s .pre .1 .0 .basis-few)
 
--- src/lib.rt:192:9
 add-entry-requires : tie.Need-add-entry-requires Inv-loop μ-loop
 add-entry-requires c κs =
     let a = c .before .before in
@@ -77,30 +68,24 @@ add-entry-requires c κs =
     let w = v .within in
     (ready-after (p .0) (v .grown) (omega (arith, here a)), (p .1 .0, simp (toZ-ofZ (fits-a a)) (spreading-entered v few (here a) (p .1 .1))))
 
--- src/lib.rt:193:9
 add-x : tie.Need-add-x Inv-loop μ-loop
 add-x c = search needs
 
--- src/lib.rt:189:5
 loop-less : tie.Need-loop-less Inv-loop μ-loop
 loop-less c = search needs
 
--- src/lib.rt:189:5
 loop-again : tie.Need-loop-again Inv-loop μ-loop
 loop-again c =
     let e = c .before .before .before in
     let a = e .before .before .before in
     (l a .loop .inv .0, spreading-more (l a .loop .inv .1) (s a .pre .1 .0 .basis-few) (here a) (simp (toZ-ofZ (fits-a a)) at (e .add-entry .ensures)))
 
--- src/lib.rt:173:1
 same-length : tie.Need-same-length Inv-loop μ-loop
 same-length c = search needs
 
--- src/lib.rt:173:1
 same-length-2 : tie.Need-same-length-2 Inv-loop μ-loop
 same-length-2 c = search needs
 
--- src/lib.rt:173:1
 returns : tie.Need-returns Inv-loop μ-loop
 returns c =
     let l = c .before in

@@ -1,22 +1,16 @@
-use borrow.Author.Needs.{needs}
+-- `sum_rows`: the sums hold the rows that were flushed, the table of sums the rows since.
 use mathlib.Core.Bool.{true}
+use mathlib.Core.Path.{_≡_, refl, sym, _∙_}
+use Prim.Native.Nat.{ℕ, _-_, _<_}
+use native.Mathlib.Omega.{arith}
+use borrow.Author.Needs.{needs}
+use lib.ListN.{length, getD}
 use Rattle.certificate.specs.Rows.{stands}
 use Rattle.certificate.proofs.Stored.{stands-within}
 use Rattle.certificate.proofs.Walk.{after-more}
 use Rattle.comparison.proofs.Walks.{Walking, walking-start, walking-framed, walking-ready, walking-end, walking-change, walking-entries, walking-basis, walking-below, walking-row}
-use native.Mathlib.Omega.{arith}
-use mathlib.Core.Path.{_≡_, refl, sym, ap, _∙_, subst}
-use Prim.Native.Nat.{ℕ, zero, suc, _+_, _-_, _*_, _≤_, _<_}
-use lib.ListN.{length, getD, take, drop, set, length-set}
 use Rattle.comparison.proofs.sum_rows.Statement.{statement}
 use Rattle.comparison.proofs.sum_rows.Tie as tie
-use Rattle.comparison.proofs.sum_rows.Reads as reads
-use Rattle.comparison.proofs.sum_rows.Lts as lts
-use Rattle.certificate.proofs.row_at.Reads as row-at-reads
-use Rattle.certificate.proofs.stands_at.Reads as stands-at-reads
-use Rattle.comparison.proofs.add_outer.Reads as add-outer-reads
-use Rattle.comparison.proofs.change_basis.Reads as change-basis-reads
-use Rattle.comparison.proofs.flush.Reads as flush-reads
 
 abbrev Inv-loop : tie.InvT-loop
 Inv-loop g₀ s keys exponents coefficients l table n hi₀ lo₀ j₀ at₀ g hi lo j at = Walking s keys exponents coefficients l table n hi₀ lo₀ 0 at j g hi lo
@@ -41,15 +35,12 @@ module _ (c : tie.Then1 Inv-loop μ-loop) where
 loop-holds : tie.Need-loop-holds Inv-loop μ-loop
 loop-holds c = let s = c .before .before .before .before .before in walking-start (s .pre .0 .0) (s .pre .1 .1) (s .pre .0 .1)
 
--- src/lib.rt:317:11
 stands-at-requires : tie.Need-stands-at-requires Inv-loop μ-loop
 stands-at-requires c κs = search needs
 
--- src/lib.rt:318:13
 row-at-requires : tie.Need-row-at-requires Inv-loop μ-loop
 row-at-requires c κs = standing c
 
--- src/lib.rt:320:9
 change-basis-requires : tie.Need-change-basis-requires Inv-loop μ-loop
 change-basis-requires c κs =
     let r = c .before .before .before in
@@ -58,7 +49,6 @@ change-basis-requires c κs =
     let p = s b .pre in
     (walking-ready (p .1 .0) w (p .0 .0) refl, (p .1 .0, w .basis, walking-framed (p .1 .0) w))
 
--- src/lib.rt:321:9
 add-outer-requires : tie.Need-add-outer-requires Inv-loop μ-loop
 add-outer-requires c κs =
     let e = c .before .before .before .before in
@@ -70,7 +60,6 @@ add-outer-requires c κs =
     let v = walking-change (p .1 .0) w k (e .change-basis .ensures) in
     (walking-entries (bytes b) w (standing b) _ (r .row-at .ensures), walking-below (bytes b) v (standing b) _ (r .row-at .ensures))
 
--- src/lib.rt:317:5
 loop-less : tie.Need-loop-less Inv-loop μ-loop
 loop-less c =
     let r = c .before .before .before .before .before .before .before .before .before in
@@ -78,7 +67,6 @@ loop-less c =
     let w = stands-within 0x11 _ _ (standing b) in
     omega (arith, r .row-at .ensures .next, after-more (s b .args .s .now) (l b .loop .at))
 
--- src/lib.rt:317:5
 loop-again : tie.Need-loop-again Inv-loop μ-loop
 loop-again c =
     let e = c .before .before .before .before .before in
@@ -90,7 +78,6 @@ loop-again c =
     let v = walking-change (p .1 .0) w k (e .change-basis .ensures) in
     walking-row (bytes b) v (standing b) _ (r .row-at .ensures) refl refl (c .add-outer .ensures)
 
--- src/lib.rt:325:5
 flush-requires : tie.Need-flush-requires Inv-loop μ-loop
 flush-requires c κs =
     let l = c .before .before .before .before .before in
@@ -98,15 +85,12 @@ flush-requires c κs =
     let w = l .loop .inv in
     (walking-ready (s .pre .1 .0) w (s .pre .0 .0) refl, (s .pre .1 .0, w .basis, walking-framed (s .pre .1 .0) w))
 
--- src/lib.rt:299:1
 same-length : tie.Need-same-length Inv-loop μ-loop
 same-length c = search needs
 
--- src/lib.rt:299:1
 same-length-2 : tie.Need-same-length-2 Inv-loop μ-loop
 same-length-2 c = search needs
 
--- src/lib.rt:299:1
 returns : tie.Need-returns Inv-loop μ-loop
 returns c =
     let f = c .before .before .before in

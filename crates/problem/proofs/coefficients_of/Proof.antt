@@ -1,16 +1,13 @@
+-- `coefficients_of`: after j turns the coefficients of the multipliers up to number j stand in their parts.
+use mathlib.Core.Path.{_≡_}
+use Prim.Native.Nat.{_+_, _-_, _*_, _≤_}
+use native.Mathlib.Omega.{arith}
 use borrow.Author.Needs.{needs}
-use lib.ListN.{length-drop}
+use lib.ListN.{length-drop, length, take, drop}
 use lib.Seq.{length-take-le}
 use Rattle.problem.proofs.Bases.{Filling, filling-start, filled-here, filling-room, filling-more, filling-done}
-use native.Mathlib.Omega.{arith}
-use mathlib.Core.Path.{_≡_, refl, sym, ap, _∙_, subst}
-use Prim.Native.Nat.{ℕ, zero, suc, _+_, _-_, _*_, _≤_, _<_}
-use lib.ListN.{length, getD, take, drop, set, length-set}
 use Rattle.problem.proofs.coefficients_of.Statement.{statement}
 use Rattle.problem.proofs.coefficients_of.Tie as tie
-use Rattle.problem.proofs.coefficients_of.Reads as reads
-use Rattle.problem.proofs.coefficients_of.Lts as lts
-use Rattle.problem.proofs.copy_signed.Reads as copy-signed-reads
 
 abbrev Inv-loop : tie.InvT-loop
 Inv-loop count constraints coefficients₀ j₀ coefficients j = (j ≤ count) × Filling constraints j coefficients
@@ -18,55 +15,42 @@ Inv-loop count constraints coefficients₀ j₀ coefficients j = (j ≤ count) �
 abbrev μ-loop : tie.MeasureT-loop
 μ-loop count constraints coefficients₀ j₀ coefficients j = count - j
 
--- src/lib.rt:325:5
 array-set-of-coefficients : tie.Need-array-set-of-coefficients Inv-loop μ-loop
 array-set-of-coefficients c = search needs
 
--- src/lib.rt:327:5
 loop-holds : tie.Need-loop-holds Inv-loop μ-loop
 loop-holds c = (omega arith, filling-start (c .args .t1))
 
--- src/lib.rt:328:17
 mul-q : tie.Need-mul-q Inv-loop μ-loop
 mul-q c = let k = c .before .before .pre in omega arith
 
--- src/lib.rt:328:17
 array-copy-out-q : tie.Need-array-copy-out-q Inv-loop μ-loop
 array-copy-out-q c = let k = c .before .before .pre in omega arith
 
--- src/lib.rt:329:9
 add-j : tie.Need-add-j Inv-loop μ-loop
 add-j c = let k = c .before .before .before .pre in omega arith
 
--- src/lib.rt:330:39
 mul-coefficients : tie.Need-mul-coefficients Inv-loop μ-loop
 mul-coefficients c = let k = c .before .before .before .pre in omega arith
 
--- src/lib.rt:330:47
 mul-copy-signed : tie.Need-mul-copy-signed Inv-loop μ-loop
 mul-copy-signed c = let k = c .before .before .before .pre in omega arith
 
--- src/lib.rt:330:47
 add-copy-signed : tie.Need-add-copy-signed Inv-loop μ-loop
 add-copy-signed c = let k = c .before .before .before .pre in omega arith
 
--- src/lib.rt:330:21
 mul-coefficients-2 : tie.Need-mul-coefficients-2 Inv-loop μ-loop
 mul-coefficients-2 c = let k = c .before .before .before .pre in omega arith
 
--- src/lib.rt:330:21
 sub-copy-signed : tie.Need-sub-copy-signed Inv-loop μ-loop
 sub-copy-signed c = let k = c .before .before .before .pre in omega arith
 
--- src/lib.rt:330:21
 part-coefficients-start : tie.Need-part-coefficients-start Inv-loop μ-loop
 part-coefficients-start c = let k = c .before .before .before .pre in omega arith
 
--- src/lib.rt:330:21
 part-coefficients-end : tie.Need-part-coefficients-end Inv-loop μ-loop
 part-coefficients-end c = let k = c .before .before .before .pre in omega arith
 
--- src/lib.rt:330:9
 copy-signed-requires : tie.Need-copy-signed-requires Inv-loop μ-loop
 copy-signed-requires c κs =
     let l = c .before .before .before .before .before .before in
@@ -79,17 +63,14 @@ copy-signed-requires c κs =
     let e : length (take (a + 32 - a) (drop a (l .loop .coefficients))) ≡ a + 32 - a = length-take-le (a + 32 - a) (drop a (l .loop .coefficients)) (omega arith) in
     omega arith
 
--- src/lib.rt:327:5
 loop-less : tie.Need-loop-less Inv-loop μ-loop
 loop-less c = search needs
 
--- src/lib.rt:327:5
 loop-again : tie.Need-loop-again Inv-loop μ-loop
 loop-again c =
     let l = c .before .before .before .before .before .before .before .before in
     (omega arith, rw (c .before .copy-signed .ensures) (filling-more (l .before .args .t1) (l .before .args .count) (l .loop .j) (l .loop .coefficients) (l .before .pre) (l .loop .inv .1) (omega arith)))
 
--- src/lib.rt:320:1
 returns : tie.Need-returns Inv-loop μ-loop
 returns c =
     let l = c .before in
