@@ -17,6 +17,34 @@ extern "C" {
         low: *mut u64,
         low_length: usize,
     ) -> u64;
+
+    fn zamiachisel_check(
+        problem: *const u8,
+        problem_length: usize,
+        certificate: *const u8,
+        certificate_length: usize,
+        keys: *mut u64,
+        keys_length: usize,
+        high: *mut i64,
+        high_length: usize,
+        low: *mut u64,
+        low_length: usize,
+    ) -> u64;
+
+    fn zamiachisel_pair(
+        problem: *const u8,
+        problem_length: usize,
+        first: *const u8,
+        first_length: usize,
+        second: *const u8,
+        second_length: usize,
+        keys: *mut u64,
+        keys_length: usize,
+        high: *mut i64,
+        high_length: usize,
+        low: *mut u64,
+        low_length: usize,
+    ) -> u64;
 }
 
 /// A record: its kind and its three byte runs.
@@ -53,7 +81,7 @@ fn records(bytes: &[u8]) -> Vec<Record> {
 }
 
 fn answer(record: &Record, lent: &mut Lent) -> u64 {
-    let problem = &record.runs[0];
+    let [problem, first, second] = &record.runs;
     match record.kind {
         // The slices are whole and do not overlap, which is all that the call asks.
         b'b' => unsafe {
@@ -62,6 +90,36 @@ fn answer(record: &Record, lent: &mut Lent) -> u64 {
                 problem.len(),
                 lent.out.as_mut_ptr(),
                 lent.out.len(),
+                lent.keys.as_mut_ptr(),
+                lent.keys.len(),
+                lent.high.as_mut_ptr(),
+                lent.high.len(),
+                lent.low.as_mut_ptr(),
+                lent.low.len(),
+            )
+        },
+        b'c' => unsafe {
+            zamiachisel_check(
+                problem.as_ptr(),
+                problem.len(),
+                first.as_ptr(),
+                first.len(),
+                lent.keys.as_mut_ptr(),
+                lent.keys.len(),
+                lent.high.as_mut_ptr(),
+                lent.high.len(),
+                lent.low.as_mut_ptr(),
+                lent.low.len(),
+            )
+        },
+        b'p' => unsafe {
+            zamiachisel_pair(
+                problem.as_ptr(),
+                problem.len(),
+                first.as_ptr(),
+                first.len(),
+                second.as_ptr(),
+                second.len(),
                 lent.keys.as_mut_ptr(),
                 lent.keys.len(),
                 lent.high.as_mut_ptr(),
