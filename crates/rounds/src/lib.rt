@@ -245,7 +245,7 @@ pub fn close(
     ensures { λ r. ⌜ Settled (closing (basesIn (now (keys .entry)) (now (sizes .entry)) (now (exponents .entry)) (now (counts .entry))) (take len (now (table .entry)))) (now (table .entry)) r (now (table .exit)) ⌝ }
 {
     let mut labels = start;
-    let mut index = [0u64; 4096];
+    let mut index = [0u64; 6144];
     blocks::mark(&mut index, table, len);
     let mut n = len;
     let mut rounds = 0;
