@@ -118,11 +118,11 @@ module _ (keys sizes exponents counts : List ℕ) (s : Sizes sizes) (j : ℕ) (h
       (rw (← w .bytes) at (bytes-set (labelsIn sizes l) (d .nine) m j (getD sizes j 0) h n (s .small j) (omega (arith, d .long j h)))
       ∙ ap (λ (k : List ℕ). blockBytes (set (labelsIn sizes l) j k)) f)
 
-  pub extended-at : (S l t : List ℕ) (r : ℕ) (t′ idx′ : List ℕ)
-      → Stored (extend (take (32 * j + getD counts j 0 - 32 * j) (drop (32 * j) exponents)) (take (64 * j + getD sizes j 0 - 64 * j) (drop (64 * j) keys)) (take (64 * j + getD sizes j 0 - 64 * j) (drop (64 * j) l)) S) t r t′ idx′
-      → Stored (extendAt (basesIn keys sizes exponents counts) (labelsIn sizes l) j S) t r t′ idx′
+  pub extended-at : (idx : List ℕ) (n : ℕ) (S l t : List ℕ) (r : ℕ) (t′ idx′ : List ℕ)
+      → Stored idx n (extend (take (32 * j + getD counts j 0 - 32 * j) (drop (32 * j) exponents)) (take (64 * j + getD sizes j 0 - 64 * j) (drop (64 * j) keys)) (take (64 * j + getD sizes j 0 - 64 * j) (drop (64 * j) l)) S) t r t′ idx′
+      → Stored idx n (extendAt (basesIn keys sizes exponents counts) (labelsIn sizes l) j S) t r t′ idx′
   unfolding basesIn
-  extended-at S l t r t′ idx′ g =
+  extended-at idx n S l t r t′ idx′ g =
       let p = add-sub-cancel-left (64 * j) (getD sizes j 0) in
       let q = add-sub-cancel-left (32 * j) (getD counts j 0) in
       rw (labels-at sizes l j h) (rw (p, q) at g)

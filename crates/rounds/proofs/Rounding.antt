@@ -9,8 +9,7 @@ use lib.ListN.{length, take}
 use borrow.Author.Tests.{eqb-true, eq-eqb, ltb-true, ltb-false, le-ltb}
 use Rattle.support.specs.Table.{Holds}
 use Rattle.blocks.specs.Index.{Indexed}
-use Rattle.blocks.proofs.Growth.{Extends, extends-refl, extends-trans, count-held, grown-length, grown-take}
-use Rattle.blocks.proofs.Index.{Indexing, indexing-start, indexing-step, indexing-stop, indexing-end}
+use Rattle.blocks.proofs.Growth.{Extends, extends-refl, extends-trans, Held, held-start, held-step, held-stop, held-end, count-held, grown-length, grown-take}
 use Rattle.rounds.specs.Rounds.{Bases, State, Closing, singles, start, joinAll, round, same, sameState, closeFrom, closing}
 use Rattle.rounds.specs.Bytes.{blockBytes, labelsIn}
 use Rattle.rounds.specs.Arrays.{Sizes, Labelled, FilledAll, roundFrom, Rounded, Settled}
@@ -76,7 +75,8 @@ module _ (g : Bases) (sizes : List ℕ) where
   pub record Rounding (t₀ : List ℕ) (o : Closing) (l : List ℕ) (n : ℕ) (t idx : List ℕ) (c : ℕ) : Type 0 where
     pub upto : c ≤ 578
     pub labels : Labelled sizes l
-    pub held : Indexing t₀ (o .state .support) (λ S. closeFrom g (578 - c) (record { labels = labelsIn sizes l; support = S }) c .state .support) n t idx
+    pub held : Held t₀ (o .state .support) (λ S. closeFrom g (578 - c) (record { labels = labelsIn sizes l; support = S }) c .state .support) n t
+    pub index : Indexed idx (take n t)
     pub rest : closeFrom g (578 - c) (record { labels = labelsIn sizes l; support = take n t }) c ≡ o
     pub filled : FilledAll (eqb c 0) g (labelsIn sizes l) (take n t)
 
@@ -86,7 +86,8 @@ module _ (g : Bases) (sizes : List ℕ) where
     rounding-start n l idx h x w e = record {
       upto = omega arith;
       labels = w;
-      held = rw e (indexing-start t₀ wide (λ S. closeFrom g 578 (record { labels = singles g; support = S }) 0 .state .support) n idx h x);
+      held = rw e (held-start t₀ wide (λ S. closeFrom g 578 (record { labels = singles g; support = S }) 0 .state .support) n h);
+      index = x;
       rest = rw e refl;
       filled = record { at = λ j b. record { full = λ q. never (sym q ∙ eq-eqb 0 0 refl) } };
     }
@@ -98,7 +99,7 @@ module _ (g : Bases) (sizes : List ℕ) where
           let z : 578 - c ≡ 0 = omega arith in
           let e : record { state = record { labels = labelsIn sizes l; support = take n t }; rounds = c } ≡ o = rw z at (r .rest) in
           record {
-            grown = indexing-end t₀ wide (o .state .support) _ n t idx (r .held) (rw z refl) .grown;
+            grown = held-end t₀ wide (o .state .support) _ n t (r .held) (rw z refl);
             rounds = λ _. ap (λ (v : Closing). v .rounds) e;
             labels = λ _. r .labels .bytes ∙ ap (λ (v : Closing). blockBytes (v .state .labels)) e;
           }
@@ -106,7 +107,7 @@ module _ (g : Bases) (sizes : List ℕ) where
       abbrev old : State
       old = record { labels = labelsIn sizes l; support = take n t }
 
-      module _ (h : c < 578) (n′ : ℕ) (t′ idx′ l′ : List ℕ) (k : Rounded (roundFrom g (labelsIn sizes l) (take n t)) t n′ t′ idx′ l′) where
+      module _ (h : c < 578) (n′ : ℕ) (t′ idx′ l′ : List ℕ) (k : Rounded (roundFrom g (labelsIn sizes l) (take n t)) idx n t n′ t′ idx′ l′) where
         next-labelled : Labelled sizes l′
         unfolding round
         next-labelled = joined-labelled g (take n t) (labelsIn sizes l) sizes l s (r .labels) refl l′ (k .labels)
@@ -120,7 +121,7 @@ module _ (g : Bases) (sizes : List ℕ) where
 
         full : 2048 < n′ → Settled o t₀ (record { labels = l′; len = n′; rounds = c + 1 }) t′
         full b = record {
-          grown = indexing-stop t₀ wide (o .state .support) _ n t idx (r .held) _ n′ t′ idx′ (k .support) after (ap (λ (v : Closing). v .state .support) step) b (more (sameState old (round g old))) .grown;
+          grown = held-stop t₀ wide (o .state .support) _ n t (r .held) _ n′ t′ (k .support .grown) after (ap (λ (v : Closing). v .state .support) step) b (more (sameState old (round g old)));
           rounds = λ q. absurd (omega arith);
           labels = λ q. absurd (omega arith);
         }
@@ -133,7 +134,7 @@ module _ (g : Bases) (sizes : List ℕ) where
             more false = close-extends g (578 - (c + 1)) (round g old) (c + 1)
 
         size : length (take n t) ≡ n
-        size = count-held t₀ wide (o .state .support) _ n t (r .held .held)
+        size = count-held t₀ wide (o .state .support) _ n t (r .held)
 
         done : n′ ≤ 2048 → n′ ≡ n → l ≡ l′ → Settled o t₀ (record { labels = l′; len = n′; rounds = c + 1 }) t′
         done b e f =
@@ -143,9 +144,9 @@ module _ (g : Bases) (sizes : List ℕ) where
             let v : record { state = round g old; rounds = c + 1 } ≡ o = rw u at (sym step ∙ r .rest) in
             record {
               grown =
-                  indexing-end t₀ wide (o .state .support) (λ X. X) n′ t′ idx′
-                  (indexing-step t₀ wide (o .state .support) _ n t idx (r .held) _ n′ t′ idx′ (k .support) (λ X. X) (r .held .held .todo ∙ ap (λ (y : Closing). y .state .support) (sym v)) b x)
-                  refl .grown;
+                  held-end t₀ wide (o .state .support) (λ X. X) n′ t′
+                  (held-step t₀ wide (o .state .support) _ n t (r .held) _ n′ t′ (k .support .grown) (λ X. X) (r .held .todo ∙ ap (λ (y : Closing). y .state .support) (sym v)) b x)
+                  refl;
               rounds = λ _. ap (λ (y : Closing). y .rounds) v;
               labels = λ _. k .labels ∙ ap (λ (y : Closing). blockBytes (y .state .labels)) v;
             }
@@ -164,7 +165,8 @@ module _ (g : Bases) (sizes : List ℕ) where
             record {
               upto = omega arith;
               labels = next-labelled;
-              held = rw next-labels (indexing-step t₀ wide (o .state .support) _ n t idx (r .held) _ n′ t′ idx′ (k .support) (λ X. closeFrom g (578 - (c + 1)) (record { labels = round g old .labels; support = X }) (c + 1) .state .support) (r .held .held .todo ∙ ap (λ (y : Closing). y .state .support) (sym v)) b (round-extends g old));
+              held = rw next-labels (held-step t₀ wide (o .state .support) _ n t (r .held) _ n′ t′ (k .support .grown) (λ X. closeFrom g (578 - (c + 1)) (record { labels = round g old .labels; support = X }) (c + 1) .state .support) (r .held .todo ∙ ap (λ (y : Closing). y .state .support) (sym v)) b (round-extends g old));
+              index = rw q (k .support .index b);
               rest = rw (next-labels, q) v;
               filled = rw (next-labels, q) (round-fills g (eqb (c + 1) 0) old);
             }

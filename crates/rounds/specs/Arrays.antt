@@ -61,10 +61,10 @@ pub record ExtendingAll (first : Bool) (t idx : List ℕ) (len : ℕ) (keys size
 abbrev pub roundFrom : Bases → List (List ℕ) → List ℕ → State
 roundFrom g L S = round g (record { labels = L; support = S })
 
--- what a round leaves: the state s′
-pub record Rounded (s′ : State) (t : List ℕ) (r : ℕ) (t′ idx′ l′ : List ℕ) : Type 0 where
+-- what a round leaves: the state s′, where the index of n keys was idx
+pub record Rounded (s′ : State) (idx : List ℕ) (n : ℕ) (t : List ℕ) (r : ℕ) (t′ idx′ l′ : List ℕ) : Type 0 where
   pub labels : l′ ≡ blockBytes (s′ .labels)
-  pub support : Stored (s′ .support) t r t′ idx′
+  pub support : Stored idx n (s′ .support) t r t′ idx′
 
 -- what the closing asks: the support in its table, the arrays, and every basis as single blocks
 pub record Starting (t : List ℕ) (len : ℕ) (keys sizes exponents counts l : List ℕ) : Type 0 where

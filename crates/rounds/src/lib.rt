@@ -105,7 +105,7 @@ fn extend_at(
     j: usize,
 ) -> usize
     requires { ⌜ ExtendingAll first (now table) (now index) len (now keys) (now sizes) (now exponents) (now counts) (now labels) (now old) × (j < 9) ⌝ }
-    ensures { λ r. ⌜ Stored (extendAt (basesIn (now (keys .entry)) (now (sizes .entry)) (now (exponents .entry)) (now (counts .entry))) (labelsIn (now (sizes .entry)) (now (labels .entry))) j (take len (now (table .entry)))) (now (table .entry)) r (now (table .exit)) (now (index .exit)) ⌝ }
+    ensures { λ r. ⌜ Stored (now (index .entry)) len (extendAt (basesIn (now (keys .entry)) (now (sizes .entry)) (now (exponents .entry)) (now (counts .entry))) (labelsIn (now (sizes .entry)) (now (labels .entry))) j (take len (now (table .entry)))) (now (table .entry)) r (now (table .exit)) (now (index .exit)) ⌝ }
 {
     let a = 64 * j;
     let e = a + sizes[j];
@@ -137,7 +137,7 @@ fn extend_all(
     counts: &[usize],
 ) -> usize
     requires { ⌜ ExtendingAll first (now table) (now index) len (now keys) (now sizes) (now exponents) (now counts) (now labels) (now old) ⌝ }
-    ensures { λ r. ⌜ Stored (extendAll (basesIn (now (keys .entry)) (now (sizes .entry)) (now (exponents .entry)) (now (counts .entry))) (labelsIn (now (sizes .entry)) (now (labels .entry))) (take len (now (table .entry)))) (now (table .entry)) r (now (table .exit)) (now (index .exit)) ⌝ }
+    ensures { λ r. ⌜ Stored (now (index .entry)) len (extendAll (basesIn (now (keys .entry)) (now (sizes .entry)) (now (exponents .entry)) (now (counts .entry))) (labelsIn (now (sizes .entry)) (now (labels .entry))) (take len (now (table .entry)))) (now (table .entry)) r (now (table .exit)) (now (index .exit)) ⌝ }
 {
     let mut n = len;
     let mut j = 0;
@@ -177,7 +177,7 @@ fn round(
     len: usize,
 ) -> usize
     requires { ⌜ ExtendingAll first (now table) (now index) len (now keys) (now sizes) (now exponents) (now counts) (now labels) (now old) ⌝ }
-    ensures { λ r. ⌜ Rounded (roundFrom (basesIn (now (keys .entry)) (now (sizes .entry)) (now (exponents .entry)) (now (counts .entry))) (labelsIn (now (sizes .entry)) (now (labels .entry))) (take len (now (table .entry)))) (now (table .entry)) r (now (table .exit)) (now (index .exit)) (now (labels .exit)) ⌝ }
+    ensures { λ r. ⌜ Rounded (roundFrom (basesIn (now (keys .entry)) (now (sizes .entry)) (now (exponents .entry)) (now (counts .entry))) (labelsIn (now (sizes .entry)) (now (labels .entry))) (take len (now (table .entry)))) (now (index .entry)) len (now (table .entry)) r (now (table .exit)) (now (index .exit)) (now (labels .exit)) ⌝ }
 {
     join_all(labels, keys, sizes, exponents, counts, table, index, len);
     extend_all(

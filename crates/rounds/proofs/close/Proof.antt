@@ -38,7 +38,7 @@ slice-aggregate-round-2 : tie.Need-slice-aggregate-round-2 Inv-loop μ-loop
 slice-aggregate-round-2 c = sym (labelled-long (c .before .before .before .loop .inv .labels))
 
 slice-aggregate-round-3 : tie.Need-slice-aggregate-round-3 Inv-loop μ-loop
-slice-aggregate-round-3 c = sym (c .before .before .before .before .before .loop .inv .held .index .long)
+slice-aggregate-round-3 c = sym (c .before .before .before .before .before .loop .inv .index .long)
 
 round-requires : tie.Need-round-requires Inv-loop μ-loop
 round-requires c κs =
@@ -46,8 +46,8 @@ round-requires c κs =
     let s = l .before .before .before .before .before .before .before .before .before .before in
     record {
       joining = record {
-        support = held-holds _ (s .pre .support .room) _ _ _ _ (l .loop .inv .held .held);
-        index = l .loop .inv .held .index;
+        support = held-holds _ (s .pre .support .room) _ _ _ _ (l .loop .inv .held);
+        index = l .loop .inv .index;
         arrays = s .pre .arrays;
         labels = l .loop .inv .labels;
       };
@@ -77,7 +77,7 @@ loop-again c =
     rounding-more (basesIn (s .args .keys .now) (s .args .sizes .now) (s .args .exponents .now) (s .args .counts .now)) _ (s .pre .arrays .sized) _ (s .pre .support .room) _ _ _ _ _ _ (l .loop .inv) (omega (arith, c .before .before .before .before .before .before .before .before .before .before .before .before .before .loop-test .taken)) _ _ _ _ (c .before .before .before .before .before .before .before .before .round .ensures) (sym (c .before .is-last .ensures) ∙ c .if1 .left)
 
 same-length : tie.Need-same-length Inv-loop μ-loop
-same-length c = c .before .loop .inv .held .held .long
+same-length c = c .before .loop .inv .held .long
 
 returns : tie.Need-returns Inv-loop μ-loop
 returns c =
@@ -86,7 +86,7 @@ returns c =
     rounding-out (basesIn (s .args .keys .now) (s .args .sizes .now) (s .args .exponents .now) (s .args .counts .now)) _ (s .pre .arrays .sized) _ (s .pre .support .room) _ _ _ _ _ _ (l .loop .inv) (omega arith)
 
 same-length-2 : tie.Need-same-length-2 Inv-loop μ-loop
-same-length-2 c = c .before .before .before .before .before .before .before .before .round .kept .1 .1 .1 .1 .1 .1 .1 .0 ∙ c .before .before .before .before .before .before .before .before .before .before .before .before .before .before .loop .inv .held .held .long
+same-length-2 c = c .before .before .before .before .before .before .before .before .round .kept .1 .1 .1 .1 .1 .1 .1 .0 ∙ c .before .before .before .before .before .before .before .before .before .before .before .before .before .before .loop .inv .held .long
 
 returns-2 : tie.Need-returns-2 Inv-loop μ-loop
 returns-2 c =
