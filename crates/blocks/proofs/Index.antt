@@ -39,15 +39,15 @@ indexed-bare idx S x k h = go (member k S) refl
 
 -- ---- a list with one more element
 
-in-snoc : (y : ℕ) (l : List ℕ) (k : ℕ) → In y (l ++ (k ∷ [])) → (k ≡ y) ⊎ In y l
+pub in-snoc : (y : ℕ) (l : List ℕ) (k : ℕ) → In y (l ++ (k ∷ [])) → (k ≡ y) ⊎ In y l
 in-snoc y [] k m = ⊎-elim (λ q. inl q) (λ w. not-nil y w) (in-cons y k [] m)
 in-snoc y (z ∷ zs) k m = ⊎-elim (λ q. inr (in-here y z zs q)) (λ w. ⊎-elim (λ q. inl q) (λ v. inr (in-there y z zs v)) (in-snoc y zs k w)) (in-cons y z (zs ++ (k ∷ [])) m)
 
-snoc-keeps : (y : ℕ) (l : List ℕ) (k : ℕ) → In y l → In y (l ++ (k ∷ []))
+pub snoc-keeps : (y : ℕ) (l : List ℕ) (k : ℕ) → In y l → In y (l ++ (k ∷ []))
 snoc-keeps y [] k m = not-nil y m
 snoc-keeps y (z ∷ zs) k m = ⊎-elim (λ q. in-here y z (zs ++ (k ∷ [])) q) (λ w. in-there y z (zs ++ (k ∷ [])) (snoc-keeps y zs k w)) (in-cons y z zs m)
 
-snoc-in : (l : List ℕ) (k : ℕ) → In k (l ++ (k ∷ []))
+pub snoc-in : (l : List ℕ) (k : ℕ) → In k (l ++ (k ∷ []))
 snoc-in [] k = in-here k k [] refl
 snoc-in (z ∷ zs) k = in-there k z (zs ++ (k ∷ [])) (snoc-in zs k)
 

@@ -10,3 +10,5 @@ pub mod Joined
 pub mod Full
 pub mod Lowest
 pub mod Sums
+pub mod Joins
+pub mod Fresh
