@@ -49,6 +49,7 @@ const LARGEST: u64 = 2305843009213693952;
 
 // Where the index has the bits of all members, and where the first member that came.
 const COVER: usize = 4095;
+
 const FIRST: usize = 4096;
 
 // The place of a key in the index.
@@ -355,7 +356,19 @@ fn add_row(
     let mut n = len;
     let mut k = i;
     while k < basis.len() {
-        n = add_pair(table, index, seen, n, labels, old, first, basis, exponents, i, k);
+        n = add_pair(
+            table,
+            index,
+            seen,
+            n,
+            labels,
+            old,
+            first,
+            basis,
+            exponents,
+            i,
+            k,
+        );
         if 2048 < n {
             return n;
         }
@@ -382,7 +395,18 @@ fn add_rows(
     let mut n = len;
     let mut i = 0;
     while i < basis.len() {
-        n = add_row(table, index, seen, n, labels, old, first, basis, exponents, i);
+        n = add_row(
+            table,
+            index,
+            seen,
+            n,
+            labels,
+            old,
+            first,
+            basis,
+            exponents,
+            i,
+        );
         if 2048 < n {
             return n;
         }
@@ -429,10 +453,30 @@ pub fn extend_pass(
     }
     if exponents.len() < 4 {
         let mut none = [0u64; 1];
-        add_rows(table, index, &mut none, len, labels, old, first, basis, exponents)
+        add_rows(
+            table,
+            index,
+            &mut none,
+            len,
+            labels,
+            old,
+            first,
+            basis,
+            exponents,
+        )
     } else {
         let mut seen = [0u64; 1024];
-        add_rows(table, index, &mut seen, len, labels, old, first, basis, exponents)
+        add_rows(
+            table,
+            index,
+            &mut seen,
+            len,
+            labels,
+            old,
+            first,
+            basis,
+            exponents,
+        )
     }
 }
 

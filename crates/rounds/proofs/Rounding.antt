@@ -6,14 +6,17 @@ use Prim.Native.Nat.{ℕ, zero, suc, _+_, _-_, _≤_, _<_}
 use native.Mathlib.Omega.{arith}
 use lib.Dec.{eqb, ltb}
 use lib.ListN.{length, take}
+use lib.Seq.{length-take-le}
+use Rattle.support.proofs.Laws.{inside}
 use borrow.Author.Tests.{eqb-true, eq-eqb, ltb-true, ltb-false, le-ltb}
 use Rattle.support.specs.Table.{Holds}
 use Rattle.blocks.specs.Index.{Indexed}
 use Rattle.blocks.proofs.Growth.{Extends, extends-refl, extends-trans, Held, held-start, held-step, held-stop, held-end, count-held, grown-length, grown-take}
 use Rattle.rounds.specs.Rounds.{Bases, State, Closing, singles, start, joinAll, round, same, sameState, closeFrom, closing}
 use Rattle.rounds.specs.Bytes.{blockBytes, labelsIn}
-use Rattle.rounds.specs.Arrays.{Sizes, Labelled, FilledAll, roundFrom, Rounded, Settled}
+use Rattle.rounds.specs.Arrays.{Sizes, Labelled, FilledAll, latest, RecentAll, roundFrom, Rounded, Settled}
 use Rattle.rounds.proofs.Passes.{labelled-same, joined-labelled, joined-labels, all-extends, filled-next}
+use Rattle.rounds.proofs.Latest.{recent-start, recent-next}
 use Rattle.rounds.proofs.Same.{never, same-true, same-apart, state-same, state-differs}
 
 module _ (g : Bases) where
@@ -72,16 +75,18 @@ module _ (few len : ℕ) (l l′ : List ℕ) where
 -- ---- the loop: after c rounds, what is left of 578 gives the outcome o
 
 module _ (g : Bases) (sizes : List ℕ) where
-  pub record Rounding (t₀ : List ℕ) (o : Closing) (l : List ℕ) (n : ℕ) (t idx : List ℕ) (c : ℕ) : Type 0 where
+  pub record Rounding (t₀ : List ℕ) (o : Closing) (l : List ℕ) (since n : ℕ) (t idx : List ℕ) (c : ℕ) : Type 0 where
     pub upto : c ≤ 578
     pub labels : Labelled sizes l
     pub held : Held t₀ (o .state .support) (λ S. closeFrom g (578 - c) (record { labels = labelsIn sizes l; support = S }) c .state .support) n t
     pub index : Indexed idx (take n t)
     pub rest : closeFrom g (578 - c) (record { labels = labelsIn sizes l; support = take n t }) c ≡ o
     pub filled : FilledAll (eqb c 0) g (labelsIn sizes l) (take n t)
+    pub came : since ≤ n
+    pub recent : RecentAll g (take n t) (labelsIn sizes l) (latest idx since n)
 
   module _ (s : Sizes sizes) (t₀ : List ℕ) (wide : 2048 ≤ length t₀) where
-    pub rounding-start : (n : ℕ) (l idx : List ℕ) → Holds t₀ n → Indexed idx (take n t₀) → Labelled sizes l → labelsIn sizes l ≡ singles g → Rounding t₀ (closing g (take n t₀)) l n t₀ idx 0
+    pub rounding-start : (n : ℕ) (l idx : List ℕ) → Holds t₀ n → Indexed idx (take n t₀) → Labelled sizes l → labelsIn sizes l ≡ singles g → Rounding t₀ (closing g (take n t₀)) l 0 n t₀ idx 0
     unfolding closing start
     rounding-start n l idx h x w e = record {
       upto = omega arith;
@@ -90,9 +95,11 @@ module _ (g : Bases) (sizes : List ℕ) where
       index = x;
       rest = rw e refl;
       filled = record { at = λ j b. record { full = λ q. never (sym q ∙ eq-eqb 0 0 refl) } };
+      came = omega arith;
+      recent = rw e (recent-start g idx (take n t₀) x n (length-take-le n t₀ (inside h)));
     }
 
-    module _ (o : Closing) (l : List ℕ) (n : ℕ) (t idx : List ℕ) (c : ℕ) (r : Rounding t₀ o l n t idx c) where
+    module _ (o : Closing) (l : List ℕ) (since n : ℕ) (t idx : List ℕ) (c : ℕ) (r : Rounding t₀ o l since n t idx c) where
       pub rounding-out : 578 ≤ c → Settled o t₀ (record { labels = l; len = n; rounds = c }) t
       unfolding closeFrom
       rounding-out h =
@@ -154,7 +161,7 @@ module _ (g : Bases) (sizes : List ℕ) where
         pub rounding-last : cond (ltb 2048 n′) true (cond (eqb n′ n) (same l l′) false) ≡ true → Settled o t₀ (record { labels = l′; len = n′; rounds = c + 1 }) t′
         rounding-last = last-true n n′ l l′ full done
 
-        pub rounding-more : cond (ltb 2048 n′) true (cond (eqb n′ n) (same l l′) false) ≡ false → Rounding t₀ o l′ n′ t′ idx′ (c + 1)
+        pub rounding-more : cond (ltb 2048 n′) true (cond (eqb n′ n) (same l l′) false) ≡ false → Rounding t₀ o l′ n n′ t′ idx′ (c + 1)
         rounding-more e =
             let b : n′ ≤ 2048 = last-small n n′ l l′ e in
             let q : take n′ t′ ≡ round g old .support = grown-take _ t n′ t′ (k .support .grown) b in
@@ -169,4 +176,6 @@ module _ (g : Bases) (sizes : List ℕ) where
               index = rw q (k .support .index b);
               rest = rw (next-labels, q) v;
               filled = rw (next-labels, q) (round-fills g (eqb (c + 1) 0) old);
+              came = omega (arith, size, round-extends g old .more, grown-length _ t n′ t′ (k .support .grown) b);
+              recent = rw (next-labels, q) (recent-next g old idx n (r .index) size _ (r .recent) idx′ n′ (k .support .index b) (grown-length _ t n′ t′ (k .support .grown) b) (omega (arith, size, round-extends g old .more, grown-length _ t n′ t′ (k .support .grown) b)) (k .support .first b));
             }

@@ -21,7 +21,7 @@ add-if1 : tie.Need-add-if1
 add-if1 c = search needs
 
 returns : tie.Need-returns
-returns c = 
+returns c =
     let s = c .before .before .before .before .before in
     stored-known _ _ _ (s .pre .support) (s .pre .index) (s .args .key) (s .pre .low) (ap (λ (i : ℕ). getD (s .args .index .now) i 0) (sym (c .before .before .slot .ensures)) ∙ c .if1 .taken)
 
@@ -50,7 +50,7 @@ same-length-4 : tie.Need-same-length-4
 same-length-4 c = search needs
 
 returns-4 : tie.Need-returns-4
-returns-4 c = 
+returns-4 c =
     let s = c .before .before .before .before .before .before .before .before .before .before .before .before .before .before .before in
     rw (c .before .before .note .ensures) (stored-new _ _ _ (s .pre .support) (s .pre .index) (s .args .key) _ _ (c .before .before .before .before .before .before .before .before .put .ensures) (c .before .before .before .before .before .if2 .left) (c .before .before .before .before .if3 .left))
 

@@ -14,7 +14,7 @@ shared-slice-read-if1-2 : tie.Need-shared-slice-read-if1-2
 shared-slice-read-if1-2 c = search needs
 
 returns : tie.Need-returns
-returns c = 
+returns c =
     let s = c .before .before .before .before .before .before .before .before .before .before in
     let p = s .pre .0 .joining in
     rw (← one-apart _ _ _ _ _ _ (c .if1 .taken)) (record { stored = stored-none _ _ _ (p .support) (p .index); seen = s .pre .1 })
@@ -26,7 +26,7 @@ shared-slice-read-if3-2 : tie.Need-shared-slice-read-if3-2
 shared-slice-read-if3-2 c = search needs
 
 returns-2 : tie.Need-returns-2
-returns-2 c = 
+returns-2 c =
     let s = c .before .before .before .before .before .before .before .before .before .before .before .before .before .before in
     let p = s .pre .0 .joining in
     rw (← pair-known (s .args .first) _ _ _ _ _ _ _ (s .pre .0 .filled) (not-true _ (c .before .before .before .if2 .taken)) (s .pre .2) (s .pre .3) (c .if3 .taken) (p .support .rising))
@@ -48,7 +48,7 @@ add-add-sum : tie.Need-add-add-sum
 add-add-sum c = let s = c .before .before .before .before .before .before .before .before .before .before .before .before .before .before .before .before in let k = s .pre .0 .joining .basis .keys in omega (arith, k (s .args .i), k (s .args .k))
 
 add-sum-requires : tie.Need-add-sum-requires
-add-sum-requires c κs = 
+add-sum-requires c κs =
     let s = c .before .before .before .before .before .before .before .before .before .before .before .before .before .before .before .before in
     let p = s .pre .0 .joining in (
       record {

@@ -23,13 +23,13 @@ abbrev μ-loop : tie.MeasureT-loop
 
 loop-holds : tie.Need-loop-holds Inv-loop μ-loop
 unfolding extend
-loop-holds c = 
+loop-holds c =
     let s = c .before .before .before .before .before .before .before in
     let p = s .pre .0 .joining in
     (omega arith, indexing-start _ (p .support .room) _ _ _ (p .support) (p .index), s .pre .0 .filled, refl, s .pre .1)
 
 add-row-requires : tie.Need-add-row-requires Inv-loop μ-loop
-add-row-requires c κs = 
+add-row-requires c κs =
     let l = c .before .before .before .before in
     let s = c .before .before .before .before .before .before .before .before .before .before .before .before in
     let p = s .pre .0 in (
@@ -56,7 +56,7 @@ same-length-3 : tie.Need-same-length-3 Inv-loop μ-loop
 same-length-3 c = c .before .before .before .before .before .before .before .add-row .kept .1 .1 .0 ∙ c .before .before .before .before .before .before .before .before .before .before .before .before .loop .inv .3
 
 returns : tie.Need-returns Inv-loop μ-loop
-returns c = 
+returns c =
     let l = c .before .before .before .before .before .before .before .before .before .before .before .before in
     let s = c .before .before .before .before .before .before .before .before .before .before .before .before .before .before .before .before .before .before .before .before in
     let m = c .before .before .before .before .before .before .before .add-row .ensures in
@@ -70,7 +70,7 @@ loop-less : tie.Need-loop-less Inv-loop μ-loop
 loop-less c = search needs
 
 loop-again : tie.Need-loop-again Inv-loop μ-loop
-loop-again c = 
+loop-again c =
     let l = c .before .before .before .before .before .before .before .before .before .before .before .before in
     let s = c .before .before .before .before .before .before .before .before .before .before .before .before .before .before .before .before .before .before .before .before in
     let m = c .before .before .before .before .before .before .before .add-row .ensures in
@@ -92,7 +92,7 @@ same-length-6 : tie.Need-same-length-6 Inv-loop μ-loop
 same-length-6 c = c .before .loop .inv .3
 
 returns-2 : tie.Need-returns-2 Inv-loop μ-loop
-returns-2 c = 
+returns-2 c =
     let l = c .before in
     let s = c .before .before .before .before .before .before .before .before .before in
     indexing-end _ (s .pre .0 .joining .support .room) _ _ _ _ _ _ _ (l .loop .inv .1) (fromTo-done _ _ _ _ (omega arith))

@@ -34,7 +34,7 @@ add-if2 : tie.Need-add-if2
 add-if2 c = search needs
 
 returns-2 : tie.Need-returns-2
-returns-2 c = 
+returns-2 c =
     let s = c .before .before .before .before .before .before .before .before in
     rw (add-full _ (s .args .s) _ (s .pre .0 .support .rising) (s .pre .1 .at _ (s .args .s) (c .if2 .taken)))
     (record { stored = stored-none _ _ _ (s .pre .0 .support) (s .pre .0 .index); seen = s .pre .1 })
@@ -61,7 +61,7 @@ same-length-5 : tie.Need-same-length-5
 same-length-5 c = search needs
 
 returns-3 : tie.Need-returns-3
-returns-3 c = 
+returns-3 c =
     let s = c .before .before .before .before .before .before .before .before .before .before .before .before .before .before .before in
     record {
       stored = c .before .before .before .before .add-terms2 .ensures;

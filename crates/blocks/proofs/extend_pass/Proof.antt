@@ -12,7 +12,7 @@ is-settled-requires : tie.Need-is-settled-requires
 is-settled-requires c κs = let p = c .before .before .before .before .before .before .pre in p .joining .basis .labels ∙ sym (p .before)
 
 returns : tie.Need-returns
-returns c = 
+returns c =
     let s = c .before .before .before .before .before .before .before .before in
     let p = s .pre .joining in
     rw (← blocks-known (s .args .first) _ _ _ _ _ (s .pre .filled) (c .before .is-settled .ensures (c .if1 .taken)) (p .support .rising)) (stored-none _ _ _ (p .support) (p .index))

@@ -24,7 +24,7 @@ shared-slice-read-m : tie.Need-shared-slice-read-m
 shared-slice-read-m c = omega (arith, c .before .slot .ensures, c .before .before .before .before .before .before .pre .index .long)
 
 returns-2 : tie.Need-returns-2
-returns-2 c = 
+returns-2 c =
     let s = c .before .before .before .before .before .before .before in
     indexed-none _ _ (s .pre .index) (s .args .key) (s .pre .low) (ap (λ (i : ℕ). getD (s .args .index .now) i 0) (sym (c .before .before .slot .ensures)) ∙ c .if2 .taken)
 
@@ -32,7 +32,7 @@ add-if3 : tie.Need-add-if3
 add-if3 c = search needs
 
 returns-3 : tie.Need-returns-3
-returns-3 c = 
+returns-3 c =
     let s = c .before .before .before .before .before .before .before .before in
     sym (s .pre .index .some (s .args .key) (s .pre .low) (ap (λ (i : ℕ). getD (s .args .index .now) i 0) (sym (c .before .before .before .slot .ensures)) ∙ c .if3 .taken))
 

@@ -35,7 +35,7 @@ loop-less : tie.Need-loop-less Inv-loop μ-loop
 loop-less c = search needs
 
 loop-again : tie.Need-loop-again Inv-loop μ-loop
-loop-again c = 
+loop-again c =
     let l = c .before .before .before in
     let s = c .before .before .before .before .before .before in
     let e : length (l .loop .labels) ≡ length (s .args .basis .now) = l .loop .inv .1 .long ∙ s .pre .0 .long in (

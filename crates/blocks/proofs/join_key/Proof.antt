@@ -45,19 +45,19 @@ same-length-2 : tie.Need-same-length-2
 same-length-2 c = search needs
 
 returns-3 : tie.Need-returns-3
-returns-3 c = 
+returns-3 c =
     let s = c .before .before .before .before .before .before .before .before .before .before .before .before .before .before in
     let v = c .before .before .before .before .before .before .before .before .before .shared-slice-known3 .given (c .before .before .before .before .before .before .before .before .before .before .place .result) in
     key-one _ _ _ _ _ (s .pre .0 .numbered) (s .pre .1) _ (ap (λ (i : ℕ). getD (s .args .places .now) i 0) (sym (c .before .before .before .before .before .before .before .before .before .before .place .ensures)) ∙ omega arith) (omega arith) (c .before .before .before .before .if4 .taken) _ (rw (s .pre .0 .long) at (c .before .before .join-two .ensures))
 
 returns-4 : tie.Need-returns-4
-returns-4 c = 
+returns-4 c =
     let s = c .before .before .before .before .before .before .before .before .before .before in
     let v = c .before .before .before .before .before .shared-slice-known3 .given (c .before .before .before .before .before .before .place .result) in
     key-other _ _ _ _ _ (s .pre .0 .numbered) (s .pre .1) _ (ap (λ (i : ℕ). getD (s .args .places .now) i 0) (sym (c .before .before .before .before .before .before .place .ensures)) ∙ omega arith) (omega arith) (λ _ e. c .if4 .left e)
 
 returns-5 : tie.Need-returns-5
-returns-5 c = 
+returns-5 c =
     let s = c .before .before .before .before .before .before .before .before in
     let v = c .before .before .before .shared-slice-known3 .given (c .before .before .before .before .place .result) in
     key-other _ _ _ _ _ (s .pre .0 .numbered) (s .pre .1) (getD (s .args .places .now) (c .before .before .before .before .place .result) 0 - 1) (ap (λ (i : ℕ). getD (s .args .places .now) i 0) (sym (c .before .before .before .before .place .ensures)) ∙ omega arith) (omega arith) (λ b _. omega (arith, c .if3 .left))

@@ -31,7 +31,7 @@ add-is-linked-sum : tie.Need-add-is-linked-sum
 add-is-linked-sum c = let s = c .before .before .before .before .before .before .before .before .before .before .before .before in omega (arith, s .pre .0 .basis .keys (s .args .i), s .pre .0 .basis .keys (s .args .k))
 
 is-linked-sum-requires : tie.Need-is-linked-sum-requires
-is-linked-sum-requires c κs = 
+is-linked-sum-requires c κs =
     let s = c .before .before .before .before .before .before .before .before .before .before .before .before in (
       record {
         support = s .pre .0 .support;

@@ -24,7 +24,7 @@ loop-holds : tie.Need-loop-holds Inv-loop μ-loop
 loop-holds c = (omega arith, refl, refl, refl, c .before .before .before .before .before .before .pre .1)
 
 join-pair-requires : tie.Need-join-pair-requires Inv-loop μ-loop
-join-pair-requires c κs = 
+join-pair-requires c κs =
     let l = c .before .before .before in
     let s = c .before .before .before .before .before .before .before .before .before .before in
     let p = s .pre .0 in (
@@ -45,7 +45,7 @@ loop-less : tie.Need-loop-less Inv-loop μ-loop
 loop-less c = search needs
 
 loop-again : tie.Need-loop-again Inv-loop μ-loop
-loop-again c = 
+loop-again c =
     let l = c .before .before .before .before .before .before .before .before in
     let m = c .before .before .before .before .join-pair in
     (omega arith, m .kept .0 ∙ l .loop .inv .1, m .kept .1 .0 ∙ l .loop .inv .2, ap (fromTo _ _ _) (m .ensures .0) ∙ sym (fromTo-more _ _ _ _ (omega arith)) ∙ l .loop .inv .3, m .ensures .1)

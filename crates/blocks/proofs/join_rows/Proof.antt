@@ -22,7 +22,7 @@ unfolding join
 loop-holds c = (omega arith, refl, refl, refl, c .before .before .before .before .before .before .pre .1)
 
 join-row-requires : tie.Need-join-row-requires Inv-loop μ-loop
-join-row-requires c κs = 
+join-row-requires c κs =
     let l = c .before .before .before in
     let s = c .before .before .before .before .before .before .before .before .before .before in
     let p = s .pre .0 in (
@@ -42,7 +42,7 @@ loop-less : tie.Need-loop-less Inv-loop μ-loop
 loop-less c = search needs
 
 loop-again : tie.Need-loop-again Inv-loop μ-loop
-loop-again c = 
+loop-again c =
     let l = c .before .before .before .before .before .before .before .before in
     let m = c .before .before .before .before .join-row in
     (omega arith, m .kept .0 ∙ l .loop .inv .1, m .kept .1 .0 ∙ l .loop .inv .2, ap (fromTo _ _ _) (m .ensures .0) ∙ sym (fromTo-more _ _ _ _ (omega arith)) ∙ l .loop .inv .3, m .ensures .1)
