@@ -19,7 +19,7 @@ use Rattle.counting.proofs.Steps.{fromTo-keeps}
 use Rattle.blocks.specs.Extend.{addTerms, addPair, addRow, extend}
 use Rattle.blocks.specs.Filled.{Filled, Full}
 use Rattle.blocks.proofs.Members.{insert-keeps}
-use Rattle.blocks.proofs.Full.{pair-done}
+use Rattle.blocks.proofs.Full.{pair-done, extend-done}
 
 -- ---- the set never shrinks, and stays in order
 
@@ -254,3 +254,7 @@ module _ (first : Bool) (T B L₀ : List ℕ) where
   -- a pair that was in one block then adds nothing
   pub pair-known : (L : List ℕ) (i k : ℕ) (S : List ℕ) → Filled first T B L₀ S → first ≡ false → i ≤ k → k < length B → getD L₀ i 0 ≡ getD L₀ k 0 → Rising S → S ≡ addPair T B L i k S
   pair-known L i k S f e h u q r = sym (pair-done T B L i k S r (record { at = λ _. f .full e .at i k h u .at q }))
+
+  -- and blocks that are as they were then add nothing
+  pub blocks-known : (L S : List ℕ) → Filled first T B L₀ S → (first ≡ false) × (L ≡ L₀) → Rising S → S ≡ extend T B L S
+  blocks-known L S f e r = sym (extend-done T B L S r (rw (e .1) (f .full (e .0))))

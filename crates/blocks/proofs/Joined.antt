@@ -18,18 +18,18 @@ pub record Joined (S T B L : List ℕ) : Type 0 where
   pub at : (i k : ℕ) → i < length B → k < length B → linked S T (getD B i 0 + getD B k 0) ≡ true → getD L i 0 ≡ getD L k 0
 
 -- what is in one block stays in one
-merged-equal : (a b : ℕ) (L : List ℕ) (x y : ℕ) → x < length L → y < length L → getD L x 0 ≡ getD L y 0 → getD (merged a b L) x 0 ≡ getD (merged a b L) y 0
+pub merged-equal : (a b : ℕ) (L : List ℕ) (x y : ℕ) → x < length L → y < length L → getD L x 0 ≡ getD L y 0 → getD (merged a b L) x 0 ≡ getD (merged a b L) y 0
 merged-equal a b L x y hx hy e = merged-at a b L x hx ∙ ap (inOne a b) e ∙ sym (merged-at a b L y hy)
 
 -- two blocks made one are one
-merged-one : (L : List ℕ) (x y : ℕ) → x < length L → y < length L → getD (merged (getD L x 0) (getD L y 0) L) x 0 ≡ getD (merged (getD L x 0) (getD L y 0) L) y 0
+pub merged-one : (L : List ℕ) (x y : ℕ) → x < length L → y < length L → getD (merged (getD L x 0) (getD L y 0) L) x 0 ≡ getD (merged (getD L x 0) (getD L y 0) L) y 0
 merged-one L x y hx hy =
     let a = getD L x 0 in
     let b = getD L y 0 in
     merged-at a b L x hx ∙ two-low a b a (inl refl) ∙ sym (merged-at a b L y hy ∙ two-low a b b (inr refl))
 
 module _ (S T B : List ℕ) where
-  pair-equal : (x y i k : ℕ) (L : List ℕ) → x < length L → y < length L → getD L x 0 ≡ getD L y 0 → getD (joinPair S T B i k L) x 0 ≡ getD (joinPair S T B i k L) y 0
+  pub pair-equal : (x y i k : ℕ) (L : List ℕ) → x < length L → y < length L → getD L x 0 ≡ getD L y 0 → getD (joinPair S T B i k L) x 0 ≡ getD (joinPair S T B i k L) y 0
   unfolding joinPair
   pair-equal x y i k L hx hy e = go (linked S T (getD B i 0 + getD B k 0))
     where

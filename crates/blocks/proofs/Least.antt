@@ -54,7 +54,7 @@ module _ (R : ℕ → ℕ → Type 0) (eq : Equivalence R) (n : ℕ) where
   }
 
   -- the blocks of i and k made one, where R has i and k in one
-  merged-inside : (L : List ℕ) (i k : ℕ) → i < n → k < n → R i k → Inside R n L → Inside R n (merged (getD L i 0) (getD L k 0) L)
+  pub merged-inside : (L : List ℕ) (i k : ℕ) → i < n → k < n → R i k → Inside R n L → Inside R n (merged (getD L i 0) (getD L k 0) L)
   merged-inside L i k hi hk r s = record {
     long = merged-long (getD L i 0) (getD L k 0) L ∙ s .long;
     at = λ x y hx hy e.
@@ -65,20 +65,24 @@ module _ (R : ℕ → ℕ → Type 0) (eq : Equivalence R) (n : ℕ) where
       to-i : (x : ℕ) → x < n → (getD L x 0 ≡ getD L i 0) ⊎ (getD L x 0 ≡ getD L k 0) → R x i
       to-i x hx = ⊎-elim (s .at x i hx hi) (λ e. eq .transitive x k i (s .at x k hx hk e) (eq .symmetric i k r))
 
-module _ (Q : ℕ → Type 0) (R : ℕ → ℕ → Type 0) (eq : Equivalence R) (T B : List ℕ) (c : ClosedFor Q R T B) where
-  module _ (S : List ℕ) (w : Within Q S) where
-    pair-inside : (i k : ℕ) (L : List ℕ) → i < length B → k < length B → Inside R (length B) L → Inside R (length B) (joinPair S T B i k L)
-    unfolding joinPair
-    pair-inside i k L hi hk s = go (linked S T (getD B i 0 + getD B k 0)) refl
-      where
-        go : (b : Bool) → linked S T (getD B i 0 + getD B k 0) ≡ b → Inside R (length B) (cond b (merged (getD L i 0) (getD L k 0) L) L)
-        go true e = merged-inside R eq (length B) L i k hi hk (linked-from S T (getD B i 0 + getD B k 0) (λ t h m. c .joins i k t hi hk h (w .at _ m)) e) s
-        go false e = s
+module _ (R : ℕ → ℕ → Type 0) (eq : Equivalence R) (S T B : List ℕ) (links : (i k : ℕ) → i < length B → k < length B → linked S T (getD B i 0 + getD B k 0) ≡ true → R i k) where
+  pair-inside : (i k : ℕ) (L : List ℕ) → i < length B → k < length B → Inside R (length B) L → Inside R (length B) (joinPair S T B i k L)
+  unfolding joinPair
+  pair-inside i k L hi hk s = go (linked S T (getD B i 0 + getD B k 0)) refl
+    where
+      go : (b : Bool) → linked S T (getD B i 0 + getD B k 0) ≡ b → Inside R (length B) (cond b (merged (getD L i 0) (getD L k 0) L) L)
+      go true e = merged-inside R eq (length B) L i k hi hk (links i k hi hk e) s
+      go false e = s
 
-    -- a joining on a set within Q stays within R
-    pub join-inside : (L : List ℕ) → Inside R (length B) L → Inside R (length B) (join S T B L)
-    unfolding join
-    join-inside L s = pairs-keep (length B) (λ i. i + 1) (joinPair S T B) (Inside R (length B)) (λ i k M hi _ hk m. pair-inside i k M hi hk m) L s
+  -- a joining whose links are all in R stays within R
+  pub links-inside : (L : List ℕ) → Inside R (length B) L → Inside R (length B) (join S T B L)
+  unfolding join
+  links-inside L s = pairs-keep (length B) (λ i. i + 1) (joinPair S T B) (Inside R (length B)) (λ i k M hi _ hk m. pair-inside i k M hi hk m) L s
+
+module _ (Q : ℕ → Type 0) (R : ℕ → ℕ → Type 0) (eq : Equivalence R) (T B : List ℕ) (c : ClosedFor Q R T B) where
+  -- a joining on a set within Q stays within R
+  pub join-inside : (S : List ℕ) → Within Q S → (L : List ℕ) → Inside R (length B) L → Inside R (length B) (join S T B L)
+  join-inside S w = links-inside R eq S T B (λ i k hi hk e. linked-from S T (getD B i 0 + getD B k 0) (λ t h m. c .joins i k t hi hk h (w .at _ m)) e)
 
   module _ (L : List ℕ) (s : Inside R (length B) L) where
     pair-within : (i k : ℕ) (S : List ℕ) → i < length B → k < length B → Within Q S → Within Q (addPair T B L i k S)

@@ -1,3 +1,4 @@
+pub mod Bits
 pub mod Laws
 pub mod Growth
 pub mod Index
@@ -8,3 +9,6 @@ pub mod Least
 pub mod Joined
 pub mod Full
 pub mod Lowest
+pub mod Sums
+pub mod Joins
+pub mod Fresh

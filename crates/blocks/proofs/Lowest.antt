@@ -13,15 +13,11 @@ use Rattle.counting.specs.Counting.{listed}
 use Rattle.counting.proofs.Listed.{listed-length, listed-at}
 use Rattle.blocks.specs.Join.{linked, renamed, merged, joinPair, join}
 use Rattle.blocks.specs.Extend.{lowestFrom, blockCount}
+use Rattle.blocks.specs.Fresh.{Numbered}
 use Rattle.blocks.proofs.Laws.{merged-same}
 use Rattle.blocks.proofs.Pairs.{pairs-keep}
 use Rattle.blocks.proofs.Labels.{inOne, InOne, merged-long, merged-at, two-low, other-same, in-one, pair-long}
 use Rattle.blocks.proofs.Labels.InOne.{two, other}
-
--- "A block's number is its lowest index": no index is below its block's number, and the number is itself an index of the block
-pub record Numbered (L : List ℕ) : Type 0 where
-  pub lowest : (x : ℕ) → x < length L → getD L x 0 ≤ x
-  pub own : (x : ℕ) → x < length L → getD L (getD L x 0) 0 ≡ getD L x 0
 
 -- ---- every index its own block
 
@@ -144,7 +140,7 @@ module _ (L : List ℕ) (n : Numbered L) (a b : ℕ) (ha : a < length L) (hb : b
           let l = merged-less (eqb-false a b e) in
           record { numbered = merged-numbered; less = omega arith; same = λ q. absurd (omega arith) }
 
-merged-falls : (L : List ℕ) → Numbered L → (i k : ℕ) → i < length L → k < length L → Falls L (merged (getD L i 0) (getD L k 0) L)
+pub merged-falls : (L : List ℕ) → Numbered L → (i k : ℕ) → i < length L → k < length L → Falls L (merged (getD L i 0) (getD L k 0) L)
 merged-falls L n i k hi hk =
     two-falls L n (getD L i 0) (getD L k 0) (omega (arith, n .lowest i hi)) (omega (arith, n .lowest k hk)) (n .own i hi) (n .own k hk)
 

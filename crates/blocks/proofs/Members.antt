@@ -2,7 +2,7 @@
 use mathlib.Core.Path.{_≡_, refl}
 use mathlib.Core.Logic.{_⊎_, inl, inr, ⊎-elim}
 use mathlib.Core.Bool.{Bool, true, false, cond}
-use mathlib.Core.List.{List, [], _∷_}
+use mathlib.Core.List.{List, [], _∷_, _++_}
 use Prim.Native.Nat.{ℕ, _+_}
 use native.Mathlib.Omega.{arith}
 use lib.Dec.{eqb, ltb}
@@ -35,6 +35,16 @@ in-here x y ys e = rw (eq-eqb y x e)
 pub in-there : (x y : ℕ) (ys : List ℕ) → In x ys → In x (y ∷ ys)
 unfolding member
 in-there x y ys e = rw e (either (eqb y x))
+
+-- ---- the elements of one list and another
+
+pub in-append : (x : ℕ) (l m : List ℕ) → In x (l ++ m) → In x l ⊎ In x m
+in-append x [] m e = inr e
+in-append x (y ∷ ys) m e = ⊎-elim (λ q. inl (in-here x y ys q)) (λ w. ⊎-elim (λ q. inl (in-there x y ys q)) (λ q. inr q) (in-append x ys m w)) (in-cons x y (ys ++ m) e)
+
+pub append-in : (x : ℕ) (l m : List ℕ) → In x m → In x (l ++ m)
+append-in x [] m e = e
+append-in x (y ∷ ys) m e = in-there x y (ys ++ m) (append-in x ys m e)
 
 -- ---- an insertion adds the one number, and nothing else
 

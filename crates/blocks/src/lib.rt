@@ -2,14 +2,17 @@
 // block number of each index. The first `len` numbers of `table` are the support, and `index` is its index, which spares most
 // searches of the table.
 ghost use mathlib.Core.Path.{_≡_};
-ghost use mathlib.Core.List.{[], map};
+ghost use mathlib.Core.Bool.{true, false};
+ghost use mathlib.Core.List.{[], _∷_, map};
 ghost use Prim.Native.Nat.{_%_, _≤_, _<_};
-ghost use lib.ListN.{length, take};
+ghost use lib.ListN.{length, take, replicate};
 ghost use Rattle.support.specs.Sets.{member, insert};
 ghost use Rattle.support.specs.Table.{Holds};
-ghost use Rattle.blocks.specs.Index.{Indexed, Stored};
+ghost use Rattle.blocks.specs.Index.{Indexed, placed, noted, Stored};
 ghost use Rattle.blocks.specs.Limits.{ForKey, ForSums, Joining};
 ghost use Rattle.blocks.specs.Filled.{Extending};
+ghost use Rattle.blocks.specs.Sums.{Apart, Seen, Added};
+ghost use Rattle.blocks.specs.Fresh.{Numbered, Joins, Two, WithKey, WithSum, Through, Blocks, Placed};
 ghost use Rattle.blocks.specs.Join.{linked, renamed, merged, joinPair, joinRow, join};
 ghost use Rattle.blocks.specs.Extend.{addTerms, addPair, addRow, extend, blockCount};
 
@@ -44,11 +47,37 @@ fn merge(labels: &mut [u8], a: u8, b: u8)
 // The largest sum of an exponent and two monomials of a basis: 32 × 256^7.
 const LARGEST: u64 = 2305843009213693952;
 
+// Where the index has the bits of all members, and where the first member that came.
+const COVER: usize = 4095;
+
+const FIRST: usize = 4096;
+
 // The place of a key in the index.
 fn slot(key: u64) -> usize
     ensures { λ r. ⌜ r ≡ key % 4093 ⌝ }
 {
     (key % 4093) as usize
+}
+
+// A key at its place in the index, unless it is too large to be looked for.
+fn put_place(index: &mut [u64], key: u64)
+    requires { ⌜ length (now index) ≡ 6144 ⌝ }
+    ensures { λ _. ⌜ now (index .exit) ≡ placed (now (index .entry)) key ⌝ }
+{
+    if key <= LARGEST {
+        let p = slot(key);
+        index[p] = key + 1;
+    }
+}
+
+// A key in the index: at its place, with its bits, and as the last that came.
+fn note(index: &mut [u64], len: usize, key: u64)
+    requires { ⌜ (length (now index) ≡ 6144) × (len < 2048) ⌝ }
+    ensures { λ _. ⌜ now (index .exit) ≡ noted (now (index .entry)) len key ⌝ }
+{
+    put_place(index, key);
+    index[COVER] = index[COVER] | key;
+    index[FIRST + len] = key;
 }
 
 // The index of a support, made in one that holds nothing.
@@ -58,11 +87,7 @@ pub fn mark(index: &mut [u64], table: &[u64], len: usize)
 {
     let mut i = 0;
     while i < len {
-        let key = table[i];
-        if key <= LARGEST {
-            let p = slot(key);
-            index[p] = key + 1;
-        }
+        note(index, i, table[i]);
         i += 1;
     }
 }
@@ -72,6 +97,10 @@ fn has(table: &[u64], index: &[u64], len: usize, key: u64) -> bool
     requires { ⌜ ForKey (now table) (now index) len key ⌝ }
     ensures { λ r. ⌜ r ≡ member key (take len (now (table .entry))) ⌝ }
 {
+    let cover = index[COVER];
+    if (key | cover) != cover {
+        return false;
+    }
     let i = slot(key);
     let m = index[i];
     if m == 0 {
@@ -86,15 +115,28 @@ fn has(table: &[u64], index: &[u64], len: usize, key: u64) -> bool
 // The support with a key put in, and the number of its keys: 2,049 where it has more than 2,048.
 fn add(table: &mut [u64], index: &mut [u64], len: usize, key: u64) -> usize
     requires { ⌜ ForKey (now table) (now index) len key ⌝ }
-    ensures { λ r. ⌜ Stored (insert key (take len (now (table .entry)))) (now (table .entry)) r (now (table .exit)) (now (index .exit)) ⌝ }
+    ensures { λ r. ⌜ Stored (now (index .entry)) len (insert key (take len (now (table .entry)))) (now (table .entry)) r (now (table .exit)) (now (index .exit)) ⌝ }
 {
     let i = slot(key);
     if index[i] == key + 1 {
         return len;
     }
     let n = support::put(table, len, key);
-    index[i] = key + 1;
+    if n == len {
+        return len;
+    }
+    if 2048 < n {
+        return n;
+    }
+    note(index, len, key);
     n
+}
+
+// The place of a key of a basis, or of a sum of two.
+fn place(key: u64) -> usize
+    ensures { λ r. ⌜ r ≡ key % 1021 ⌝ }
+{
+    (key % 1021) as usize
 }
 
 // Whether t + s is in the support for some exponent t of the multiplier.
@@ -112,9 +154,36 @@ fn is_linked(table: &[u64], index: &[u64], len: usize, exponents: &[u64], s: u64
     false
 }
 
+// The same, where `apart` may tell at once that no t + s is in the support: a place that has s + 1 says so.
+fn is_linked_sum(
+    table: &[u64],
+    index: &[u64],
+    apart: &mut [u64],
+    len: usize,
+    exponents: &[u64],
+    s: u64,
+) -> bool
+    requires { ⌜ ForSums (now table) (now index) len (now exponents) s × Apart (now exponents) (now apart) (take len (now table)) ⌝ }
+    ensures { λ r. ⌜ (r ≡ linked (take len (now (table .entry))) (now (exponents .entry)) s) × Apart (now (exponents .entry)) (now (apart .exit)) (take len (now (table .entry))) ⌝ }
+{
+    let p = place(s);
+    if apart.len() <= p {
+        return is_linked(table, index, len, exponents, s);
+    }
+    if apart[p] == s + 1 {
+        return false;
+    }
+    if is_linked(table, index, len, exponents, s) {
+        return true;
+    }
+    apart[p] = s + 1;
+    false
+}
+
 // The blocks of the indices i and k made one, where the pair is linked. A pair in one block needs no look at the support.
 fn join_pair(
     labels: &mut [u8],
+    apart: &mut [u64],
     basis: &[u64],
     exponents: &[u64],
     table: &[u64],
@@ -123,15 +192,15 @@ fn join_pair(
     i: usize,
     k: usize,
 )
-    requires { ⌜ Joining (now table) (now index) len (now basis) (now exponents) (now labels) × (i < length (now basis)) × (k < length (now basis)) ⌝ }
-    ensures { λ _. ⌜ now (labels .exit) ≡ joinPair (take len (now (table .entry))) (now (exponents .entry)) (now (basis .entry)) i k (now (labels .entry)) ⌝ }
+    requires { ⌜ Joining (now table) (now index) len (now basis) (now exponents) (now labels) × Apart (now exponents) (now apart) (take len (now table)) × (i < length (now basis)) × (k < length (now basis)) ⌝ }
+    ensures { λ _. ⌜ (now (labels .exit) ≡ joinPair (take len (now (table .entry))) (now (exponents .entry)) (now (basis .entry)) i k (now (labels .entry))) × Apart (now (exponents .entry)) (now (apart .exit)) (take len (now (table .entry))) ⌝ }
 {
     let a = labels[i];
     let b = labels[k];
     if a == b {
         return;
     }
-    if is_linked(table, index, len, exponents, basis[i] + basis[k]) {
+    if is_linked_sum(table, index, apart, len, exponents, basis[i] + basis[k]) {
         merge(labels, a, b);
     }
 }
@@ -139,6 +208,7 @@ fn join_pair(
 // Index i with each index after it.
 fn join_row(
     labels: &mut [u8],
+    apart: &mut [u64],
     basis: &[u64],
     exponents: &[u64],
     table: &[u64],
@@ -146,17 +216,37 @@ fn join_row(
     len: usize,
     i: usize,
 )
-    requires { ⌜ Joining (now table) (now index) len (now basis) (now exponents) (now labels) × (i < length (now basis)) ⌝ }
-    ensures { λ _. ⌜ now (labels .exit) ≡ joinRow (take len (now (table .entry))) (now (exponents .entry)) (now (basis .entry)) i (now (labels .entry)) ⌝ }
+    requires { ⌜ Joining (now table) (now index) len (now basis) (now exponents) (now labels) × Apart (now exponents) (now apart) (take len (now table)) × (i < length (now basis)) ⌝ }
+    ensures { λ _. ⌜ (now (labels .exit) ≡ joinRow (take len (now (table .entry))) (now (exponents .entry)) (now (basis .entry)) i (now (labels .entry))) × Apart (now (exponents .entry)) (now (apart .exit)) (take len (now (table .entry))) ⌝ }
 {
     let mut k = i + 1;
     while k < basis.len() {
-        join_pair(labels, basis, exponents, table, index, len, i, k);
+        join_pair(labels, apart, basis, exponents, table, index, len, i, k);
         k += 1;
     }
 }
 
 // Every pair of the basis.
+fn join_rows(
+    labels: &mut [u8],
+    apart: &mut [u64],
+    basis: &[u64],
+    exponents: &[u64],
+    table: &[u64],
+    index: &[u64],
+    len: usize,
+)
+    requires { ⌜ Joining (now table) (now index) len (now basis) (now exponents) (now labels) × Apart (now exponents) (now apart) (take len (now table)) ⌝ }
+    ensures { λ _. ⌜ now (labels .exit) ≡ join (take len (now (table .entry))) (now (exponents .entry)) (now (basis .entry)) (now (labels .entry)) ⌝ }
+{
+    let mut i = 0;
+    while i < basis.len() {
+        join_row(labels, apart, basis, exponents, table, index, len, i);
+        i += 1;
+    }
+}
+
+// The joining of a basis by its pairs. Where there are few exponents, it is not worth while to keep the sums that were seen.
 pub fn join_pass(
     labels: &mut [u8],
     basis: &[u64],
@@ -168,17 +258,19 @@ pub fn join_pass(
     requires { ⌜ Joining (now table) (now index) len (now basis) (now exponents) (now labels) ⌝ }
     ensures { λ _. ⌜ now (labels .exit) ≡ join (take len (now (table .entry))) (now (exponents .entry)) (now (basis .entry)) (now (labels .entry)) ⌝ }
 {
-    let mut i = 0;
-    while i < basis.len() {
-        join_row(labels, basis, exponents, table, index, len, i);
-        i += 1;
+    if exponents.len() < 4 {
+        let mut none = [0u64; 1];
+        join_rows(labels, &mut none, basis, exponents, table, index, len);
+    } else {
+        let mut apart = [0u64; 1024];
+        join_rows(labels, &mut apart, basis, exponents, table, index, len);
     }
 }
 
 // The same with t + s for each exponent t of the multiplier.
 fn add_terms(table: &mut [u64], index: &mut [u64], len: usize, exponents: &[u64], s: u64) -> usize
     requires { ⌜ ForSums (now table) (now index) len (now exponents) s ⌝ }
-    ensures { λ r. ⌜ Stored (addTerms (now (exponents .entry)) s (take len (now (table .entry)))) (now (table .entry)) r (now (table .exit)) (now (index .exit)) ⌝ }
+    ensures { λ r. ⌜ Stored (now (index .entry)) len (addTerms (now (exponents .entry)) s (take len (now (table .entry)))) (now (table .entry)) r (now (table .exit)) (now (index .exit)) ⌝ }
 {
     let mut n = len;
     let mut i = 0;
@@ -192,11 +284,36 @@ fn add_terms(table: &mut [u64], index: &mut [u64], len: usize, exponents: &[u64]
     n
 }
 
+// The same, where `seen` may tell that all t + s are in the support already: a place that has s + 1 says so.
+fn add_sum(
+    table: &mut [u64],
+    index: &mut [u64],
+    seen: &mut [u64],
+    len: usize,
+    exponents: &[u64],
+    s: u64,
+) -> usize
+    requires { ⌜ ForSums (now table) (now index) len (now exponents) s × Seen (now exponents) (now seen) (take len (now table)) ⌝ }
+    ensures { λ r. ⌜ Added (now (exponents .entry)) (addTerms (now (exponents .entry)) s (take len (now (table .entry)))) (now (index .entry)) len (now (table .entry)) r (now (table .exit)) (now (index .exit)) (now (seen .exit)) ⌝ }
+{
+    let p = place(s);
+    if seen.len() <= p {
+        return add_terms(table, index, len, exponents, s);
+    }
+    if seen[p] == s + 1 {
+        return len;
+    }
+    let n = add_terms(table, index, len, exponents, s);
+    seen[p] = s + 1;
+    n
+}
+
 // The same for the indices i and k, where they are in one block. `old` has the blocks of the round before: after the first
 // round, what a pair of one of those adds is in the support already.
 fn add_pair(
     table: &mut [u64],
     index: &mut [u64],
+    seen: &mut [u64],
     len: usize,
     labels: &[u8],
     old: &[u8],
@@ -206,8 +323,8 @@ fn add_pair(
     i: usize,
     k: usize,
 ) -> usize
-    requires { ⌜ Extending first (now table) (now index) len (now basis) (now exponents) (now labels) (now old) × (i ≤ k) × (k < length (now basis)) ⌝ }
-    ensures { λ r. ⌜ Stored (addPair (now (exponents .entry)) (now (basis .entry)) (now (labels .entry)) i k (take len (now (table .entry)))) (now (table .entry)) r (now (table .exit)) (now (index .exit)) ⌝ }
+    requires { ⌜ Extending first (now table) (now index) len (now basis) (now exponents) (now labels) (now old) × Seen (now exponents) (now seen) (take len (now table)) × (i ≤ k) × (k < length (now basis)) ⌝ }
+    ensures { λ r. ⌜ Added (now (exponents .entry)) (addPair (now (exponents .entry)) (now (basis .entry)) (now (labels .entry)) i k (take len (now (table .entry)))) (now (index .entry)) len (now (table .entry)) r (now (table .exit)) (now (index .exit)) (now (seen .exit)) ⌝ }
 {
     if labels[i] != labels[k] {
         return len;
@@ -217,13 +334,14 @@ fn add_pair(
             return len;
         }
     }
-    add_terms(table, index, len, exponents, basis[i] + basis[k])
+    add_sum(table, index, seen, len, exponents, basis[i] + basis[k])
 }
 
 // Index i with itself and each index after it.
 fn add_row(
     table: &mut [u64],
     index: &mut [u64],
+    seen: &mut [u64],
     len: usize,
     labels: &[u8],
     old: &[u8],
@@ -232,13 +350,25 @@ fn add_row(
     exponents: &[u64],
     i: usize,
 ) -> usize
-    requires { ⌜ Extending first (now table) (now index) len (now basis) (now exponents) (now labels) (now old) × (i < length (now basis)) ⌝ }
-    ensures { λ r. ⌜ Stored (addRow (now (exponents .entry)) (now (basis .entry)) (now (labels .entry)) i (take len (now (table .entry)))) (now (table .entry)) r (now (table .exit)) (now (index .exit)) ⌝ }
+    requires { ⌜ Extending first (now table) (now index) len (now basis) (now exponents) (now labels) (now old) × Seen (now exponents) (now seen) (take len (now table)) × (i < length (now basis)) ⌝ }
+    ensures { λ r. ⌜ Added (now (exponents .entry)) (addRow (now (exponents .entry)) (now (basis .entry)) (now (labels .entry)) i (take len (now (table .entry)))) (now (index .entry)) len (now (table .entry)) r (now (table .exit)) (now (index .exit)) (now (seen .exit)) ⌝ }
 {
     let mut n = len;
     let mut k = i;
     while k < basis.len() {
-        n = add_pair(table, index, n, labels, old, first, basis, exponents, i, k);
+        n = add_pair(
+            table,
+            index,
+            seen,
+            n,
+            labels,
+            old,
+            first,
+            basis,
+            exponents,
+            i,
+            k,
+        );
         if 2048 < n {
             return n;
         }
@@ -248,6 +378,63 @@ fn add_row(
 }
 
 // Every pair of the basis.
+fn add_rows(
+    table: &mut [u64],
+    index: &mut [u64],
+    seen: &mut [u64],
+    len: usize,
+    labels: &[u8],
+    old: &[u8],
+    first: bool,
+    basis: &[u64],
+    exponents: &[u64],
+) -> usize
+    requires { ⌜ Extending first (now table) (now index) len (now basis) (now exponents) (now labels) (now old) × Seen (now exponents) (now seen) (take len (now table)) ⌝ }
+    ensures { λ r. ⌜ Stored (now (index .entry)) len (extend (now (exponents .entry)) (now (basis .entry)) (now (labels .entry)) (take len (now (table .entry)))) (now (table .entry)) r (now (table .exit)) (now (index .exit)) ⌝ }
+{
+    let mut n = len;
+    let mut i = 0;
+    while i < basis.len() {
+        n = add_row(
+            table,
+            index,
+            seen,
+            n,
+            labels,
+            old,
+            first,
+            basis,
+            exponents,
+            i,
+        );
+        if 2048 < n {
+            return n;
+        }
+        i += 1;
+    }
+    n
+}
+
+// Whether the blocks are as they were before, after the first round.
+fn is_settled(labels: &[u8], old: &[u8], first: bool) -> bool
+    requires { ⌜ length (now labels) ≡ length (now old) ⌝ }
+    ensures { λ r. ⌜ (r ≡ true → (first ≡ false) × (now (labels .entry) ≡ now (old .entry))) ⌝ }
+{
+    if first {
+        return false;
+    }
+    let mut i = 0;
+    while i < labels.len() {
+        if labels[i] != old[i] {
+            return false;
+        }
+        i += 1;
+    }
+    true
+}
+
+// The support's extension by a basis. Blocks that are as they were add nothing. Where there are few exponents, it is not worth
+// while to keep the sums that were seen.
 pub fn extend_pass(
     table: &mut [u64],
     index: &mut [u64],
@@ -259,18 +446,38 @@ pub fn extend_pass(
     exponents: &[u64],
 ) -> usize
     requires { ⌜ Extending first (now table) (now index) len (now basis) (now exponents) (now labels) (now old) ⌝ }
-    ensures { λ r. ⌜ Stored (extend (now (exponents .entry)) (now (basis .entry)) (now (labels .entry)) (take len (now (table .entry)))) (now (table .entry)) r (now (table .exit)) (now (index .exit)) ⌝ }
+    ensures { λ r. ⌜ Stored (now (index .entry)) len (extend (now (exponents .entry)) (now (basis .entry)) (now (labels .entry)) (take len (now (table .entry)))) (now (table .entry)) r (now (table .exit)) (now (index .exit)) ⌝ }
 {
-    let mut n = len;
-    let mut i = 0;
-    while i < basis.len() {
-        n = add_row(table, index, n, labels, old, first, basis, exponents, i);
-        if 2048 < n {
-            return n;
-        }
-        i += 1;
+    if is_settled(labels, old, first) {
+        return len;
     }
-    n
+    if exponents.len() < 4 {
+        let mut none = [0u64; 1];
+        add_rows(
+            table,
+            index,
+            &mut none,
+            len,
+            labels,
+            old,
+            first,
+            basis,
+            exponents,
+        )
+    } else {
+        let mut seen = [0u64; 1024];
+        add_rows(
+            table,
+            index,
+            &mut seen,
+            len,
+            labels,
+            old,
+            first,
+            basis,
+            exponents,
+        )
+    }
 }
 
 // How many blocks there are: how many indices are their own block's number.
@@ -286,4 +493,112 @@ pub fn count_blocks(labels: &[u8]) -> usize
         i += 1;
     }
     n
+}
+
+// Where the keys of a basis stand: place key % 1021 has 0 where no key has that place, one more than the index of the one that
+// has it, and 255 where several have.
+fn note_keys(places: &mut [u8], basis: &[u64])
+    requires { ⌜ (length (now basis) ≤ 64) × (now places ≡ replicate 1024 0) ⌝ }
+    ensures { λ _. ⌜ Placed (now (basis .entry)) (length (now (basis .entry))) (now (places .exit)) ⌝ }
+{
+    let mut i = 0;
+    while i < basis.len() {
+        let p = place(basis[i]);
+        if places[p] == 0 {
+            places[p] = (i + 1) as u8;
+        } else {
+            places[p] = 255;
+        }
+        i += 1;
+    }
+}
+
+// The blocks of two indices made one.
+fn join_two(labels: &mut [u8], i: usize, k: usize)
+    requires { ⌜ Numbered (now labels) × (i < length (now labels)) × (k < length (now labels)) ⌝ }
+    ensures { λ _. ⌜ Joins (Two i k) (length (now (labels .entry))) (now (labels .entry)) (now (labels .exit)) ⌝ }
+{
+    let a = labels[i];
+    let b = labels[k];
+    if a != b {
+        merge(labels, a, b);
+    }
+}
+
+// The block of i made one with that of each index with this key.
+fn join_each(labels: &mut [u8], basis: &[u64], i: usize, key: u64)
+    requires { ⌜ Blocks (now basis) (now labels) × (i < length (now basis)) ⌝ }
+    ensures { λ _. ⌜ Joins (WithKey (now (basis .entry)) i key) (length (now (basis .entry))) (now (labels .entry)) (now (labels .exit)) ⌝ }
+{
+    let mut k = 0;
+    while k < basis.len() {
+        if basis[k] == key {
+            join_two(labels, i, k);
+        }
+        k += 1;
+    }
+}
+
+// The same, by the places of the keys.
+fn join_key(labels: &mut [u8], basis: &[u64], places: &[u8], i: usize, key: u64)
+    requires { ⌜ Blocks (now basis) (now labels) × Placed (now basis) (length (now basis)) (now places) × (i < length (now basis)) ⌝ }
+    ensures { λ _. ⌜ Joins (WithKey (now (basis .entry)) i key) (length (now (basis .entry))) (now (labels .entry)) (now (labels .exit)) ⌝ }
+{
+    let p = place(key);
+    let v = places[p];
+    if v == 0 {
+        return;
+    }
+    if v == 255 {
+        join_each(labels, basis, i, key);
+        return;
+    }
+    let k = (v - 1) as usize;
+    if k < basis.len() {
+        if basis[k] == key {
+            join_two(labels, i, k);
+        }
+    }
+}
+
+// The blocks of every two indices with the sum s made one.
+fn join_sum(labels: &mut [u8], basis: &[u64], places: &[u8], s: u64)
+    requires { ⌜ Blocks (now basis) (now labels) × Placed (now basis) (length (now basis)) (now places) ⌝ }
+    ensures { λ _. ⌜ Joins (WithSum (now (basis .entry)) s) (length (now (basis .entry))) (now (labels .entry)) (now (labels .exit)) ⌝ }
+{
+    let mut i = 0;
+    while i < basis.len() {
+        if basis[i] <= s {
+            join_key(labels, basis, places, i, s - basis[i]);
+        }
+        i += 1;
+    }
+}
+
+// The blocks of every two indices that a member x of the support links made one.
+fn join_member(labels: &mut [u8], basis: &[u64], exponents: &[u64], places: &[u8], x: u64)
+    requires { ⌜ Blocks (now basis) (now labels) × Placed (now basis) (length (now basis)) (now places) ⌝ }
+    ensures { λ _. ⌜ Joins (Through (now (exponents .entry)) (now (basis .entry)) (x ∷ [])) (length (now (basis .entry))) (now (labels .entry)) (now (labels .exit)) ⌝ }
+{
+    let mut j = 0;
+    while j < exponents.len() {
+        if exponents[j] <= x {
+            join_sum(labels, basis, places, x - exponents[j]);
+        }
+        j += 1;
+    }
+}
+
+// The joining of a basis by the members `fresh` of the support, where all that the others link is joined already.
+pub fn join_fresh(labels: &mut [u8], basis: &[u64], exponents: &[u64], fresh: &[u64])
+    requires { ⌜ Blocks (now basis) (now labels) × (length (now basis) ≤ 64) ⌝ }
+    ensures { λ _. ⌜ Joins (Through (now (exponents .entry)) (now (basis .entry)) (now (fresh .entry))) (length (now (basis .entry))) (now (labels .entry)) (now (labels .exit)) ⌝ }
+{
+    let mut places = [0u8; 1024];
+    note_keys(&mut places, basis);
+    let mut m = 0;
+    while m < fresh.len() {
+        join_member(labels, basis, exponents, &places, fresh[m]);
+        m += 1;
+    }
 }

@@ -7,3 +7,4 @@ pub mod Only
 pub mod Flat
 pub mod Passes
 pub mod Rounding
+pub mod Latest

@@ -18,12 +18,13 @@ use Rattle.blocks.specs.Extend.{extend, blockCount}
 use Rattle.blocks.specs.Index.{Stored}
 use Rattle.blocks.specs.Limits.{Bounded}
 use Rattle.blocks.specs.Filled.{Full, Filled}
+use Rattle.blocks.specs.Fresh.{Joins, Through, Blocks}
 use Rattle.blocks.proofs.Laws.{join-long, blocks-few}
 use Rattle.blocks.proofs.Full.{extend-full}
 use Rattle.blocks.proofs.Growth.{Extends, fromTo-extends, extend-extends, full-keeps, filled-keeps, grown-take}
 use Rattle.rounds.specs.Rounds.{Bases, singles, joinAll, extendAll}
 use Rattle.rounds.specs.Bytes.{blockBytes, part, basesIn, labelsIn}
-use Rattle.rounds.specs.Arrays.{Sizes, Arrays, Labelled, joinAt, extendAt, FilledAll}
+use Rattle.rounds.specs.Arrays.{Sizes, Arrays, Labelled, joinAt, extendAt, FilledAll, FreshAt}
 use Rattle.rounds.proofs.Flat.{turned, turned-long, turned-at, turned-none, turned-more, turned-all, bytes-long, bytes-none, bytes-set, Shaped, part-long, labels-at, labels-shaped, labels-of, labelled-of}
 
 -- ---- a part, whose length the machine has as a + n - a
@@ -83,6 +84,11 @@ module _ (g : Bases) (S : List ℕ) (L : List (List ℕ)) where
     pub joining-turn : (l′ : List ℕ) → i < 9 → l′ ≡ blockBytes (joinAt g S i (labelsIn sizes l)) → l′ ≡ blockBytes (joinedTo g S L (i + 1))
     joining-turn l′ h f = f ∙ rw (e, labels-of sizes s (joinedTo g S L i) (joined-shaped sizes i p), joined-more i h)
 
+    -- basis i has not joined yet
+    pub joining-here : i < 9 → getD (labelsIn sizes l) i [] ≡ getD L i []
+    unfolding joinedTo
+    joining-here h = rw (e, labels-of sizes s (joinedTo g S L i) (joined-shaped sizes i p)) (turned-at joined held i h [])
+
     pub joining-end : i ≡ 9 → l ≡ blockBytes (joinAll g S L)
     joining-end q = e ∙ ap blockBytes (ap (joinedTo g S L) q ∙ joined-all)
 
@@ -104,6 +110,14 @@ pub labelled-same : {sizes l l′ : List ℕ} → Labelled sizes l → Labelled 
 labelled-same w w′ e = w .bytes ∙ ap blockBytes e ∙ sym (w′ .bytes)
 
 module _ (keys sizes exponents counts : List ℕ) (s : Sizes sizes) (j : ℕ) (h : j < 9) where
+  -- the part of basis j replaced by m
+  replaced-at : (l m : List ℕ) → Labelled sizes l → length m ≡ getD sizes j 0
+      → take (64 * j) l ++ (m ++ drop (64 * j + getD sizes j 0 - 64 * j) (drop (64 * j) l)) ≡ blockBytes (set (labelsIn sizes l) j m)
+  replaced-at l m w n =
+      let d = labels-shaped sizes s l (labelled-long w) in
+      rw (add-sub-cancel-left (64 * j) (getD sizes j 0))
+      (rw (← w .bytes) at (bytes-set (labelsIn sizes l) (d .nine) m j (getD sizes j 0) h n (s .small j) (omega (arith, d .long j h))))
+
   pub joined-at : (S l m : List ℕ) → Labelled sizes l
       → m ≡ join S (take (32 * j + getD counts j 0 - 32 * j) (drop (32 * j) exponents)) (take (64 * j + getD sizes j 0 - 64 * j) (drop (64 * j) keys)) (take (64 * j + getD sizes j 0 - 64 * j) (drop (64 * j) l))
       → take (64 * j) l ++ (m ++ drop (64 * j + getD sizes j 0 - 64 * j) (drop (64 * j) l)) ≡ blockBytes (joinAt (basesIn keys sizes exponents counts) S j (labelsIn sizes l))
@@ -114,15 +128,30 @@ module _ (keys sizes exponents counts : List ℕ) (s : Sizes sizes) (j : ℕ) (h
       let f : m ≡ join S (part 32 counts exponents j) (part 64 sizes keys j) (getD (labelsIn sizes l) j []) = rw (p, q) at e ∙ ap (join S (part 32 counts exponents j) (part 64 sizes keys j)) (sym (labels-at sizes l j h)) in
       let d = labels-shaped sizes s l (labelled-long w) in
       let n : length m ≡ getD sizes j 0 = ap length f ∙ join-long S (part 32 counts exponents j) (part 64 sizes keys j) (getD (labelsIn sizes l) j []) ∙ d .long j h in
-      rw p
-      (rw (← w .bytes) at (bytes-set (labelsIn sizes l) (d .nine) m j (getD sizes j 0) h n (s .small j) (omega (arith, d .long j h)))
-      ∙ ap (λ (k : List ℕ). blockBytes (set (labelsIn sizes l) j k)) f)
+      replaced-at l m w n ∙ ap (λ (k : List ℕ). blockBytes (set (labelsIn sizes l) j k)) f
 
-  pub extended-at : (S l t : List ℕ) (r : ℕ) (t′ idx′ : List ℕ)
-      → Stored (extend (take (32 * j + getD counts j 0 - 32 * j) (drop (32 * j) exponents)) (take (64 * j + getD sizes j 0 - 64 * j) (drop (64 * j) keys)) (take (64 * j + getD sizes j 0 - 64 * j) (drop (64 * j) l)) S) t r t′ idx′
-      → Stored (extendAt (basesIn keys sizes exponents counts) (labelsIn sizes l) j S) t r t′ idx′
+  pub fresh-at : (F l m : List ℕ) → Labelled sizes l
+      → Joins (Through (take (32 * j + getD counts j 0 - 32 * j) (drop (32 * j) exponents)) (take (64 * j + getD sizes j 0 - 64 * j) (drop (64 * j) keys)) F) (length (take (64 * j + getD sizes j 0 - 64 * j) (drop (64 * j) keys))) (take (64 * j + getD sizes j 0 - 64 * j) (drop (64 * j) l)) m
+      → FreshAt (basesIn keys sizes exponents counts) (labelsIn sizes l) j F (take (64 * j) l ++ (m ++ drop (64 * j + getD sizes j 0 - 64 * j) (drop (64 * j) l)))
   unfolding basesIn
-  extended-at S l t r t′ idx′ g =
+  fresh-at F l m w e =
+      let p = add-sub-cancel-left (64 * j) (getD sizes j 0) in
+      let q = add-sub-cancel-left (32 * j) (getD counts j 0) in
+      let f : Joins (Through (part 32 counts exponents j) (part 64 sizes keys j) F) (length (part 64 sizes keys j)) (getD (labelsIn sizes l) j []) m = rw (labels-at sizes l j h) (rw (p, q) at e) in
+      let d = labels-shaped sizes s l (labelled-long w) in
+      record { new = m; bytes = replaced-at l m w (f .long ∙ d .long j h); joins = f }
+
+  -- the blocks of basis j, as the part of the bytes
+  pub blocks-at : (l : List ℕ) → Blocks (basesIn keys sizes exponents counts .basis j) (getD (labelsIn sizes l) j [])
+      → Blocks (take (64 * j + getD sizes j 0 - 64 * j) (drop (64 * j) keys)) (take (64 * j + getD sizes j 0 - 64 * j) (drop (64 * j) l))
+  unfolding basesIn
+  blocks-at l b = let p = add-sub-cancel-left (64 * j) (getD sizes j 0) in rw p (rw (labels-at sizes l j h) at b)
+
+  pub extended-at : (idx : List ℕ) (n : ℕ) (S l t : List ℕ) (r : ℕ) (t′ idx′ : List ℕ)
+      → Stored idx n (extend (take (32 * j + getD counts j 0 - 32 * j) (drop (32 * j) exponents)) (take (64 * j + getD sizes j 0 - 64 * j) (drop (64 * j) keys)) (take (64 * j + getD sizes j 0 - 64 * j) (drop (64 * j) l)) S) t r t′ idx′
+      → Stored idx n (extendAt (basesIn keys sizes exponents counts) (labelsIn sizes l) j S) t r t′ idx′
+  unfolding basesIn
+  extended-at idx n S l t r t′ idx′ g =
       let p = add-sub-cancel-left (64 * j) (getD sizes j 0) in
       let q = add-sub-cancel-left (32 * j) (getD counts j 0) in
       rw (labels-at sizes l j h) (rw (p, q) at g)

@@ -2,12 +2,13 @@
 use mathlib.Core.Path.{_≡_}
 use mathlib.Core.Bool.{Bool}
 use mathlib.Core.List.{List, []}
-use Prim.Native.Nat.{ℕ, _*_, _^_, _≤_, _<_}
-use lib.ListN.{length, getD, take, set}
+use Prim.Native.Nat.{ℕ, _-_, _*_, _^_, _≤_, _<_}
+use lib.ListN.{length, getD, take, drop, set}
 use Rattle.support.specs.Table.{Holds, Grown}
 use Rattle.blocks.specs.Join.{join}
 use Rattle.blocks.specs.Extend.{extend}
-use Rattle.blocks.specs.Index.{Indexed, Stored}
+use Rattle.blocks.specs.Index.{arrivals, Indexed, Stored}
+use Rattle.blocks.specs.Fresh.{Joins, Through, Blocks, Recent}
 use Rattle.blocks.specs.Limits.{Bounded}
 use Rattle.blocks.specs.Filled.{Filled}
 use Rattle.rounds.specs.Rounds.{Bases, State, Closing, singles, round}
@@ -51,20 +52,62 @@ pub record JoiningAll (t idx : List ℕ) (len : ℕ) (keys sizes exponents count
   pub arrays : Arrays keys sizes exponents counts
   pub labels : Labelled sizes l
 
+-- the members that came after the first a of b
+unfoldable pub latest : List ℕ → ℕ → ℕ → List ℕ
+latest idx a b = take (b - a) (drop a (arrivals idx))
+
+-- what all members of S link is in one block already, or one of the members F that came last links it, in every basis
+pub record RecentAll (g : Bases) (S : List ℕ) (L : List (List ℕ)) (F : List ℕ) : Type 0 where
+  pub blocks : (j : ℕ) → j < 9 → Blocks (g .basis j) (getD L j [])
+  pub at : (j : ℕ) → j < 9 → Recent S (g .multiplier j) (g .basis j) (getD L j []) F
+
+-- what the joining of basis j asks, where it may go by the members that came after the first `since`
+pub record JoiningAt (t idx : List ℕ) (since len : ℕ) (keys sizes exponents counts l : List ℕ) (j : ℕ) : Type 0 where
+  pub joining : JoiningAll t idx len keys sizes exponents counts l
+  pub basis : j < 9
+  pub upto : since ≤ len
+  pub blocks : Blocks (basesIn keys sizes exponents counts .basis j) (getD (labelsIn sizes l) j [])
+  pub recent : Recent (take len t) (basesIn keys sizes exponents counts .multiplier j) (basesIn keys sizes exponents counts .basis j) (getD (labelsIn sizes l) j []) (latest idx since len)
+
+-- and that of every basis
+pub record JoiningSince (t idx : List ℕ) (since len : ℕ) (keys sizes exponents counts l : List ℕ) : Type 0 where
+  pub joining : JoiningAll t idx len keys sizes exponents counts l
+  pub upto : since ≤ len
+  pub recent : RecentAll (basesIn keys sizes exponents counts) (take len t) (labelsIn sizes l) (latest idx since len)
+
+-- what the joining of basis j by some members asks
+pub record JoiningFresh (keys sizes exponents counts l : List ℕ) (j : ℕ) : Type 0 where
+  pub arrays : Arrays keys sizes exponents counts
+  pub labels : Labelled sizes l
+  pub basis : j < 9
+  pub blocks : Blocks (basesIn keys sizes exponents counts .basis j) (getD (labelsIn sizes l) j [])
+
+-- what it leaves: basis j is joined by the members F
+pub record FreshAt (g : Bases) (L : List (List ℕ)) (j : ℕ) (F l′ : List ℕ) : Type 0 where
+  pub new : List ℕ
+  pub bytes : l′ ≡ blockBytes (set L j new)
+  pub joins : Joins (Through (g .multiplier j) (g .basis j) F) (length (g .basis j)) (getD L j []) new
+
 -- what an extension asks: what a joining asks, and the blocks of the round before
 pub record ExtendingAll (first : Bool) (t idx : List ℕ) (len : ℕ) (keys sizes exponents counts l l₀ : List ℕ) : Type 0 where
   pub joining : JoiningAll t idx len keys sizes exponents counts l
   pub before : Labelled sizes l₀
   pub filled : FilledAll first (basesIn keys sizes exponents counts) (labelsIn sizes l₀) (take len t)
 
+-- what a round asks: what an extension asks, and that the members after the first `since` came last
+pub record RoundAsks (first : Bool) (t idx : List ℕ) (since len : ℕ) (keys sizes exponents counts l l₀ : List ℕ) : Type 0 where
+  pub extending : ExtendingAll first t idx len keys sizes exponents counts l l₀
+  pub upto : since ≤ len
+  pub recent : RecentAll (basesIn keys sizes exponents counts) (take len t) (labelsIn sizes l) (latest idx since len)
+
 -- a round from the blocks L and the set S
 abbrev pub roundFrom : Bases → List (List ℕ) → List ℕ → State
 roundFrom g L S = round g (record { labels = L; support = S })
 
--- what a round leaves: the state s′
-pub record Rounded (s′ : State) (t : List ℕ) (r : ℕ) (t′ idx′ l′ : List ℕ) : Type 0 where
+-- what a round leaves: the state s′, where the index of n keys was idx
+pub record Rounded (s′ : State) (idx : List ℕ) (n : ℕ) (t : List ℕ) (r : ℕ) (t′ idx′ l′ : List ℕ) : Type 0 where
   pub labels : l′ ≡ blockBytes (s′ .labels)
-  pub support : Stored (s′ .support) t r t′ idx′
+  pub support : Stored idx n (s′ .support) t r t′ idx′
 
 -- what the closing asks: the support in its table, the arrays, and every basis as single blocks
 pub record Starting (t : List ℕ) (len : ℕ) (keys sizes exponents counts l : List ℕ) : Type 0 where

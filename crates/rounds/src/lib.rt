@@ -10,7 +10,7 @@ ghost use Rattle.counting.specs.Counting.{listed};
 ghost use Rattle.blocks.specs.Index.{Stored};
 ghost use Rattle.rounds.specs.Rounds.{joinAll, extendAll, same, closing, blocksIn};
 ghost use Rattle.rounds.specs.Bytes.{blockBytes, basesIn, labelsIn};
-ghost use Rattle.rounds.specs.Arrays.{Sizes, joinAt, extendAt, JoiningAll, roundFrom, ExtendingAll, Rounded, Starting, Settled};
+ghost use Rattle.rounds.specs.Arrays.{Sizes, joinAt, extendAt, JoiningAll, JoiningFresh, JoiningAt, JoiningSince, FreshAt, roundFrom, ExtendingAll, RoundAsks, Rounded, Starting, Settled};
 
 // Each index of a basis is a block of its own.
 fn number(part: &mut [u8])
@@ -40,8 +40,8 @@ pub fn start_labels(sizes: &[usize]) -> [u8; 576]
     labels
 }
 
-// Basis j joins.
-fn join_at(
+// Basis j joins by its pairs.
+fn join_pairs_at(
     labels: &mut [u8],
     keys: &[u64],
     sizes: &[usize],
@@ -69,6 +69,51 @@ fn join_at(
     );
 }
 
+// Basis j joins by the members `fresh` of the support.
+fn join_fresh_at(
+    labels: &mut [u8],
+    keys: &[u64],
+    sizes: &[usize],
+    exponents: &[u64],
+    counts: &[usize],
+    fresh: &[u64],
+    j: usize,
+)
+    requires { ⌜ JoiningFresh (now keys) (now sizes) (now exponents) (now counts) (now labels) j ⌝ }
+    ensures { λ _. ⌜ FreshAt (basesIn (now (keys .entry)) (now (sizes .entry)) (now (exponents .entry)) (now (counts .entry))) (labelsIn (now (sizes .entry)) (now (labels .entry))) j (now (fresh .entry)) (now (labels .exit)) ⌝ }
+{
+    let a = 64 * j;
+    let e = a + sizes[j];
+    let b = 32 * j;
+    let f = b + counts[j];
+    blocks::join_fresh(&mut labels[a..e], &keys[a..e], &exponents[b..f], fresh);
+}
+
+// Basis j joins. The members after the first `since` came in the last round: where they are few, only they are looked at.
+fn join_at(
+    labels: &mut [u8],
+    keys: &[u64],
+    sizes: &[usize],
+    exponents: &[u64],
+    counts: &[usize],
+    table: &[u64],
+    index: &[u64],
+    since: usize,
+    len: usize,
+    j: usize,
+)
+    requires { ⌜ JoiningAt (now table) (now index) since len (now keys) (now sizes) (now exponents) (now counts) (now labels) j ⌝ }
+    ensures { λ _. ⌜ now (labels .exit) ≡ blockBytes (joinAt (basesIn (now (keys .entry)) (now (sizes .entry)) (now (exponents .entry)) (now (counts .entry))) (take len (now (table .entry))) j (labelsIn (now (sizes .entry)) (now (labels .entry)))) ⌝ }
+{
+    if 2 * (len - since) < sizes[j] {
+        let p = 4096 + since;
+        let q = 4096 + len;
+        join_fresh_at(labels, keys, sizes, exponents, counts, &index[p..q], j);
+    } else {
+        join_pairs_at(labels, keys, sizes, exponents, counts, table, index, len, j);
+    }
+}
+
 // Every basis joins, on the same support.
 fn join_all(
     labels: &mut [u8],
@@ -78,14 +123,26 @@ fn join_all(
     counts: &[usize],
     table: &[u64],
     index: &[u64],
+    since: usize,
     len: usize,
 )
-    requires { ⌜ JoiningAll (now table) (now index) len (now keys) (now sizes) (now exponents) (now counts) (now labels) ⌝ }
+    requires { ⌜ JoiningSince (now table) (now index) since len (now keys) (now sizes) (now exponents) (now counts) (now labels) ⌝ }
     ensures { λ _. ⌜ now (labels .exit) ≡ blockBytes (joinAll (basesIn (now (keys .entry)) (now (sizes .entry)) (now (exponents .entry)) (now (counts .entry))) (take len (now (table .entry))) (labelsIn (now (sizes .entry)) (now (labels .entry)))) ⌝ }
 {
     let mut j = 0;
     while j < 9 {
-        join_at(labels, keys, sizes, exponents, counts, table, index, len, j);
+        join_at(
+            labels,
+            keys,
+            sizes,
+            exponents,
+            counts,
+            table,
+            index,
+            since,
+            len,
+            j,
+        );
         j += 1;
     }
 }
@@ -105,7 +162,7 @@ fn extend_at(
     j: usize,
 ) -> usize
     requires { ⌜ ExtendingAll first (now table) (now index) len (now keys) (now sizes) (now exponents) (now counts) (now labels) (now old) × (j < 9) ⌝ }
-    ensures { λ r. ⌜ Stored (extendAt (basesIn (now (keys .entry)) (now (sizes .entry)) (now (exponents .entry)) (now (counts .entry))) (labelsIn (now (sizes .entry)) (now (labels .entry))) j (take len (now (table .entry)))) (now (table .entry)) r (now (table .exit)) (now (index .exit)) ⌝ }
+    ensures { λ r. ⌜ Stored (now (index .entry)) len (extendAt (basesIn (now (keys .entry)) (now (sizes .entry)) (now (exponents .entry)) (now (counts .entry))) (labelsIn (now (sizes .entry)) (now (labels .entry))) j (take len (now (table .entry)))) (now (table .entry)) r (now (table .exit)) (now (index .exit)) ⌝ }
 {
     let a = 64 * j;
     let e = a + sizes[j];
@@ -137,7 +194,7 @@ fn extend_all(
     counts: &[usize],
 ) -> usize
     requires { ⌜ ExtendingAll first (now table) (now index) len (now keys) (now sizes) (now exponents) (now counts) (now labels) (now old) ⌝ }
-    ensures { λ r. ⌜ Stored (extendAll (basesIn (now (keys .entry)) (now (sizes .entry)) (now (exponents .entry)) (now (counts .entry))) (labelsIn (now (sizes .entry)) (now (labels .entry))) (take len (now (table .entry)))) (now (table .entry)) r (now (table .exit)) (now (index .exit)) ⌝ }
+    ensures { λ r. ⌜ Stored (now (index .entry)) len (extendAll (basesIn (now (keys .entry)) (now (sizes .entry)) (now (exponents .entry)) (now (counts .entry))) (labelsIn (now (sizes .entry)) (now (labels .entry))) (take len (now (table .entry)))) (now (table .entry)) r (now (table .exit)) (now (index .exit)) ⌝ }
 {
     let mut n = len;
     let mut j = 0;
@@ -163,7 +220,8 @@ fn extend_all(
     n
 }
 
-// A round: every basis joins, and then every basis extends the support. `old` has the blocks before it.
+// A round: every basis joins, and then every basis extends the support. `old` has the blocks before it, and the members after
+// the first `since` came in the round before.
 fn round(
     labels: &mut [u8],
     old: &[u8],
@@ -174,12 +232,23 @@ fn round(
     counts: &[usize],
     table: &mut [u64],
     index: &mut [u64],
+    since: usize,
     len: usize,
 ) -> usize
-    requires { ⌜ ExtendingAll first (now table) (now index) len (now keys) (now sizes) (now exponents) (now counts) (now labels) (now old) ⌝ }
-    ensures { λ r. ⌜ Rounded (roundFrom (basesIn (now (keys .entry)) (now (sizes .entry)) (now (exponents .entry)) (now (counts .entry))) (labelsIn (now (sizes .entry)) (now (labels .entry))) (take len (now (table .entry)))) (now (table .entry)) r (now (table .exit)) (now (index .exit)) (now (labels .exit)) ⌝ }
+    requires { ⌜ RoundAsks first (now table) (now index) since len (now keys) (now sizes) (now exponents) (now counts) (now labels) (now old) ⌝ }
+    ensures { λ r. ⌜ Rounded (roundFrom (basesIn (now (keys .entry)) (now (sizes .entry)) (now (exponents .entry)) (now (counts .entry))) (labelsIn (now (sizes .entry)) (now (labels .entry))) (take len (now (table .entry)))) (now (index .entry)) len (now (table .entry)) r (now (table .exit)) (now (index .exit)) (now (labels .exit)) ⌝ }
 {
-    join_all(labels, keys, sizes, exponents, counts, table, index, len);
+    join_all(
+        labels,
+        keys,
+        sizes,
+        exponents,
+        counts,
+        table,
+        index,
+        since,
+        len,
+    );
     extend_all(
         table,
         index,
@@ -245,9 +314,10 @@ pub fn close(
     ensures { λ r. ⌜ Settled (closing (basesIn (now (keys .entry)) (now (sizes .entry)) (now (exponents .entry)) (now (counts .entry))) (take len (now (table .entry)))) (now (table .entry)) r (now (table .exit)) ⌝ }
 {
     let mut labels = start;
-    let mut index = [0u64; 4096];
+    let mut index = [0u64; 6144];
     blocks::mark(&mut index, table, len);
     let mut n = len;
+    let mut since = 0;
     let mut rounds = 0;
     while rounds < 578 {
         let old = labels;
@@ -262,8 +332,10 @@ pub fn close(
             counts,
             table,
             &mut index,
+            since,
             n,
         );
+        since = few;
         rounds += 1;
         if is_last(few, n, &old, &labels) {
             break;

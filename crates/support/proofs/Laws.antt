@@ -2,14 +2,14 @@
 use mathlib.Core.Path.{_≡_, refl, sym, ap, _∙_, subst}
 use mathlib.Core.Bool.{Bool, true, false}
 use mathlib.Core.List.{List, [], _∷_, _++_, append-assoc}
-use Prim.Native.Nat.{ℕ, zero, suc, _+_, _-_, _≤_, _<_, zero-le, suc-le-suc}
+use Prim.Native.Nat.{ℕ, zero, suc, _+_, _-_, _/_, _≤_, _<_, zero-le, suc-le-suc}
 use mathlib.Core.Logic.{⊎-elim}
 use native.Mathlib.Numerals.{add-one}
 use native.Mathlib.Nat.{eq-or-lt-of-le, lt-suc-self, suc-add, add-zero, le-of-suc-le-suc, not-suc-le-zero, zero-lt-suc}
 use native.Mathlib.Omega.{arith}
 use borrow.Author.Tests.{lt-ltb, le-ltb, le-leb, eq-eqb, ne-eqb, ltb-true, ltb-false, eqb-true, eqb-false}
 use lib.ListN.{length, getD, take, drop, set, length-append, length-drop, length-set, take-append-drop}
-use lib.Seq.{length-take-le, getD-take, getD-drop, slice-empty, drop-set-lt, take-suc-set, take-suc, drop-append-le, drop-drop, set-split, append-snoc, take-take}
+use lib.Seq.{length-take-le, getD-take, getD-drop, slice-empty, drop-cons, drop-set-lt, getD-set-same, take-set-le, set-split, take-take}
 use lib.Dec.{ltb, eqb}
 use Rattle.support.specs.Table.{Holds, findIn, Put}
 use Rattle.support.specs.declared.Found.the-variants.{At, Gap}
@@ -225,50 +225,93 @@ length-opened (suc p) k (x ∷ xs) = ap suc (length-opened p k xs) ∙ sym (suc-
 pub length-insert-new : (k : ℕ) (l : List ℕ) → member k l ≡ false → length (insert k l) ≡ length l + 1
 length-insert-new k l m = ap length (insert-new k l m) ∙ length-opened (rank k l) k l
 
--- ---- the loop that opens a place
+-- ---- the loop that opens a place: from place len down to place i the numbers have moved up
 
-pub record Shifting (t₀ : List ℕ) (p len k : ℕ) (t : List ℕ) (carry i : ℕ) : Type 0 where
+pub record Shifting (t₀ : List ℕ) (p len : ℕ) (t : List ℕ) (i : ℕ) : Type 0 where
   pub from : p ≤ i
   pub upto : i ≤ len
   pub long : length t ≡ length t₀
-  pub rest : drop i t ≡ drop i t₀
-  pub front : take i t ++ (carry ∷ []) ≡ take p t₀ ++ k ∷ drop p (take i t₀)
+  pub front : take i t ≡ take i t₀
+  pub back : drop (suc i) t ≡ drop i (take len t₀) ++ drop (len + 1) t₀
 
-module _ (t₀ : List ℕ) (p len k : ℕ) where
-  pub shifting-start : p ≤ len → Shifting t₀ p len k t₀ k p
+module _ (t₀ : List ℕ) (p len : ℕ) (room : len < length t₀) where
+  pub shifting-start : p ≤ len → Shifting t₀ p len t₀ len
   shifting-start h = record {
-    from = omega arith;
-    upto = h;
+    from = h;
+    upto = omega arith;
     long = refl;
-    rest = refl;
-    front = rw (slice-empty p t₀);
+    front = refl;
+    back = rw (slice-empty len t₀, ← add-one len);
   }
 
-  module _ (t : List ℕ) (carry i : ℕ) (s : Shifting t₀ p len k t carry i) (room : len < length t₀) where
-    pub shifting-turn : i < len → Shifting t₀ p len k (set t i carry) (getD t i 0) (i + 1)
-    shifting-turn b = record {
-      from = omega arith;
-      upto = omega arith;
-      long = length-set t i carry ∙ s .long;
-      rest = rw (add-one, drop-set-lt (suc i) t i carry (lt-suc-self i)) rest-next;
-      front = rw (add-one, take-suc-set t i carry (omega arith), take-suc t₀ i 0 (omega arith), drop-append-le p (take i t₀) (getD t₀ i 0 ∷ []) (rw (length-take-le i t₀ (omega arith)) (s .from)), s .front, same-at) (append-assoc (take p t₀) (k ∷ drop p (take i t₀)) (getD t₀ i 0 ∷ []));
-    }
-      where
-        rest-next : drop (suc i) t ≡ drop (suc i) t₀
-        rest-next = rw (← add-one i, ← drop-drop 1 i t, ← drop-drop 1 i t₀, s .rest)
+  one-turn : (t : List ℕ) (j : ℕ) → Shifting t₀ p len t (suc j) → p ≤ j → Shifting t₀ p len (set t (suc j) (getD t j 0)) j
+  one-turn t j s h = record {
+    from = h;
+    upto = omega (arith, s .upto);
+    long = length-set t (suc j) (getD t j 0) ∙ s .long;
+    front = take-set-le j t (suc j) (getD t j 0) (omega arith) ∙ sym (take-take j (suc j) t (omega arith)) ∙ ap (take j) (s .front) ∙ take-take j (suc j) t₀ (omega arith);
+    back = set-next ∙ (rw (s .back, same-at, next));
+  }
+    where
+      same-at : getD t j 0 ≡ getD t₀ j 0
+      same-at = sym (getD-take (suc j) t j 0 (omega arith)) ∙ ap (λ (l : List ℕ). getD l j 0) (s .front) ∙ getD-take (suc j) t₀ j 0 (omega arith)
 
-        same-at : getD t i 0 ≡ getD t₀ i 0
-        same-at = rw add-zero at (sym (getD-drop i t 0 0) ∙ ap (λ (l : List ℕ). getD l 0 0) (s .rest) ∙ getD-drop i t₀ 0 0)
+      next : drop j (take len t₀) ≡ getD t₀ j 0 ∷ drop (suc j) (take len t₀)
+      next =
+          drop-cons (take len t₀) j 0 (omega (arith, s .upto, length-take-le len t₀ (omega arith)))
+          ∙ ap (λ (x : ℕ). x ∷ drop (suc j) (take len t₀)) (getD-take len t₀ j 0 (omega (arith, s .upto)))
 
-    pub shifting-end : len ≤ i → set t len carry ≡ opened p k (take len t₀) ++ drop (len + 1) t₀
-    shifting-end b =
-        let e : i ≡ len = omega arith in
-        let h : p ≤ len = omega arith in
-        let f : take len t ++ (carry ∷ []) ≡ take p t₀ ++ k ∷ drop p (take len t₀) = rw e at (s .front) in
-        let g : drop len t ≡ drop len t₀ = rw e at (s .rest) in
-        set-split t len carry (omega arith)
-        ∙ sym (append-snoc (take len t) carry (drop (suc len) t))
-        ∙ rw (f, take-take p len t₀ h, ← add-one len, ← drop-drop 1 len t, ← drop-drop 1 len t₀, g)
+      set-next : drop (suc j) (set t (suc j) (getD t j 0)) ≡ getD t j 0 ∷ drop (suc (suc j)) t
+      set-next =
+          let b : suc j < length t = omega (arith, s .upto, s .long) in
+          drop-cons (set t (suc j) (getD t j 0)) (suc j) 0 (omega (arith, length-set t (suc j) (getD t j 0)))
+          ∙ rw (getD-set-same t (suc j) (getD t j 0) 0 b, drop-set-lt (suc (suc j)) t (suc j) (getD t j 0) (omega arith))
+
+  module _ (t : List ℕ) (i : ℕ) (s : Shifting t₀ p len t i) where
+    pub shifting-turn : (j : ℕ) → i ≡ suc j → p < i → Shifting t₀ p len (set t i (getD t j 0)) j
+    shifting-turn j e h = rw e (one-turn t j (rw e at s) (omega arith))
+
+    pub shifting-end : (k : ℕ) → i ≤ p → set t p k ≡ opened p k (take len t₀) ++ drop (len + 1) t₀
+    shifting-end k b =
+        let e : i ≡ p = omega (arith, s .from) in
+        let h : p ≤ len = omega (arith, s .upto) in
+        let f : take p t ≡ take p t₀ = rw e at (s .front) in
+        let g : drop (suc p) t ≡ drop p (take len t₀) ++ drop (len + 1) t₀ = rw e at (s .back) in
+        set-split t p k (omega (arith, s .long))
+        ∙ rw (f, g, ← take-take p len t₀ h)
+        (sym (append-assoc (take p (take len t₀)) (k ∷ drop p (take len t₀)) (drop (len + 1) t₀)))
+
+-- ---- a search: the numbers before lo are below k, and those from lo + n on are not
+
+pub record Searching (t : List ℕ) (len k lo n : ℕ) : Type 0 where
+  pub upto : lo + n ≤ len
+  pub below : (i : ℕ) → i < lo → getD t i 0 < k
+  pub above : lo + n < len → k ≤ getD t (lo + n) 0
+
+module _ (t : List ℕ) (len k lo n : ℕ) (h : Holds t len) (s : Searching t len k lo n) where
+  pub searching-turn : 0 < n → Searching t len k (lo + cond (ltb (getD t (lo + n / 2) 0) k) (n - n / 2) 0) (n / 2)
+  searching-turn b = go (ltb (getD t (lo + n / 2) 0) k) refl
+    where
+      go : (d : Bool) → ltb (getD t (lo + n / 2) 0) k ≡ d → Searching t len k (lo + cond d (n - n / 2) 0) (n / 2)
+      go true e =
+          let f : lo + (n - n / 2) + n / 2 ≡ lo + n = omega arith in
+          record {
+            upto = omega (arith, s .upto);
+            below = λ i l. below-rising t len (inside h) k (lo + n / 2) (h .rising) (omega (arith, s .upto)) (ltb-true _ k e) i (omega arith);
+            above = rw f (s .above);
+          }
+      go false e =
+          let f : lo + 0 + n / 2 ≡ lo + n / 2 = omega arith in
+          record {
+            upto = omega (arith, s .upto);
+            below = λ i l. s .below i (omega arith);
+            above = λ _. rw f (ltb-false _ k e);
+          }
+
+  pub searching-end : n ≤ 0 → lo ≡ rank k (take len t)
+  searching-end b =
+      let e : lo + n ≡ lo = omega arith in
+      rank-in t len (inside h) k lo (omega (arith, s .upto)) (s .below) (rw e at (s .above))
 
 -- ---- what an answer of `findIn` tells, and what `put` owes
 

@@ -3,8 +3,17 @@ ghost use mathlib.Core.Path.{_≡_};
 ghost use Prim.Native.Nat.{ℕ, _+_, _≤_, _<_};
 ghost use lib.ListN.{length, getD, take, drop};
 ghost use mathlib.Core.List.{_++_};
+ghost use mathlib.Core.Bool.{cond};
+ghost use lib.Dec.{ltb};
 ghost use Rattle.support.specs.Sets.{member};
 ghost use Rattle.support.specs.Table.{Holds, rank, opened, findIn, Put};
+
+// `n` where x is below the key, and else 0: a product and no branch, which a search would guess wrong every other time.
+fn if_below(x: u64, key: u64, n: usize) -> usize
+    ensures { λ r. ⌜ r ≡ cond (ltb x key) n 0 ⌝ }
+{
+    n * ((x < key) as usize)
+}
 
 // How many of the table's first `len` numbers are below `key`.
 pub fn lower(table: &[u64], len: usize, key: u64) -> usize
@@ -12,14 +21,11 @@ pub fn lower(table: &[u64], len: usize, key: u64) -> usize
     ensures { λ r. ⌜ r ≡ rank key (take len (now (table .entry))) ⌝ }
 {
     let mut lo = 0;
-    let mut hi = len;
-    while lo < hi {
-        let mid = lo + (hi - lo) / 2;
-        if table[mid] < key {
-            lo = mid + 1;
-        } else {
-            hi = mid;
-        }
+    let mut n = len;
+    while 0 < n {
+        let h = n / 2;
+        lo += if_below(table[lo + h], key, n - h);
+        n = h;
     }
     lo
 }
@@ -57,15 +63,12 @@ fn shift(table: &mut [u64], p: usize, len: usize, key: u64)
     requires { ⌜ (p ≤ len) × (len < length (now table)) ⌝ }
     ensures { λ _. ⌜ now (table .exit) ≡ opened p key (take len (now (table .entry))) ++ drop (len + 1) (now (table .entry)) ⌝ }
 {
-    let mut carry = key;
-    let mut i = p;
-    while i < len {
-        let x = table[i];
-        table[i] = carry;
-        carry = x;
-        i += 1;
+    let mut i = len;
+    while p < i {
+        table[i] = table[i - 1];
+        i -= 1;
     }
-    table[len] = carry;
+    table[p] = key;
 }
 
 // The set with key put in, and its length. Where it would have more than 2,048 keys, the table is left as it is.

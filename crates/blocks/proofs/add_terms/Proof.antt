@@ -11,7 +11,7 @@ use Rattle.blocks.proofs.add_terms.Statement.{statement}
 use Rattle.blocks.proofs.add_terms.Tie as tie
 
 abbrev Inv-loop : tie.InvT-loop
-Inv-loop table₀ index₀ len exponents s n₀ i₀ table index n i = (i ≤ length exponents) × Indexing table₀ (addTerms exponents s (take len table₀)) (addTerms (drop i exponents) s) n table index
+Inv-loop table₀ index₀ len exponents s n₀ i₀ table index n i = (i ≤ length exponents) × Indexing table₀ index₀ len (addTerms exponents s (take len table₀)) (addTerms (drop i exponents) s) n table index
 
 abbrev μ-loop : tie.MeasureT-loop
 μ-loop table₀ index₀ len exponents s n₀ i₀ table index n i = length exponents - i
@@ -48,7 +48,7 @@ returns : tie.Need-returns Inv-loop μ-loop
 returns c =
     let l = c .before .before .before .before .before .before .before .before .before .before in
     let s = l .before .before .before .before in
-    indexing-stop _ (s .pre .support .room) _ _ _ _ _ (l .loop .inv .1) _ _ _ _ (c .before .before .before .before .before .add .ensures) (addTerms (drop (l .loop .i + 1) (s .args .exponents .now)) (s .args .s)) (add-next (s .args .exponents .now) (s .args .s) _ (l .loop .i) (omega arith)) (c .if1 .taken) (add-extends (drop (l .loop .i + 1) (s .args .exponents .now)) (s .args .s) _)
+    indexing-stop _ (s .pre .support .room) _ _ _ _ _ _ _ (l .loop .inv .1) _ _ _ _ (c .before .before .before .before .before .add .ensures) (addTerms (drop (l .loop .i + 1) (s .args .exponents .now)) (s .args .s)) (add-next (s .args .exponents .now) (s .args .s) _ (l .loop .i) (omega arith)) (c .if1 .taken) (add-extends (drop (l .loop .i + 1) (s .args .exponents .now)) (s .args .s) _)
 
 add-i : tie.Need-add-i Inv-loop μ-loop
 add-i c = search needs
@@ -60,7 +60,7 @@ loop-again : tie.Need-loop-again Inv-loop μ-loop
 loop-again c =
     let l = c .before .before .before .before .before .before .before .before .before .before in
     let s = l .before .before .before .before in
-    (omega arith, indexing-step _ (s .pre .support .room) _ _ _ _ _ (l .loop .inv .1) _ _ _ _ (c .before .before .before .before .before .add .ensures) _ (add-next (s .args .exponents .now) (s .args .s) _ (l .loop .i) (omega arith)) (c .if1 .left) (insert-extends _ _))
+    (omega arith, indexing-step _ (s .pre .support .room) _ _ _ _ _ _ _ (l .loop .inv .1) _ _ _ _ (c .before .before .before .before .before .add .ensures) _ (add-next (s .args .exponents .now) (s .args .s) _ (l .loop .i) (omega arith)) (c .if1 .left) (insert-extends _ _))
 
 same-length-3 : tie.Need-same-length-3 Inv-loop μ-loop
 same-length-3 c = c .before .loop .inv .1 .held .long
@@ -71,7 +71,7 @@ same-length-4 c = c .before .loop .inv .1 .index .long ∙ sym (c .before .befor
 returns-2 : tie.Need-returns-2 Inv-loop μ-loop
 returns-2 c =
     let l = c .before in
-    indexing-end _ (l .before .before .before .before .pre .support .room) _ _ _ _ _ (l .loop .inv .1) (add-done _ _ _ (l .loop .i) (omega arith))
+    indexing-end _ (l .before .before .before .before .pre .support .room) _ _ _ _ _ _ _ (l .loop .inv .1) (add-done _ _ _ (l .loop .i) (omega arith))
 
 pub add-terms-spec : {M : Type 1} → statement M
 add-terms-spec =

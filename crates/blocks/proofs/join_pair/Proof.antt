@@ -13,34 +13,34 @@ slice-read-b : tie.Need-slice-read-b
 slice-read-b c = search needs
 
 returns : tie.Need-returns
-returns c = join-same _ _ _ _ _ _ (c .if1 .taken)
+returns c = (join-same _ _ _ _ _ _ (c .if1 .taken), c .before .before .before .before .before .before .before .before .before .pre .1)
 
-mul-is-linked : tie.Need-mul-is-linked
-mul-is-linked c = search needs
+mul-is-linked-sum : tie.Need-mul-is-linked-sum
+mul-is-linked-sum c = search needs
 
-shared-slice-read-is-linked : tie.Need-shared-slice-read-is-linked
-shared-slice-read-is-linked c = search needs
+shared-slice-read-is-linked-sum : tie.Need-shared-slice-read-is-linked-sum
+shared-slice-read-is-linked-sum c = search needs
 
-mul-is-linked-2 : tie.Need-mul-is-linked-2
-mul-is-linked-2 c = search needs
+mul-is-linked-sum-2 : tie.Need-mul-is-linked-sum-2
+mul-is-linked-sum-2 c = search needs
 
-shared-slice-read-is-linked-2 : tie.Need-shared-slice-read-is-linked-2
-shared-slice-read-is-linked-2 c = search needs
+shared-slice-read-is-linked-sum-2 : tie.Need-shared-slice-read-is-linked-sum-2
+shared-slice-read-is-linked-sum-2 c = search needs
 
-add-is-linked : tie.Need-add-is-linked
-add-is-linked c =
-    let s = c .before .before .before .before .before .before .before .before .before .before in
-    omega (arith, s .pre .0 .basis .keys (s .args .i), s .pre .0 .basis .keys (s .args .k))
+add-is-linked-sum : tie.Need-add-is-linked-sum
+add-is-linked-sum c = let s = c .before .before .before .before .before .before .before .before .before .before .before .before in omega (arith, s .pre .0 .basis .keys (s .args .i), s .pre .0 .basis .keys (s .args .k))
 
-is-linked-requires : tie.Need-is-linked-requires
-is-linked-requires c κs =
-    let s = c .before .before .before .before .before .before .before .before .before .before in
-    record {
-      support = s .pre .0 .support;
-      index = s .pre .0 .index;
-      exponents = s .pre .0 .basis .exponents;
-      low = omega (arith, s .pre .0 .basis .keys (s .args .i), s .pre .0 .basis .keys (s .args .k));
-    }
+is-linked-sum-requires : tie.Need-is-linked-sum-requires
+is-linked-sum-requires c κs =
+    let s = c .before .before .before .before .before .before .before .before .before .before .before .before in (
+      record {
+        support = s .pre .0 .support;
+        index = s .pre .0 .index;
+        exponents = s .pre .0 .basis .exponents;
+        low = omega (arith, s .pre .0 .basis .keys (s .args .i), s .pre .0 .basis .keys (s .args .k));
+      },
+      s .pre .1,
+    )
 
 merge-requires : tie.Need-merge-requires
 merge-requires c κs = search needs
@@ -48,11 +48,17 @@ merge-requires c κs = search needs
 same-length : tie.Need-same-length
 same-length c = search needs
 
+same-length-2 : tie.Need-same-length-2
+same-length-2 c = search needs
+
 returns-2 : tie.Need-returns-2
-returns-2 c = c .before .before .merge .ensures ∙ join-linked _ _ _ _ _ _ (sym (c .before .before .before .before .before .is-linked .ensures) ∙ c .before .before .before .before .if2 .taken)
+returns-2 c = (c .before .before .merge .ensures ∙ join-linked _ _ _ _ _ _ (sym (c .before .before .before .before .before .before .before .is-linked-sum .ensures .0) ∙ c .before .before .before .before .if2 .taken), c .before .before .before .before .before .before .before .is-linked-sum .ensures .1)
+
+same-length-3 : tie.Need-same-length-3
+same-length-3 c = search needs
 
 returns-3 : tie.Need-returns-3
-returns-3 c = join-apart _ _ _ _ _ _ (sym (c .before .is-linked .ensures) ∙ c .if2 .left)
+returns-3 c = (join-apart _ _ _ _ _ _ (sym (c .before .before .before .is-linked-sum .ensures .0) ∙ c .if2 .left), c .before .before .before .is-linked-sum .ensures .1)
 
 pub join-pair-spec : {M : Type 1} → statement M
 join-pair-spec =
@@ -61,13 +67,15 @@ join-pair-spec =
     slice-read-a
     slice-read-b
     returns
-    mul-is-linked
-    shared-slice-read-is-linked
-    mul-is-linked-2
-    shared-slice-read-is-linked-2
-    add-is-linked
-    is-linked-requires
+    mul-is-linked-sum
+    shared-slice-read-is-linked-sum
+    mul-is-linked-sum-2
+    shared-slice-read-is-linked-sum-2
+    add-is-linked-sum
+    is-linked-sum-requires
     merge-requires
     same-length
+    same-length-2
     returns-2
+    same-length-3
     returns-3)

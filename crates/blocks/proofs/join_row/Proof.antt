@@ -1,36 +1,40 @@
--- `blocks::join_row` meets its contract: what is left from index k on gives the row's result.
+-- `blocks::join_row` meets its contract: what is left from index k on gives the result.
 use borrow.Author.Needs.{needs}
 use native.Mathlib.Omega.{arith}
-use mathlib.Core.Path.{_≡_, sym, ap, _∙_}
+use mathlib.Core.Path.{_≡_, refl, sym, ap, _∙_}
 use Prim.Native.Nat.{_-_, _≤_}
 use lib.ListN.{length, take}
 use Rattle.counting.specs.Counting.{fromTo}
 use Rattle.counting.proofs.Steps.{fromTo-done, fromTo-more}
 use Rattle.blocks.specs.Join.{joinPair, joinRow}
+use Rattle.blocks.specs.Sums.{Apart}
 use Rattle.blocks.proofs.join_row.Statement.{statement}
 use Rattle.blocks.proofs.join_row.Tie as tie
 
 abbrev Inv-loop : tie.InvT-loop
-Inv-loop labels₀ basis exponents table index len i k₀ labels k = (k ≤ length basis) × (length labels ≡ length labels₀) × (fromTo k (length basis) (joinPair (take len table) exponents basis i) labels ≡ joinRow (take len table) exponents basis i labels₀)
+Inv-loop labels₀ apart₀ basis exponents table index len i k₀ labels apart k = (k ≤ length basis) × (length labels ≡ length labels₀) × (length apart ≡ length apart₀) × (fromTo k (length basis) (joinPair (take len table) exponents basis i) labels ≡ joinRow (take len table) exponents basis i labels₀) × Apart exponents apart (take len table)
 
 abbrev μ-loop : tie.MeasureT-loop
-μ-loop labels₀ basis exponents table index len i k₀ labels k = length basis - k
+μ-loop labels₀ apart₀ basis exponents table index len i k₀ labels apart k = length basis - k
 
 add-k : tie.Need-add-k Inv-loop μ-loop
 add-k c = search needs
 
 loop-holds : tie.Need-loop-holds Inv-loop μ-loop
-loop-holds c = search needs
+loop-holds c = (omega arith, refl, refl, refl, c .before .before .before .before .before .before .pre .1)
 
 join-pair-requires : tie.Need-join-pair-requires Inv-loop μ-loop
 join-pair-requires c κs =
-    let s = c .before .before .before .before .before .before .before .before in (
+    let l = c .before .before .before in
+    let s = c .before .before .before .before .before .before .before .before .before .before in
+    let p = s .pre .0 in (
       record {
-        support = s .pre .0 .support;
-        index = s .pre .0 .index;
-        basis = record { keys = s .pre .0 .basis .keys; exponents = s .pre .0 .basis .exponents; labels = omega arith };
+        support = p .support;
+        index = p .index;
+        basis = record { keys = p .basis .keys; exponents = p .basis .exponents; labels = l .loop .inv .1 ∙ p .basis .labels };
       },
-      s .pre .1,
+      l .loop .inv .4,
+      s .pre .2,
       omega arith,
     )
 
@@ -42,16 +46,31 @@ loop-less c = search needs
 
 loop-again : tie.Need-loop-again Inv-loop μ-loop
 loop-again c =
-    let l = c .before .before .before .before .before in
-    (omega arith, c .before .before .join-pair .kept .0 ∙ l .loop .inv .1, ap (fromTo _ _ _) (c .before .before .join-pair .ensures) ∙ sym (fromTo-more _ _ _ _ (omega arith)) ∙ l .loop .inv .2)
+    let l = c .before .before .before .before .before .before .before .before in
+    let m = c .before .before .before .before .join-pair in
+    (omega arith, m .kept .0 ∙ l .loop .inv .1, m .kept .1 .0 ∙ l .loop .inv .2, ap (fromTo _ _ _) (m .ensures .0) ∙ sym (fromTo-more _ _ _ _ (omega arith)) ∙ l .loop .inv .3, m .ensures .1)
 
 same-length : tie.Need-same-length Inv-loop μ-loop
 same-length c = c .before .loop .inv .1
 
+same-length-2 : tie.Need-same-length-2 Inv-loop μ-loop
+same-length-2 c = c .before .loop .inv .2
+
 returns : tie.Need-returns Inv-loop μ-loop
-returns c = sym (fromTo-done _ _ _ _ (omega arith)) ∙ c .before .loop .inv .2
+returns c = (sym (fromTo-done _ _ _ _ (omega arith)) ∙ c .before .loop .inv .3, c .before .loop .inv .4)
 
 pub join-row-spec : {M : Type 1} → statement M
 join-row-spec =
     tie.close
-    (tie.spec Inv-loop μ-loop add-k loop-holds join-pair-requires add-k-2 loop-less loop-again same-length returns)
+    (tie.spec
+    Inv-loop
+    μ-loop
+    add-k
+    loop-holds
+    join-pair-requires
+    add-k-2
+    loop-less
+    loop-again
+    same-length
+    same-length-2
+    returns)

@@ -1,12 +1,12 @@
--- `blocks::mark` meets its contract: the numbers before i are marked.
+-- `blocks::mark` meets its contract: the numbers before i are noted.
 use borrow.Author.Needs.{needs}
 use native.Mathlib.Omega.{arith}
-use mathlib.Core.Path.{_≡_, sym, _∙_}
-use mathlib.Core.Logic.{⊎-elim}
-use Prim.Native.Nat.{_-_, _≤_}
+use mathlib.Core.Path.{_≡_, sym, ap, _∙_}
+use mathlib.Core.List.{List}
+use Prim.Native.Nat.{ℕ, _-_, _≤_}
 use lib.ListN.{take}
 use Rattle.blocks.specs.Index.{Indexed}
-use Rattle.blocks.proofs.Index.{indexed-next, indexed-past}
+use Rattle.blocks.proofs.Index.{indexed-next}
 use Rattle.blocks.proofs.mark.Statement.{statement}
 use Rattle.blocks.proofs.mark.Tie as tie
 
@@ -19,23 +19,14 @@ abbrev μ-loop : tie.MeasureT-loop
 loop-holds : tie.Need-loop-holds Inv-loop μ-loop
 loop-holds c = (omega arith, c .before .before .pre .1)
 
-mul-key : tie.Need-mul-key Inv-loop μ-loop
-mul-key c = search needs
+mul-note : tie.Need-mul-note Inv-loop μ-loop
+mul-note c = search needs
 
-shared-slice-read-key : tie.Need-shared-slice-read-key Inv-loop μ-loop
-shared-slice-read-key c = search needs
+shared-slice-read-note : tie.Need-shared-slice-read-note Inv-loop μ-loop
+shared-slice-read-note c = search needs
 
-slot-requires : tie.Need-slot-requires Inv-loop μ-loop
-slot-requires c κs = search needs
-
-add-index : tie.Need-add-index Inv-loop μ-loop
-add-index c = search needs
-
-mul-index : tie.Need-mul-index Inv-loop μ-loop
-mul-index c = search needs
-
-slice-write-index : tie.Need-slice-write-index Inv-loop μ-loop
-slice-write-index c = omega (arith, c .slot .ensures, c .before .before .before .before .loop .inv .1 .long)
+note-requires : tie.Need-note-requires Inv-loop μ-loop
+note-requires c κs = let l = c .before .before .before in let s = l .before .before .before in (l .loop .inv .1 .long, omega (arith, s .pre .0 .few))
 
 add-i : tie.Need-add-i Inv-loop μ-loop
 add-i c = search needs
@@ -45,25 +36,17 @@ loop-less c = search needs
 
 loop-again : tie.Need-loop-again Inv-loop μ-loop
 loop-again c =
-    let l = c .before .before .before in
+    let l = c .before .before .before .before .before .before in
     let s = l .before .before .before in
     let h = s .pre .0 .few in
-    let r = s .pre .0 .room in (
-      omega arith,
-      ⊎-elim
-          (λ w. rw (w .2, w .1 .ensures) (indexed-next _ (s .args .table .now) (l .loop .i) (omega arith) (l .loop .inv .1)))
-          (λ w. rw (w .1) (indexed-past _ (s .args .table .now) (l .loop .i) (omega arith) (l .loop .inv .1) (w .0 .left)))
-          (c .if1 .came),
-    )
+    let r = s .pre .0 .room in
+    (omega arith, rw (c .before .before .note .ensures) (indexed-next _ (s .args .table .now) (l .loop .i) (omega arith) (l .loop .inv .1) (omega arith)))
 
 same-length : tie.Need-same-length Inv-loop μ-loop
 same-length c = c .before .loop .inv .1 .long ∙ sym (c .before .before .before .before .pre .1 .long)
 
 returns : tie.Need-returns Inv-loop μ-loop
-returns c =
-    let l = c .before in
-    let e : l .loop .i ≡ l .before .before .before .args .len = omega arith in
-    rw (← e) (l .loop .inv .1)
+returns c = let s = c .before .before .before .before in let e : c .before .loop .i ≡ s .args .len = omega arith in rw e at (c .before .loop .inv .1)
 
 pub mark-spec : {M : Type 1} → statement M
 mark-spec =
@@ -72,12 +55,9 @@ mark-spec =
     Inv-loop
     μ-loop
     loop-holds
-    mul-key
-    shared-slice-read-key
-    slot-requires
-    add-index
-    mul-index
-    slice-write-index
+    mul-note
+    shared-slice-read-note
+    note-requires
     add-i
     loop-less
     loop-again

@@ -14,10 +14,10 @@ use Rattle.rounds.proofs.close.Statement.{statement}
 use Rattle.rounds.proofs.close.Tie as tie
 
 abbrev Inv-loop : tie.InvT-loop
-Inv-loop keys sizes exponents counts table₀ len labels₀ index₀ n₀ rounds₀ table labels index n rounds = Rounding (basesIn keys sizes exponents counts) sizes table₀ (closing (basesIn keys sizes exponents counts) (take len table₀)) labels n table index rounds
+Inv-loop keys sizes exponents counts table₀ len labels₀ index₀ n₀ since₀ rounds₀ table labels index n since rounds = Rounding (basesIn keys sizes exponents counts) sizes table₀ (closing (basesIn keys sizes exponents counts) (take len table₀)) labels since n table index rounds
 
 abbrev μ-loop : tie.MeasureT-loop
-μ-loop keys sizes exponents counts table₀ len labels₀ index₀ n₀ rounds₀ table labels index n rounds = 578 - rounds
+μ-loop keys sizes exponents counts table₀ len labels₀ index₀ n₀ since₀ rounds₀ table labels index n since rounds = 578 - rounds
 
 slice-aggregate-mark : tie.Need-slice-aggregate-mark Inv-loop μ-loop
 slice-aggregate-mark c = sym (indexed-start .long)
@@ -38,21 +38,26 @@ slice-aggregate-round-2 : tie.Need-slice-aggregate-round-2 Inv-loop μ-loop
 slice-aggregate-round-2 c = sym (labelled-long (c .before .before .before .loop .inv .labels))
 
 slice-aggregate-round-3 : tie.Need-slice-aggregate-round-3 Inv-loop μ-loop
-slice-aggregate-round-3 c = sym (c .before .before .before .before .before .loop .inv .held .index .long)
+slice-aggregate-round-3 c = sym (c .before .before .before .before .before .loop .inv .index .long)
 
 round-requires : tie.Need-round-requires Inv-loop μ-loop
 round-requires c κs =
     let l = c .before .before .before .before .before in
     let s = l .before .before .before .before .before .before .before .before .before .before in
+    let i = l .loop .inv in
     record {
-      joining = record {
-        support = held-holds _ (s .pre .support .room) _ _ _ _ (l .loop .inv .held .held);
-        index = l .loop .inv .held .index;
-        arrays = s .pre .arrays;
-        labels = l .loop .inv .labels;
+      extending = record {
+        joining = record {
+          support = held-holds _ (s .pre .support .room) _ _ _ _ (i .held);
+          index = i .index;
+          arrays = s .pre .arrays;
+          labels = i .labels;
+        };
+        before = i .labels;
+        filled = i .filled;
       };
-      before = l .loop .inv .labels;
-      filled = l .loop .inv .filled;
+      upto = i .came;
+      recent = i .recent;
     }
 
 add-rounds : tie.Need-add-rounds Inv-loop μ-loop
@@ -74,25 +79,25 @@ loop-again : tie.Need-loop-again Inv-loop μ-loop
 loop-again c =
     let l = c .before .before .before .before .before .before .before .before .before .before .before .before .before .before in
     let s = l .before .before .before .before .before .before .before .before .before .before in
-    rounding-more (basesIn (s .args .keys .now) (s .args .sizes .now) (s .args .exponents .now) (s .args .counts .now)) _ (s .pre .arrays .sized) _ (s .pre .support .room) _ _ _ _ _ _ (l .loop .inv) (omega (arith, c .before .before .before .before .before .before .before .before .before .before .before .before .before .loop-test .taken)) _ _ _ _ (c .before .before .before .before .before .before .before .before .round .ensures) (sym (c .before .is-last .ensures) ∙ c .if1 .left)
+    rounding-more (basesIn (s .args .keys .now) (s .args .sizes .now) (s .args .exponents .now) (s .args .counts .now)) _ (s .pre .arrays .sized) _ (s .pre .support .room) _ _ _ _ _ _ _ (l .loop .inv) (omega (arith, c .before .before .before .before .before .before .before .before .before .before .before .before .before .loop-test .taken)) _ _ _ _ (c .before .before .before .before .before .before .before .before .round .ensures) (sym (c .before .is-last .ensures) ∙ c .if1 .left)
 
 same-length : tie.Need-same-length Inv-loop μ-loop
-same-length c = c .before .loop .inv .held .held .long
+same-length c = c .before .loop .inv .held .long
 
 returns : tie.Need-returns Inv-loop μ-loop
 returns c =
     let l = c .before in
     let s = l .before .before .before .before .before .before .before .before .before .before in
-    rounding-out (basesIn (s .args .keys .now) (s .args .sizes .now) (s .args .exponents .now) (s .args .counts .now)) _ (s .pre .arrays .sized) _ (s .pre .support .room) _ _ _ _ _ _ (l .loop .inv) (omega arith)
+    rounding-out (basesIn (s .args .keys .now) (s .args .sizes .now) (s .args .exponents .now) (s .args .counts .now)) _ (s .pre .arrays .sized) _ (s .pre .support .room) _ _ _ _ _ _ _ (l .loop .inv) (omega arith)
 
 same-length-2 : tie.Need-same-length-2 Inv-loop μ-loop
-same-length-2 c = c .before .before .before .before .before .before .before .before .round .kept .1 .1 .1 .1 .1 .1 .1 .0 ∙ c .before .before .before .before .before .before .before .before .before .before .before .before .before .before .loop .inv .held .held .long
+same-length-2 c = c .before .before .before .before .before .before .before .before .round .kept .1 .1 .1 .1 .1 .1 .1 .0 ∙ c .before .before .before .before .before .before .before .before .before .before .before .before .before .before .loop .inv .held .long
 
 returns-2 : tie.Need-returns-2 Inv-loop μ-loop
 returns-2 c =
     let l = c .before .before .before .before .before .before .before .before .before .before .before .before .before .before in
     let s = l .before .before .before .before .before .before .before .before .before .before in
-    rounding-last (basesIn (s .args .keys .now) (s .args .sizes .now) (s .args .exponents .now) (s .args .counts .now)) _ (s .pre .arrays .sized) _ (s .pre .support .room) _ _ _ _ _ _ (l .loop .inv) (omega (arith, c .before .before .before .before .before .before .before .before .before .before .before .before .before .loop-test .taken)) _ _ _ _ (c .before .before .before .before .before .before .before .before .round .ensures) (sym (c .before .is-last .ensures) ∙ c .if1 .taken)
+    rounding-last (basesIn (s .args .keys .now) (s .args .sizes .now) (s .args .exponents .now) (s .args .counts .now)) _ (s .pre .arrays .sized) _ (s .pre .support .room) _ _ _ _ _ _ _ (l .loop .inv) (omega (arith, c .before .before .before .before .before .before .before .before .before .before .before .before .before .loop-test .taken)) _ _ _ _ (c .before .before .before .before .before .before .before .before .round .ensures) (sym (c .before .is-last .ensures) ∙ c .if1 .taken)
 
 pub close-spec : {M : Type 1} → statement M
 close-spec =

@@ -16,7 +16,7 @@ use Rattle.rounds.proofs.extend_all.Statement.{statement}
 use Rattle.rounds.proofs.extend_all.Tie as tie
 
 abbrev Inv-loop : tie.InvT-loop
-Inv-loop table₀ index₀ len labels old first keys sizes exponents counts n₀ j₀ table index n j = (j ≤ 9) × Indexing table₀ (extendAll (basesIn keys sizes exponents counts) (labelsIn sizes labels) (take len table₀)) (fromTo j 9 (extendAt (basesIn keys sizes exponents counts) (labelsIn sizes labels))) n table index × FilledAll first (basesIn keys sizes exponents counts) (labelsIn sizes old) (take n table)
+Inv-loop table₀ index₀ len labels old first keys sizes exponents counts n₀ j₀ table index n j = (j ≤ 9) × Indexing table₀ index₀ len (extendAll (basesIn keys sizes exponents counts) (labelsIn sizes labels) (take len table₀)) (fromTo j 9 (extendAt (basesIn keys sizes exponents counts) (labelsIn sizes labels))) n table index × FilledAll first (basesIn keys sizes exponents counts) (labelsIn sizes old) (take n table)
 
 abbrev μ-loop : tie.MeasureT-loop
 μ-loop table₀ index₀ len labels old first keys sizes exponents counts n₀ j₀ table index n j = 9 - j
@@ -54,7 +54,7 @@ returns : tie.Need-returns Inv-loop μ-loop
 returns c =
     let l = c .before .before .before .before .before .before .before .before .before in
     let s = l .before .before .before .before .before .before .before .before .before in
-    indexing-stop _ (s .pre .joining .support .room) _ _ _ _ _ (l .loop .inv .1) _ _ _ _ (c .before .before .before .before .before .extend-at .ensures) (fromTo (l .loop .j + 1) _ _) (fromTo-more _ _ _ _ (omega arith)) (c .if1 .taken) (rest-extends (basesIn (s .args .keys .now) (s .args .sizes .now) (s .args .exponents .now) (s .args .counts .now)) (labelsIn (s .args .sizes .now) (s .args .labels .now)) _ _)
+    indexing-stop _ (s .pre .joining .support .room) _ _ _ _ _ _ _ (l .loop .inv .1) _ _ _ _ (c .before .before .before .before .before .extend-at .ensures) (fromTo (l .loop .j + 1) _ _) (fromTo-more _ _ _ _ (omega arith)) (c .if1 .taken) (rest-extends (basesIn (s .args .keys .now) (s .args .sizes .now) (s .args .exponents .now) (s .args .counts .now)) (labelsIn (s .args .sizes .now) (s .args .labels .now)) _ _)
 
 add-j : tie.Need-add-j Inv-loop μ-loop
 add-j c = search needs
@@ -68,7 +68,7 @@ loop-again c =
     let s = l .before .before .before .before .before .before .before .before .before in
     let g = c .before .before .before .before .before .extend-at .ensures in
     let x = at-extends (basesIn (s .args .keys .now) (s .args .sizes .now) (s .args .exponents .now) (s .args .counts .now)) (labelsIn (s .args .sizes .now) (s .args .labels .now)) (l .loop .j) _ in
-    (omega arith, indexing-step _ (s .pre .joining .support .room) _ _ _ _ _ (l .loop .inv .1) _ _ _ _ g _ (fromTo-more _ _ _ _ (omega arith)) (c .if1 .left) x, filled-on _ _ _ _ _ _ _ _ (g .grown) (c .if1 .left) x (l .loop .inv .2))
+    (omega arith, indexing-step _ (s .pre .joining .support .room) _ _ _ _ _ _ _ (l .loop .inv .1) _ _ _ _ g _ (fromTo-more _ _ _ _ (omega arith)) (c .if1 .left) x, filled-on _ _ _ _ _ _ _ _ (g .grown) (c .if1 .left) x (l .loop .inv .2))
 
 same-length-3 : tie.Need-same-length-3 Inv-loop μ-loop
 same-length-3 c = c .before .loop .inv .1 .held .long
@@ -79,7 +79,7 @@ same-length-4 c = c .before .loop .inv .1 .index .long ∙ sym (c .before .befor
 returns-2 : tie.Need-returns-2 Inv-loop μ-loop
 returns-2 c =
     let l = c .before in
-    indexing-end _ (l .before .before .before .before .before .before .before .before .before .pre .joining .support .room) _ _ _ _ _ (l .loop .inv .1) (fromTo-done _ _ _ _ (omega arith))
+    indexing-end _ (l .before .before .before .before .before .before .before .before .before .pre .joining .support .room) _ _ _ _ _ _ _ (l .loop .inv .1) (fromTo-done _ _ _ _ (omega arith))
 
 pub extend-all-spec : {M : Type 1} → statement M
 extend-all-spec =

@@ -1,120 +1,79 @@
--- `rounds::join_at` meets its contract: the parts of basis j fit their arrays, and what the joining leaves is put in place.
+-- `rounds::join_at` meets its contract: by the members that came last, and by the pairs.
 use borrow.Author.Needs.{needs}
 use native.Mathlib.Omega.{arith}
-use mathlib.Core.Path.{sym, _∙_}
-use Prim.Native.Nat.{_+_, _-_, _*_}
-use lib.ListN.{getD}
-use Rattle.rounds.proofs.Passes.{taken-long, taken-bounded, labelled-long, joined-at}
+use mathlib.Core.Path.{_≡_}
+use Rattle.rounds.specs.Bytes.{basesIn}
+use Rattle.rounds.proofs.Latest.{latest-part, fresh-joined}
 use Rattle.rounds.proofs.join_at.Statement.{statement}
 use Rattle.rounds.proofs.join_at.Tie as tie
 
-mul-a : tie.Need-mul-a
-mul-a c = search needs
+sub-if1 : tie.Need-sub-if1
+sub-if1 c = search needs
 
-mul-e : tie.Need-mul-e
-mul-e c = search needs
+mul-if1 : tie.Need-mul-if1
+mul-if1 c = search needs
 
-shared-slice-read-e : tie.Need-shared-slice-read-e
-shared-slice-read-e c = search needs
+mul-if1-2 : tie.Need-mul-if1-2
+mul-if1-2 c = search needs
 
-add-e : tie.Need-add-e
-add-e c = let s = c .before .before .before .before .before .before .before .before in omega (arith, s .pre .0 .arrays .sized .small (s .args .j))
+shared-slice-read-if1 : tie.Need-shared-slice-read-if1
+shared-slice-read-if1 c = search needs
 
-mul-b : tie.Need-mul-b
-mul-b c = search needs
+add-p : tie.Need-add-p
+add-p c = search needs
 
-mul-f : tie.Need-mul-f
-mul-f c = search needs
+add-q : tie.Need-add-q
+add-q c = search needs
 
-shared-slice-read-f : tie.Need-shared-slice-read-f
-shared-slice-read-f c = search needs
+mul-join-fresh-at : tie.Need-mul-join-fresh-at
+mul-join-fresh-at c = search needs
 
-add-f : tie.Need-add-f
-add-f c = let s = c .before .before .before .before .before .before .before .before .before in omega (arith, s .pre .0 .arrays .counts-small (s .args .j))
+sub-join-fresh-at : tie.Need-sub-join-fresh-at
+sub-join-fresh-at c = search needs
 
-sub-join-pass : tie.Need-sub-join-pass
-sub-join-pass c = search needs
+part-join-fresh-at-start : tie.Need-part-join-fresh-at-start
+part-join-fresh-at-start c = search needs
 
-part-join-pass-start : tie.Need-part-join-pass-start
-part-join-pass-start c = search needs
+part-join-fresh-at-end : tie.Need-part-join-fresh-at-end
+part-join-fresh-at-end c = search needs
 
-part-join-pass-end : tie.Need-part-join-pass-end
-part-join-pass-end c = let s = c .before .before .before .before .before .before .before .before .before in omega (arith, s .pre .0 .arrays .sized .small (s .args .j), labelled-long (s .pre .0 .labels))
+join-fresh-at-requires : tie.Need-join-fresh-at-requires
+join-fresh-at-requires c κs = let p = c .before .before .before .before .before .before .before .before .before .before .before .pre in record { arrays = p .joining .arrays; labels = p .joining .labels; basis = p .basis; blocks = p .blocks }
 
-mul-join-pass : tie.Need-mul-join-pass
-mul-join-pass c = search needs
-
-sub-join-pass-2 : tie.Need-sub-join-pass-2
-sub-join-pass-2 c = search needs
-
-part-join-pass-start-2 : tie.Need-part-join-pass-start-2
-part-join-pass-start-2 c = search needs
-
-part-join-pass-end-2 : tie.Need-part-join-pass-end-2
-part-join-pass-end-2 c = let s = c .before .before .before .before .before .before .before .before .before .before in omega (arith, s .pre .0 .arrays .sized .small (s .args .j), s .pre .0 .arrays .keys-long)
-
-mul-join-pass-2 : tie.Need-mul-join-pass-2
-mul-join-pass-2 c = search needs
-
-sub-join-pass-3 : tie.Need-sub-join-pass-3
-sub-join-pass-3 c = search needs
-
-part-join-pass-start-3 : tie.Need-part-join-pass-start-3
-part-join-pass-start-3 c = search needs
-
-part-join-pass-end-3 : tie.Need-part-join-pass-end-3
-part-join-pass-end-3 c = let s = c .before .before .before .before .before .before .before .before .before .before .before in omega (arith, s .pre .0 .arrays .counts-small (s .args .j), s .pre .0 .arrays .exponents-long)
-
-join-pass-requires : tie.Need-join-pass-requires
-join-pass-requires c κs =
-    let s = c .before .before .before .before .before .before .before .before .before .before .before .before in
-    let p = s .pre .0 .arrays in
-    let z = p .sized .small (s .args .j) in
-    let a = 64 * s .args .j in
-    let n = getD (s .args .sizes .now) (s .args .j) 0 in
-    let b = 32 * s .args .j in
-    let m = getD (s .args .counts .now) (s .args .j) 0 in
-    record {
-      support = s .pre .0 .support;
-      index = s .pre .0 .index;
-      basis = record {
-        keys = taken-bounded _ a (a + n - a) (s .args .keys .now) (p .keys-low);
-        exponents = taken-bounded _ b (b + m - b) (s .args .exponents .now) (p .exponents-low);
-        labels = taken-long a n (s .args .labels .now) (omega (arith, labelled-long (s .pre .0 .labels))) ∙ sym (taken-long a n (s .args .keys .now) (omega (arith, p .keys-long)));
-      };
-    }
+join-pairs-at-requires : tie.Need-join-pairs-at-requires
+join-pairs-at-requires c κs = let p = c .before .before .before .before .before .before .before .before .before .before .pre in (p .joining, p .basis)
 
 same-length : tie.Need-same-length
 same-length c = search needs
 
 returns : tie.Need-returns
 returns c =
-    let s = c .before .before .before .before .before .before .before .before .before .before .before .before .before .before .before in
-    joined-at (s .args .keys .now) (s .args .sizes .now) (s .args .exponents .now) (s .args .counts .now) (s .pre .0 .arrays .sized) (s .args .j) (s .pre .1) _ _ _ (s .pre .0 .labels) (c .before .before .join-pass .ensures)
+    let s = c .before .before .before .before .before .before .before .before .before .before .before .before .before .before in
+    fresh-joined (basesIn (s .args .keys .now) (s .args .sizes .now) (s .args .exponents .now) (s .args .counts .now)) _ _ _ _ _ (s .pre .blocks) (s .pre .recent) (rw (latest-part (s .args .index .now) (s .args .since) (s .args .len) (s .pre .upto)) at (c .before .before .join-fresh-at .ensures))
+
+same-length-2 : tie.Need-same-length-2
+same-length-2 c = search needs
+
+returns-2 : tie.Need-returns-2
+returns-2 c = search needs
 
 pub join-at-spec : {M : Type 1} → statement M
 join-at-spec =
     tie.close
     (tie.spec
-    mul-a
-    mul-e
-    shared-slice-read-e
-    add-e
-    mul-b
-    mul-f
-    shared-slice-read-f
-    add-f
-    sub-join-pass
-    part-join-pass-start
-    part-join-pass-end
-    mul-join-pass
-    sub-join-pass-2
-    part-join-pass-start-2
-    part-join-pass-end-2
-    mul-join-pass-2
-    sub-join-pass-3
-    part-join-pass-start-3
-    part-join-pass-end-3
-    join-pass-requires
+    sub-if1
+    mul-if1
+    mul-if1-2
+    shared-slice-read-if1
+    add-p
+    add-q
+    mul-join-fresh-at
+    sub-join-fresh-at
+    part-join-fresh-at-start
+    part-join-fresh-at-end
+    join-fresh-at-requires
+    join-pairs-at-requires
     same-length
-    returns)
+    returns
+    same-length-2
+    returns-2)

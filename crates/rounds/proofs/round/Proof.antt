@@ -8,12 +8,14 @@ use Rattle.rounds.proofs.round.Statement.{statement}
 use Rattle.rounds.proofs.round.Tie as tie
 
 join-all-requires : tie.Need-join-all-requires
-join-all-requires c κs = c .before .before .before .before .before .before .before .before .before .before .before .pre .joining
+join-all-requires c κs =
+    let p = c .before .before .before .before .before .before .before .before .before .before .before .pre in
+    record { joining = p .extending .joining; upto = p .upto; recent = p .recent }
 
 extend-all-requires : tie.Need-extend-all-requires
 extend-all-requires c κs =
     let s = c .before .before .before .before .before .before .before .before .before .before .before .before .before .before .before .before .before in
-    let p = s .pre .joining in
+    let p = s .pre .extending .joining in
     record {
       joining = record {
         support = p .support;
@@ -21,8 +23,8 @@ extend-all-requires c κs =
         arrays = p .arrays;
         labels = joined-labelled (basesIn (s .args .keys .now) (s .args .sizes .now) (s .args .exponents .now) (s .args .counts .now)) _ _ _ _ (p .arrays .sized) (p .labels) refl _ (c .before .before .before .before .before .join-all .ensures);
       };
-      before = s .pre .before;
-      filled = s .pre .filled;
+      before = s .pre .extending .before;
+      filled = s .pre .extending .filled;
     }
 
 same-length : tie.Need-same-length
@@ -38,7 +40,7 @@ returns : tie.Need-returns
 unfolding round
 returns c =
     let s = c .before .before .before .before .before .before .before .before .before .before .before .before .before .before .before .before .before .before .before .before .before .before in
-    let p = s .pre .joining in
+    let p = s .pre .extending .joining in
     let j = c .before .before .before .before .before .before .before .before .before .before .join-all .ensures in
     record {
       labels = j;

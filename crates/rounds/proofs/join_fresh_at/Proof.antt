@@ -1,0 +1,107 @@
+-- `rounds::join_fresh_at` meets its contract: the parts of basis j fit their arrays, and what the joining leaves is put in place.
+use borrow.Author.Needs.{needs}
+use native.Mathlib.Omega.{arith}
+use Prim.Native.Nat.{_+_, _-_, _*_}
+use lib.ListN.{getD}
+use Rattle.rounds.proofs.Passes.{taken-long, labelled-long, fresh-at, blocks-at}
+use Rattle.rounds.proofs.join_fresh_at.Statement.{statement}
+use Rattle.rounds.proofs.join_fresh_at.Tie as tie
+
+mul-a : tie.Need-mul-a
+mul-a c = search needs
+
+mul-e : tie.Need-mul-e
+mul-e c = search needs
+
+shared-slice-read-e : tie.Need-shared-slice-read-e
+shared-slice-read-e c = search needs
+
+add-e : tie.Need-add-e
+add-e c = let s = c .before .before .before .before .before .before .before in omega (arith, s .pre .arrays .sized .small (s .args .j))
+
+mul-b : tie.Need-mul-b
+mul-b c = search needs
+
+mul-f : tie.Need-mul-f
+mul-f c = search needs
+
+shared-slice-read-f : tie.Need-shared-slice-read-f
+shared-slice-read-f c = search needs
+
+add-f : tie.Need-add-f
+add-f c = let s = c .before .before .before .before .before .before .before .before in omega (arith, s .pre .arrays .counts-small (s .args .j))
+
+sub-join-fresh : tie.Need-sub-join-fresh
+sub-join-fresh c = search needs
+
+part-join-fresh-start : tie.Need-part-join-fresh-start
+part-join-fresh-start c = search needs
+
+part-join-fresh-end : tie.Need-part-join-fresh-end
+part-join-fresh-end c = let s = c .before .before .before .before .before .before .before .before in omega (arith, s .pre .arrays .sized .small (s .args .j), labelled-long (s .pre .labels))
+
+mul-join-fresh : tie.Need-mul-join-fresh
+mul-join-fresh c = search needs
+
+sub-join-fresh-2 : tie.Need-sub-join-fresh-2
+sub-join-fresh-2 c = search needs
+
+part-join-fresh-start-2 : tie.Need-part-join-fresh-start-2
+part-join-fresh-start-2 c = search needs
+
+part-join-fresh-end-2 : tie.Need-part-join-fresh-end-2
+part-join-fresh-end-2 c = let s = c .before .before .before .before .before .before .before .before .before in omega (arith, s .pre .arrays .sized .small (s .args .j), s .pre .arrays .keys-long)
+
+mul-join-fresh-2 : tie.Need-mul-join-fresh-2
+mul-join-fresh-2 c = search needs
+
+sub-join-fresh-3 : tie.Need-sub-join-fresh-3
+sub-join-fresh-3 c = search needs
+
+part-join-fresh-start-3 : tie.Need-part-join-fresh-start-3
+part-join-fresh-start-3 c = search needs
+
+part-join-fresh-end-3 : tie.Need-part-join-fresh-end-3
+part-join-fresh-end-3 c = let s = c .before .before .before .before .before .before .before .before .before .before in omega (arith, s .pre .arrays .counts-small (s .args .j), s .pre .arrays .exponents-long)
+
+join-fresh-requires : tie.Need-join-fresh-requires
+join-fresh-requires c κs =
+    let s = c .before .before .before .before .before .before .before .before .before .before .before in
+    let p = s .pre .arrays in
+    let z = p .sized .small (s .args .j) in
+    (blocks-at (s .args .keys .now) (s .args .sizes .now) (s .args .exponents .now) (s .args .counts .now) (p .sized) (s .args .j) (s .pre .basis) _ (s .pre .blocks), omega (arith, taken-long (64 * s .args .j) (getD (s .args .sizes .now) (s .args .j) 0) (s .args .keys .now) (omega (arith, p .keys-long))))
+
+same-length : tie.Need-same-length
+same-length c = search needs
+
+returns : tie.Need-returns
+returns c =
+    let s = c .before .before .before .before .before .before .before .before .before .before .before .before .before .before in
+    fresh-at (s .args .keys .now) (s .args .sizes .now) (s .args .exponents .now) (s .args .counts .now) (s .pre .arrays .sized) (s .args .j) (s .pre .basis) _ _ _ (s .pre .labels) (c .before .before .join-fresh .ensures)
+
+pub join-fresh-at-spec : {M : Type 1} → statement M
+join-fresh-at-spec =
+    tie.close
+    (tie.spec
+    mul-a
+    mul-e
+    shared-slice-read-e
+    add-e
+    mul-b
+    mul-f
+    shared-slice-read-f
+    add-f
+    sub-join-fresh
+    part-join-fresh-start
+    part-join-fresh-end
+    mul-join-fresh
+    sub-join-fresh-2
+    part-join-fresh-start-2
+    part-join-fresh-end-2
+    mul-join-fresh-2
+    sub-join-fresh-3
+    part-join-fresh-start-3
+    part-join-fresh-end-3
+    join-fresh-requires
+    same-length
+    returns)
