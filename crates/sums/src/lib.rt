@@ -49,32 +49,6 @@ pub fn add_parts(hi: &mut [i64], lo: &mut [u64], at: usize, h: i64, l: u64)
     hi[at] = g + h + carry;
 }
 
-// Adds a number to the one at a place.
-pub fn add_number(hi: &mut [i64], lo: &mut [u64], at: usize, x: i64)
-    requires { ⌜ Room (now hi) (now lo) at ⌝ }
-    ensures { λ _. ⌜ Added (now (hi .entry)) (now (lo .entry)) at x (now (hi .exit)) (now (lo .exit)) ⌝ }
-{
-    let p = split(x);
-    let h = p.hi;
-    let l = p.lo;
-    add_parts(hi, lo, at, h, l);
-}
-
-// A weight times two factors times a coefficient: at most 2^61 in absolute value.
-pub fn product(w: u16, l: i16, m: i16, g: i16) -> i64
-    ensures { λ r. ⌜ r ≡ pos w *ℤ l *ℤ m *ℤ g ⌝ }
-{
-    (w as i64) * (l as i64) * (m as i64) * (g as i64)
-}
-
-// Adds one product, w * l * m * g, to the number at a place.
-pub fn add_product(hi: &mut [i64], lo: &mut [u64], at: usize, w: u16, l: i16, m: i16, g: i16)
-    requires { ⌜ Room (now hi) (now lo) at ⌝ }
-    ensures { λ _. ⌜ Added (now (hi .entry)) (now (lo .entry)) at (pos w *ℤ l *ℤ m *ℤ g) (now (hi .exit)) (now (lo .exit)) ⌝ }
-{
-    add_number(hi, lo, at, product(w, l, m, g));
-}
-
 // The parts of a product that may be wider than 64 bits. With a = ah * ROOT + al and ah * b = yh * ROOT + yl,
 // a * b = yh * BASE + (yl * ROOT + al * b), and what stands in brackets fits.
 pub fn mul_parts(a: i64, b: i64) -> Parts
