@@ -166,10 +166,10 @@ fn is_linked_sum(
     requires { ⌜ ForSums (now table) (now index) len (now exponents) s × Apart (now exponents) (now apart) (take len (now table)) ⌝ }
     ensures { λ r. ⌜ (r ≡ linked (take len (now (table .entry))) (now (exponents .entry)) s) × Apart (now (exponents .entry)) (now (apart .exit)) (take len (now (table .entry))) ⌝ }
 {
-    let p = place(s);
-    if apart.len() <= p {
+    if apart.len() < 1021 {
         return is_linked(table, index, len, exponents, s);
     }
+    let p = place(s);
     if apart[p] == s + 1 {
         return false;
     }
@@ -258,7 +258,7 @@ pub fn join_pass(
     requires { ⌜ Joining (now table) (now index) len (now basis) (now exponents) (now labels) ⌝ }
     ensures { λ _. ⌜ now (labels .exit) ≡ join (take len (now (table .entry))) (now (exponents .entry)) (now (basis .entry)) (now (labels .entry)) ⌝ }
 {
-    if exponents.len() < 4 {
+    if exponents.len() < 8 {
         let mut none = [0u64; 1];
         join_rows(labels, &mut none, basis, exponents, table, index, len);
     } else {
@@ -296,10 +296,10 @@ fn add_sum(
     requires { ⌜ ForSums (now table) (now index) len (now exponents) s × Seen (now exponents) (now seen) (take len (now table)) ⌝ }
     ensures { λ r. ⌜ Added (now (exponents .entry)) (addTerms (now (exponents .entry)) s (take len (now (table .entry)))) (now (index .entry)) len (now (table .entry)) r (now (table .exit)) (now (index .exit)) (now (seen .exit)) ⌝ }
 {
-    let p = place(s);
-    if seen.len() <= p {
+    if seen.len() < 1021 {
         return add_terms(table, index, len, exponents, s);
     }
+    let p = place(s);
     if seen[p] == s + 1 {
         return len;
     }
@@ -451,7 +451,7 @@ pub fn extend_pass(
     if is_settled(labels, old, first) {
         return len;
     }
-    if exponents.len() < 4 {
+    if exponents.len() < 8 {
         let mut none = [0u64; 1];
         add_rows(
             table,

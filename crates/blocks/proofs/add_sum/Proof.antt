@@ -1,4 +1,4 @@
--- `blocks::add_sum` meets its contract: a sum that has no place, one that was seen, and any other.
+-- `blocks::add_sum` meets its contract: no sums are kept, one that was seen, and any other.
 use borrow.Author.Needs.{needs}
 use native.Mathlib.Omega.{arith}
 use mathlib.Core.Path.{sym}
@@ -9,11 +9,8 @@ use Rattle.blocks.proofs.Sums.{seen-more, seen-keeps}
 use Rattle.blocks.proofs.add_sum.Statement.{statement}
 use Rattle.blocks.proofs.add_sum.Tie as tie
 
-place-requires : tie.Need-place-requires
-place-requires c κs = search needs
-
 add-terms-requires : tie.Need-add-terms-requires
-add-terms-requires c κs = c .before .before .before .before .before .before .before .before .pre .0
+add-terms-requires c κs = c .before .before .before .before .before .before .before .pre .0
 
 same-length : tie.Need-same-length
 same-length c = search needs
@@ -22,13 +19,16 @@ same-length-2 : tie.Need-same-length-2
 same-length-2 c = search needs
 
 returns : tie.Need-returns
-returns c = let s = c .before .before .before .before .before .before .before .before .before .before .before .before .before in record { stored = c .before .before .before .before .add-terms .ensures; seen = seen-keeps _ _ _ _ (add-extends (s .args .exponents .now) (s .args .s) _) (s .pre .1) }
+returns c = let s = c .before .before .before .before .before .before .before .before .before .before .before .before in record { stored = c .before .before .before .before .add-terms .ensures; seen = seen-keeps _ _ _ _ (add-extends (s .args .exponents .now) (s .args .s) _) (s .pre .1) }
+
+place-requires : tie.Need-place-requires
+place-requires c κs = search needs
 
 mul-if2 : tie.Need-mul-if2
 mul-if2 c = search needs
 
 slice-read-if2 : tie.Need-slice-read-if2
-slice-read-if2 c = search needs
+slice-read-if2 c = omega (arith, c .before .place .ensures)
 
 add-if2 : tie.Need-add-if2
 add-if2 c = search needs
@@ -49,7 +49,7 @@ mul-seen : tie.Need-mul-seen
 mul-seen c = search needs
 
 slice-write-seen : tie.Need-slice-write-seen
-slice-write-seen c = search needs
+slice-write-seen c = omega (arith, c .before .before .before .before .before .before .before .before .before .place .ensures)
 
 same-length-3 : tie.Need-same-length-3
 same-length-3 c = search needs
@@ -65,18 +65,18 @@ returns-3 c =
     let s = c .before .before .before .before .before .before .before .before .before .before .before .before .before .before .before in
     record {
       stored = c .before .before .before .before .add-terms2 .ensures;
-      seen = seen-more _ _ _ _ _ (omega arith) (λ t m. add-in _ (s .args .s) _ t m) (seen-keeps _ _ _ _ (add-extends (s .args .exponents .now) (s .args .s) _) (s .pre .1));
+      seen = seen-more _ _ _ _ _ (omega (arith, c .before .before .before .before .before .before .before .before .before .place .ensures)) (λ t m. add-in _ (s .args .s) _ t m) (seen-keeps _ _ _ _ (add-extends (s .args .exponents .now) (s .args .s) _) (s .pre .1));
     }
 
 pub add-sum-spec : {M : Type 1} → statement M
 add-sum-spec =
     tie.close
     (tie.spec
-    place-requires
     add-terms-requires
     same-length
     same-length-2
     returns
+    place-requires
     mul-if2
     slice-read-if2
     add-if2

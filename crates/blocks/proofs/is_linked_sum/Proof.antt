@@ -1,4 +1,4 @@
--- `blocks::is_linked_sum` meets its contract: a sum that has no place, one that is known to be apart, and any other.
+-- `blocks::is_linked_sum` meets its contract: no sums are kept, one that is known to be apart, and any other.
 use borrow.Author.Needs.{needs}
 use native.Mathlib.Omega.{arith}
 use mathlib.Core.Path.{sym, _∙_}
@@ -6,20 +6,20 @@ use Rattle.blocks.proofs.Sums.{apart-more}
 use Rattle.blocks.proofs.is_linked_sum.Statement.{statement}
 use Rattle.blocks.proofs.is_linked_sum.Tie as tie
 
-place-requires : tie.Need-place-requires
-place-requires c κs = search needs
-
 is-linked-requires : tie.Need-is-linked-requires
-is-linked-requires c κs = c .before .before .before .before .before .before .pre .0
+is-linked-requires c κs = c .before .before .before .before .before .pre .0
 
 returns : tie.Need-returns
-returns c = (c .is-linked .ensures, c .before .before .before .before .before .before .before .pre .1)
+returns c = (c .is-linked .ensures, c .before .before .before .before .before .before .pre .1)
+
+place-requires : tie.Need-place-requires
+place-requires c κs = search needs
 
 mul-if2 : tie.Need-mul-if2
 mul-if2 c = search needs
 
 slice-read-if2 : tie.Need-slice-read-if2
-slice-read-if2 c = search needs
+slice-read-if2 c = omega (arith, c .before .place .ensures)
 
 add-if2 : tie.Need-add-if2
 add-if2 c = search needs
@@ -40,21 +40,21 @@ mul-apart : tie.Need-mul-apart
 mul-apart c = search needs
 
 slice-write-apart : tie.Need-slice-write-apart
-slice-write-apart c = search needs
+slice-write-apart c = omega (arith, c .before .before .before .before .place .ensures)
 
 same-length : tie.Need-same-length
 same-length c = search needs
 
 returns-4 : tie.Need-returns-4
-returns-4 c = let e = sym (c .if3 .left) ∙ c .before .is-linked2 .ensures in (e, apart-more _ _ _ _ _ (omega arith) (sym e) (c .before .before .before .before .before .before .before .before .before .before .pre .1))
+returns-4 c = let e = sym (c .if3 .left) ∙ c .before .is-linked2 .ensures in (e, apart-more _ _ _ _ _ (omega (arith, c .before .before .before .before .place .ensures)) (sym e) (c .before .before .before .before .before .before .before .before .before .before .pre .1))
 
 pub is-linked-sum-spec : {M : Type 1} → statement M
 is-linked-sum-spec =
     tie.close
     (tie.spec
-    place-requires
     is-linked-requires
     returns
+    place-requires
     mul-if2
     slice-read-if2
     add-if2
