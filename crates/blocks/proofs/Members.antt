@@ -1,82 +1,14 @@
--- The elements of a set: what an insertion adds, what a link comes from, and what an extension by the sums of one pair adds.
+-- The elements of a set: what a link comes from, and what an extension by the sums of one pair adds.
 use mathlib.Core.Path.{_≡_, refl}
-use mathlib.Core.Logic.{_⊎_, inl, inr, ⊎-elim}
+use mathlib.Core.Logic.{⊎-elim}
 use mathlib.Core.Bool.{Bool, true, false, cond}
-use mathlib.Core.List.{List, [], _∷_, _++_}
+use mathlib.Core.List.{List, [], _∷_}
 use Prim.Native.Nat.{ℕ, _+_}
 use native.Mathlib.Omega.{arith}
-use lib.Dec.{eqb, ltb}
-use borrow.Author.Tests.{eqb-true, eq-eqb}
 use Rattle.support.specs.Sets.{Rising, In, member, insert}
-use Rattle.support.proofs.Laws.{insert-member}
+use Rattle.support.proofs.Elements.{either, not-nil, in-cons, in-here, in-there, in-insert, insert-in, insert-keeps, insert-member}
 use Rattle.blocks.specs.Join.{linked}
 use Rattle.blocks.specs.Extend.{addTerms}
-
-either : (b : Bool) → cond b true true ≡ true
-either true = refl
-either false = refl
-
-pub not-nil : (x : ℕ) {P : Type 0} → In x [] → P
-unfolding member
-not-nil x e = let z : _≡_ {A = ℕ} 0 1 = cc in absurd (omega arith)
-
-pub in-cons : (x y : ℕ) (ys : List ℕ) → In x (y ∷ ys) → (y ≡ x) ⊎ In x ys
-unfolding member
-in-cons x y ys e = go (eqb y x) refl e
-  where
-    go : (b : Bool) → eqb y x ≡ b → cond b true (member x ys) ≡ true → (y ≡ x) ⊎ (member x ys ≡ true)
-    go true f e = inl (eqb-true y x f)
-    go false f e = inr e
-
-pub in-here : (x y : ℕ) (ys : List ℕ) → y ≡ x → In x (y ∷ ys)
-unfolding member
-in-here x y ys e = rw (eq-eqb y x e)
-
-pub in-there : (x y : ℕ) (ys : List ℕ) → In x ys → In x (y ∷ ys)
-unfolding member
-in-there x y ys e = rw e (either (eqb y x))
-
--- ---- the elements of one list and another
-
-pub in-append : (x : ℕ) (l m : List ℕ) → In x (l ++ m) → In x l ⊎ In x m
-in-append x [] m e = inr e
-in-append x (y ∷ ys) m e = ⊎-elim (λ q. inl (in-here x y ys q)) (λ w. ⊎-elim (λ q. inl (in-there x y ys q)) (λ q. inr q) (in-append x ys m w)) (in-cons x y (ys ++ m) e)
-
-pub append-in : (x : ℕ) (l m : List ℕ) → In x m → In x (l ++ m)
-append-in x [] m e = e
-append-in x (y ∷ ys) m e = in-there x y (ys ++ m) (append-in x ys m e)
-
--- ---- an insertion adds the one number, and nothing else
-
-pub in-insert : (x k : ℕ) (S : List ℕ) → In x (insert k S) → (k ≡ x) ⊎ In x S
-unfolding insert
-in-insert x k [] e = in-cons x k [] e
-in-insert x k (y ∷ ys) e = go (in-insert x k ys) (ltb y k) (eqb y k) e
-  where
-    go : (In x (insert k ys) → (k ≡ x) ⊎ In x ys) → (b d : Bool) → In x (cond b (y ∷ insert k ys) (cond d (y ∷ ys) (k ∷ y ∷ ys))) → (k ≡ x) ⊎ In x (y ∷ ys)
-    go h true d e = ⊎-elim (λ q. inr (in-here x y ys q)) (λ m. ⊎-elim (λ q. inl q) (λ n. inr (in-there x y ys n)) (h m)) (in-cons x y (insert k ys) e)
-    go h false true e = inr e
-    go h false false e = in-cons x k (y ∷ ys) e
-
-pub insert-in : (k : ℕ) (S : List ℕ) → In k (insert k S)
-unfolding insert
-insert-in k [] = in-here k k [] refl
-insert-in k (y ∷ ys) = go (insert-in k ys) (ltb y k) (eqb y k) refl
-  where
-    go : In k (insert k ys) → (b d : Bool) → eqb y k ≡ d → In k (cond b (y ∷ insert k ys) (cond d (y ∷ ys) (k ∷ y ∷ ys)))
-    go h true d f = in-there k y (insert k ys) h
-    go h false true f = in-here k y ys (eqb-true y k f)
-    go h false false f = in-here k k (y ∷ ys) refl
-
-pub insert-keeps : (x k : ℕ) (S : List ℕ) → In x S → In x (insert k S)
-unfolding insert
-insert-keeps x k [] e = not-nil x e
-insert-keeps x k (y ∷ ys) e = go (insert-keeps x k ys) (ltb y k) (eqb y k)
-  where
-    go : (In x ys → In x (insert k ys)) → (b d : Bool) → In x (cond b (y ∷ insert k ys) (cond d (y ∷ ys) (k ∷ y ∷ ys)))
-    go h true d = ⊎-elim (λ q. in-here x y (insert k ys) q) (λ m. in-there x y (insert k ys) (h m)) (in-cons x y ys e)
-    go h false true = e
-    go h false false = in-there x k (y ∷ ys) e
 
 -- ---- "some exponent t of g_j has t + b + b' in S": a link comes from an exponent, and each such exponent makes one
 

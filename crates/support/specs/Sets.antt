@@ -28,3 +28,8 @@ In k S = member k S ≡ true
 unfoldable pub insert : ℕ → List ℕ → List ℕ
 insert k [] = k ∷ []
 insert k (x ∷ xs) = cond (ltb x k) (x ∷ insert k xs) (cond (eqb x k) (x ∷ xs) (k ∷ x ∷ xs))
+
+-- a set with every key of a list put in
+unfoldable pub insertAll : List ℕ → List ℕ → List ℕ
+insertAll [] S = S
+insertAll (k ∷ ks) S = insertAll ks (insert k S)

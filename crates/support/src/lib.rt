@@ -1,90 +1,87 @@
-// The support set: keys in a lent table, its first `len` numbers, strictly rising.
+// The support set: keys in a lent table, its first `len` numbers, each once, in the order in which they came. An index finds them:
+// its place key % 4093 has one more than the place of the last key with that remainder, or 0, and its place 4096 + p has the same
+// for the keys before place p, so that a search goes from the last key with a remainder to the first.
 ghost use mathlib.Core.Path.{_≡_};
-ghost use Prim.Native.Nat.{ℕ, _+_, _≤_, _<_};
-ghost use lib.ListN.{length, getD, take, drop};
-ghost use mathlib.Core.List.{_++_};
-ghost use mathlib.Core.Bool.{cond};
-ghost use lib.Dec.{ltb};
-ghost use Rattle.support.specs.Sets.{member};
-ghost use Rattle.support.specs.Table.{Holds, rank, opened, findIn, Put};
+ghost use Prim.Native.Nat.{ℕ, _%_, _≤_, _<_};
+ghost use lib.ListN.{length, take, set};
+ghost use Rattle.support.specs.Sets.{member, insert};
+ghost use Rattle.support.specs.Table.{keysIn, Holds, Indexed, noted, Finds, Stored};
 
-// `n` where x is below the key, and else 0: a product and no branch, which a search would guess wrong every other time.
-fn if_below(x: u64, key: u64, n: usize) -> usize
-    ensures { λ r. ⌜ r ≡ cond (ltb x key) n 0 ⌝ }
+// The place of a key's remainder in the index.
+fn slot(key: u64) -> usize
+    ensures { λ r. ⌜ r ≡ key % 4093 ⌝ }
 {
-    n * ((x < key) as usize)
+    (key % 4093) as usize
 }
 
-// How many of the table's first `len` numbers are below `key`.
-pub fn lower(table: &[u64], len: usize, key: u64) -> usize
-    requires { ⌜ Holds (now table) len ⌝ }
-    ensures { λ r. ⌜ r ≡ rank key (take len (now (table .entry))) ⌝ }
-{
-    let mut lo = 0;
-    let mut n = len;
-    while 0 < n {
-        let h = n / 2;
-        lo += if_below(table[lo + h], key, n - h);
-        n = h;
-    }
-    lo
-}
-
-// Where a key stands, or the place where it would stand.
+// Where a key stands.
 pub enum Found {
     At(usize),
-    Gap(usize),
+    Nowhere,
 }
 
-pub fn find(table: &[u64], len: usize, key: u64) -> Found
-    requires { ⌜ Holds (now table) len ⌝ }
-    ensures { λ r. ⌜ r ≡ findIn key (take len (now (table .entry))) ⌝ }
+pub fn find(table: &[u64], index: &[u16], len: usize, key: u64) -> Found
+    requires { ⌜ Holds (now table) len × Indexed (now index) (now table) len ⌝ }
+    ensures { λ r. ⌜ Finds key (take len (now (table .entry))) r ⌝ }
 {
-    let p = lower(table, len, key);
-    if p < len {
+    let h = slot(key);
+    let mut v = index[h] as usize;
+    while 0 < v {
+        let p = v - 1;
         if table[p] == key {
             return Found::At(p);
         }
+        v = index[4096 + p] as usize;
     }
-    Found::Gap(p)
+    Found::Nowhere
 }
 
 // Whether a key is in the set.
-pub fn contains(table: &[u64], len: usize, key: u64) -> bool
-    requires { ⌜ Holds (now table) len ⌝ }
-    ensures { λ r. ⌜ r ≡ member key (take len (now (table .entry))) ⌝ }
+pub fn contains(table: &[u64], index: &[u16], len: usize, key: u64) -> bool
+    requires { ⌜ Holds (now table) len × Indexed (now index) (now table) len ⌝ }
+    ensures { λ r. ⌜ r ≡ member key (keysIn len (now (table .entry))) ⌝ }
 {
-    let p = lower(table, len, key);
-    if p < len { table[p] == key } else { false }
+    match find(table, index, len, key) {
+        Found::At(_) => true,
+        Found::Nowhere => false,
+    }
 }
 
-// The numbers from place p to len move up by one, and key is stored at p.
-fn shift(table: &mut [u64], p: usize, len: usize, key: u64)
-    requires { ⌜ (p ≤ len) × (len < length (now table)) ⌝ }
-    ensures { λ _. ⌜ now (table .exit) ≡ opened p key (take len (now (table .entry))) ++ drop (len + 1) (now (table .entry)) ⌝ }
+// The index of `len` keys, with one more.
+fn note(index: &mut [u16], len: usize, key: u64)
+    requires { ⌜ (length (now index) ≡ 6144) × (len < 2048) ⌝ }
+    ensures { λ _. ⌜ now (index .exit) ≡ noted (now (index .entry)) len key ⌝ }
 {
-    let mut i = len;
-    while p < i {
-        table[i] = table[i - 1];
-        i -= 1;
-    }
-    table[p] = key;
+    let h = slot(key);
+    let last = index[h];
+    index[4096 + len] = last;
+    index[h] = (len + 1) as u16;
 }
 
-// The set with key put in, and its length. Where it would have more than 2,048 keys, the table is left as it is.
-pub fn put(table: &mut [u64], len: usize, key: u64) -> usize
-    requires { ⌜ Holds (now table) len ⌝ }
-    ensures { λ r. ⌜ Put key (take len (now (table .entry))) (now (table .entry)) r (now (table .exit)) ⌝ }
+// The index of a set, made in one that holds nothing.
+pub fn mark(index: &mut [u16], table: &[u64], len: usize)
+    requires { ⌜ Holds (now table) len × Indexed (now index) (now table) 0 ⌝ }
+    ensures { λ _. ⌜ Indexed (now (index .exit)) (now (table .entry)) len ⌝ }
 {
-    match find(table, len, key) {
-        Found::At(_) => len,
-        Found::Gap(p) => {
-            if len < 2048 {
-                shift(table, p, len, key);
-                len + 1
-            } else {
-                2049
-            }
-        }
+    let mut i = 0;
+    while i < len {
+        note(index, i, table[i]);
+        i += 1;
     }
+}
+
+// The set with a key put in, and the number of its keys: 2,049 where it would have more than 2,048.
+pub fn put(table: &mut [u64], index: &mut [u16], len: usize, key: u64) -> usize
+    requires { ⌜ Holds (now table) len × Indexed (now index) (now table) len ⌝ }
+    ensures { λ r. ⌜ Stored len (insert key (keysIn len (now (table .entry)))) (now (table .entry)) r (now (table .exit)) (now (index .exit)) ⌝ }
+{
+    if contains(table, index, len, key) {
+        return len;
+    }
+    if 2047 < len {
+        return 2049;
+    }
+    table[len] = key;
+    note(index, len, key);
+    len + 1
 }

@@ -1,82 +1,71 @@
+-- `support::put` meets its contract: the key is there, or there is no room, or it is put at the end.
 use borrow.Author.Needs.{needs}
 use native.Mathlib.Omega.{arith}
 use mathlib.Core.Path.{_≡_, refl, sym, ap, _∙_, subst}
 use Prim.Native.Nat.{ℕ, zero, suc, _+_, _-_, _*_, _≤_, _<_}
 use lib.ListN.{length, getD, take, drop, set, length-set}
-use Rattle.support.proofs.Laws.{put-here, gap-le, put-new, put-full}
+use Rattle.support.proofs.Keys.{stored-there, stored-full}
+use Rattle.support.proofs.Index.{stored-added}
 use Rattle.support.proofs.put.Statement.{statement}
 use Rattle.support.proofs.put.Tie as tie
-use Rattle.support.proofs.put.Reads as reads
-use Rattle.support.proofs.put.Lts as lts
-use Rattle.support.proofs.find.Reads as find-reads
-use Rattle.support.proofs.shift.Reads as shift-reads
 
--- src/lib.rt:95:11
-find-requires : tie.Need-find-requires
-find-requires c κs = search needs
+contains-requires : tie.Need-contains-requires
+contains-requires c κs = search needs
 
--- src/lib.rt:96:25
-enum-told : tie.Need-enum-told
-enum-told c = search needs
-
--- src/lib.rt:97:20
-enum-known-p : tie.Need-enum-known-p
-enum-known-p c = search needs
-
--- src/lib.rt:99:17
-shift-requires : tie.Need-shift-requires
-shift-requires c κs =
-    let s = c .before .before .before .before .before .before .before .before in
-    (gap-le _ _ _ _ (omega arith) (sym (c .before .before .before .before .before .find .ensures) ∙ c .before .before .before .p .given .1), omega arith)
-
--- src/lib.rt:100:17
-add-result : tie.Need-add-result
-add-result c = search needs
-
--- src/lib.rt:91:1
 same-length : tie.Need-same-length
 same-length c = search needs
 
--- src/lib.rt:91:1
-returns : tie.Need-returns
-returns c =
-    let f = c .before .before in
-    put-here _ _ _ _ (omega arith) (omega arith) (f .before .before .before .pre .rising) (sym (f .find .ensures) ∙ c .enum-told .given .1)
-
--- src/lib.rt:91:1
 same-length-2 : tie.Need-same-length-2
 same-length-2 c = search needs
 
--- src/lib.rt:91:1
-returns-2 : tie.Need-returns-2
-returns-2 c =
-    let d = c .before .before .before .before .before .before in
-    let f = d .before .before in
-    put-new _ _ _ _ (omega arith) (sym (f .find .ensures) ∙ d .p .given .1) _ (omega arith) (c .before .before .shift .ensures)
+returns : tie.Need-returns
+returns c = let s = c .before .before .before .before .before .before in stored-there (s .pre .0) (s .pre .1) _ (sym (c .before .contains .ensures) ∙ c .if1 .taken)
 
--- src/lib.rt:91:1
 same-length-3 : tie.Need-same-length-3
 same-length-3 c = search needs
 
--- src/lib.rt:91:1
+same-length-4 : tie.Need-same-length-4
+same-length-4 c = search needs
+
+returns-2 : tie.Need-returns-2
+returns-2 c = let s = c .before .before .before .before .before .before .before in stored-full (s .pre .0) (s .pre .1) _ (sym (c .before .before .contains .ensures) ∙ c .before .if1 .left) (c .if2 .taken)
+
+mul-table : tie.Need-mul-table
+mul-table c = search needs
+
+slice-write-table : tie.Need-slice-write-table
+slice-write-table c = search needs
+
+note-requires : tie.Need-note-requires
+note-requires c κs = let s = c .before .before .before .before .before .before .before .before in (s .pre .1 .long, omega (arith, c .before .if2 .left))
+
+add-result : tie.Need-add-result
+add-result c = search needs
+
+same-length-5 : tie.Need-same-length-5
+same-length-5 c = search needs
+
+same-length-6 : tie.Need-same-length-6
+same-length-6 c = search needs
+
 returns-3 : tie.Need-returns-3
-returns-3 c =
-    let d = c .before .before in
-    let f = d .before .before in
-    put-full _ (f .before .before .before .args .len) _ _ (omega arith) (sym (f .find .ensures) ∙ d .p .given .1) (omega arith) (omega arith)
+returns-3 c = let n = c .before .before in let o = n .before .before in let s = o .before .before .before .before .before .before .before in stored-added (s .pre .0) (s .pre .1) _ (sym (o .before .before .contains .ensures) ∙ o .before .if1 .left) (o .if2 .left) _ (n .note .ensures)
 
 pub put-spec : {M : Type 1} → statement M
 put-spec =
     tie.close
     (tie.spec
-    find-requires
-    enum-told
-    enum-known-p
-    shift-requires
-    add-result
+    contains-requires
     same-length
-    returns
     same-length-2
-    returns-2
+    returns
     same-length-3
+    same-length-4
+    returns-2
+    mul-table
+    slice-write-table
+    note-requires
+    add-result
+    same-length-5
+    same-length-6
     returns-3)
