@@ -11,8 +11,7 @@ use lib.Seq.{getD-set-same, getD-set-other, take-suc, take-all}
 use Rattle.counting.proofs.Listed.{same-or-not}
 use Rattle.support.specs.Sets.{In}
 use Rattle.blocks.specs.Fresh.{Numbered, Joins, Two, WithKey, WithSum, Through, Blocks, Placed}
-use Rattle.blocks.proofs.Members.{not-nil, in-cons, in-here}
-use Rattle.blocks.proofs.Index.{in-snoc, snoc-keeps, snoc-in}
+use Rattle.support.proofs.Elements.{not-nil, in-cons, in-here, in-snoc, snoc-keeps, snoc-in}
 use Rattle.blocks.proofs.Joins.{joins-same, joins-then, joins-as}
 
 -- the last of the numbers below k + 1 is k, and the others are below k

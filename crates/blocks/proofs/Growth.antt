@@ -1,48 +1,25 @@
 -- Laws of the support's extension, and of the loops that make it in a table.
 use mathlib.Core.Path.{_≡_, refl, sym, ap, _∙_}
-use mathlib.Core.Bool.{Bool, true, false}
-use mathlib.Core.List.{List, [], _∷_, _++_}
-use Prim.Native.Nat.{ℕ, suc, _+_, _-_, _≤_, _<_, min, zero-le, suc-le-suc}
-use native.Mathlib.Nat.{min-eq-left, min-eq-right, le-refl, le-trans, suc-inj}
+use mathlib.Core.Bool.{Bool, true, false, cond}
+use mathlib.Core.List.{List, [], _∷_}
+use Prim.Native.Nat.{ℕ, _+_, _≤_, _<_}
+use native.Mathlib.Nat.{le-refl, le-trans}
 use native.Mathlib.Omega.{arith}
 use native.Mathlib.Numerals.{add-one}
-use lib.ListN.{length, getD, take, drop, length-append, length-drop, take-append-drop, drop-of-length-le}
-use lib.Seq.{drop-cons, drop-drop, length-take-le, take-append-seam, drop-append-add}
-use lib.Dec.{eqb, ltb, leb}
-use borrow.Author.Tests.{leb-true, leb-false, eq-eqb, ne-eqb}
-use mathlib.Core.Bool.{cond}
+use lib.ListN.{length, getD, take, drop, drop-of-length-le}
+use lib.Seq.{drop-cons, take-take}
+use lib.Dec.{eqb}
+use borrow.Author.Tests.{eq-eqb, ne-eqb}
 use Rattle.support.specs.Sets.{insert, Rising, In}
-use Rattle.support.specs.Table.{Holds, over, Put, Grown}
-use Rattle.support.proofs.Laws.{insert-rising}
+use Rattle.support.specs.Table.{keysIn, Holds, Indexed, Grown, Stored}
+use Rattle.support.proofs.Elements.{insert-keeps, insert-rising, insert-grows, insert-same}
 use Rattle.counting.specs.Counting.{fromTo}
 use Rattle.counting.proofs.Steps.{fromTo-keeps}
 use Rattle.blocks.specs.Extend.{addTerms, addPair, addRow, extend}
 use Rattle.blocks.specs.Filled.{Filled, Full}
-use Rattle.blocks.proofs.Members.{insert-keeps}
 use Rattle.blocks.proofs.Full.{pair-done, extend-done}
 
 -- ---- the set never shrinks, and stays in order
-
-pub insert-grows : (k : ℕ) (l : List ℕ) → length l ≤ length (insert k l)
-unfolding insert
-insert-grows k [] = zero-le
-insert-grows k (x ∷ xs) = go (insert-grows k xs) (ltb x k) (eqb x k)
-  where
-    go : length xs ≤ length (insert k xs) → (b d : Bool) → length (x ∷ xs) ≤ length (cond b (x ∷ insert k xs) (cond d (x ∷ xs) (k ∷ x ∷ xs)))
-    go h true d = suc-le-suc h
-    go h false true = le-refl (suc (length xs))
-    go h false false = omega arith
-
-pub insert-same : (k : ℕ) (l : List ℕ) → length (insert k l) ≡ length l → insert k l ≡ l
-unfolding insert
-insert-same k [] e = absurd (omega arith)
-insert-same k (x ∷ xs) e = go (insert-same k xs) (ltb x k) (eqb x k) e
-  where
-    go : (length (insert k xs) ≡ length xs → insert k xs ≡ xs) → (b d : Bool) → length (cond b (x ∷ insert k xs) (cond d (x ∷ xs) (k ∷ x ∷ xs))) ≡ length (x ∷ xs)
-        → cond b (x ∷ insert k xs) (cond d (x ∷ xs) (k ∷ x ∷ xs)) ≡ x ∷ xs
-    go h true d e = ap (λ (r : List ℕ). x ∷ r) (h (suc-inj e))
-    go h false true e = refl
-    go h false false e = absurd (omega arith)
 
 -- S′ is S grown: in order where S is, with all that S has, and at least as long
 pub record Extends (S S′ : List ℕ) : Type 0 where
@@ -92,126 +69,60 @@ module _ (T B L : List ℕ) where
   unfolding extend
   extend-extends S = rest-extends 0 S
 
--- ---- a set laid over a table
-
-module _ (S t : List ℕ) where
-  pub take-over : take (length S) (over S t) ≡ S
-  take-over = take-append-seam S (drop (length S) t)
-
-  pub length-over : length S ≤ length t → length (over S t) ≡ length t
-  length-over h = omega (arith, length-append S (drop (length S) t), length-drop (length S) t)
-
-  pub drop-over : (n : ℕ) → length S ≤ n → drop n (over S t) ≡ drop n t
-  drop-over n h =
-      let e : n ≡ length S + (n - length S) = omega arith in
-      rw e (drop-append-add S (drop (length S) t) (n - length S) ∙ drop-drop (n - length S) (length S) t)
-
-pub over-self : (n : ℕ) (t : List ℕ) → n ≤ length t → over (take n t) t ≡ t
-over-self n t h = rw (length-take-le n t h) (take-append-drop n t)
-
 -- ---- a table that has grown to hold S
 
 module _ (S t : List ℕ) (n : ℕ) (t′ : List ℕ) (g : Grown S t n t′) where
   pub grown-length : n ≤ 2048 → length S ≡ n
   grown-length b = omega (arith, g .count)
 
-  pub grown-take : n ≤ 2048 → take n t′ ≡ S
-  grown-take b = rw (g .table b, ← grown-length b) (take-over S t)
+-- ---- a loop that grows the set and keeps its index: what is left to do is f, and goal is what the set shall be. The first n₀ keys stay
 
--- ---- a loop that grows the set: what is left to do is f, and goal is what the set shall be
-
-pub record Held (t₀ goal : List ℕ) (f : List ℕ → List ℕ) (n : ℕ) (t : List ℕ) : Type 0 where
-  pub room : n ≤ 2048
+pub record Growing (t₀ : List ℕ) (n₀ : ℕ) (goal : List ℕ) (f : List ℕ → List ℕ) (n : ℕ) (t idx : List ℕ) : Type 0 where
+  pub holds : Holds t n
+  pub index : Indexed idx t n
   pub long : length t ≡ length t₀
-  pub rising : Rising (take n t)
-  pub table : t ≡ over (take n t) t₀
-  pub todo : f (take n t) ≡ goal
+  pub rest : drop 2048 t ≡ drop 2048 t₀
+  pub more : n₀ ≤ n
+  pub first : take n₀ t ≡ take n₀ t₀
+  pub todo : f (keysIn n t) ≡ goal
 
-module _ (t₀ : List ℕ) (wide : 2048 ≤ length t₀) where
-  pub held-start : (f : List ℕ → List ℕ) (n : ℕ) → Holds t₀ n → Held t₀ (f (take n t₀)) f n t₀
-  held-start f n h = record {
-    room = h .few;
-    long = refl;
-    rising = h .rising;
-    table = sym (over-self n t₀ (omega (arith, h .few)));
-    todo = refl;
-  }
+module _ (t₀ : List ℕ) where
+  pub growing-start : (f : List ℕ → List ℕ) (n : ℕ) (idx : List ℕ) → Holds t₀ n → Indexed idx t₀ n → Growing t₀ n (f (keysIn n t₀)) f n t₀ idx
+  growing-start f n idx h x = record { holds = h; index = x; long = refl; rest = refl; more = omega arith; first = refl; todo = refl }
 
-  module _ (goal : List ℕ) (f : List ℕ → List ℕ) (n : ℕ) (t : List ℕ) (h : Held t₀ goal f n t) where
-    pub held-holds : Holds t n
-    held-holds = record { few = h .room; room = omega (arith, h .long); rising = h .rising }
-
-    pub count-held : length (take n t) ≡ n
-    count-held = length-take-le n t (omega (arith, h .room, h .long))
-
-    rest-held : (m : ℕ) → n ≤ m → drop m t ≡ drop m t₀
-    rest-held m b = ap (drop m) (h .table) ∙ drop-over (take n t) t₀ m (omega (arith, count-held))
-
-    pub held-end : f (take n t) ≡ take n t → Grown goal t₀ n t
-    held-end e =
-        let g : goal ≡ take n t = sym (h .todo) ∙ e in
-        let l : length goal ≡ n = ap length g ∙ count-held in
+  module _ (n₀ : ℕ) (goal : List ℕ) (f : List ℕ → List ℕ) (n : ℕ) (t idx : List ℕ) (h : Growing t₀ n₀ goal f n t idx) where
+    pub growing-end : f (keysIn n t) ≡ keysIn n t → Stored n₀ goal t₀ n t idx
+    growing-end e =
+        let g : goal ≡ keysIn n t = sym (h .todo) ∙ e in
         record {
-          count = rw l (sym (min-eq-left {n = n} {m = 2049} (omega (arith, h .room))));
-          table = λ _. rw g (h .table);
-          rest = rest-held 2048 (h .room);
+          grown = record { count = omega (arith, ap length g, h .holds .apart, h .holds .few); keys = λ _. sym g; long = h .long; rest = h .rest };
+          index = λ _. h .index;
+          first = λ _. h .first;
         }
 
-    module _ (S′ : List ℕ) (n′ : ℕ) (t′ : List ℕ) (g : Grown S′ t n′ t′) (f′ : List ℕ → List ℕ) (e : f (take n t) ≡ f′ S′) where
-      pub held-step : n′ ≤ 2048 → Extends (take n t) S′ → Held t₀ goal f′ n′ t′
-      held-step b x =
-          let l : length S′ ≡ n′ = grown-length S′ t n′ t′ g b in
-          let u : t′ ≡ over S′ t = g .table b in
-          let v : take n′ t′ ≡ S′ = grown-take S′ t n′ t′ g b in
-          let m : n ≤ length S′ = omega (arith, count-held, x .more) in
+    module _ (S′ : List ℕ) (n′ : ℕ) (t′ idx′ : List ℕ) (g : Stored n S′ t n′ t′ idx′) (f′ : List ℕ → List ℕ) (e : f (keysIn n t) ≡ f′ S′) where
+      pub growing-step : n′ ≤ 2048 → Extends (keysIn n t) S′ → Growing t₀ n₀ goal f′ n′ t′ idx′
+      growing-step b x =
+          let v : keysIn n′ t′ ≡ S′ = g .grown .keys b in
+          let l : length S′ ≡ n′ = grown-length S′ t n′ t′ (g .grown) b in
           record {
-            room = b;
-            long = ap length u ∙ length-over S′ t (omega (arith, h .long)) ∙ h .long;
-            rising = rw v (x .rising (h .rising));
-            table = rw v (u ∙ ap (λ (r : List ℕ). S′ ++ r) (rest-held (length S′) m));
+            holds = record { few = b; room = omega (arith, h .holds .room, g .grown .long); apart = ap length v ∙ l };
+            index = g .index b;
+            long = g .grown .long ∙ h .long;
+            rest = g .grown .rest ∙ h .rest;
+            more = omega (arith, h .more, h .holds .apart, x .more);
+            first = sym (take-take n₀ n t′ (h .more)) ∙ ap (take n₀) (g .first b) ∙ take-take n₀ n t (h .more) ∙ h .first;
             todo = rw v (sym e ∙ h .todo);
           }
 
-      pub held-stop : 2048 < n′ → Extends S′ (f′ S′) → Grown goal t₀ n′ t′
-      held-stop b x =
-          let q : n′ ≡ 2049 = omega (arith, g .count) in
-          let w : 2049 ≤ length S′ = omega (arith, g .count) in
-          let y : 2049 ≤ length goal = omega (arith, x .more, ap length (sym e ∙ h .todo)) in
+      pub growing-stop : 2048 < n′ → Extends S′ (f′ S′) → Stored n₀ goal t₀ n′ t′ idx′
+      growing-stop b x =
+          let w : length S′ ≤ length goal = omega (arith, x .more, ap length (sym e ∙ h .todo)) in
           record {
-            count = q ∙ sym (min-eq-right y);
-            table = λ z. absurd (omega arith);
-            rest = g .rest ∙ rest-held 2048 (h .room);
+            grown = record { count = omega (arith, g .grown .count); keys = λ z. absurd (omega arith); long = g .grown .long ∙ h .long; rest = g .grown .rest ∙ h .rest };
+            index = λ z. absurd (omega arith);
+            first = λ z. absurd (omega arith);
           }
-
--- ---- what `put` gives
-
-insert-small : (k : ℕ) (l : List ℕ) → length (insert k l) ≤ suc (length l)
-unfolding insert
-insert-small k [] = le-refl 1
-insert-small k (x ∷ xs) = go (insert-small k xs) (ltb x k) (eqb x k)
-  where
-    go : length (insert k xs) ≤ suc (length xs) → (b d : Bool) → length (cond b (x ∷ insert k xs) (cond d (x ∷ xs) (k ∷ x ∷ xs))) ≤ suc (length (x ∷ xs))
-    go h true d = suc-le-suc h
-    go h false true = omega arith
-    go h false false = omega arith
-
-pub put-grown : (k : ℕ) (S t : List ℕ) (r : ℕ) (t′ : List ℕ) → Put k S t r t′ → length S ≤ 2048 → Grown (insert k S) t r t′
-put-grown k S t r t′ p h = go (leb r 2048) refl
-  where
-    count : r ≡ min (length (insert k S)) 2049
-    count = omega (arith, p .count, insert-small k S)
-
-    go : (d : Bool) → leb r 2048 ≡ d → Grown (insert k S) t r t′
-    go true e =
-        let u : t′ ≡ over (insert k S) t = rw e at (p .table) in
-        record {
-          count = count;
-          table = λ _. u;
-          rest = ap (drop 2048) u ∙ drop-over (insert k S) t 2048 (omega (arith, p .count, leb-true r 2048 e));
-        }
-    go false e =
-        let u : t′ ≡ t = rw e at (p .table) in
-        record { count = count; table = λ b. absurd (omega (arith, leb-false r 2048 e)); rest = ap (drop 2048) u }
 
 -- ---- the loops' parts
 
@@ -233,12 +144,6 @@ module _ (T B L : List ℕ) (i k : ℕ) (S : List ℕ) where
   unfolding addPair
   one-apart e = rw (ne-eqb _ _ e)
 
-pub grown-none : (n : ℕ) (t : List ℕ) → Holds t n → Grown (take n t) t n t
-grown-none n t h =
-    let f : n ≤ length t = omega (arith, h .few, h .room) in
-    let l : length (take n t) ≡ n = length-take-le n t f in
-    record { count = omega (arith, h .few); table = λ _. sym (over-self n t f); rest = refl }
-
 -- ---- a set that the round before has filled
 
 pub full-keeps : (T B L S S′ : List ℕ) → Extends S S′ → Full T B L S → Full T B L S′
@@ -248,8 +153,8 @@ module _ (first : Bool) (T B L₀ : List ℕ) where
   pub filled-keeps : (S S′ : List ℕ) → Extends S S′ → Filled first T B L₀ S → Filled first T B L₀ S′
   filled-keeps S S′ x f = record { full = λ e. full-keeps T B L₀ S S′ x (f .full e) }
 
-  pub filled-step : (S₀ S t : List ℕ) (n : ℕ) (t′ : List ℕ) → Grown S t n t′ → n ≤ 2048 → Extends S₀ S → Filled first T B L₀ S₀ → Filled first T B L₀ (take n t′)
-  filled-step S₀ S t n t′ g b x f = rw (grown-take S t n t′ g b) (filled-keeps S₀ S x f)
+  pub filled-step : (S₀ S t : List ℕ) (n : ℕ) (t′ : List ℕ) → Grown S t n t′ → n ≤ 2048 → Extends S₀ S → Filled first T B L₀ S₀ → Filled first T B L₀ (keysIn n t′)
+  filled-step S₀ S t n t′ g b x f = rw (g .keys b) (filled-keeps S₀ S x f)
 
   -- a pair that was in one block then adds nothing
   pub pair-known : (L : List ℕ) (i k : ℕ) (S : List ℕ) → Filled first T B L₀ S → first ≡ false → i ≤ k → k < length B → getD L₀ i 0 ≡ getD L₀ k 0 → Rising S → S ≡ addPair T B L i k S

@@ -1,7 +1,5 @@
-pub mod Bits
 pub mod Laws
 pub mod Growth
-pub mod Index
 pub mod Pairs
 pub mod Labels
 pub mod Members

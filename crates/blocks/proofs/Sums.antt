@@ -5,14 +5,14 @@ use mathlib.Core.Bool.{Bool, false}
 use mathlib.Core.List.{List}
 use Prim.Native.Nat.{ℕ, zero, suc, _+_, _≤_, _<_}
 use native.Mathlib.Omega.{arith}
-use lib.ListN.{length, getD, take, set, replicate}
+use lib.ListN.{length, getD, set, replicate}
 use lib.Seq.{getD-set-same, getD-set-other}
 use Rattle.counting.proofs.Listed.{same-or-not}
 use Rattle.support.specs.Sets.{In}
 use Rattle.blocks.specs.Join.{linked}
 use Rattle.blocks.specs.Sums.{Apart, Seen}
-use Rattle.support.specs.Table.{Grown}
-use Rattle.blocks.proofs.Growth.{Extends, grown-take}
+use Rattle.support.specs.Table.{keysIn, Grown}
+use Rattle.blocks.proofs.Growth.{Extends}
 
 zeros-at : (n p : ℕ) → _≡_ {A = ℕ} (getD (replicate n 0) p 0) 0
 zeros-at zero p = refl
@@ -43,5 +43,5 @@ module _ (T S : List ℕ) where
   pub seen-keeps : (seen S′ : List ℕ) → Extends S S′ → Seen T seen S → Seen T seen S′
   seen-keeps seen S′ x a = record { at = λ p s e t m. x .keeps _ (a .at p s e t m) }
 
-pub seen-now : (T seen S t : List ℕ) (n : ℕ) (t′ : List ℕ) → Grown S t n t′ → n ≤ 2048 → Seen T seen S → Seen T seen (take n t′)
-seen-now T seen S t n t′ g b a = rw (grown-take S t n t′ g b) a
+pub seen-now : (T seen S t : List ℕ) (n : ℕ) (t′ : List ℕ) → Grown S t n t′ → n ≤ 2048 → Seen T seen S → Seen T seen (keysIn n t′)
+seen-now T seen S t n t′ g b a = rw (g .keys b) a

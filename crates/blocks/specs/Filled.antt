@@ -3,8 +3,9 @@ use mathlib.Core.Path.{_≡_}
 use mathlib.Core.Bool.{Bool, false}
 use mathlib.Core.List.{List}
 use Prim.Native.Nat.{ℕ, _+_, _≤_, _<_}
-use lib.ListN.{length, getD, take}
+use lib.ListN.{length, getD}
 use Rattle.support.specs.Sets.{In}
+use Rattle.support.specs.Table.{keysIn}
 use Rattle.blocks.specs.Limits.{Joining}
 
 -- every t + b + b' of the indices i and k is in S, where the two are in one block
@@ -23,4 +24,4 @@ pub record Filled (first : Bool) (T B L S : List ℕ) : Type 0 where
 pub record Extending (first : Bool) (t idx : List ℕ) (len : ℕ) (B T L L₀ : List ℕ) : Type 0 where
   pub joining : Joining t idx len B T L
   pub before : length L₀ ≡ length B
-  pub filled : Filled first T B L₀ (take len t)
+  pub filled : Filled first T B L₀ (keysIn len t)

@@ -2,9 +2,8 @@
 use mathlib.Core.Path.{_≡_}
 use mathlib.Core.List.{List}
 use Prim.Native.Nat.{ℕ, _*_, _^_, _≤_}
-use lib.ListN.{length, getD, take}
-use Rattle.support.specs.Table.{Holds}
-use Rattle.blocks.specs.Index.{Indexed}
+use lib.ListN.{length, getD}
+use Rattle.support.specs.Table.{Holds, Indexed}
 
 -- each number of a list is at most m
 abbrev pub Bounded : ℕ → List ℕ → Type 0
@@ -17,21 +16,15 @@ pub record OneBasis (B T L : List ℕ) : Type 0 where
   pub exponents : Bounded (16 * 2 ^ 56) T
   pub labels : length L ≡ length B
 
--- what a look for a key asks: the support in its table, with its index, and that the index tells of the key
-pub record ForKey (t idx : List ℕ) (len k : ℕ) : Type 0 where
-  pub support : Holds t len
-  pub index : Indexed idx (take len t)
-  pub low : k ≤ 32 * 2 ^ 56
-
--- the same for every t + s, with t among the exponents T
+-- what a look for every t + s asks, with t among the exponents T: the support in its table, with its index, and no overflow
 pub record ForSums (t idx : List ℕ) (len : ℕ) (T : List ℕ) (s : ℕ) : Type 0 where
   pub support : Holds t len
-  pub index : Indexed idx (take len t)
+  pub index : Indexed idx t len
   pub exponents : Bounded (16 * 2 ^ 56) T
   pub low : s ≤ 16 * 2 ^ 56
 
 -- what a joining asks: the support in its table, with its index, and a basis with its blocks L
 pub record Joining (t idx : List ℕ) (len : ℕ) (B T L : List ℕ) : Type 0 where
   pub support : Holds t len
-  pub index : Indexed idx (take len t)
+  pub index : Indexed idx t len
   pub basis : OneBasis B T L

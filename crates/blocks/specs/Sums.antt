@@ -5,8 +5,8 @@ use mathlib.Core.List.{List}
 use Prim.Native.Nat.{ℕ, _+_}
 use lib.ListN.{getD}
 use Rattle.support.specs.Sets.{In}
+use Rattle.support.specs.Table.{Stored}
 use Rattle.blocks.specs.Join.{linked}
-use Rattle.blocks.specs.Index.{Stored}
 
 -- a place that has s + 1 says that no t + s is in S
 pub record Apart (T apart S : List ℕ) : Type 0 where
@@ -17,6 +17,6 @@ pub record Seen (T seen S : List ℕ) : Type 0 where
   pub at : (p s : ℕ) → getD seen p 0 ≡ s + 1 → (t : ℕ) → In t T → In (t + s) S
 
 -- the table and its index grown to hold S, with the sums that were seen
-pub record Added (T S idx : List ℕ) (n : ℕ) (t : List ℕ) (r : ℕ) (t′ idx′ seen′ : List ℕ) : Type 0 where
-  pub stored : Stored idx n S t r t′ idx′
+pub record Added (T S : List ℕ) (n : ℕ) (t : List ℕ) (r : ℕ) (t′ idx′ seen′ : List ℕ) : Type 0 where
+  pub stored : Stored n S t r t′ idx′
   pub seen : Seen T seen′ S

@@ -1,15 +1,12 @@
 // The joining rule for one basis: `basis` has the keys of its monomials, `exponents` those of its multiplier, `labels` the
-// block number of each index. The first `len` numbers of `table` are the support, and `index` is its index, which spares most
-// searches of the table.
+// block number of each index. The first `len` numbers of `table` are the support, and `index` is its index.
 ghost use mathlib.Core.Path.{_≡_};
 ghost use mathlib.Core.Bool.{true, false};
 ghost use mathlib.Core.List.{[], _∷_, map};
 ghost use Prim.Native.Nat.{_%_, _≤_, _<_};
-ghost use lib.ListN.{length, take, replicate};
-ghost use Rattle.support.specs.Sets.{member, insert};
-ghost use Rattle.support.specs.Table.{Holds};
-ghost use Rattle.blocks.specs.Index.{Indexed, placed, noted, Stored};
-ghost use Rattle.blocks.specs.Limits.{ForKey, ForSums, Joining};
+ghost use lib.ListN.{length, replicate};
+ghost use Rattle.support.specs.Table.{keysIn, Stored};
+ghost use Rattle.blocks.specs.Limits.{ForSums, Joining};
 ghost use Rattle.blocks.specs.Filled.{Extending};
 ghost use Rattle.blocks.specs.Sums.{Apart, Seen, Added};
 ghost use Rattle.blocks.specs.Fresh.{Numbered, Joins, Two, WithKey, WithSum, Through, Blocks, Placed};
@@ -44,94 +41,6 @@ fn merge(labels: &mut [u8], a: u8, b: u8)
     }
 }
 
-// The largest sum of an exponent and two monomials of a basis: 32 × 256^7.
-const LARGEST: u64 = 2305843009213693952;
-
-// Where the index has the bits of all members, and where the first member that came.
-const COVER: usize = 4095;
-
-const FIRST: usize = 4096;
-
-// The place of a key in the index.
-fn slot(key: u64) -> usize
-    ensures { λ r. ⌜ r ≡ key % 4093 ⌝ }
-{
-    (key % 4093) as usize
-}
-
-// A key at its place in the index, unless it is too large to be looked for.
-fn put_place(index: &mut [u64], key: u64)
-    requires { ⌜ length (now index) ≡ 6144 ⌝ }
-    ensures { λ _. ⌜ now (index .exit) ≡ placed (now (index .entry)) key ⌝ }
-{
-    if key <= LARGEST {
-        let p = slot(key);
-        index[p] = key + 1;
-    }
-}
-
-// A key in the index: at its place, with its bits, and as the last that came.
-fn note(index: &mut [u64], len: usize, key: u64)
-    requires { ⌜ (length (now index) ≡ 6144) × (len < 2048) ⌝ }
-    ensures { λ _. ⌜ now (index .exit) ≡ noted (now (index .entry)) len key ⌝ }
-{
-    put_place(index, key);
-    index[COVER] = index[COVER] | key;
-    index[FIRST + len] = key;
-}
-
-// The index of a support, made in one that holds nothing.
-pub fn mark(index: &mut [u64], table: &[u64], len: usize)
-    requires { ⌜ Holds (now table) len × Indexed (now index) [] ⌝ }
-    ensures { λ _. ⌜ Indexed (now (index .exit)) (take len (now (table .entry))) ⌝ }
-{
-    let mut i = 0;
-    while i < len {
-        note(index, i, table[i]);
-        i += 1;
-    }
-}
-
-// Whether a key is in the support. The index tells it at once, unless another member has the key's place.
-fn has(table: &[u64], index: &[u64], len: usize, key: u64) -> bool
-    requires { ⌜ ForKey (now table) (now index) len key ⌝ }
-    ensures { λ r. ⌜ r ≡ member key (take len (now (table .entry))) ⌝ }
-{
-    let cover = index[COVER];
-    if (key | cover) != cover {
-        return false;
-    }
-    let i = slot(key);
-    let m = index[i];
-    if m == 0 {
-        return false;
-    }
-    if m == key + 1 {
-        return true;
-    }
-    support::contains(table, len, key)
-}
-
-// The support with a key put in, and the number of its keys: 2,049 where it has more than 2,048.
-fn add(table: &mut [u64], index: &mut [u64], len: usize, key: u64) -> usize
-    requires { ⌜ ForKey (now table) (now index) len key ⌝ }
-    ensures { λ r. ⌜ Stored (now (index .entry)) len (insert key (take len (now (table .entry)))) (now (table .entry)) r (now (table .exit)) (now (index .exit)) ⌝ }
-{
-    let i = slot(key);
-    if index[i] == key + 1 {
-        return len;
-    }
-    let n = support::put(table, len, key);
-    if n == len {
-        return len;
-    }
-    if 2048 < n {
-        return n;
-    }
-    note(index, len, key);
-    n
-}
-
 // The place of a key of a basis, or of a sum of two.
 fn place(key: u64) -> usize
     ensures { λ r. ⌜ r ≡ key % 1021 ⌝ }
@@ -140,13 +49,13 @@ fn place(key: u64) -> usize
 }
 
 // Whether t + s is in the support for some exponent t of the multiplier.
-fn is_linked(table: &[u64], index: &[u64], len: usize, exponents: &[u64], s: u64) -> bool
+fn is_linked(table: &[u64], index: &[u16], len: usize, exponents: &[u64], s: u64) -> bool
     requires { ⌜ ForSums (now table) (now index) len (now exponents) s ⌝ }
-    ensures { λ r. ⌜ r ≡ linked (take len (now (table .entry))) (now (exponents .entry)) s ⌝ }
+    ensures { λ r. ⌜ r ≡ linked (keysIn len (now (table .entry))) (now (exponents .entry)) s ⌝ }
 {
     let mut i = 0;
     while i < exponents.len() {
-        if has(table, index, len, exponents[i] + s) {
+        if support::contains(table, index, len, exponents[i] + s) {
             return true;
         }
         i += 1;
@@ -157,14 +66,14 @@ fn is_linked(table: &[u64], index: &[u64], len: usize, exponents: &[u64], s: u64
 // The same, where `apart` may tell at once that no t + s is in the support: a place that has s + 1 says so.
 fn is_linked_sum(
     table: &[u64],
-    index: &[u64],
+    index: &[u16],
     apart: &mut [u64],
     len: usize,
     exponents: &[u64],
     s: u64,
 ) -> bool
-    requires { ⌜ ForSums (now table) (now index) len (now exponents) s × Apart (now exponents) (now apart) (take len (now table)) ⌝ }
-    ensures { λ r. ⌜ (r ≡ linked (take len (now (table .entry))) (now (exponents .entry)) s) × Apart (now (exponents .entry)) (now (apart .exit)) (take len (now (table .entry))) ⌝ }
+    requires { ⌜ ForSums (now table) (now index) len (now exponents) s × Apart (now exponents) (now apart) (keysIn len (now table)) ⌝ }
+    ensures { λ r. ⌜ (r ≡ linked (keysIn len (now (table .entry))) (now (exponents .entry)) s) × Apart (now (exponents .entry)) (now (apart .exit)) (keysIn len (now (table .entry))) ⌝ }
 {
     if apart.len() < 1021 {
         return is_linked(table, index, len, exponents, s);
@@ -187,13 +96,13 @@ fn join_pair(
     basis: &[u64],
     exponents: &[u64],
     table: &[u64],
-    index: &[u64],
+    index: &[u16],
     len: usize,
     i: usize,
     k: usize,
 )
-    requires { ⌜ Joining (now table) (now index) len (now basis) (now exponents) (now labels) × Apart (now exponents) (now apart) (take len (now table)) × (i < length (now basis)) × (k < length (now basis)) ⌝ }
-    ensures { λ _. ⌜ (now (labels .exit) ≡ joinPair (take len (now (table .entry))) (now (exponents .entry)) (now (basis .entry)) i k (now (labels .entry))) × Apart (now (exponents .entry)) (now (apart .exit)) (take len (now (table .entry))) ⌝ }
+    requires { ⌜ Joining (now table) (now index) len (now basis) (now exponents) (now labels) × Apart (now exponents) (now apart) (keysIn len (now table)) × (i < length (now basis)) × (k < length (now basis)) ⌝ }
+    ensures { λ _. ⌜ (now (labels .exit) ≡ joinPair (keysIn len (now (table .entry))) (now (exponents .entry)) (now (basis .entry)) i k (now (labels .entry))) × Apart (now (exponents .entry)) (now (apart .exit)) (keysIn len (now (table .entry))) ⌝ }
 {
     let a = labels[i];
     let b = labels[k];
@@ -212,12 +121,12 @@ fn join_row(
     basis: &[u64],
     exponents: &[u64],
     table: &[u64],
-    index: &[u64],
+    index: &[u16],
     len: usize,
     i: usize,
 )
-    requires { ⌜ Joining (now table) (now index) len (now basis) (now exponents) (now labels) × Apart (now exponents) (now apart) (take len (now table)) × (i < length (now basis)) ⌝ }
-    ensures { λ _. ⌜ (now (labels .exit) ≡ joinRow (take len (now (table .entry))) (now (exponents .entry)) (now (basis .entry)) i (now (labels .entry))) × Apart (now (exponents .entry)) (now (apart .exit)) (take len (now (table .entry))) ⌝ }
+    requires { ⌜ Joining (now table) (now index) len (now basis) (now exponents) (now labels) × Apart (now exponents) (now apart) (keysIn len (now table)) × (i < length (now basis)) ⌝ }
+    ensures { λ _. ⌜ (now (labels .exit) ≡ joinRow (keysIn len (now (table .entry))) (now (exponents .entry)) (now (basis .entry)) i (now (labels .entry))) × Apart (now (exponents .entry)) (now (apart .exit)) (keysIn len (now (table .entry))) ⌝ }
 {
     let mut k = i + 1;
     while k < basis.len() {
@@ -233,11 +142,11 @@ fn join_rows(
     basis: &[u64],
     exponents: &[u64],
     table: &[u64],
-    index: &[u64],
+    index: &[u16],
     len: usize,
 )
-    requires { ⌜ Joining (now table) (now index) len (now basis) (now exponents) (now labels) × Apart (now exponents) (now apart) (take len (now table)) ⌝ }
-    ensures { λ _. ⌜ now (labels .exit) ≡ join (take len (now (table .entry))) (now (exponents .entry)) (now (basis .entry)) (now (labels .entry)) ⌝ }
+    requires { ⌜ Joining (now table) (now index) len (now basis) (now exponents) (now labels) × Apart (now exponents) (now apart) (keysIn len (now table)) ⌝ }
+    ensures { λ _. ⌜ now (labels .exit) ≡ join (keysIn len (now (table .entry))) (now (exponents .entry)) (now (basis .entry)) (now (labels .entry)) ⌝ }
 {
     let mut i = 0;
     while i < basis.len() {
@@ -252,11 +161,11 @@ pub fn join_pass(
     basis: &[u64],
     exponents: &[u64],
     table: &[u64],
-    index: &[u64],
+    index: &[u16],
     len: usize,
 )
     requires { ⌜ Joining (now table) (now index) len (now basis) (now exponents) (now labels) ⌝ }
-    ensures { λ _. ⌜ now (labels .exit) ≡ join (take len (now (table .entry))) (now (exponents .entry)) (now (basis .entry)) (now (labels .entry)) ⌝ }
+    ensures { λ _. ⌜ now (labels .exit) ≡ join (keysIn len (now (table .entry))) (now (exponents .entry)) (now (basis .entry)) (now (labels .entry)) ⌝ }
 {
     if exponents.len() < 8 {
         let mut none = [0u64; 1];
@@ -268,14 +177,14 @@ pub fn join_pass(
 }
 
 // The same with t + s for each exponent t of the multiplier.
-fn add_terms(table: &mut [u64], index: &mut [u64], len: usize, exponents: &[u64], s: u64) -> usize
+fn add_terms(table: &mut [u64], index: &mut [u16], len: usize, exponents: &[u64], s: u64) -> usize
     requires { ⌜ ForSums (now table) (now index) len (now exponents) s ⌝ }
-    ensures { λ r. ⌜ Stored (now (index .entry)) len (addTerms (now (exponents .entry)) s (take len (now (table .entry)))) (now (table .entry)) r (now (table .exit)) (now (index .exit)) ⌝ }
+    ensures { λ r. ⌜ Stored len (addTerms (now (exponents .entry)) s (keysIn len (now (table .entry)))) (now (table .entry)) r (now (table .exit)) (now (index .exit)) ⌝ }
 {
     let mut n = len;
     let mut i = 0;
     while i < exponents.len() {
-        n = add(table, index, n, exponents[i] + s);
+        n = support::put(table, index, n, exponents[i] + s);
         if 2048 < n {
             return n;
         }
@@ -287,14 +196,14 @@ fn add_terms(table: &mut [u64], index: &mut [u64], len: usize, exponents: &[u64]
 // The same, where `seen` may tell that all t + s are in the support already: a place that has s + 1 says so.
 fn add_sum(
     table: &mut [u64],
-    index: &mut [u64],
+    index: &mut [u16],
     seen: &mut [u64],
     len: usize,
     exponents: &[u64],
     s: u64,
 ) -> usize
-    requires { ⌜ ForSums (now table) (now index) len (now exponents) s × Seen (now exponents) (now seen) (take len (now table)) ⌝ }
-    ensures { λ r. ⌜ Added (now (exponents .entry)) (addTerms (now (exponents .entry)) s (take len (now (table .entry)))) (now (index .entry)) len (now (table .entry)) r (now (table .exit)) (now (index .exit)) (now (seen .exit)) ⌝ }
+    requires { ⌜ ForSums (now table) (now index) len (now exponents) s × Seen (now exponents) (now seen) (keysIn len (now table)) ⌝ }
+    ensures { λ r. ⌜ Added (now (exponents .entry)) (addTerms (now (exponents .entry)) s (keysIn len (now (table .entry)))) len (now (table .entry)) r (now (table .exit)) (now (index .exit)) (now (seen .exit)) ⌝ }
 {
     if seen.len() < 1021 {
         return add_terms(table, index, len, exponents, s);
@@ -312,7 +221,7 @@ fn add_sum(
 // round, what a pair of one of those adds is in the support already.
 fn add_pair(
     table: &mut [u64],
-    index: &mut [u64],
+    index: &mut [u16],
     seen: &mut [u64],
     len: usize,
     labels: &[u8],
@@ -323,8 +232,8 @@ fn add_pair(
     i: usize,
     k: usize,
 ) -> usize
-    requires { ⌜ Extending first (now table) (now index) len (now basis) (now exponents) (now labels) (now old) × Seen (now exponents) (now seen) (take len (now table)) × (i ≤ k) × (k < length (now basis)) ⌝ }
-    ensures { λ r. ⌜ Added (now (exponents .entry)) (addPair (now (exponents .entry)) (now (basis .entry)) (now (labels .entry)) i k (take len (now (table .entry)))) (now (index .entry)) len (now (table .entry)) r (now (table .exit)) (now (index .exit)) (now (seen .exit)) ⌝ }
+    requires { ⌜ Extending first (now table) (now index) len (now basis) (now exponents) (now labels) (now old) × Seen (now exponents) (now seen) (keysIn len (now table)) × (i ≤ k) × (k < length (now basis)) ⌝ }
+    ensures { λ r. ⌜ Added (now (exponents .entry)) (addPair (now (exponents .entry)) (now (basis .entry)) (now (labels .entry)) i k (keysIn len (now (table .entry)))) len (now (table .entry)) r (now (table .exit)) (now (index .exit)) (now (seen .exit)) ⌝ }
 {
     if labels[i] != labels[k] {
         return len;
@@ -340,7 +249,7 @@ fn add_pair(
 // Index i with itself and each index after it.
 fn add_row(
     table: &mut [u64],
-    index: &mut [u64],
+    index: &mut [u16],
     seen: &mut [u64],
     len: usize,
     labels: &[u8],
@@ -350,8 +259,8 @@ fn add_row(
     exponents: &[u64],
     i: usize,
 ) -> usize
-    requires { ⌜ Extending first (now table) (now index) len (now basis) (now exponents) (now labels) (now old) × Seen (now exponents) (now seen) (take len (now table)) × (i < length (now basis)) ⌝ }
-    ensures { λ r. ⌜ Added (now (exponents .entry)) (addRow (now (exponents .entry)) (now (basis .entry)) (now (labels .entry)) i (take len (now (table .entry)))) (now (index .entry)) len (now (table .entry)) r (now (table .exit)) (now (index .exit)) (now (seen .exit)) ⌝ }
+    requires { ⌜ Extending first (now table) (now index) len (now basis) (now exponents) (now labels) (now old) × Seen (now exponents) (now seen) (keysIn len (now table)) × (i < length (now basis)) ⌝ }
+    ensures { λ r. ⌜ Added (now (exponents .entry)) (addRow (now (exponents .entry)) (now (basis .entry)) (now (labels .entry)) i (keysIn len (now (table .entry)))) len (now (table .entry)) r (now (table .exit)) (now (index .exit)) (now (seen .exit)) ⌝ }
 {
     let mut n = len;
     let mut k = i;
@@ -380,7 +289,7 @@ fn add_row(
 // Every pair of the basis.
 fn add_rows(
     table: &mut [u64],
-    index: &mut [u64],
+    index: &mut [u16],
     seen: &mut [u64],
     len: usize,
     labels: &[u8],
@@ -389,8 +298,8 @@ fn add_rows(
     basis: &[u64],
     exponents: &[u64],
 ) -> usize
-    requires { ⌜ Extending first (now table) (now index) len (now basis) (now exponents) (now labels) (now old) × Seen (now exponents) (now seen) (take len (now table)) ⌝ }
-    ensures { λ r. ⌜ Stored (now (index .entry)) len (extend (now (exponents .entry)) (now (basis .entry)) (now (labels .entry)) (take len (now (table .entry)))) (now (table .entry)) r (now (table .exit)) (now (index .exit)) ⌝ }
+    requires { ⌜ Extending first (now table) (now index) len (now basis) (now exponents) (now labels) (now old) × Seen (now exponents) (now seen) (keysIn len (now table)) ⌝ }
+    ensures { λ r. ⌜ Stored len (extend (now (exponents .entry)) (now (basis .entry)) (now (labels .entry)) (keysIn len (now (table .entry)))) (now (table .entry)) r (now (table .exit)) (now (index .exit)) ⌝ }
 {
     let mut n = len;
     let mut i = 0;
@@ -437,7 +346,7 @@ fn is_settled(labels: &[u8], old: &[u8], first: bool) -> bool
 // while to keep the sums that were seen.
 pub fn extend_pass(
     table: &mut [u64],
-    index: &mut [u64],
+    index: &mut [u16],
     len: usize,
     labels: &[u8],
     old: &[u8],
@@ -446,7 +355,7 @@ pub fn extend_pass(
     exponents: &[u64],
 ) -> usize
     requires { ⌜ Extending first (now table) (now index) len (now basis) (now exponents) (now labels) (now old) ⌝ }
-    ensures { λ r. ⌜ Stored (now (index .entry)) len (extend (now (exponents .entry)) (now (basis .entry)) (now (labels .entry)) (take len (now (table .entry)))) (now (table .entry)) r (now (table .exit)) (now (index .exit)) ⌝ }
+    ensures { λ r. ⌜ Stored len (extend (now (exponents .entry)) (now (basis .entry)) (now (labels .entry)) (keysIn len (now (table .entry)))) (now (table .entry)) r (now (table .exit)) (now (index .exit)) ⌝ }
 {
     if is_settled(labels, old, first) {
         return len;

@@ -9,7 +9,7 @@ use native.Mathlib.Nat.{eq-or-lt-of-le}
 use native.Mathlib.Omega.{arith}
 use lib.ListN.{length}
 use Rattle.support.specs.Sets.{Rising, In, member, insert}
-use Rattle.support.proofs.Laws.{insert-member, length-insert-new}
+use Rattle.support.proofs.Elements.{insert-member, length-insert-new}
 use Rattle.blocks.proofs.Growth.{Extends, insert-grows}
 use Rattle.rounds.specs.Rounds.{Bases, State, Closing, start, round, after, sameState, closeFrom, closing}
 use Rattle.rounds.proofs.Same.{sameState-refl, sameState-true, close-next}

@@ -9,7 +9,7 @@ use lib.ListN.{length, getD}
 use lib.Dec.{eqb}
 use borrow.Author.Tests.{eqb-true, eq-eqb}
 use Rattle.support.specs.Sets.{Above, Rising, In, member}
-use Rattle.blocks.proofs.Members.{not-nil, in-cons, in-here, in-there}
+use Rattle.support.proofs.Elements.{not-nil, in-cons, in-here, in-there}
 use Rattle.rounds.specs.Rounds.{Bases, closing}
 use Rattle.rounds.specs.Meaning.{Closed, Other, Least, Lowest}
 use Rattle.rounds.proofs.Closing.{closing-rising}

@@ -12,16 +12,15 @@ use lib.Seq.{getD-drop, length-take-le}
 use Rattle.counting.specs.Counting.{listed, fromTo, sumTo}
 use Rattle.counting.proofs.Listed.{listed-length, listed-same, listed-at, listed-all}
 use Rattle.counting.proofs.Steps.{fromTo-reaches}
-use Rattle.support.specs.Table.{Grown}
+use Rattle.support.specs.Table.{keysIn, Grown, Stored}
 use Rattle.blocks.specs.Join.{join}
 use Rattle.blocks.specs.Extend.{extend, blockCount}
-use Rattle.blocks.specs.Index.{Stored}
 use Rattle.blocks.specs.Limits.{Bounded}
 use Rattle.blocks.specs.Filled.{Full, Filled}
 use Rattle.blocks.specs.Fresh.{Joins, Through, Blocks}
 use Rattle.blocks.proofs.Laws.{join-long, blocks-few}
 use Rattle.blocks.proofs.Full.{extend-full}
-use Rattle.blocks.proofs.Growth.{Extends, fromTo-extends, extend-extends, full-keeps, filled-keeps, grown-take}
+use Rattle.blocks.proofs.Growth.{Extends, fromTo-extends, extend-extends, full-keeps, filled-keeps}
 use Rattle.rounds.specs.Rounds.{Bases, singles, joinAll, extendAll}
 use Rattle.rounds.specs.Bytes.{blockBytes, part, basesIn, labelsIn}
 use Rattle.rounds.specs.Arrays.{Sizes, Arrays, Labelled, joinAt, extendAt, FilledAll, FreshAt}
@@ -147,11 +146,11 @@ module _ (keys sizes exponents counts : List ℕ) (s : Sizes sizes) (j : ℕ) (h
   unfolding basesIn
   blocks-at l b = let p = add-sub-cancel-left (64 * j) (getD sizes j 0) in rw p (rw (labels-at sizes l j h) at b)
 
-  pub extended-at : (idx : List ℕ) (n : ℕ) (S l t : List ℕ) (r : ℕ) (t′ idx′ : List ℕ)
-      → Stored idx n (extend (take (32 * j + getD counts j 0 - 32 * j) (drop (32 * j) exponents)) (take (64 * j + getD sizes j 0 - 64 * j) (drop (64 * j) keys)) (take (64 * j + getD sizes j 0 - 64 * j) (drop (64 * j) l)) S) t r t′ idx′
-      → Stored idx n (extendAt (basesIn keys sizes exponents counts) (labelsIn sizes l) j S) t r t′ idx′
+  pub extended-at : (n : ℕ) (S l t : List ℕ) (r : ℕ) (t′ idx′ : List ℕ)
+      → Stored n (extend (take (32 * j + getD counts j 0 - 32 * j) (drop (32 * j) exponents)) (take (64 * j + getD sizes j 0 - 64 * j) (drop (64 * j) keys)) (take (64 * j + getD sizes j 0 - 64 * j) (drop (64 * j) l)) S) t r t′ idx′
+      → Stored n (extendAt (basesIn keys sizes exponents counts) (labelsIn sizes l) j S) t r t′ idx′
   unfolding basesIn
-  extended-at idx n S l t r t′ idx′ g =
+  extended-at n S l t r t′ idx′ g =
       let p = add-sub-cancel-left (64 * j) (getD sizes j 0) in
       let q = add-sub-cancel-left (32 * j) (getD counts j 0) in
       rw (labels-at sizes l j h) (rw (p, q) at g)
@@ -259,6 +258,6 @@ module _ (g : Bases) (L : List (List ℕ)) where
   filled-next first S = record { at = λ j h. record { full = λ _. all-full S j h } }
 
   -- what is filled stays so while S grows
-  pub filled-on : (first : Bool) (S₀ S t : List ℕ) (n : ℕ) (t′ : List ℕ) → Grown S t n t′ → n ≤ 2048 → Extends S₀ S → FilledAll first g L S₀ → FilledAll first g L (take n t′)
+  pub filled-on : (first : Bool) (S₀ S t : List ℕ) (n : ℕ) (t′ : List ℕ) → Grown S t n t′ → n ≤ 2048 → Extends S₀ S → FilledAll first g L S₀ → FilledAll first g L (keysIn n t′)
   filled-on first S₀ S t n t′ k b x f =
-      record { at = λ j h. rw (grown-take S t n t′ k b) (filled-keeps first (g .multiplier j) (g .basis j) (getD L j []) S₀ S x (f .at j h)) }
+      record { at = λ j h. rw (k .keys b) (filled-keeps first (g .multiplier j) (g .basis j) (getD L j []) S₀ S x (f .at j h)) }

@@ -5,13 +5,10 @@ use mathlib.Core.List.{List}
 use Prim.Native.Nat.{ℕ, zero, suc, _+_, _-_, _≤_, _<_}
 use native.Mathlib.Omega.{arith}
 use lib.Dec.{eqb, ltb}
-use lib.ListN.{length, take}
-use lib.Seq.{length-take-le}
-use Rattle.support.proofs.Laws.{inside}
+use lib.ListN.{length}
 use borrow.Author.Tests.{eqb-true, eq-eqb, ltb-true, ltb-false, le-ltb}
-use Rattle.support.specs.Table.{Holds}
-use Rattle.blocks.specs.Index.{Indexed}
-use Rattle.blocks.proofs.Growth.{Extends, extends-refl, extends-trans, Held, held-start, held-step, held-stop, held-end, count-held, grown-length, grown-take}
+use Rattle.support.specs.Table.{keysIn, Holds, Indexed}
+use Rattle.blocks.proofs.Growth.{Extends, extends-refl, extends-trans, Growing, growing-start, growing-step, growing-stop, growing-end, grown-length}
 use Rattle.rounds.specs.Rounds.{Bases, State, Closing, singles, start, joinAll, round, same, sameState, closeFrom, closing}
 use Rattle.rounds.specs.Bytes.{blockBytes, labelsIn}
 use Rattle.rounds.specs.Arrays.{Sizes, Labelled, FilledAll, latest, RecentAll, roundFrom, Rounded, Settled}
@@ -75,60 +72,58 @@ module _ (few len : ℕ) (l l′ : List ℕ) where
 -- ---- the loop: after c rounds, what is left of 578 gives the outcome o
 
 module _ (g : Bases) (sizes : List ℕ) where
-  pub record Rounding (t₀ : List ℕ) (o : Closing) (l : List ℕ) (since n : ℕ) (t idx : List ℕ) (c : ℕ) : Type 0 where
+  pub record Rounding (t₀ : List ℕ) (n₀ : ℕ) (o : Closing) (l : List ℕ) (since n : ℕ) (t idx : List ℕ) (c : ℕ) : Type 0 where
     pub upto : c ≤ 578
     pub labels : Labelled sizes l
-    pub held : Held t₀ (o .state .support) (λ S. closeFrom g (578 - c) (record { labels = labelsIn sizes l; support = S }) c .state .support) n t
-    pub index : Indexed idx (take n t)
-    pub rest : closeFrom g (578 - c) (record { labels = labelsIn sizes l; support = take n t }) c ≡ o
-    pub filled : FilledAll (eqb c 0) g (labelsIn sizes l) (take n t)
+    pub growing : Growing t₀ n₀ (o .state .support) (λ S. closeFrom g (578 - c) (record { labels = labelsIn sizes l; support = S }) c .state .support) n t idx
+    pub rest : closeFrom g (578 - c) (record { labels = labelsIn sizes l; support = keysIn n t }) c ≡ o
+    pub filled : FilledAll (eqb c 0) g (labelsIn sizes l) (keysIn n t)
     pub came : since ≤ n
-    pub recent : RecentAll g (take n t) (labelsIn sizes l) (latest idx since n)
+    pub recent : RecentAll g (keysIn n t) (labelsIn sizes l) (latest t since n)
 
-  module _ (s : Sizes sizes) (t₀ : List ℕ) (wide : 2048 ≤ length t₀) where
-    pub rounding-start : (n : ℕ) (l idx : List ℕ) → Holds t₀ n → Indexed idx (take n t₀) → Labelled sizes l → labelsIn sizes l ≡ singles g → Rounding t₀ (closing g (take n t₀)) l 0 n t₀ idx 0
+  module _ (s : Sizes sizes) (t₀ : List ℕ) where
+    pub rounding-start : (n : ℕ) (l idx : List ℕ) → Holds t₀ n → Indexed idx t₀ n → Labelled sizes l → labelsIn sizes l ≡ singles g → Rounding t₀ n (closing g (keysIn n t₀)) l 0 n t₀ idx 0
     unfolding closing start
     rounding-start n l idx h x w e = record {
       upto = omega arith;
       labels = w;
-      held = rw e (held-start t₀ wide (λ S. closeFrom g 578 (record { labels = singles g; support = S }) 0 .state .support) n h);
-      index = x;
+      growing = rw e (growing-start t₀ (λ S. closeFrom g 578 (record { labels = singles g; support = S }) 0 .state .support) n idx h x);
       rest = rw e refl;
       filled = record { at = λ j b. record { full = λ q. never (sym q ∙ eq-eqb 0 0 refl) } };
       came = omega arith;
-      recent = rw e (recent-start g idx (take n t₀) x n (length-take-le n t₀ (inside h)));
+      recent = rw e (recent-start g t₀ n);
     }
 
-    module _ (o : Closing) (l : List ℕ) (since n : ℕ) (t idx : List ℕ) (c : ℕ) (r : Rounding t₀ o l since n t idx c) where
-      pub rounding-out : 578 ≤ c → Settled o t₀ (record { labels = l; len = n; rounds = c }) t
+    module _ (n₀ : ℕ) (o : Closing) (l : List ℕ) (since n : ℕ) (t idx : List ℕ) (c : ℕ) (r : Rounding t₀ n₀ o l since n t idx c) where
+      pub rounding-out : 578 ≤ c → Settled o n₀ t₀ (record { labels = l; len = n; rounds = c }) t idx
       unfolding closeFrom
       rounding-out h =
           let z : 578 - c ≡ 0 = omega arith in
-          let e : record { state = record { labels = labelsIn sizes l; support = take n t }; rounds = c } ≡ o = rw z at (r .rest) in
+          let e : record { state = record { labels = labelsIn sizes l; support = keysIn n t }; rounds = c } ≡ o = rw z at (r .rest) in
           record {
-            grown = held-end t₀ wide (o .state .support) _ n t (r .held) (rw z refl);
+            stored = growing-end t₀ n₀ (o .state .support) _ n t idx (r .growing) (rw z refl);
             rounds = λ _. ap (λ (v : Closing). v .rounds) e;
             labels = λ _. r .labels .bytes ∙ ap (λ (v : Closing). blockBytes (v .state .labels)) e;
           }
 
       abbrev old : State
-      old = record { labels = labelsIn sizes l; support = take n t }
+      old = record { labels = labelsIn sizes l; support = keysIn n t }
 
-      module _ (h : c < 578) (n′ : ℕ) (t′ idx′ l′ : List ℕ) (k : Rounded (roundFrom g (labelsIn sizes l) (take n t)) idx n t n′ t′ idx′ l′) where
+      module _ (h : c < 578) (n′ : ℕ) (t′ idx′ l′ : List ℕ) (k : Rounded (roundFrom g (labelsIn sizes l) (keysIn n t)) n t n′ t′ idx′ l′) where
         next-labelled : Labelled sizes l′
         unfolding round
-        next-labelled = joined-labelled g (take n t) (labelsIn sizes l) sizes l s (r .labels) refl l′ (k .labels)
+        next-labelled = joined-labelled g (keysIn n t) (labelsIn sizes l) sizes l s (r .labels) refl l′ (k .labels)
 
         next-labels : labelsIn sizes l′ ≡ round g old .labels
         unfolding round
-        next-labels = joined-labels g (take n t) (labelsIn sizes l) sizes l s (r .labels) refl l′ (k .labels)
+        next-labels = joined-labels g (keysIn n t) (labelsIn sizes l) sizes l s (r .labels) refl l′ (k .labels)
 
         step : closeFrom g (578 - c) old c ≡ cond (sameState old (round g old)) (record { state = round g old; rounds = c + 1 }) (closeFrom g (578 - (c + 1)) (round g old) (c + 1))
         step = let z : 578 - c ≡ suc (578 - (c + 1)) = omega arith in rw z (close-next g _ old c)
 
-        full : 2048 < n′ → Settled o t₀ (record { labels = l′; len = n′; rounds = c + 1 }) t′
+        full : 2048 < n′ → Settled o n₀ t₀ (record { labels = l′; len = n′; rounds = c + 1 }) t′ idx′
         full b = record {
-          grown = held-stop t₀ wide (o .state .support) _ n t (r .held) _ n′ t′ (k .support .grown) after (ap (λ (v : Closing). v .state .support) step) b (more (sameState old (round g old)));
+          stored = growing-stop t₀ n₀ (o .state .support) _ n t idx (r .growing) _ n′ t′ idx′ (k .support) after (ap (λ (v : Closing). v .state .support) step) b (more (sameState old (round g old)));
           rounds = λ q. absurd (omega arith);
           labels = λ q. absurd (omega arith);
         }
@@ -140,31 +135,31 @@ module _ (g : Bases) (sizes : List ℕ) where
             more true = extends-refl _
             more false = close-extends g (578 - (c + 1)) (round g old) (c + 1)
 
-        size : length (take n t) ≡ n
-        size = count-held t₀ wide (o .state .support) _ n t (r .held)
+        size : length (keysIn n t) ≡ n
+        size = r .growing .holds .apart
 
-        done : n′ ≤ 2048 → n′ ≡ n → l ≡ l′ → Settled o t₀ (record { labels = l′; len = n′; rounds = c + 1 }) t′
+        done : n′ ≤ 2048 → n′ ≡ n → l ≡ l′ → Settled o n₀ t₀ (record { labels = l′; len = n′; rounds = c + 1 }) t′ idx′
         done b e f =
             let x = round-extends g old in
-            let p : round g old .support ≡ take n t = x .same (grown-length _ t n′ t′ (k .support .grown) b ∙ e ∙ sym size) in
+            let p : round g old .support ≡ keysIn n t = x .same (grown-length _ t n′ t′ (k .support .grown) b ∙ e ∙ sym size) in
             let u : sameState old (round g old) ≡ true = state-same old (round g old) (sym next-labels ∙ ap (labelsIn sizes) (sym f)) p in
             let v : record { state = round g old; rounds = c + 1 } ≡ o = rw u at (sym step ∙ r .rest) in
             record {
-              grown =
-                  held-end t₀ wide (o .state .support) (λ X. X) n′ t′
-                  (held-step t₀ wide (o .state .support) _ n t (r .held) _ n′ t′ (k .support .grown) (λ X. X) (r .held .todo ∙ ap (λ (y : Closing). y .state .support) (sym v)) b x)
+              stored =
+                  growing-end t₀ n₀ (o .state .support) (λ X. X) n′ t′ idx′
+                  (growing-step t₀ n₀ (o .state .support) _ n t idx (r .growing) _ n′ t′ idx′ (k .support) (λ X. X) (r .growing .todo ∙ ap (λ (y : Closing). y .state .support) (sym v)) b x)
                   refl;
               rounds = λ _. ap (λ (y : Closing). y .rounds) v;
               labels = λ _. k .labels ∙ ap (λ (y : Closing). blockBytes (y .state .labels)) v;
             }
 
-        pub rounding-last : cond (ltb 2048 n′) true (cond (eqb n′ n) (same l l′) false) ≡ true → Settled o t₀ (record { labels = l′; len = n′; rounds = c + 1 }) t′
+        pub rounding-last : cond (ltb 2048 n′) true (cond (eqb n′ n) (same l l′) false) ≡ true → Settled o n₀ t₀ (record { labels = l′; len = n′; rounds = c + 1 }) t′ idx′
         rounding-last = last-true n n′ l l′ full done
 
-        pub rounding-more : cond (ltb 2048 n′) true (cond (eqb n′ n) (same l l′) false) ≡ false → Rounding t₀ o l′ n n′ t′ idx′ (c + 1)
+        pub rounding-more : cond (ltb 2048 n′) true (cond (eqb n′ n) (same l l′) false) ≡ false → Rounding t₀ n₀ o l′ n n′ t′ idx′ (c + 1)
         rounding-more e =
             let b : n′ ≤ 2048 = last-small n n′ l l′ e in
-            let q : take n′ t′ ≡ round g old .support = grown-take _ t n′ t′ (k .support .grown) b in
+            let q : keysIn n′ t′ ≡ round g old .support = k .support .grown .keys b in
             let u : sameState old (round g old) ≡ false =
             state-differs old (round g old)
             (λ x y. last-false n n′ l l′ e (sym (grown-length _ t n′ t′ (k .support .grown) b) ∙ ap length y ∙ size) (labelled-same (r .labels) next-labelled (sym (next-labels ∙ x)))) in
@@ -172,10 +167,9 @@ module _ (g : Bases) (sizes : List ℕ) where
             record {
               upto = omega arith;
               labels = next-labelled;
-              held = rw next-labels (held-step t₀ wide (o .state .support) _ n t (r .held) _ n′ t′ (k .support .grown) (λ X. closeFrom g (578 - (c + 1)) (record { labels = round g old .labels; support = X }) (c + 1) .state .support) (r .held .todo ∙ ap (λ (y : Closing). y .state .support) (sym v)) b (round-extends g old));
-              index = rw q (k .support .index b);
+              growing = rw next-labels (growing-step t₀ n₀ (o .state .support) _ n t idx (r .growing) _ n′ t′ idx′ (k .support) (λ X. closeFrom g (578 - (c + 1)) (record { labels = round g old .labels; support = X }) (c + 1) .state .support) (r .growing .todo ∙ ap (λ (y : Closing). y .state .support) (sym v)) b (round-extends g old));
               rest = rw (next-labels, q) v;
               filled = rw (next-labels, q) (round-fills g (eqb (c + 1) 0) old);
               came = omega (arith, size, round-extends g old .more, grown-length _ t n′ t′ (k .support .grown) b);
-              recent = rw (next-labels, q) (recent-next g old idx n (r .index) size _ (r .recent) idx′ n′ (k .support .index b) (grown-length _ t n′ t′ (k .support .grown) b) (omega (arith, size, round-extends g old .more, grown-length _ t n′ t′ (k .support .grown) b)) (k .support .first b));
+              recent = rw (next-labels, q) (recent-next g old t n refl _ (r .recent) t′ n′ q (omega (arith, size, round-extends g old .more, grown-length _ t n′ t′ (k .support .grown) b)) (k .support .first b));
             }

@@ -4,10 +4,9 @@ use mathlib.Core.Bool.{Bool}
 use mathlib.Core.List.{List, []}
 use Prim.Native.Nat.{ℕ, _-_, _*_, _^_, _≤_, _<_}
 use lib.ListN.{length, getD, take, drop, set}
-use Rattle.support.specs.Table.{Holds, Grown}
+use Rattle.support.specs.Table.{keysIn, Holds, Indexed, Stored}
 use Rattle.blocks.specs.Join.{join}
 use Rattle.blocks.specs.Extend.{extend}
-use Rattle.blocks.specs.Index.{arrivals, Indexed, Stored}
 use Rattle.blocks.specs.Fresh.{Joins, Through, Blocks, Recent}
 use Rattle.blocks.specs.Limits.{Bounded}
 use Rattle.blocks.specs.Filled.{Filled}
@@ -48,13 +47,13 @@ pub record FilledAll (first : Bool) (g : Bases) (L : List (List ℕ)) (S : List 
 -- what a joining asks: the support in its table, with its index, the arrays, and the blocks
 pub record JoiningAll (t idx : List ℕ) (len : ℕ) (keys sizes exponents counts l : List ℕ) : Type 0 where
   pub support : Holds t len
-  pub index : Indexed idx (take len t)
+  pub index : Indexed idx t len
   pub arrays : Arrays keys sizes exponents counts
   pub labels : Labelled sizes l
 
 -- the members that came after the first a of b
 unfoldable pub latest : List ℕ → ℕ → ℕ → List ℕ
-latest idx a b = take (b - a) (drop a (arrivals idx))
+latest t a b = take (b - a) (drop a t)
 
 -- what all members of S link is in one block already, or one of the members F that came last links it, in every basis
 pub record RecentAll (g : Bases) (S : List ℕ) (L : List (List ℕ)) (F : List ℕ) : Type 0 where
@@ -67,13 +66,13 @@ pub record JoiningAt (t idx : List ℕ) (since len : ℕ) (keys sizes exponents 
   pub basis : j < 9
   pub upto : since ≤ len
   pub blocks : Blocks (basesIn keys sizes exponents counts .basis j) (getD (labelsIn sizes l) j [])
-  pub recent : Recent (take len t) (basesIn keys sizes exponents counts .multiplier j) (basesIn keys sizes exponents counts .basis j) (getD (labelsIn sizes l) j []) (latest idx since len)
+  pub recent : Recent (keysIn len t) (basesIn keys sizes exponents counts .multiplier j) (basesIn keys sizes exponents counts .basis j) (getD (labelsIn sizes l) j []) (latest t since len)
 
 -- and that of every basis
 pub record JoiningSince (t idx : List ℕ) (since len : ℕ) (keys sizes exponents counts l : List ℕ) : Type 0 where
   pub joining : JoiningAll t idx len keys sizes exponents counts l
   pub upto : since ≤ len
-  pub recent : RecentAll (basesIn keys sizes exponents counts) (take len t) (labelsIn sizes l) (latest idx since len)
+  pub recent : RecentAll (basesIn keys sizes exponents counts) (keysIn len t) (labelsIn sizes l) (latest t since len)
 
 -- what the joining of basis j by some members asks
 pub record JoiningFresh (keys sizes exponents counts l : List ℕ) (j : ℕ) : Type 0 where
@@ -92,31 +91,32 @@ pub record FreshAt (g : Bases) (L : List (List ℕ)) (j : ℕ) (F l′ : List �
 pub record ExtendingAll (first : Bool) (t idx : List ℕ) (len : ℕ) (keys sizes exponents counts l l₀ : List ℕ) : Type 0 where
   pub joining : JoiningAll t idx len keys sizes exponents counts l
   pub before : Labelled sizes l₀
-  pub filled : FilledAll first (basesIn keys sizes exponents counts) (labelsIn sizes l₀) (take len t)
+  pub filled : FilledAll first (basesIn keys sizes exponents counts) (labelsIn sizes l₀) (keysIn len t)
 
 -- what a round asks: what an extension asks, and that the members after the first `since` came last
 pub record RoundAsks (first : Bool) (t idx : List ℕ) (since len : ℕ) (keys sizes exponents counts l l₀ : List ℕ) : Type 0 where
   pub extending : ExtendingAll first t idx len keys sizes exponents counts l l₀
   pub upto : since ≤ len
-  pub recent : RecentAll (basesIn keys sizes exponents counts) (take len t) (labelsIn sizes l) (latest idx since len)
+  pub recent : RecentAll (basesIn keys sizes exponents counts) (keysIn len t) (labelsIn sizes l) (latest t since len)
 
 -- a round from the blocks L and the set S
 abbrev pub roundFrom : Bases → List (List ℕ) → List ℕ → State
 roundFrom g L S = round g (record { labels = L; support = S })
 
--- what a round leaves: the state s′, where the index of n keys was idx
-pub record Rounded (s′ : State) (idx : List ℕ) (n : ℕ) (t : List ℕ) (r : ℕ) (t′ idx′ l′ : List ℕ) : Type 0 where
+-- what a round leaves: the state s′, where the table had n keys
+pub record Rounded (s′ : State) (n : ℕ) (t : List ℕ) (r : ℕ) (t′ idx′ l′ : List ℕ) : Type 0 where
   pub labels : l′ ≡ blockBytes (s′ .labels)
-  pub support : Stored idx n (s′ .support) t r t′ idx′
+  pub support : Stored n (s′ .support) t r t′ idx′
 
--- what the closing asks: the support in its table, the arrays, and every basis as single blocks
-pub record Starting (t : List ℕ) (len : ℕ) (keys sizes exponents counts l : List ℕ) : Type 0 where
+-- what the closing asks: the support in its table, with its index, the arrays, and every basis as single blocks
+pub record Starting (t idx : List ℕ) (len : ℕ) (keys sizes exponents counts l : List ℕ) : Type 0 where
   pub support : Holds t len
+  pub index : Indexed idx t len
   pub arrays : Arrays keys sizes exponents counts
   pub labels : l ≡ blockBytes (singles (basesIn keys sizes exponents counts))
 
 -- what the closing leaves: the outcome o, where its S has at most 2,048 members; else 2,049 as their number
-pub record Settled (o : Closing) (t : List ℕ) (r : Closed) (t′ : List ℕ) : Type 0 where
-  pub grown : Grown (o .state .support) t (r .len) t′
+pub record Settled (o : Closing) (n : ℕ) (t : List ℕ) (r : Closed) (t′ idx′ : List ℕ) : Type 0 where
+  pub stored : Stored n (o .state .support) t (r .len) t′ idx′
   pub rounds : r .len ≤ 2048 → r .rounds ≡ o .rounds
   pub labels : r .len ≤ 2048 → r .labels ≡ blockBytes (o .state .labels)

@@ -1,13 +1,13 @@
 // The joining rule over all nine bases, round by round. Basis j stands from place 64j on in `keys` and has sizes[j] monomials;
 // the exponents of its multiplier stand from place 32j on in `exponents`, counts[j] of them; its block numbers stand from
-// place 64j on in `labels`. The first `len` numbers of `table` are the support.
+// place 64j on in `labels`. The first `len` numbers of `table` are the support, in the order in which they came, with `index`.
 ghost use mathlib.Core.Path.{_≡_};
 ghost use Prim.Native.Nat.{_+_, _*_, _≤_, _<_};
-ghost use lib.ListN.{length, getD, take};
+ghost use lib.ListN.{length, getD};
 ghost use lib.Dec.{ltb, eqb};
 ghost use mathlib.Core.Bool.{true, false, cond};
 ghost use Rattle.counting.specs.Counting.{listed};
-ghost use Rattle.blocks.specs.Index.{Stored};
+ghost use Rattle.support.specs.Table.{keysIn, Stored};
 ghost use Rattle.rounds.specs.Rounds.{joinAll, extendAll, same, closing, blocksIn};
 ghost use Rattle.rounds.specs.Bytes.{blockBytes, basesIn, labelsIn};
 ghost use Rattle.rounds.specs.Arrays.{Sizes, joinAt, extendAt, JoiningAll, JoiningFresh, JoiningAt, JoiningSince, FreshAt, roundFrom, ExtendingAll, RoundAsks, Rounded, Starting, Settled};
@@ -48,12 +48,12 @@ fn join_pairs_at(
     exponents: &[u64],
     counts: &[usize],
     table: &[u64],
-    index: &[u64],
+    index: &[u16],
     len: usize,
     j: usize,
 )
     requires { ⌜ JoiningAll (now table) (now index) len (now keys) (now sizes) (now exponents) (now counts) (now labels) × (j < 9) ⌝ }
-    ensures { λ _. ⌜ now (labels .exit) ≡ blockBytes (joinAt (basesIn (now (keys .entry)) (now (sizes .entry)) (now (exponents .entry)) (now (counts .entry))) (take len (now (table .entry))) j (labelsIn (now (sizes .entry)) (now (labels .entry)))) ⌝ }
+    ensures { λ _. ⌜ now (labels .exit) ≡ blockBytes (joinAt (basesIn (now (keys .entry)) (now (sizes .entry)) (now (exponents .entry)) (now (counts .entry))) (keysIn len (now (table .entry))) j (labelsIn (now (sizes .entry)) (now (labels .entry)))) ⌝ }
 {
     let a = 64 * j;
     let e = a + sizes[j];
@@ -97,18 +97,17 @@ fn join_at(
     exponents: &[u64],
     counts: &[usize],
     table: &[u64],
-    index: &[u64],
+    index: &[u16],
     since: usize,
     len: usize,
     j: usize,
 )
     requires { ⌜ JoiningAt (now table) (now index) since len (now keys) (now sizes) (now exponents) (now counts) (now labels) j ⌝ }
-    ensures { λ _. ⌜ now (labels .exit) ≡ blockBytes (joinAt (basesIn (now (keys .entry)) (now (sizes .entry)) (now (exponents .entry)) (now (counts .entry))) (take len (now (table .entry))) j (labelsIn (now (sizes .entry)) (now (labels .entry)))) ⌝ }
+    ensures { λ _. ⌜ now (labels .exit) ≡ blockBytes (joinAt (basesIn (now (keys .entry)) (now (sizes .entry)) (now (exponents .entry)) (now (counts .entry))) (keysIn len (now (table .entry))) j (labelsIn (now (sizes .entry)) (now (labels .entry)))) ⌝ }
 {
     if 2 * (len - since) < sizes[j] {
-        let p = 4096 + since;
-        let q = 4096 + len;
-        join_fresh_at(labels, keys, sizes, exponents, counts, &index[p..q], j);
+        let fresh = &table[since..len];
+        join_fresh_at(labels, keys, sizes, exponents, counts, fresh, j);
     } else {
         join_pairs_at(labels, keys, sizes, exponents, counts, table, index, len, j);
     }
@@ -122,12 +121,12 @@ fn join_all(
     exponents: &[u64],
     counts: &[usize],
     table: &[u64],
-    index: &[u64],
+    index: &[u16],
     since: usize,
     len: usize,
 )
     requires { ⌜ JoiningSince (now table) (now index) since len (now keys) (now sizes) (now exponents) (now counts) (now labels) ⌝ }
-    ensures { λ _. ⌜ now (labels .exit) ≡ blockBytes (joinAll (basesIn (now (keys .entry)) (now (sizes .entry)) (now (exponents .entry)) (now (counts .entry))) (take len (now (table .entry))) (labelsIn (now (sizes .entry)) (now (labels .entry)))) ⌝ }
+    ensures { λ _. ⌜ now (labels .exit) ≡ blockBytes (joinAll (basesIn (now (keys .entry)) (now (sizes .entry)) (now (exponents .entry)) (now (counts .entry))) (keysIn len (now (table .entry))) (labelsIn (now (sizes .entry)) (now (labels .entry)))) ⌝ }
 {
     let mut j = 0;
     while j < 9 {
@@ -150,7 +149,7 @@ fn join_all(
 // The support's extension by the blocks of basis j; `old` has the blocks before this round's joining.
 fn extend_at(
     table: &mut [u64],
-    index: &mut [u64],
+    index: &mut [u16],
     len: usize,
     labels: &[u8],
     old: &[u8],
@@ -162,7 +161,7 @@ fn extend_at(
     j: usize,
 ) -> usize
     requires { ⌜ ExtendingAll first (now table) (now index) len (now keys) (now sizes) (now exponents) (now counts) (now labels) (now old) × (j < 9) ⌝ }
-    ensures { λ r. ⌜ Stored (now (index .entry)) len (extendAt (basesIn (now (keys .entry)) (now (sizes .entry)) (now (exponents .entry)) (now (counts .entry))) (labelsIn (now (sizes .entry)) (now (labels .entry))) j (take len (now (table .entry)))) (now (table .entry)) r (now (table .exit)) (now (index .exit)) ⌝ }
+    ensures { λ r. ⌜ Stored len (extendAt (basesIn (now (keys .entry)) (now (sizes .entry)) (now (exponents .entry)) (now (counts .entry))) (labelsIn (now (sizes .entry)) (now (labels .entry))) j (keysIn len (now (table .entry)))) (now (table .entry)) r (now (table .exit)) (now (index .exit)) ⌝ }
 {
     let a = 64 * j;
     let e = a + sizes[j];
@@ -183,7 +182,7 @@ fn extend_at(
 // The support's extension by every basis.
 fn extend_all(
     table: &mut [u64],
-    index: &mut [u64],
+    index: &mut [u16],
     len: usize,
     labels: &[u8],
     old: &[u8],
@@ -194,7 +193,7 @@ fn extend_all(
     counts: &[usize],
 ) -> usize
     requires { ⌜ ExtendingAll first (now table) (now index) len (now keys) (now sizes) (now exponents) (now counts) (now labels) (now old) ⌝ }
-    ensures { λ r. ⌜ Stored (now (index .entry)) len (extendAll (basesIn (now (keys .entry)) (now (sizes .entry)) (now (exponents .entry)) (now (counts .entry))) (labelsIn (now (sizes .entry)) (now (labels .entry))) (take len (now (table .entry)))) (now (table .entry)) r (now (table .exit)) (now (index .exit)) ⌝ }
+    ensures { λ r. ⌜ Stored len (extendAll (basesIn (now (keys .entry)) (now (sizes .entry)) (now (exponents .entry)) (now (counts .entry))) (labelsIn (now (sizes .entry)) (now (labels .entry))) (keysIn len (now (table .entry)))) (now (table .entry)) r (now (table .exit)) (now (index .exit)) ⌝ }
 {
     let mut n = len;
     let mut j = 0;
@@ -231,12 +230,12 @@ fn round(
     exponents: &[u64],
     counts: &[usize],
     table: &mut [u64],
-    index: &mut [u64],
+    index: &mut [u16],
     since: usize,
     len: usize,
 ) -> usize
     requires { ⌜ RoundAsks first (now table) (now index) since len (now keys) (now sizes) (now exponents) (now counts) (now labels) (now old) ⌝ }
-    ensures { λ r. ⌜ Rounded (roundFrom (basesIn (now (keys .entry)) (now (sizes .entry)) (now (exponents .entry)) (now (counts .entry))) (labelsIn (now (sizes .entry)) (now (labels .entry))) (take len (now (table .entry)))) (now (index .entry)) len (now (table .entry)) r (now (table .exit)) (now (index .exit)) (now (labels .exit)) ⌝ }
+    ensures { λ r. ⌜ Rounded (roundFrom (basesIn (now (keys .entry)) (now (sizes .entry)) (now (exponents .entry)) (now (counts .entry))) (labelsIn (now (sizes .entry)) (now (labels .entry))) (keysIn len (now (table .entry)))) len (now (table .entry)) r (now (table .exit)) (now (index .exit)) (now (labels .exit)) ⌝ }
 {
     join_all(
         labels,
@@ -308,14 +307,13 @@ pub fn close(
     exponents: &[u64],
     counts: &[usize],
     table: &mut [u64],
+    index: &mut [u16],
     len: usize,
 ) -> Closed
-    requires { ⌜ Starting (now table) len (now keys) (now sizes) (now exponents) (now counts) start ⌝ }
-    ensures { λ r. ⌜ Settled (closing (basesIn (now (keys .entry)) (now (sizes .entry)) (now (exponents .entry)) (now (counts .entry))) (take len (now (table .entry)))) (now (table .entry)) r (now (table .exit)) ⌝ }
+    requires { ⌜ Starting (now table) (now index) len (now keys) (now sizes) (now exponents) (now counts) start ⌝ }
+    ensures { λ r. ⌜ Settled (closing (basesIn (now (keys .entry)) (now (sizes .entry)) (now (exponents .entry)) (now (counts .entry))) (keysIn len (now (table .entry)))) len (now (table .entry)) r (now (table .exit)) (now (index .exit)) ⌝ }
 {
     let mut labels = start;
-    let mut index = [0u64; 6144];
-    blocks::mark(&mut index, table, len);
     let mut n = len;
     let mut since = 0;
     let mut rounds = 0;
@@ -331,7 +329,7 @@ pub fn close(
             exponents,
             counts,
             table,
-            &mut index,
+            index,
             since,
             n,
         );

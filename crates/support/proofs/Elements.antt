@@ -46,6 +46,18 @@ pub append-in : (x : ℕ) (l m : List ℕ) → In x m → In x (l ++ m)
 append-in x [] m e = e
 append-in x (y ∷ ys) m e = in-there x y (ys ++ m) (append-in x ys m e)
 
+-- ---- a list with one more element
+
+pub in-snoc : (y : ℕ) (l : List ℕ) (k : ℕ) → In y (l ++ (k ∷ [])) → (k ≡ y) ⊎ In y l
+in-snoc y l k m = ⊎-elim (λ w. inr w) (λ w. ⊎-elim (λ e. inl e) (λ v. not-nil y v) (in-cons y k [] w)) (in-append y l (k ∷ []) m)
+
+pub snoc-keeps : (y : ℕ) (l : List ℕ) (k : ℕ) → In y l → In y (l ++ (k ∷ []))
+snoc-keeps y [] k m = not-nil y m
+snoc-keeps y (z ∷ zs) k m = ⊎-elim (λ q. in-here y z (zs ++ (k ∷ [])) q) (λ w. in-there y z (zs ++ (k ∷ [])) (snoc-keeps y zs k w)) (in-cons y z zs m)
+
+pub snoc-in : (l : List ℕ) (k : ℕ) → In k (l ++ (k ∷ []))
+snoc-in l k = append-in k l (k ∷ []) (in-here k k [] refl)
+
 -- ---- an insertion adds the one number, and nothing else
 
 pub in-insert : (x k : ℕ) (S : List ℕ) → In x (insert k S) → (k ≡ x) ⊎ In x S

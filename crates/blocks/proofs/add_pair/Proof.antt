@@ -3,7 +3,7 @@ use borrow.Author.Needs.{needs}
 use native.Mathlib.Omega.{arith}
 use borrow.Author.Tests.{not-true}
 use Rattle.blocks.proofs.Growth.{one-same, one-apart, pair-known}
-use Rattle.blocks.proofs.Index.{stored-none}
+use Rattle.support.proofs.Keys.{keys-rising, stored-none}
 use Rattle.blocks.proofs.add_pair.Statement.{statement}
 use Rattle.blocks.proofs.add_pair.Tie as tie
 
@@ -17,7 +17,7 @@ returns : tie.Need-returns
 returns c =
     let s = c .before .before .before .before .before .before .before .before .before .before in
     let p = s .pre .0 .joining in
-    rw (← one-apart _ _ _ _ _ _ (c .if1 .taken)) (record { stored = stored-none _ _ _ (p .support) (p .index); seen = s .pre .1 })
+    rw (← one-apart _ _ _ _ _ _ (c .if1 .taken)) (record { stored = stored-none (p .support) (p .index); seen = s .pre .1 })
 
 shared-slice-read-if3 : tie.Need-shared-slice-read-if3
 shared-slice-read-if3 c = search needs
@@ -29,8 +29,8 @@ returns-2 : tie.Need-returns-2
 returns-2 c =
     let s = c .before .before .before .before .before .before .before .before .before .before .before .before .before .before in
     let p = s .pre .0 .joining in
-    rw (← pair-known (s .args .first) _ _ _ _ _ _ _ (s .pre .0 .filled) (not-true _ (c .before .before .before .if2 .taken)) (s .pre .2) (s .pre .3) (c .if3 .taken) (p .support .rising))
-    (record { stored = stored-none _ _ _ (p .support) (p .index); seen = s .pre .1 })
+    rw (← pair-known (s .args .first) _ _ _ _ _ _ _ (s .pre .0 .filled) (not-true _ (c .before .before .before .if2 .taken)) (s .pre .2) (s .pre .3) (c .if3 .taken) (keys-rising _ _))
+    (record { stored = stored-none (p .support) (p .index); seen = s .pre .1 })
 
 mul-add-sum : tie.Need-mul-add-sum
 mul-add-sum c = search needs

@@ -4,7 +4,7 @@ use native.Mathlib.Omega.{arith}
 use mathlib.Core.Path.{sym}
 use Rattle.blocks.proofs.Members.{add-in, add-full}
 use Rattle.blocks.proofs.Growth.{add-extends}
-use Rattle.blocks.proofs.Index.{stored-none}
+use Rattle.support.proofs.Keys.{keys-rising, stored-none}
 use Rattle.blocks.proofs.Sums.{seen-more, seen-keeps}
 use Rattle.blocks.proofs.add_sum.Statement.{statement}
 use Rattle.blocks.proofs.add_sum.Tie as tie
@@ -36,8 +36,8 @@ add-if2 c = search needs
 returns-2 : tie.Need-returns-2
 returns-2 c =
     let s = c .before .before .before .before .before .before .before .before in
-    rw (add-full _ (s .args .s) _ (s .pre .0 .support .rising) (s .pre .1 .at _ (s .args .s) (c .if2 .taken)))
-    (record { stored = stored-none _ _ _ (s .pre .0 .support) (s .pre .0 .index); seen = s .pre .1 })
+    rw (add-full _ (s .args .s) _ (keys-rising _ _) (s .pre .1 .at _ (s .args .s) (c .if2 .taken)))
+    (record { stored = stored-none (s .pre .0 .support) (s .pre .0 .index); seen = s .pre .1 })
 
 add-terms-requires-2 : tie.Need-add-terms-requires-2
 add-terms-requires-2 c κs = c .before .before .before .before .before .before .before .before .before .before .pre .0

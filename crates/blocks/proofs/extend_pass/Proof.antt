@@ -3,7 +3,7 @@ use borrow.Author.Needs.{needs}
 use native.Mathlib.Omega.{arith}
 use mathlib.Core.Path.{sym, _∙_}
 use Rattle.blocks.proofs.Growth.{blocks-known}
-use Rattle.blocks.proofs.Index.{stored-none}
+use Rattle.support.proofs.Keys.{keys-rising, stored-none}
 use Rattle.blocks.proofs.Sums.{seen-none}
 use Rattle.blocks.proofs.extend_pass.Statement.{statement}
 use Rattle.blocks.proofs.extend_pass.Tie as tie
@@ -15,7 +15,7 @@ returns : tie.Need-returns
 returns c =
     let s = c .before .before .before .before .before .before .before .before in
     let p = s .pre .joining in
-    rw (← blocks-known (s .args .first) _ _ _ _ _ (s .pre .filled) (c .before .is-settled .ensures (c .if1 .taken)) (p .support .rising)) (stored-none _ _ _ (p .support) (p .index))
+    rw (← blocks-known (s .args .first) _ _ _ _ _ (s .pre .filled) (c .before .is-settled .ensures (c .if1 .taken)) (keys-rising _ _)) (stored-none (p .support) (p .index))
 
 slice-aggregate-add-rows : tie.Need-slice-aggregate-add-rows
 slice-aggregate-add-rows c = search needs

@@ -4,6 +4,7 @@ use native.Mathlib.Omega.{arith}
 use mathlib.Core.Path.{_≡_, refl, sym, ap, _∙_}
 use Prim.Native.Nat.{_-_, _≤_}
 use lib.ListN.{length, take}
+use Rattle.support.specs.Table.{keysIn}
 use Rattle.counting.specs.Counting.{fromTo}
 use Rattle.counting.proofs.Steps.{fromTo-done, fromTo-more}
 use Rattle.blocks.specs.Join.{joinPair, joinRow}
@@ -12,7 +13,7 @@ use Rattle.blocks.proofs.join_row.Statement.{statement}
 use Rattle.blocks.proofs.join_row.Tie as tie
 
 abbrev Inv-loop : tie.InvT-loop
-Inv-loop labels₀ apart₀ basis exponents table index len i k₀ labels apart k = (k ≤ length basis) × (length labels ≡ length labels₀) × (length apart ≡ length apart₀) × (fromTo k (length basis) (joinPair (take len table) exponents basis i) labels ≡ joinRow (take len table) exponents basis i labels₀) × Apart exponents apart (take len table)
+Inv-loop labels₀ apart₀ basis exponents table index len i k₀ labels apart k = (k ≤ length basis) × (length labels ≡ length labels₀) × (length apart ≡ length apart₀) × (fromTo k (length basis) (joinPair (keysIn len table) exponents basis i) labels ≡ joinRow (keysIn len table) exponents basis i labels₀) × Apart exponents apart (keysIn len table)
 
 abbrev μ-loop : tie.MeasureT-loop
 μ-loop labels₀ apart₀ basis exponents table index len i k₀ labels apart k = length basis - k

@@ -4,6 +4,7 @@ use native.Mathlib.Omega.{arith}
 use mathlib.Core.Path.{_≡_, refl, sym, ap, _∙_}
 use Prim.Native.Nat.{_-_, _≤_}
 use lib.ListN.{length, take}
+use Rattle.support.specs.Table.{keysIn}
 use Rattle.counting.specs.Counting.{fromTo}
 use Rattle.counting.proofs.Steps.{fromTo-done, fromTo-more}
 use Rattle.blocks.specs.Join.{joinRow, join}
@@ -12,7 +13,7 @@ use Rattle.blocks.proofs.join_rows.Statement.{statement}
 use Rattle.blocks.proofs.join_rows.Tie as tie
 
 abbrev Inv-loop : tie.InvT-loop
-Inv-loop labels₀ apart₀ basis exponents table index len i₀ labels apart i = (i ≤ length basis) × (length labels ≡ length labels₀) × (length apart ≡ length apart₀) × (fromTo i (length basis) (joinRow (take len table) exponents basis) labels ≡ join (take len table) exponents basis labels₀) × Apart exponents apart (take len table)
+Inv-loop labels₀ apart₀ basis exponents table index len i₀ labels apart i = (i ≤ length basis) × (length labels ≡ length labels₀) × (length apart ≡ length apart₀) × (fromTo i (length basis) (joinRow (keysIn len table) exponents basis) labels ≡ join (keysIn len table) exponents basis labels₀) × Apart exponents apart (keysIn len table)
 
 abbrev μ-loop : tie.MeasureT-loop
 μ-loop labels₀ apart₀ basis exponents table index len i₀ labels apart i = length basis - i

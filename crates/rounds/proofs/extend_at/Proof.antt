@@ -109,7 +109,7 @@ same-length-2 c = search needs
 returns : tie.Need-returns
 returns c =
     let s = c .before .before .before .before .before .before .before .before .before .before .before .before .before .before .before .before .before .before .before .before .before in
-    extended-at (s .args .keys .now) (s .args .sizes .now) (s .args .exponents .now) (s .args .counts .now) (s .pre .0 .joining .arrays .sized) (s .args .j) (s .pre .1) _ _ _ _ _ _ _ _ (c .before .before .before .before .extend-pass .ensures)
+    extended-at (s .args .keys .now) (s .args .sizes .now) (s .args .exponents .now) (s .args .counts .now) (s .pre .0 .joining .arrays .sized) (s .args .j) (s .pre .1) _ _ _ _ _ _ _ (c .before .before .before .before .extend-pass .ensures)
 
 pub extend-at-spec : {M : Type 1} → statement M
 extend-at-spec =

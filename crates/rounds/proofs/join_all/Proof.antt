@@ -3,7 +3,8 @@ use borrow.Author.Needs.{needs}
 use native.Mathlib.Omega.{arith}
 use mathlib.Core.Path.{_≡_, refl, _∙_}
 use Prim.Native.Nat.{_-_, _≤_}
-use lib.ListN.{length, take}
+use lib.ListN.{length}
+use Rattle.support.specs.Table.{keysIn}
 use Rattle.rounds.specs.Bytes.{blockBytes, basesIn, labelsIn}
 use Rattle.rounds.proofs.Flat.{labels-shaped}
 use Rattle.rounds.proofs.Passes.{labelled-long, joinedTo, joining-start, joining-labelled, joining-turn, joining-here, joining-end}
@@ -11,7 +12,7 @@ use Rattle.rounds.proofs.join_all.Statement.{statement}
 use Rattle.rounds.proofs.join_all.Tie as tie
 
 abbrev Inv-loop : tie.InvT-loop
-Inv-loop labels₀ keys sizes exponents counts table index since len j₀ labels j = (j ≤ 9) × (length labels ≡ length labels₀) × (labels ≡ blockBytes (joinedTo (basesIn keys sizes exponents counts) (take len table) (labelsIn sizes labels₀) j))
+Inv-loop labels₀ keys sizes exponents counts table index since len j₀ labels j = (j ≤ 9) × (length labels ≡ length labels₀) × (labels ≡ blockBytes (joinedTo (basesIn keys sizes exponents counts) (keysIn len table) (labelsIn sizes labels₀) j))
 
 abbrev μ-loop : tie.MeasureT-loop
 μ-loop labels₀ keys sizes exponents counts table index since len j₀ labels j = 9 - j

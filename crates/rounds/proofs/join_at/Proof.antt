@@ -2,6 +2,7 @@
 use borrow.Author.Needs.{needs}
 use native.Mathlib.Omega.{arith}
 use mathlib.Core.Path.{_≡_}
+use Rattle.support.proofs.Keys.{inside}
 use Rattle.rounds.specs.Bytes.{basesIn}
 use Rattle.rounds.proofs.Latest.{latest-part, fresh-joined}
 use Rattle.rounds.proofs.join_at.Statement.{statement}
@@ -19,23 +20,17 @@ mul-if1-2 c = search needs
 shared-slice-read-if1 : tie.Need-shared-slice-read-if1
 shared-slice-read-if1 c = search needs
 
-add-p : tie.Need-add-p
-add-p c = search needs
+mul-fresh : tie.Need-mul-fresh
+mul-fresh c = search needs
 
-add-q : tie.Need-add-q
-add-q c = search needs
+sub-fresh : tie.Need-sub-fresh
+sub-fresh c = search needs
 
-mul-join-fresh-at : tie.Need-mul-join-fresh-at
-mul-join-fresh-at c = search needs
+part-fresh-start : tie.Need-part-fresh-start
+part-fresh-start c = search needs
 
-sub-join-fresh-at : tie.Need-sub-join-fresh-at
-sub-join-fresh-at c = search needs
-
-part-join-fresh-at-start : tie.Need-part-join-fresh-at-start
-part-join-fresh-at-start c = search needs
-
-part-join-fresh-at-end : tie.Need-part-join-fresh-at-end
-part-join-fresh-at-end c = search needs
+part-fresh-end : tie.Need-part-fresh-end
+part-fresh-end c = let p = c .before .before .before .before .before .before .before .before .before .pre in inside (p .joining .support)
 
 join-fresh-at-requires : tie.Need-join-fresh-at-requires
 join-fresh-at-requires c κs = let p = c .before .before .before .before .before .before .before .before .before .before .before .pre in record { arrays = p .joining .arrays; labels = p .joining .labels; basis = p .basis; blocks = p .blocks }
@@ -49,7 +44,7 @@ same-length c = search needs
 returns : tie.Need-returns
 returns c =
     let s = c .before .before .before .before .before .before .before .before .before .before .before .before .before .before in
-    fresh-joined (basesIn (s .args .keys .now) (s .args .sizes .now) (s .args .exponents .now) (s .args .counts .now)) _ _ _ _ _ (s .pre .blocks) (s .pre .recent) (rw (latest-part (s .args .index .now) (s .args .since) (s .args .len) (s .pre .upto)) at (c .before .before .join-fresh-at .ensures))
+    fresh-joined (basesIn (s .args .keys .now) (s .args .sizes .now) (s .args .exponents .now) (s .args .counts .now)) _ _ _ _ _ (s .pre .blocks) (s .pre .recent) (rw (latest-part (s .args .table .now) (s .args .since) (s .args .len)) at (c .before .before .join-fresh-at .ensures))
 
 same-length-2 : tie.Need-same-length-2
 same-length-2 c = search needs
@@ -65,12 +60,10 @@ join-at-spec =
     mul-if1
     mul-if1-2
     shared-slice-read-if1
-    add-p
-    add-q
-    mul-join-fresh-at
-    sub-join-fresh-at
-    part-join-fresh-at-start
-    part-join-fresh-at-end
+    mul-fresh
+    sub-fresh
+    part-fresh-start
+    part-fresh-end
     join-fresh-at-requires
     join-pairs-at-requires
     same-length
