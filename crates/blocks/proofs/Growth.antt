@@ -13,6 +13,7 @@ use borrow.Author.Tests.{eq-eqb, ne-eqb}
 use Rattle.support.specs.Sets.{insert, Rising, In}
 use Rattle.support.specs.Table.{keysIn, Holds, Indexed, Grown, Stored}
 use Rattle.support.proofs.Elements.{insert-keeps, insert-rising, insert-grows, insert-same}
+use Rattle.support.proofs.Keys.{grown-holds}
 use Rattle.counting.specs.Counting.{fromTo}
 use Rattle.counting.proofs.Steps.{fromTo-keeps}
 use Rattle.blocks.specs.Extend.{addTerms, addPair, addRow, extend}
@@ -104,13 +105,12 @@ module _ (t₀ : List ℕ) where
       pub growing-step : n′ ≤ 2048 → Extends (keysIn n t) S′ → Growing t₀ n₀ goal f′ n′ t′ idx′
       growing-step b x =
           let v : keysIn n′ t′ ≡ S′ = g .grown .keys b in
-          let l : length S′ ≡ n′ = grown-length S′ t n′ t′ (g .grown) b in
           record {
-            holds = record { few = b; room = omega (arith, h .holds .room, g .grown .long); apart = ap length v ∙ l };
+            holds = grown-holds (g .grown) (h .holds .room) b;
             index = g .index b;
             long = g .grown .long ∙ h .long;
             rest = g .grown .rest ∙ h .rest;
-            more = omega (arith, h .more, h .holds .apart, x .more);
+            more = omega (arith, h .more, h .holds .apart, x .more, grown-length S′ t n′ t′ (g .grown) b);
             first = sym (take-take n₀ n t′ (h .more)) ∙ ap (take n₀) (g .first b) ∙ take-take n₀ n t (h .more) ∙ h .first;
             todo = rw v (sym e ∙ h .todo);
           }

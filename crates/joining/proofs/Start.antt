@@ -7,17 +7,17 @@ use native.Mathlib.Numerals.{add-one}
 use native.Mathlib.Omega.{arith}
 use lib.ListN.{length, take, drop, getD, drop-of-length-le}
 use lib.Seq.{drop-cons, getD-drop}
-use Rattle.support.specs.Sets.{insert, Rising}
+use Rattle.support.specs.Sets.{insert, insertAll, Rising}
 use Rattle.blocks.specs.Limits.{Bounded}
 use Rattle.rounds.specs.Bytes.{part}
-use Rattle.blocks.proofs.Growth.{Extends, extends-refl, extends-trans, insert-extends, fromTo-extends, grown-take, drop-over}
+use Rattle.blocks.proofs.Growth.{Extends, extends-refl, extends-trans, insert-extends, fromTo-extends}
 use Rattle.counting.specs.Counting.{listed, fromTo}
 use Rattle.counting.proofs.Listed.{listed-take}
 use Rattle.counting.proofs.Steps.{fromTo-same}
 use Rattle.polynomial.specs.Terms.{term, keysOf, termsIn}
-use Rattle.support.specs.Table.{over, Grown}
+use Rattle.support.specs.Table.{keysIn, Stored}
 use Rattle.rounds.specs.Rounds.{Bases}
-use Rattle.joining.specs.Joining.{insertAll, multiples, startFrom}
+use Rattle.joining.specs.Joining.{multiples, startFrom}
 
 -- ---- one key after another
 module _ (c : ℕ) (ks S : List ℕ) where
@@ -64,19 +64,23 @@ keys-listed (suc n) keys cs = map-append _ (listed n (λ i. term (getD keys i 0)
 pub first-keys : (n : ℕ) (keys : List ℕ) (coefficients : List ℤ) → n ≤ length keys → take n keys ≡ keysOf (termsIn n keys coefficients)
 first-keys n keys cs h = sym (keys-listed n keys cs ∙ listed-take n keys 0 h)
 
--- ---- one growth of the table after another
-module _ (S t : List ℕ) (n : ℕ) (t₁ : List ℕ) (g : Grown S t n t₁) where
+-- ---- one growth of an empty table after another
+module _ (S t : List ℕ) (n : ℕ) (t₁ idx₁ : List ℕ) (g : Stored 0 S t n t₁ idx₁) where
   -- a set that is too large stays so
-  pub grown-over : 2048 < n → (S′ : List ℕ) → length S ≤ length S′ → Grown S′ t n t₁
-  grown-over b S′ x = record { count = omega (arith, g .count); table = λ q. absurd (omega arith); rest = g .rest }
+  pub stored-over : 2048 < n → (S′ : List ℕ) → length S ≤ length S′ → Stored 0 S′ t n t₁ idx₁
+  stored-over b S′ x = record {
+    grown = record { count = omega (arith, g .grown .count); keys = λ q. absurd (omega arith); long = g .grown .long; rest = g .grown .rest };
+    index = λ q. absurd (omega arith);
+    first = λ q. absurd (omega arith);
+  }
 
-  pub grown-then : n ≤ 2048 → (f : List ℕ → List ℕ) → length S ≤ length (f S) → (r : ℕ) (t₂ : List ℕ) → Grown (f (take n t₁)) t₁ r t₂ → Grown (f S) t r t₂
-  grown-then b f x r t₂ k =
-      let k′ : Grown (f S) t₁ r t₂ = rw (grown-take S t n t₁ g b) at k in
+  pub stored-then : n ≤ 2048 → (f : List ℕ → List ℕ) (r : ℕ) (t₂ idx₂ : List ℕ) → Stored n (f (keysIn n t₁)) t₁ r t₂ idx₂ → Stored 0 (f S) t r t₂ idx₂
+  stored-then b f r t₂ idx₂ k =
+      let k′ : Stored n (f S) t₁ r t₂ idx₂ = rw (g .grown .keys b) at k in
       record {
-        count = k′ .count;
-        table = λ q. k′ .table q ∙ ap (λ (l : List ℕ). f S ++ l) (ap (drop (length (f S))) (g .table b) ∙ drop-over S t (length (f S)) x);
-        rest = k′ .rest ∙ g .rest;
+        grown = record { count = k′ .grown .count; keys = k′ .grown .keys; long = k′ .grown .long ∙ g .grown .long; rest = k′ .grown .rest ∙ g .grown .rest };
+        index = k′ .index;
+        first = λ _. refl;
       }
 
 -- ---- the start
@@ -93,7 +97,3 @@ unfolding startFrom
 start-same objective g h b m =
     ap (λ (l : List ℕ). insertAll (multiples 2 l) (fromTo 1 9 (λ j. insertAll (g .multiplier j)) (insertAll objective []))) (b 0 (omega arith))
     ∙ ap (insertAll (multiples 2 (h .basis 0))) (fromTo-same (λ j. insertAll (g .multiplier j)) (λ j. insertAll (h .multiplier j)) 9 1 (λ j S _ l. ap (λ (ks : List ℕ). insertAll ks S) (m j l)) _)
-
--- a larger set laid over a table that has grown to hold a smaller one is laid over the table it grew from
-pub grown-back : (S t : List ℕ) (n : ℕ) (t₁ : List ℕ) → Grown S t n t₁ → n ≤ 2048 → (S′ : List ℕ) → length S ≤ length S′ → (t₂ : List ℕ) → t₂ ≡ over S′ t₁ → t₂ ≡ over S′ t
-grown-back S t n t₁ g few S′ x t₂ e = e ∙ ap (λ (l : List ℕ). S′ ++ l) (ap (drop (length S′)) (g .table few) ∙ drop-over S t (length S′) x)

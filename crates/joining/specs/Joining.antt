@@ -8,18 +8,13 @@ use Rattle.counting.specs.Counting.{fromTo}
 use Rattle.polynomial.specs.Terms.{keysOf}
 use Rattle.problem.specs.Rules.{Problem}
 use Rattle.problem.specs.Bases.{basisOf, multiplierOf}
-use Rattle.support.specs.Sets.{insert}
+use Rattle.support.specs.Sets.{insert, insertAll}
 use Rattle.rounds.specs.Rounds.{Bases, Closing, blocksIn}
 use Rattle.rounds.specs.Rounds as Rounds
 
 -- the bases of a problem, each with its multiplier
 abbrev pub basesOf : Problem → Bases
 basesOf p = record { basis = basisOf p; multiplier = multiplierOf p }
-
--- a set with every key of a list put in
-unfoldable pub insertAll : List ℕ → List ℕ → List ℕ
-insertAll [] S = S
-insertAll (k ∷ ks) S = insertAll ks (insert k S)
 
 -- each key times c. The key of 2b is twice the key of b
 abbrev pub multiples : ℕ → List ℕ → List ℕ

@@ -6,7 +6,7 @@ use Prim.Native.Nat.{ℕ, _*_, _^_}
 use lib.Dec.{ltb}
 use lib.ListN.{length, drop}
 use Rattle.support.specs.Sets.{insert}
-use Rattle.support.specs.Table.{over}
+use Rattle.support.specs.Table.{keysIn}
 use Rattle.rounds.specs.Rounds.{Closing, blocksIn}
 use Rattle.rounds.specs.Bytes.{blockBytes}
 use Rattle.joining.specs.declared.Joined.{Joined}
@@ -19,7 +19,7 @@ pub record Multipliers (exponents counts : List ℕ) : Type 0 where
   pub exponents-long : length exponents ≡ 288
   pub exponents-low : Bounded (16 * 2 ^ 56) exponents
 
--- what is left where the rounds end in o: the closed S with the zero exponent stands in the table t′, unless it has more than 2,048
+-- what is left where the rounds end in o: the table t′ holds the closed S with the zero exponent, unless it has more than 2,048
 -- members
 pub record Joining (o : Closing) (t : List ℕ) (r : Joined) (t′ : List ℕ) : Type 0 where
   pub full : r .full ≡ ltb 2048 (length (insert 0 (o .state .support)))
@@ -27,5 +27,6 @@ pub record Joining (o : Closing) (t : List ℕ) (r : Joined) (t′ : List ℕ) :
   pub rounds : r .full ≡ false → r .rounds ≡ o .rounds
   pub blocks : r .full ≡ false → r .blocks ≡ blocksIn (o .state .labels)
   pub len : r .full ≡ false → r .len ≡ length (insert 0 (o .state .support))
-  pub table : r .full ≡ false → t′ ≡ over (insert 0 (o .state .support)) t
+  pub keys : r .full ≡ false → keysIn (r .len) t′ ≡ insert 0 (o .state .support)
+  pub long : length t′ ≡ length t
   pub rest : drop 2048 t′ ≡ drop 2048 t

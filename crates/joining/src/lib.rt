@@ -1,13 +1,14 @@
 // The joining rule applied to a problem: from its start to the closed support and the blocks. Basis j stands from place 64j on
 // in `keys`, the exponents of its multiplier from place 32j on in `exponents`, as in the crate rounds. The first `len` numbers of
-// `table` are the support.
+// `table` are the support, in the order in which they came, with `index`.
 ghost use mathlib.Core.Path.{_≡_};
 ghost use mathlib.Core.Bool.{true};
 ghost use mathlib.Core.List.{[]};
 ghost use Prim.Native.Nat.{ℕ, _+_, _*_, _^_, _≤_, _<_};
-ghost use lib.ListN.{length, getD, take};
+ghost use lib.ListN.{length, getD};
 ghost use Rattle.counting.specs.Counting.{fromTo};
-ghost use Rattle.support.specs.Table.{Holds, Grown};
+ghost use Rattle.support.specs.Sets.{insertAll};
+ghost use Rattle.support.specs.Table.{keysIn, Holds, Indexed, Stored};
 ghost use Rattle.blocks.specs.Limits.{Bounded};
 ghost use Rattle.rounds.specs.Bytes.{part};
 ghost use Rattle.rounds.specs.Rounds.{closing};
@@ -15,21 +16,21 @@ ghost use Rattle.joining.specs.Tables.{Multipliers, Joining};
 ghost use Rattle.rounds.specs.Bytes.{basesIn};
 ghost use Rattle.rounds.specs.Arrays.{Arrays};
 ghost use Rattle.polynomial.specs.Terms.{keysOf, objectiveTerms};
-ghost use Rattle.joining.specs.Joining.{insertAll, multiples, startFrom};
+ghost use Rattle.joining.specs.Joining.{multiples, startFrom};
 ghost use Rattle.problem.specs.Stored.{problemOf, Kept};
 ghost use Rattle.joining.specs.Joining as J;
 use polynomial::Objective;
 use problem::StoredProblem;
 
 // The support with each key times `factor` put in; 2,049 where it has too many.
-fn put_keys(table: &mut [u64], len: usize, keys: &[u64], factor: u64) -> usize
-    requires { ⌜ Holds (now table) len × Bounded (32 * 2 ^ 56) (now keys) × (factor ≤ 2) ⌝ }
-    ensures { λ r. ⌜ Grown (insertAll (multiples factor (now (keys .entry))) (take len (now (table .entry)))) (now (table .entry)) r (now (table .exit)) ⌝ }
+fn put_keys(table: &mut [u64], index: &mut [u16], len: usize, keys: &[u64], factor: u64) -> usize
+    requires { ⌜ (Holds (now table) len × Indexed (now index) (now table) len) × Bounded (32 * 2 ^ 56) (now keys) × (factor ≤ 2) ⌝ }
+    ensures { λ r. ⌜ Stored len (insertAll (multiples factor (now (keys .entry))) (keysIn len (now (table .entry)))) (now (table .entry)) r (now (table .exit)) (now (index .exit)) ⌝ }
 {
     let mut n = len;
     let mut i = 0;
     while i < keys.len() {
-        n = support::put(table, n, factor * keys[i]);
+        n = support::put(table, index, n, factor * keys[i]);
         if 2048 < n {
             return n;
         }
@@ -41,28 +42,35 @@ fn put_keys(table: &mut [u64], len: usize, keys: &[u64], factor: u64) -> usize
 // The exponents of multiplier j put in.
 fn put_multiplier(
     table: &mut [u64],
+    index: &mut [u16],
     len: usize,
     exponents: &[u64],
     counts: &[usize],
     j: usize,
 ) -> usize
-    requires { ⌜ Holds (now table) len × Multipliers (now exponents) (now counts) × (j < 9) ⌝ }
-    ensures { λ r. ⌜ Grown (insertAll (part 32 (now (counts .entry)) (now (exponents .entry)) j) (take len (now (table .entry)))) (now (table .entry)) r (now (table .exit)) ⌝ }
+    requires { ⌜ (Holds (now table) len × Indexed (now index) (now table) len) × Multipliers (now exponents) (now counts) × (j < 9) ⌝ }
+    ensures { λ r. ⌜ Stored len (insertAll (part 32 (now (counts .entry)) (now (exponents .entry)) j) (keysIn len (now (table .entry)))) (now (table .entry)) r (now (table .exit)) (now (index .exit)) ⌝ }
 {
     let a = 32 * j;
     let e = a + counts[j];
-    put_keys(table, len, &exponents[a..e], 1)
+    put_keys(table, index, len, &exponents[a..e], 1)
 }
 
 // The exponents of every constraint put in.
-fn put_constraints(table: &mut [u64], len: usize, exponents: &[u64], counts: &[usize]) -> usize
-    requires { ⌜ Holds (now table) len × Multipliers (now exponents) (now counts) ⌝ }
-    ensures { λ r. ⌜ Grown (fromTo 1 9 (λ j. insertAll (part 32 (now (counts .entry)) (now (exponents .entry)) j)) (take len (now (table .entry)))) (now (table .entry)) r (now (table .exit)) ⌝ }
+fn put_constraints(
+    table: &mut [u64],
+    index: &mut [u16],
+    len: usize,
+    exponents: &[u64],
+    counts: &[usize],
+) -> usize
+    requires { ⌜ (Holds (now table) len × Indexed (now index) (now table) len) × Multipliers (now exponents) (now counts) ⌝ }
+    ensures { λ r. ⌜ Stored len (fromTo 1 9 (λ j. insertAll (part 32 (now (counts .entry)) (now (exponents .entry)) j)) (keysIn len (now (table .entry)))) (now (table .entry)) r (now (table .exit)) (now (index .exit)) ⌝ }
 {
     let mut n = len;
     let mut j = 1;
     while j < 9 {
-        n = put_multiplier(table, n, exponents, counts, j);
+        n = put_multiplier(table, index, n, exponents, counts, j);
         if 2048 < n {
             return n;
         }
@@ -72,13 +80,13 @@ fn put_constraints(table: &mut [u64], len: usize, exponents: &[u64], counts: &[u
 }
 
 // The exponents of the objective alone.
-fn put_objective(q: Objective, table: &mut [u64]) -> usize
-    requires { ⌜ (2048 ≤ length (now table)) × (q .count ≤ 256) × Bounded (32 * 2 ^ 56) (q .keys) ⌝ }
-    ensures { λ r. ⌜ Grown (insertAll (keysOf (objectiveTerms q)) []) (now (table .entry)) r (now (table .exit)) ⌝ }
+fn put_objective(q: Objective, table: &mut [u64], index: &mut [u16]) -> usize
+    requires { ⌜ (2048 ≤ length (now table)) × Indexed (now index) (now table) 0 × (q .count ≤ 256) × Bounded (32 * 2 ^ 56) (q .keys) ⌝ }
+    ensures { λ r. ⌜ Stored 0 (insertAll (keysOf (objectiveTerms q)) []) (now (table .entry)) r (now (table .exit)) (now (index .exit)) ⌝ }
 {
     let keys = q.keys;
     let n = q.count;
-    put_keys(table, 0, &keys[..n], 1)
+    put_keys(table, index, 0, &keys[..n], 1)
 }
 
 // The start of the support: the exponents of the objective and of the constraints, and twice those of basis 0.
@@ -89,20 +97,21 @@ fn seed(
     exponents: &[u64],
     counts: &[usize],
     table: &mut [u64],
+    index: &mut [u16],
 ) -> usize
-    requires { ⌜ (2048 ≤ length (now table)) × (q .count ≤ 256) × Bounded (32 * 2 ^ 56) (q .keys) × Arrays (now keys) (now sizes) (now exponents) (now counts) ⌝ }
-    ensures { λ r. ⌜ Grown (startFrom (keysOf (objectiveTerms q)) (basesIn (now (keys .entry)) (now (sizes .entry)) (now (exponents .entry)) (now (counts .entry)))) (now (table .entry)) r (now (table .exit)) ⌝ }
+    requires { ⌜ (2048 ≤ length (now table)) × Indexed (now index) (now table) 0 × (q .count ≤ 256) × Bounded (32 * 2 ^ 56) (q .keys) × Arrays (now keys) (now sizes) (now exponents) (now counts) ⌝ }
+    ensures { λ r. ⌜ Stored 0 (startFrom (keysOf (objectiveTerms q)) (basesIn (now (keys .entry)) (now (sizes .entry)) (now (exponents .entry)) (now (counts .entry)))) (now (table .entry)) r (now (table .exit)) (now (index .exit)) ⌝ }
 {
-    let a = put_objective(q, table);
+    let a = put_objective(q, table, index);
     if 2048 < a {
         return a;
     }
-    let b = put_constraints(table, a, exponents, counts);
+    let b = put_constraints(table, index, a, exponents, counts);
     if 2048 < b {
         return b;
     }
     let n = sizes[0];
-    put_keys(table, b, &keys[..n], 2)
+    put_keys(table, index, b, &keys[..n], 2)
 }
 
 // What the joining rule leaves: the block numbers, the number of rounds and of blocks, and how many keys the closed support has
@@ -140,17 +149,18 @@ pub fn settle(
     ensures { λ r. ⌜ Joining (closing (basesIn (now (keys .entry)) (now (sizes .entry)) (now (exponents .entry)) (now (counts .entry))) (startFrom (keysOf (objectiveTerms q)) (basesIn (now (keys .entry)) (now (sizes .entry)) (now (exponents .entry)) (now (counts .entry))))) (now (table .entry)) r (now (table .exit)) ⌝ }
 {
     let start = rounds::start_labels(sizes);
-    let n = seed(q, keys, sizes, exponents, counts, table);
+    let mut index = [0u16; 6144];
+    let n = seed(q, keys, sizes, exponents, counts, table, &mut index);
     if 2048 < n {
         return too_many(start);
     }
-    let c = rounds::close(start, keys, sizes, exponents, counts, table, n);
+    let c = rounds::close(start, keys, sizes, exponents, counts, table, &mut index, n);
     let labels = c.labels;
     let m = c.len;
     if 2048 < m {
         return too_many(labels);
     }
-    let len = support::put(table, m, 0);
+    let len = support::put(table, &mut index, m, 0);
     if 2048 < len {
         return too_many(labels);
     }

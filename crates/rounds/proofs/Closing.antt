@@ -10,7 +10,8 @@ use native.Mathlib.Omega.{arith}
 use lib.ListN.{length}
 use Rattle.support.specs.Sets.{Rising, In, member, insert}
 use Rattle.support.proofs.Elements.{insert-member, length-insert-new}
-use Rattle.blocks.proofs.Growth.{Extends, insert-grows}
+use Rattle.blocks.proofs.Growth.{Extends}
+use Rattle.support.proofs.Elements.{insert-grows}
 use Rattle.rounds.specs.Rounds.{Bases, State, Closing, start, round, after, sameState, closeFrom, closing}
 use Rattle.rounds.proofs.Same.{sameState-refl, sameState-true, close-next}
 use Rattle.rounds.proofs.Rounds.{Shaped, AllNumbered, AllFull, after-keeps, after-extends, after-in, round-extends, round-full, after-shaped, after-numbered}

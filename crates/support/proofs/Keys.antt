@@ -144,3 +144,7 @@ module _ {t : List ℕ} {n : ℕ} (h : Holds t n) where
           index = λ _. x′;
           first = λ _. take-set-le n t n k (omega arith);
         }
+
+-- a table that has grown to hold at most 2,048 keys holds them
+pub grown-holds : {S t t′ : List ℕ} {r : ℕ} → Grown S t r t′ → 2048 ≤ length t → r ≤ 2048 → Holds t′ r
+grown-holds g h b = record { few = b; room = omega (arith, g .long); apart = omega (arith, ap length (g .keys b), g .count) }

@@ -1,25 +1,20 @@
 -- `settle`: the start, the rounds and the zero exponent, one growth of the table after another.
 use borrow.Author.Needs.{needs}
 use native.Mathlib.Omega.{arith}
-use mathlib.Core.Path.{_≡_, refl, sym, ap, _∙_}
-use mathlib.Core.Bool.{Bool, true, false}
+use mathlib.Core.Path.{_≡_, sym, ap, _∙_}
 use mathlib.Core.List.{List, []}
-use Prim.Native.Nat.{ℕ, _+_, _-_, _*_, _≤_, _<_}
-use lib.ListN.{length, getD, take, drop}
+use Prim.Native.Nat.{ℕ}
+use lib.ListN.{length}
 use Rattle.polynomial.specs.Terms.{keysOf, objectiveTerms}
-use Rattle.support.specs.Sets.{insert}
-use Rattle.support.specs.Table.{Holds, Grown, over}
-use Rattle.blocks.proofs.Growth.{grown-take}
+use Rattle.support.proofs.Keys.{grown-holds}
+use Rattle.support.proofs.Index.{indexed-start}
 use Rattle.rounds.specs.Rounds.{Bases, Closing, closing}
 use Rattle.rounds.specs.Bytes.{basesIn, blockBytes}
 use Rattle.rounds.specs.Arrays.{Settled}
-use Rattle.rounds.proofs.Closing.{closing-rising}
 use Rattle.rounds.proofs.Flat.{bytes-long}
 use Rattle.rounds.proofs.Passes.{singles-sized}
 use Rattle.joining.specs.Joining.{startFrom}
-use Rattle.joining.specs.Tables.{Joining}
-use Rattle.joining.proofs.Start.{start-rising, grown-back}
-use Rattle.joining.proofs.Settled.{never, counted, start-few, start-large, close-large, put-large, put-small, len-is, put-rest, put-table}
+use Rattle.joining.proofs.Settled.{never, counted, start-large, close-large, put-large, put-small, len-is, put-keys, put-long, put-rest}
 use Rattle.joining.proofs.settle.Statement.{statement}
 use Rattle.joining.proofs.settle.Tie as tie
 
@@ -39,26 +34,26 @@ abbrev start : tie.After-start-labels → tie.Start
 start c = c .before .before .before .before .before .before
 
 abbrev labelled : tie.After-seed → tie.After-start-labels
-labelled c = c .before .before
+labelled c = c .before .before .before
 
 abbrev seeded : tie.After-close → tie.After-seed
-seeded c = c .before .before .before .before .before
+seeded c = c .before .before .before .before .before .before .before
 
 abbrev closed : tie.After-put → tie.After-close
-closed c = c .before .before .before .before .before .before
+closed c = c .before .before .before .before .before .before .before .before
 
 -- the rounds' outcome, on the table that the start left
-settled : (c : tie.After-close) → let d = seeded c in let s = start (labelled d) in Settled (outcome s) (d .seed .last .1 .1 .1 .1 .1 .0) (c .close .result) (c .close .last .1 .1 .1 .1 .1 .0)
-settled c =
-    let d = seeded c in
-    let few = c .before .before .if1 .left in
-    rw (grown-take _ _ _ _ (d .seed .ensures) few) at (c .close .ensures)
+settled : (c : tie.After-close) → let d = seeded c in let s = start (labelled d) in Settled (outcome s) (d .seed .result) (d .seed .last .1 .1 .1 .1 .1 .0) (c .close .result) (c .close .last .1 .1 .1 .1 .1 .0) (c .close .last .1 .1 .1 .1 .1 .1 .0)
+settled c = rw (seeded c .seed .ensures .grown .keys (c .before .before .before .if1 .left)) at (c .close .ensures)
 
 start-labels-requires : tie.Need-start-labels-requires
 start-labels-requires c κs = c .before .before .before .before .before .pre .3 .sized
 
+slice-aggregate-seed : tie.Need-slice-aggregate-seed
+slice-aggregate-seed c = sym (indexed-start [] .long)
+
 seed-requires : tie.Need-seed-requires
-seed-requires c κs = start (c .before) .pre
+seed-requires c κs = let p = start (c .before .before) .pre in (p .0, indexed-start _, p .1, p .2, p .3)
 
 too-many-requires : tie.Need-too-many-requires
 too-many-requires c κs = tt
@@ -68,30 +63,32 @@ same-length c = search needs
 
 returns : tie.Need-returns
 returns c =
-    let d = c .before .before .before .before in
+    let d = c .before .before .before .before .before in
     let s = start (labelled d) in
     let e = c .too-many .ensures in
+    let g = d .seed .ensures .grown in
     record {
-      full = e ∙ start-large (bases s) (first s) _ _ _ (d .seed .ensures) (c .before .if1 .taken);
+      full = e ∙ start-large (bases s) (first s) _ _ _ g (c .before .if1 .taken);
       labels = λ f. never e f;
       rounds = λ f. never e f;
       blocks = λ f. never e f;
       len = λ f. never e f;
-      table = λ f. never e f;
-      rest = d .seed .ensures .rest;
+      keys = λ f. never e f;
+      long = g .long;
+      rest = g .rest;
     }
+
+slice-aggregate-close : tie.Need-slice-aggregate-close
+slice-aggregate-close c = sym (c .before .before .before .before .before .before .seed .ensures .index (c .before .before .if1 .left) .long)
 
 close-requires : tie.Need-close-requires
 close-requires c κs =
-    let d = c .before .before .before .before in
+    let d = c .before .before .before .before .before .before in
     let s = start (labelled d) in
-    let few = c .before .if1 .left in
+    let few = c .before .before .if1 .left in
     record {
-      support = record {
-        few = few;
-        room = omega (arith, s .pre .0, d .seed .kept .1 .1 .1 .1 .1 .0);
-        rising = rw (grown-take _ _ _ _ (d .seed .ensures) few) (start-rising _ (bases s));
-      };
+      support = grown-holds (d .seed .ensures .grown) (s .pre .0) few;
+      index = d .seed .ensures .index few;
       arrays = s .pre .3;
       labels = labelled d .start-labels .ensures ∙ ap blockBytes (sym (singles-sized _ _ _ _ (s .pre .3)));
     }
@@ -104,30 +101,31 @@ same-length-2 c = search needs
 
 returns-2 : tie.Need-returns-2
 returns-2 c =
-    let e = c .before .before .before .before .before in
+    let e = c .before .before .before .before .before .before in
     let d = seeded e in
     let f = c .too-many2 .ensures in
+    let g = settled e .stored .grown in
     record {
-      full = f ∙ close-large _ _ _ _ (settled e) (c .before .if2 .taken);
-      labels = λ g. never f g;
-      rounds = λ g. never f g;
-      blocks = λ g. never f g;
-      len = λ g. never f g;
-      table = λ g. never f g;
-      rest = settled e .grown .rest ∙ d .seed .ensures .rest;
+      full = f ∙ close-large _ _ _ _ _ _ (settled e) (c .before .if2 .taken);
+      labels = λ h. never f h;
+      rounds = λ h. never f h;
+      blocks = λ h. never f h;
+      len = λ h. never f h;
+      keys = λ h. never f h;
+      long = g .long ∙ d .seed .ensures .grown .long;
+      rest = g .rest ∙ d .seed .ensures .grown .rest;
     }
+
+slice-aggregate-put : tie.Need-slice-aggregate-put
+slice-aggregate-put c = sym (settled (c .before .before .before .before .before .before .before) .stored .index (c .before .before .if2 .left) .long)
 
 put-requires : tie.Need-put-requires
 put-requires c κs =
-    let e = c .before .before .before .before .before in
+    let e = c .before .before .before .before .before .before .before in
     let d = seeded e in
     let s = start (labelled d) in
-    let few = c .before .if2 .left in
-    record {
-      few = few;
-      room = omega (arith, s .pre .0, d .seed .kept .1 .1 .1 .1 .1 .0, e .close .kept .1 .1 .1 .1 .1 .0);
-      rising = rw (grown-take _ _ _ _ (settled e .grown) few) (closing-rising (bases s) (first s) (start-rising _ (bases s)));
-    }
+    let few = c .before .before .if2 .left in
+    (grown-holds (settled e .stored .grown) (omega (arith, s .pre .0, d .seed .ensures .grown .long)) few, settled e .stored .index few)
 
 too-many-requires-3 : tie.Need-too-many-requires-3
 too-many-requires-3 c κs = tt
@@ -137,19 +135,20 @@ same-length-3 c = search needs
 
 returns-3 : tie.Need-returns-3
 returns-3 c =
-    let p = c .before .before .before .before in
-    let e = closed p in
+    let k = c .before .before .before .before .before in
+    let e = closed k in
     let d = seeded e in
-    let few = p .before .before .if2 .left in
+    let few = k .before .before .before .if2 .left in
     let f = c .too-many3 .ensures in
     record {
-      full = f ∙ put-large _ _ _ _ (settled e) few _ _ (p .put .ensures) (c .before .if3 .taken);
+      full = f ∙ put-large _ _ _ _ _ _ (settled e) few _ _ _ (k .put .ensures) (c .before .if3 .taken);
       labels = λ g. never f g;
       rounds = λ g. never f g;
       blocks = λ g. never f g;
       len = λ g. never f g;
-      table = λ g. never f g;
-      rest = put-rest _ _ _ _ (settled e) few _ _ (p .put .ensures) ∙ d .seed .ensures .rest;
+      keys = λ g. never f g;
+      long = put-long _ _ _ _ _ _ (settled e) few _ _ _ (k .put .ensures) ∙ d .seed .ensures .grown .long;
+      rest = put-rest _ _ _ _ _ _ (settled e) few _ _ _ (k .put .ensures) ∙ d .seed .ensures .grown .rest;
     }
 
 slice-aggregate-count : tie.Need-slice-aggregate-count
@@ -157,31 +156,32 @@ slice-aggregate-count c = search needs
 
 count-requires : tie.Need-count-requires
 count-requires c κs =
-    let p = c .before .before .before .before in
-    let e = closed p in
+    let k = c .before .before .before .before .before in
+    let e = closed k in
     let s = start (labelled (seeded e)) in
-    let few = p .before .before .if2 .left in
-    (s .pre .3 .sized, ap length (settled e .labels few) ∙ bytes-long _)
+    (s .pre .3 .sized, ap length (settled e .labels (k .before .before .before .if2 .left)) ∙ bytes-long _)
 
 same-length-4 : tie.Need-same-length-4
 same-length-4 c = search needs
 
 returns-4 : tie.Need-returns-4
 returns-4 c =
-    let p = c .before .before .before .before .before in
-    let e = closed p in
+    let k = c .before .before .before .before .before .before in
+    let e = closed k in
     let d = seeded e in
     let s = start (labelled d) in
-    let few = p .before .before .if2 .left in
+    let few = k .before .before .before .if2 .left in
+    let small = c .before .before .if3 .left in
     let l = settled e .labels few in
     record {
-      full = put-small _ _ _ _ (settled e) few _ _ (p .put .ensures) (c .before .before .if3 .left);
+      full = put-small _ _ _ _ _ _ (settled e) few _ _ _ (k .put .ensures) small;
       labels = λ _. l;
       rounds = λ _. settled e .rounds few;
       blocks = λ _. c .count .ensures ∙ counted _ _ _ _ (s .pre .3) (first s) _ l;
-      len = λ _. len-is _ _ _ _ (settled e) few _ _ (p .put .ensures);
-      table = λ _. grown-back _ _ _ _ (d .seed .ensures) (e .before .before .if1 .left) (insert 0 (outcome s .state .support)) (start-few (bases s) (first s) _ _ _ (d .seed .ensures)) _ (put-table _ _ _ _ (settled e) few _ _ (p .put .ensures) (c .before .before .if3 .left));
-      rest = put-rest _ _ _ _ (settled e) few _ _ (p .put .ensures) ∙ d .seed .ensures .rest;
+      len = λ _. len-is _ _ _ _ _ _ (settled e) few _ _ _ (k .put .ensures) small;
+      keys = λ _. put-keys _ _ _ _ _ _ (settled e) few _ _ _ (k .put .ensures) small;
+      long = put-long _ _ _ _ _ _ (settled e) few _ _ _ (k .put .ensures) ∙ d .seed .ensures .grown .long;
+      rest = put-rest _ _ _ _ _ _ (settled e) few _ _ _ (k .put .ensures) ∙ d .seed .ensures .grown .rest;
     }
 
 pub settle-spec : {M : Type 1} → statement M
@@ -189,14 +189,17 @@ settle-spec =
     tie.close
     (tie.spec
     start-labels-requires
+    slice-aggregate-seed
     seed-requires
     too-many-requires
     same-length
     returns
+    slice-aggregate-close
     close-requires
     too-many-requires-2
     same-length-2
     returns-2
+    slice-aggregate-put
     put-requires
     too-many-requires-3
     same-length-3
