@@ -15,8 +15,7 @@ use Rattle.problem.specs.Limits.{Limits}
 use Rattle.problem.specs.Bases.{basisOf}
 use Rattle.problem.specs.Stored.{problemOf, constraintsOf, basesOf, Kept}
 use Rattle.problem.specs.declared.StoredProblem.{StoredProblem}
-use Rattle.support.specs.Table.{Holds}
-use Rattle.blocks.proofs.Growth.{take-over}
+use Rattle.support.specs.Table.{keysIn, Holds}
 use Rattle.joining.specs.Joining.{closing, closedSupport}
 use Rattle.joining.specs.declared.Joined.{Joined}
 use Rattle.certificate.specs.Rules.{Certificate, nothing, shapeOf, readCertificate}
@@ -28,7 +27,6 @@ use Rattle.certificate.proofs.Limits.{shape-within}
 use Rattle.certificate.proofs.Walk.{chain-read}
 use Rattle.identity.specs.Judgement.{Judgement, judge, judgeRead, byBlocks, byIdentity, splitPlace, differenceKey, comparedKeys}
 use Rattle.identity.specs.Judgement as J
-use Rattle.identity.proofs.Reach.{compared-rising}
 use Rattle.comparison.specs.Places.{Rows, Walkable, placeOf}
 use Rattle.comparison.specs.Compare.{differenceOf}
 use Rattle.comparison.specs.declared.Place.{Place}
@@ -70,10 +68,10 @@ unfolding comparedKeys
 joins-compare p j keys h =
     let S = comparedKeys (problemOf p) in
     let n : j .len ≡ length S = h .joining .len (h .few) in
-    let e : take (j .len) keys ≡ S = rw (n, h .joining .table (h .few)) (take-over S (h .before)) in
+    let e : keysIn (j .len) keys ≡ S = h .joining .keys (h .few) in
     record {
       limits = h .limits;
-      holds = record { few = rw n (ltb-false 2048 (length S) (sym (h .joining .full) ∙ h .few)); room = h .long; rising = rw e (compared-rising (problemOf p)) };
+      holds = record { few = rw n (ltb-false 2048 (length S) (sym (h .joining .full) ∙ h .few)); room = h .long; apart = ap length e ∙ sym n };
       keys = e;
     }
 

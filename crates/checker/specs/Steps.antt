@@ -15,7 +15,7 @@ use Rattle.joining.specs.Joining.{closing, tooLarge}
 use Rattle.joining.specs.Tables.{Joining}
 use Rattle.joining.specs.declared.Joined.{Joined}
 use Rattle.fraction.specs.Fractions.{fraction, gapOf}
-use Rattle.support.specs.Table.{Holds}
+use Rattle.support.specs.Table.{keysIn, Holds}
 use Rattle.certificate.specs.Rules.{Certificate, shapeOf, readCertificate}
 use Rattle.certificate.specs.declared.Header.{Header}
 use Rattle.identity.specs.Judgement.{Judgement, comparedKeys}
@@ -53,11 +53,11 @@ pub record Prepares (o : Outcome Problem) (t : List ℕ) (r : Prepared) (t′ : 
   pub joins : r .number ≡ 0 → Joins (r .problem) (r .joined) t′
   pub rest : drop 2048 t′ ≡ drop 2048 t
 
--- the compared keys are the first n numbers of a table
+-- the compared keys are the first n numbers of a table, in some order
 pub record Compares (p : Problem) (n : ℕ) (table : List ℕ) : Type 0 where
   pub limits : Limits p
   pub holds : Holds table n
-  pub keys : take n table ≡ comparedKeys p
+  pub keys : keysIn n table ≡ comparedKeys p
 
 -- the stream gives a certificate with this header
 pub record Stands (p : Problem) (s : List ℕ) (header : Header) : Type 0 where

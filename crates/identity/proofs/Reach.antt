@@ -15,13 +15,12 @@ use Rattle.polynomial.proofs.Products.{keys-append, keys-scale, keys-⊗}
 use Rattle.problem.specs.Rules.{Problem}
 use Rattle.problem.specs.Bases.{basisOf, multiplierOf}
 use Rattle.problem.specs.Limits.{All, Limits}
-use Rattle.support.specs.Sets.{In, Rising, insert}
-use Rattle.support.proofs.Laws.{insert-rising}
-use Rattle.blocks.proofs.Members.{in-here, in-there, in-cons, not-nil, insert-in, insert-keeps}
+use Rattle.support.specs.Sets.{In, Rising, insert, insertAll}
+use Rattle.support.proofs.Elements.{in-here, in-there, in-cons, not-nil, insert-in, insert-keeps, insert-rising}
 use Rattle.blocks.proofs.Growth.{fromTo-extends}
 use Rattle.blocks.proofs.Full.{full-any}
 use Rattle.rounds.proofs.Closing.{closing-full, closing-starts, closing-rising}
-use Rattle.joining.specs.Joining.{basesOf, insertAll, multiples, startFrom, startSet, closing, closedSupport}
+use Rattle.joining.specs.Joining.{basesOf, multiples, startFrom, startSet, closing, closedSupport}
 use Rattle.joining.proofs.Start.{insertAll-extends, start-rising}
 use Rattle.certificate.specs.Rules.{Entry, Row}
 use Rattle.certificate.specs.declared.Header.{Header}
