@@ -12,13 +12,15 @@ ghost use Rattle.problem.specs.Limits.{Limits};
 ghost use Rattle.rounds.specs.Bytes.{blockBytes, part};
 ghost use Rattle.joining.specs.Joining.{closing};
 ghost use Rattle.certificate.specs.Rules.{Certificate, shapeOf, readCertificate};
-ghost use Rattle.certificate.specs.Rows.{rowOf};
+ghost use Rattle.certificate.specs.Rows.{rowOf, rowsOf};
+ghost use Rattle.identity.specs.Identity.{squares};
+ghost use Rattle.identity.specs.Gram.{rowsOn};
 ghost use Rattle.identity.specs.Judgement.{rowSplit, splitPlace, differenceKey};
 ghost use Rattle.comparison.specs.Places.{placeOf, byteAt, Walkable, Indexed};
 ghost use Rattle.comparison.specs.Tables.{unit, Ready, Grown, Addable, claimed, Negates};
 ghost use Rattle.comparison.specs.Spread.{entryUnit, tableUnit, share, Framed, Spreadable, Entered, Spread, multiplierIn, Flattened};
 ghost use Rattle.comparison.specs.Outer.{Entries, Below, Raised, inRow, outerAt};
-ghost use Rattle.comparison.specs.Walk.{Shaped, Changed, Summed};
+ghost use Rattle.comparison.specs.Walk.{Shaped, Gathered, Summed};
 ghost use Rattle.comparison.specs.Compare.{differenceOf, Zeroed, Comparable, Given, Untouched};
 use polynomial::Objective;
 
@@ -272,11 +274,27 @@ fn add_outer(g: &mut [i64; 4096], row: certificate::StoredRow)
     }
 }
 
-// Flushes the table of sums of basis j before a row on basis b, unless it is the same.
-fn change_basis(
+// Adds the products of the rows on basis j to the table of sums, which is empty. Other rows are stepped over.
+fn add_basis_rows(g: &mut [i64; 4096], s: &[u8], j: usize)
+    requires { ⌜ Below 0 (now g) × Walkable (now s) ⌝ }
+    ensures { λ _. ⌜ Gathered (now (s .entry)) j (now (g .exit)) ⌝ }
+{
+    let mut at = 10;
+    while certificate::stands_at(0x11, s, at) {
+        let row = certificate::row_at(s, at);
+        if row.basis == j {
+            add_outer(g, row);
+        }
+        at = row.next;
+    }
+}
+
+// Adds the weighted squares of the rows on basis j times its multiplier: their products are summed by their indices first, so that
+// a product with the multiplier is made once for all of them. An empty basis has no rows to look for.
+fn add_basis(
     g: &mut [i64; 4096],
+    s: &[u8],
     j: usize,
-    b: usize,
     keys: &[u64],
     exponents: &[u64],
     coefficients: &[i32],
@@ -286,18 +304,17 @@ fn change_basis(
     hi: &mut [i64],
     lo: &mut [u64],
 )
-    requires { ⌜ Ready (now table) n (now hi) (now lo) tableUnit ⌝ }
-    requires { ⌜ Flattened (now keys) (now exponents) (now coefficients) l × (j < 9) × Framed (getD (l .sizes) j 0) (now g) ⌝ }
-    ensures { λ _. ⌜ Changed j b (now (keys .entry)) (now (exponents .entry)) (now (coefficients .entry)) l (now (table .entry)) n (now (g .entry)) (now (hi .entry)) (now (lo .entry)) (now (g .exit)) (now (hi .exit)) (now (lo .exit)) ⌝ }
+    requires { ⌜ Ready (now table) n (now hi) (now lo) tableUnit × Below 0 (now g) × (j < 9) ⌝ }
+    requires { ⌜ Flattened (now keys) (now exponents) (now coefficients) l × Shaped (l .sizes) (now s) ⌝ }
+    ensures { λ _. ⌜ Summed (λ p. squares p (rowsOn j (rowsOf (now (s .entry))))) (now (keys .entry)) (now (exponents .entry)) (now (coefficients .entry)) l (now (table .entry)) n 1 (now (hi .entry)) (now (lo .entry)) (now (hi .exit)) (now (lo .exit)) × Below 0 (now (g .exit)) ⌝ }
 {
-    if j == b {
-        return;
+    if l.sizes[j] != 0 {
+        add_basis_rows(g, s, j);
     }
     flush(g, j, keys, exponents, coefficients, l, table, n, hi, lo);
 }
 
-// Adds the weighted square of every row times its multiplier. The products of rows on one basis are summed first, by their indices,
-// in a table that is flushed when a row on another basis comes: a product with a multiplier is then made once for all of them.
+// Adds the weighted square of every row times its multiplier, basis by basis.
 fn sum_rows(
     g: &mut [i64; 4096],
     s: &[u8],
@@ -310,21 +327,15 @@ fn sum_rows(
     hi: &mut [i64],
     lo: &mut [u64],
 )
-    requires { ⌜ Ready (now table) n (now hi) (now lo) (129 * tableUnit) × Below 0 (now g) ⌝ }
+    requires { ⌜ Ready (now table) n (now hi) (now lo) (9 * tableUnit) × Below 0 (now g) ⌝ }
     requires { ⌜ Flattened (now keys) (now exponents) (now coefficients) l × Shaped (l .sizes) (now s) ⌝ }
-    ensures { λ _. ⌜ Summed (now (s .entry)) (now (keys .entry)) (now (exponents .entry)) (now (coefficients .entry)) l (now (table .entry)) n (now (hi .entry)) (now (lo .entry)) (now (hi .exit)) (now (lo .exit)) ⌝ }
+    ensures { λ _. ⌜ Summed (λ p. squares p (rowsOf (now (s .entry)))) (now (keys .entry)) (now (exponents .entry)) (now (coefficients .entry)) l (now (table .entry)) n 9 (now (hi .entry)) (now (lo .entry)) (now (hi .exit)) (now (lo .exit)) ⌝ }
 {
     let mut j: usize = 0;
-    let mut at = 10;
-    while certificate::stands_at(0x11, s, at) {
-        let row = certificate::row_at(s, at);
-        let b = row.basis;
-        change_basis(g, j, b, keys, exponents, coefficients, l, table, n, hi, lo);
-        add_outer(g, row);
-        j = b;
-        at = row.next;
+    while j < 9 {
+        add_basis(g, s, j, keys, exponents, coefficients, l, table, n, hi, lo);
+        j += 1;
     }
-    flush(g, j, keys, exponents, coefficients, l, table, n, hi, lo);
 }
 
 // The same, with the table of sums made here.
@@ -339,9 +350,9 @@ fn add_rows(
     hi: &mut [i64],
     lo: &mut [u64],
 )
-    requires { ⌜ Ready (now table) n (now hi) (now lo) (129 * tableUnit) ⌝ }
+    requires { ⌜ Ready (now table) n (now hi) (now lo) (9 * tableUnit) ⌝ }
     requires { ⌜ Flattened (now keys) (now exponents) (now coefficients) l × Shaped (l .sizes) (now s) ⌝ }
-    ensures { λ _. ⌜ Summed (now (s .entry)) (now (keys .entry)) (now (exponents .entry)) (now (coefficients .entry)) l (now (table .entry)) n (now (hi .entry)) (now (lo .entry)) (now (hi .exit)) (now (lo .exit)) ⌝ }
+    ensures { λ _. ⌜ Summed (λ p. squares p (rowsOf (now (s .entry)))) (now (keys .entry)) (now (exponents .entry)) (now (coefficients .entry)) l (now (table .entry)) n 9 (now (hi .entry)) (now (lo .entry)) (now (hi .exit)) (now (lo .exit)) ⌝ }
 {
     let mut g: [i64; 4096] = [0; 4096];
     sum_rows(

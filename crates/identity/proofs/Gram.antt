@@ -37,7 +37,7 @@ combination-factors : (B : List ℕ) (es : List Entry) → combination B es ≡ 
 combination-factors B [] = refl
 combination-factors B (e ∷ es) = rw (combination-factors B es)
 
-all-map : {X : Type 0} (A B : X → Type 0) → ((x : X) → A x → B x) → (l : List X) → All A l → All B l
+pub all-map : {X : Type 0} (A B : X → Type 0) → ((x : X) → A x → B x) → (l : List X) → All A l → All B l
 unfolding All
 all-map A B f [] h = tt
 all-map A B f (x ∷ l) h = (f x (h .0), all-map A B f l (h .1))

@@ -60,7 +60,7 @@ add-rows-requires : tie.Need-add-rows-requires
 add-rows-requires c κs =
     let a = c .before .before .before .before .before in
     let p = at-start a .pre in
-    (ready-after (zeroed-ready (p .0) (257 * unit + 129 * tableUnit) (omega arith)) (claim-first _ _ (at-start a .pre .1 .objective-filled) (a .add-claim .ensures)) (omega arith), (p .1 .flat, p .1 .rows))
+    (ready-after (zeroed-ready (p .0) (257 * unit + 9 * tableUnit) (omega arith)) (claim-first _ _ (at-start a .pre .1 .objective-filled) (a .add-claim .ensures)) (omega arith), (p .1 .flat, p .1 .rows))
 
 first-nonzero-requires : tie.Need-first-nonzero-requires
 first-nonzero-requires c κs =
@@ -101,7 +101,7 @@ returns c =
     let a = r .before .before .before .before .before .before in
     let z = at-start a .pre .0 in
     let m = r .add-rows .ensures in
-    let w = grown-then {e = 257 * unit + 129 * tableUnit} (claim-first _ _ (at-start a .pre .1 .objective-filled) (a .add-claim .ensures)) (m .grown) (λ k. refl) (omega arith) in
+    let w = grown-then {e = 257 * unit + 9 * tableUnit} (claim-first _ _ (at-start a .pre .1 .objective-filled) (a .add-claim .ensures)) (m .grown) (λ k. refl) (omega arith) in
     (λ p k given. found-differs p k _ _ _ _ _ _ _ _ _ given z (claim-first _ _ (at-start a .pre .1 .objective-filled) (a .add-claim .ensures)) m (f .first-nonzero .ensures) (c .before .if1 .taken), (grown-hi (z .support .few) w, grown-lo (z .support .few) w))
 
 same-length-3 : tie.Need-same-length-3
@@ -117,7 +117,7 @@ returns-2 c =
     let a = r .before .before .before .before .before .before in
     let z = at-start a .pre .0 in
     let m = r .add-rows .ensures in
-    let w = grown-then {e = 257 * unit + 129 * tableUnit} (claim-first _ _ (at-start a .pre .1 .objective-filled) (a .add-claim .ensures)) (m .grown) (λ k. refl) (omega arith) in
+    let w = grown-then {e = 257 * unit + 9 * tableUnit} (claim-first _ _ (at-start a .pre .1 .objective-filled) (a .add-claim .ensures)) (m .grown) (λ k. refl) (omega arith) in
     (λ p k given. found-same p k _ _ _ _ _ _ _ _ _ given z (claim-first _ _ (at-start a .pre .1 .objective-filled) (a .add-claim .ensures)) m (f .first-nonzero .ensures) (c .if1 .left), (grown-hi (z .support .few) w, grown-lo (z .support .few) w))
 
 pub compare-spec : {M : Type 1} → statement M
