@@ -17,6 +17,11 @@ use Rattle.comparison.specs.declared.Negated.{Negated}
 abbrev pub unit : ℕ
 unit = 2 ^ 84
 
+-- r is the place of a key among the first n, or n or more where it has none
+pub record Sought (keys : List ℕ) (n key r : ℕ) : Type 0 where
+  pub there : r < n → getD keys r 0 ≡ key
+  pub none : n ≤ r → (q : ℕ) → q < n → getD keys q 0 ≡ key → ⊥
+
 -- the first n keys rise, and the sum of each has room for c
 pub record Ready (keys : List ℕ) (n : ℕ) (hi : List ℤ) (lo : List ℕ) (c : ℕ) : Type 0 where
   pub support : Holds keys n

@@ -4,6 +4,7 @@ ghost use mathlib.Core.Path.{_≡_};
 ghost use Prim.Native.Nat.{ℕ, _+_, _*_, _^_, _≤_, _<_};
 ghost use lib.IntN.{pos, natAbs, negℤ, _*ℤ_};
 ghost use lib.ListN.{length, getD};
+ghost use Rattle.support.specs.Table.{Holds};
 ghost use Rattle.polynomial.specs.Terms.{termsIn};
 ghost use Rattle.polynomial.specs.Algebra.{sum, match, coefficient};
 ghost use Rattle.stream.specs.Commands.{given};
@@ -17,7 +18,7 @@ ghost use Rattle.identity.specs.Identity.{squares};
 ghost use Rattle.identity.specs.Gram.{rowsOn};
 ghost use Rattle.identity.specs.Judgement.{rowSplit, splitPlace, differenceKey};
 ghost use Rattle.comparison.specs.Places.{placeOf, byteAt, Walkable, Indexed};
-ghost use Rattle.comparison.specs.Tables.{unit, Ready, Grown, Addable, claimed, Negates};
+ghost use Rattle.comparison.specs.Tables.{unit, Sought, Ready, Grown, Addable, claimed, Negates};
 ghost use Rattle.comparison.specs.Spread.{entryUnit, tableUnit, share, Framed, Spreadable, Entered, Spread, multiplierIn, Flattened};
 ghost use Rattle.comparison.specs.Outer.{Entries, Below, Raised, inRow, outerAt};
 ghost use Rattle.comparison.specs.Walk.{Shaped, Gathered, Summed};
@@ -72,14 +73,74 @@ pub fn split_place(s: &[u8], labels: &[u8]) -> Place
     Place::Nowhere
 }
 
+// Where the index has the place of a key.
+fn slot(key: u64) -> usize
+    ensures { λ r. ⌜ r < 4096 ⌝ }
+{
+    (key % 4093) as usize
+}
+
+fn wide(x: u16) -> usize
+    ensures { λ r. ⌜ r ≡ x ⌝ }
+{
+    x as usize
+}
+
+// Notes the places of the first n keys in the index. Of keys with one slot the last stays.
+fn note_places(places: &mut [u16; 4096], table: &[u64], n: usize)
+    requires { ⌜ Holds (now table) n ⌝ }
+{
+    let mut i = 0;
+    while i < n {
+        let k = slot(table[i]);
+        places[k] = i as u16;
+        i += 1;
+    }
+}
+
+// The place of a key among the first n, by a search; n where it has none.
+fn search_place(table: &[u64], n: usize, key: u64) -> usize
+    requires { ⌜ Holds (now table) n ⌝ }
+    ensures { λ r. ⌜ Sought (now (table .entry)) n key r ⌝ }
+{
+    match support::find(table, n, key) {
+        support::Found::At(p) => p,
+        support::Found::Gap(_) => n,
+    }
+}
+
+// The same, with an index that spares most searches. The answer is right whatever the index holds.
+fn place_of(table: &[u64], n: usize, places: &[u16; 4096], key: u64) -> usize
+    requires { ⌜ Holds (now table) n ⌝ }
+    ensures { λ r. ⌜ Sought (now (table .entry)) n key r ⌝ }
+{
+    let k = slot(key);
+    let p = wide(places[k]);
+    if p < n {
+        if table[p] == key {
+            return p;
+        }
+    }
+    search_place(table, n, key)
+}
+
 // Adds a product at the place of a key, where it has one.
-fn add_term(table: &[u64], n: usize, hi: &mut [i64], lo: &mut [u64], key: u64, x: i64, c: i32)
+fn add_term(
+    table: &[u64],
+    n: usize,
+    places: &[u16; 4096],
+    hi: &mut [i64],
+    lo: &mut [u64],
+    key: u64,
+    x: i64,
+    c: i32,
+)
     requires { ⌜ Ready (now table) n (now hi) (now lo) unit × (natAbs x ≤ 2 ^ 53) ⌝ }
     ensures { λ _. ⌜ Grown (now (table .entry)) n (now (hi .entry)) (now (lo .entry)) (λ k. x *ℤ c *ℤ match k key) unit (now (hi .exit)) (now (lo .exit)) ⌝ }
 {
-    match support::find(table, n, key) {
-        support::Found::At(p) => sums::add_scaled(hi, lo, p, x, c as i64),
-        support::Found::Gap(_) => {}
+    let p = place_of(table, n, places, key);
+    if p < n {
+        sums::add_scaled(hi, lo, p, x, c as i64);
     }
 }
 
@@ -87,6 +148,7 @@ fn add_term(table: &[u64], n: usize, hi: &mut [i64], lo: &mut [u64], key: u64, x
 fn add_terms(
     table: &[u64],
     n: usize,
+    places: &[u16; 4096],
     hi: &mut [i64],
     lo: &mut [u64],
     exponents: &[u64],
@@ -100,7 +162,16 @@ fn add_terms(
 {
     let mut t = 0;
     while t < exponents.len() {
-        add_term(table, n, hi, lo, key + exponents[t], x, coefficients[t]);
+        add_term(
+            table,
+            n,
+            places,
+            hi,
+            lo,
+            key + exponents[t],
+            x,
+            coefficients[t],
+        );
         t += 1;
     }
 }
@@ -134,6 +205,7 @@ fn negate(side: usize, scale: u16, p: i32, q: u16) -> Negated
 fn add_claim(
     table: &[u64],
     n: usize,
+    places: &[u16; 4096],
     hi: &mut [i64],
     lo: &mut [u64],
     exponents: &[u64],
@@ -147,8 +219,8 @@ fn add_claim(
     let f = negate(t.side, t.scale, t.p, t.q);
     let x = f.objective;
     let y = f.constant;
-    add_terms(table, n, hi, lo, exponents, coefficients, 0, x);
-    add_term(table, n, hi, lo, 0, y, 1);
+    add_terms(table, n, places, hi, lo, exponents, coefficients, 0, x);
+    add_term(table, n, places, hi, lo, 0, y, 1);
 }
 
 // Adds one entry of the table of sums: a times b * b' for the indices of its place, times the multiplier.
@@ -158,6 +230,7 @@ fn add_entry(
     coefficients: &[i32],
     table: &[u64],
     n: usize,
+    places: &[u16; 4096],
     hi: &mut [i64],
     lo: &mut [u64],
     x: usize,
@@ -173,7 +246,7 @@ fn add_entry(
     let i = x / 64;
     let k = x % 64;
     let key = basis[i] + basis[k];
-    add_terms(table, n, hi, lo, exponents, coefficients, key, a);
+    add_terms(table, n, places, hi, lo, exponents, coefficients, key, a);
 }
 
 // Adds the whole table of sums, and clears it. Past the basis's last index there is nothing to add.
@@ -184,6 +257,7 @@ fn spread(
     coefficients: &[i32],
     table: &[u64],
     n: usize,
+    places: &[u16; 4096],
     hi: &mut [i64],
     lo: &mut [u64],
 )
@@ -196,7 +270,18 @@ fn spread(
     while x < last {
         let a = g[x];
         g[x] = 0;
-        add_entry(basis, exponents, coefficients, table, n, hi, lo, x, a);
+        add_entry(
+            basis,
+            exponents,
+            coefficients,
+            table,
+            n,
+            places,
+            hi,
+            lo,
+            x,
+            a,
+        );
         x += 1;
     }
 }
@@ -217,6 +302,7 @@ fn flush(
     l: Lengths,
     table: &[u64],
     n: usize,
+    places: &[u16; 4096],
     hi: &mut [i64],
     lo: &mut [u64],
 )
@@ -230,7 +316,7 @@ fn flush(
     let d = c + l.counts[j];
     let es = &exponents[c..d];
     let cs = &coefficients[c..d];
-    spread(g, &keys[a..b], es, cs, table, n, hi, lo);
+    spread(g, &keys[a..b], es, cs, table, n, places, hi, lo);
 }
 
 // Adds a times each factor of a row, in the table's row i.
@@ -301,6 +387,7 @@ fn add_basis(
     l: Lengths,
     table: &[u64],
     n: usize,
+    places: &[u16; 4096],
     hi: &mut [i64],
     lo: &mut [u64],
 )
@@ -311,7 +398,19 @@ fn add_basis(
     if l.sizes[j] != 0 {
         add_basis_rows(g, s, j);
     }
-    flush(g, j, keys, exponents, coefficients, l, table, n, hi, lo);
+    flush(
+        g,
+        j,
+        keys,
+        exponents,
+        coefficients,
+        l,
+        table,
+        n,
+        places,
+        hi,
+        lo,
+    );
 }
 
 // Adds the weighted square of every row times its multiplier, basis by basis.
@@ -324,6 +423,7 @@ fn sum_rows(
     l: Lengths,
     table: &[u64],
     n: usize,
+    places: &[u16; 4096],
     hi: &mut [i64],
     lo: &mut [u64],
 )
@@ -333,7 +433,20 @@ fn sum_rows(
 {
     let mut j: usize = 0;
     while j < 9 {
-        add_basis(g, s, j, keys, exponents, coefficients, l, table, n, hi, lo);
+        add_basis(
+            g,
+            s,
+            j,
+            keys,
+            exponents,
+            coefficients,
+            l,
+            table,
+            n,
+            places,
+            hi,
+            lo,
+        );
         j += 1;
     }
 }
@@ -347,6 +460,7 @@ fn add_rows(
     l: Lengths,
     table: &[u64],
     n: usize,
+    places: &[u16; 4096],
     hi: &mut [i64],
     lo: &mut [u64],
 )
@@ -364,6 +478,7 @@ fn add_rows(
         l,
         table,
         n,
+        places,
         hi,
         lo,
     );
@@ -395,11 +510,24 @@ pub fn compare(
     ensures difference { λ r. ⌜ ((p : Problem) (c : Certificate) → Given p c (now (s .entry)) header (now (keys .entry)) (now (exponents .entry)) (now (coefficients .entry)) l objective (now (table .entry)) n → r ≡ differenceOf (differenceKey p c)) ⌝ }
     ensures tables { λ _. ⌜ Untouched (now (hi .entry)) (now (hi .exit)) × Untouched (now (lo .entry)) (now (lo .exit)) ⌝ }
 {
+    let mut places: [u16; 4096] = [0; 4096];
+    note_places(&mut places, table, n);
     let es = objective.keys;
     let cs = objective.coefficients;
     let m = objective.count;
-    add_claim(table, n, hi, lo, &es[..m], &cs[..m], header);
-    add_rows(s, keys, exponents, coefficients, l, table, n, hi, lo);
+    add_claim(table, n, &places, hi, lo, &es[..m], &cs[..m], header);
+    add_rows(
+        s,
+        keys,
+        exponents,
+        coefficients,
+        l,
+        table,
+        n,
+        &places,
+        hi,
+        lo,
+    );
     let first = sums::first_nonzero(hi, lo, n);
     if first < n {
         return Difference::Differs(table[first]);

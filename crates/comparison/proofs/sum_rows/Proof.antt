@@ -12,11 +12,11 @@ use Rattle.comparison.proofs.sum_rows.Statement.{statement}
 use Rattle.comparison.proofs.sum_rows.Tie as tie
 
 abbrev Inv-loop : tie.InvT-loop
-Inv-loop g₀ s keys exponents coefficients l table n hi₀ lo₀ j₀ g hi lo j =
+Inv-loop g₀ s keys exponents coefficients l table n places hi₀ lo₀ j₀ g hi lo j =
     (j ≤ 9) × Below 0 g × Summed (λ p. byBasis p (rowsOf s) j) keys exponents coefficients l table n j hi₀ lo₀ hi lo
 
 abbrev μ-loop : tie.MeasureT-loop
-μ-loop g₀ s keys exponents coefficients l table n hi₀ lo₀ j₀ g hi lo j = 9 - j
+μ-loop g₀ s keys exponents coefficients l table n places hi₀ lo₀ j₀ g hi lo j = 9 - j
 
 abbrev at-start : tie.At-loop Inv-loop μ-loop → tie.Start Inv-loop μ-loop
 at-start l = l .before .before .before .before .before .before
