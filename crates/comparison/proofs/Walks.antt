@@ -1,7 +1,7 @@
 -- The walks over the rows, one for each basis: the table of sums holds the products of the rows on the basis so far, and the sums
 -- hold the squares of the rows on the bases before it.
 use mathlib.Core.Path.{_≡_, refl, sym, ap, _∙_}
-use mathlib.Core.Bool.{true, false}
+use mathlib.Core.Bool.{Bool, true, false, cond}
 use mathlib.Core.List.{List, [], _∷_, _++_, append-assoc, append-nil}
 use mathlib.Core.Logic.{⊎-elim}
 use Prim.Native.Nat.{ℕ, zero, suc, _+_, _-_, _*_, _/_, _%_, _^_, _≤_, _<_}
@@ -9,18 +9,17 @@ use native.Mathlib.Nat.{eq-or-lt-of-le}
 use native.Mathlib.Numerals.{add-one}
 use native.Mathlib.Omega.{arith}
 use borrow.Author.Tests.{eq-eqb, ne-eqb}
-use lib.IntN.{ℤ, pos, natAbs, _+ℤ_, _*ℤ_}
+use lib.Dec.{leb}
+use lib.IntN.{ℤ, pos, natAbs, _+ℤ_, _*ℤ_, *ℤ-zero}
 use lib.ListN.{length, getD}
 use Rattle.integers.proofs.Ranges.{abs-zero, abs-sum, fits-abs}
 use Rattle.counting.specs.Counting.{listed}
-use Rattle.counting.proofs.Listed.{listed-at, listed-length}
+use Rattle.counting.proofs.Listed.{listed-at, listed-length, same-or-not}
 use Rattle.stream.specs.Operands.{number}
 use Rattle.polynomial.specs.Terms.{Term, term, termsIn}
 use Rattle.polynomial.specs.Algebra.{sum, match, coefficient, _⊗_, Keys}
 use Rattle.polynomial.proofs.Sums.{coefficient-append, coefficient-none}
 use Rattle.polynomial.proofs.Products.{keys-append, keys-scale, keys-⊗, keys-map}
-use Rattle.problem.specs.Rules.{Problem}
-use Rattle.problem.specs.Bases.{basisOf}
 use Rattle.problem.specs.Limits.{All}
 use Rattle.rounds.specs.Bytes.{part}
 use Rattle.certificate.specs.Kept.{Within}
@@ -32,18 +31,59 @@ use Rattle.certificate.specs.declared.StoredRow.{StoredRow}
 use Rattle.certificate.proofs.Stored.{signed-fits}
 use Rattle.certificate.proofs.Rows.{no-row, one-row}
 use Rattle.certificate.proofs.Walk.{Onward, onward, holds-entries, holds-weight, holds-count, holds-sound, sound-basis, sound-index}
-use Rattle.identity.specs.Identity.{multiplier, squares}
-use Rattle.identity.specs.Gram.{factors, rekeyed, outer, gram, placed, expanded, rowsOn, byBasis}
+use Rattle.identity.specs.Identity.{squares}
+use Rattle.identity.specs.Gram.{factors, rekeyed, outer, gram, upper, rowsOn, byBasis}
 use Rattle.identity.proofs.Reach.{all-both}
-use Rattle.identity.proofs.Gram.{all-map, gram-table, gram-more, outer-coefficient, expanded-coefficient, rows-on, rows-all, squares-bases}
+use Rattle.identity.proofs.Halves.{sum-alike, sum-zeros, gram-table}
+use Rattle.identity.proofs.Gram.{all-map, sum-same, factors-small, gram-more, outer-coefficient, rows-on, rows-all, squares-bases}
 use Rattle.comparison.specs.declared.Lengths.{Lengths}
 use Rattle.comparison.specs.Tables.{Ready}
 use Rattle.comparison.specs.Spread.{spreadAt, Framed, Spread, multiplierIn, Flattened}
-use Rattle.comparison.specs.Outer.{rowUnit, Entries, Below, Raised, outerAt}
+use Rattle.comparison.specs.Outer.{rowUnit, Entries, Below, Raised, above, inRow, outerAt}
 use Rattle.comparison.specs.Places.{Walkable}
 use Rattle.comparison.specs.Walk.{Shaped, Gathered, Summed}
 use Rattle.comparison.proofs.Growth.{grown-none, grown-same, grown-then}
-use Rattle.comparison.proofs.Outers.{outer-bound}
+use Rattle.comparison.proofs.Outers.{match-other, above-other, outer-bound}
+
+-- ---- the upper half
+module _ (x : ℕ) where
+  upper-plus : (a b : ℤ) → upper x a +ℤ upper x b ≡ upper x (a +ℤ b)
+  upper-plus a b = go (leb (x / 64) (x % 64))
+    where
+      go : (t : Bool) → cond t a (pos 0) +ℤ cond t b (pos 0) ≡ cond t (a +ℤ b) (pos 0)
+      go true = refl
+      go false = refl
+
+  upper-times : (a b : ℤ) → a *ℤ upper x b ≡ upper x (a *ℤ b)
+  upper-times a b = go (leb (x / 64) (x % 64))
+    where
+      go : (t : Bool) → a *ℤ cond t b (pos 0) ≡ cond t (a *ℤ b) (pos 0)
+      go true = refl
+      go false = *ℤ-zero a
+
+  upper-none : (a : ℤ) → a ≡ pos 0 → upper x a ≡ pos 0
+  upper-none a e = go (leb (x / 64) (x % 64))
+    where
+      go : (t : Bool) → cond t a (pos 0) ≡ pos 0
+      go true = e
+      go false = refl
+
+  above-is : (i k : ℕ) → k < 64 → above x i k ≡ upper x (match x (64 * i + k))
+  above-is i k h =
+      ⊎-elim
+      (λ e.
+      let q : x / 64 ≡ i = omega arith in
+      let r : x % 64 ≡ k = omega arith in
+      rw (q, r))
+      (λ f. above-other x i k f ∙ sym (upper-none _ (match-other x (64 * i + k) f)))
+      (same-or-not (64 * i + k) x)
+
+  outer-upper : (F : List Term) → Keys (λ i. i < 64) F → sum (inRow F x) F ≡ upper x (sum (λ i. sum (λ i′. match x (64 * i + i′)) F) F)
+  outer-upper F low = sum-alike _ _ (λ i. sum-same (λ i. i < 64) _ _ (λ k b. above-is i k b) F low) F ∙ go (leb (x / 64) (x % 64))
+    where
+      go : (t : Bool) → sum (λ i. sum (λ i′. cond t (match x (64 * i + i′)) (pos 0)) F) F ≡ cond t (sum (λ i. sum (λ i′. match x (64 * i + i′)) F) F) (pos 0)
+      go true = refl
+      go false = sum-alike _ _ (λ i. sum-zeros F) F ∙ sum-zeros F
 
 -- ---- a row in arrays, as the table of sums takes it
 module _ (r : StoredRow) (at : ℕ) where
@@ -60,11 +100,15 @@ module _ (r : StoredRow) (at : ℕ) where
   unfolding rowOf termsIn
   row-factors = factors-listed (r .count) (storedEntry r at)
 
-  pub outer-is : (x : ℕ) → coefficient x (outer (rowOf r at)) ≡ outerAt (r .weight) (termsIn (r .count) (r .indices) (r .factors)) x
-  unfolding outerAt rowOf
-  outer-is x =
-      outer-coefficient x (rowOf r at)
-      ∙ ap (λ (F : List Term). pos (r .weight) *ℤ sum (λ i. sum (λ i′. match x (64 * i + i′)) F) F) row-factors
+  -- the upper half of the products
+  pub outer-is : All (λ (e : Entry). e .index < 64) (rowOf r at .entries) → (x : ℕ) → outerAt (r .weight) (termsIn (r .count) (r .indices) (r .factors)) x ≡ upper x (coefficient x (outer (rowOf r at)))
+  unfolding outerAt
+  outer-is low x =
+      let F = factors (rowOf r at .entries) in
+      ap (λ (P : List Term). pos (r .weight) *ℤ sum (inRow P x) P) (sym row-factors)
+      ∙ ap (λ (z : ℤ). pos (r .weight) *ℤ z) (outer-upper x F (factors-small (rowOf r at .entries) low))
+      ∙ upper-times x (pos (r .weight)) (sum (λ i. sum (λ i′. match x (64 * i + i′)) F) F)
+      ∙ ap (upper x) (sym (unfold rowOf in outer-coefficient x (rowOf r at)))
 
 rising-next : (es : List Entry) (d : Entry) → Rising es → (k : ℕ) → suc k < length es → getD es k d .index < getD es (suc k) d .index
 unfolding Rising
@@ -182,7 +226,7 @@ pub record Gathering (s : List ℕ) (j at : ℕ) (g : List ℤ) : Type 0 where
   pub few : left ≤ 128
   pub chain : Chain shape s left at
   pub run : List Row
-  pub holds : (x : ℕ) → x < 4096 → getD g x (pos 0) ≡ coefficient x (gram run)
+  pub holds : (x : ℕ) → x < 4096 → getD g x (pos 0) ≡ upper x (coefficient x (gram run))
   pub below : Below ((128 - left) * rowUnit) g
   pub same : run ++ rowsOn j (rowsFrom left s at) ≡ rowsOn j (rowsOf s)
 
@@ -197,7 +241,7 @@ module _ {s : List ℕ} {j : ℕ} where
         few = omega arith;
         chain = w .rows .chain;
         run = [];
-        holds = zero-below g z;
+        holds = λ x h. zero-below g z x h ∙ sym (upper-none x (pos 0) refl);
         below = record { long = z .long; small = λ x h. omega (arith, z .small x h) };
         same = refl;
       }
@@ -210,7 +254,7 @@ module _ {s : List ℕ} {j : ℕ} where
     unfolding rowsOn
     gathering-end f =
         let e : w .run ≡ rowsOn j (rowsOf s) = sym (append-nil (w .run)) ∙ ap (λ (rs : List Row). w .run ++ rowsOn j rs) (sym (no-row s at (w .left) f)) ∙ w .same in
-        record { holds = λ x h. w .holds x h ∙ ap (λ (rs : List Row). coefficient x (gram rs)) e; below = small }
+        record { holds = λ x h. w .holds x h ∙ ap (λ (rs : List Row). upper x (coefficient x (gram rs))) e; below = small }
 
     -- one row more
     module _ (bytes : (i : ℕ) → getD s i 0 < 256) (t : stands 0x11 s at ≡ true) (r : StoredRow) (q : Holds s at r) where
@@ -226,6 +270,11 @@ module _ {s : List ℕ} {j : ℕ} where
       abbrev added : ℕ → ℤ
       added = outerAt (r .weight) (termsIn (r .count) (r .indices) (r .factors))
 
+      row-low : All (λ (e : Entry). e .index < 64) (rowOf r (at + 4) .entries)
+      row-low =
+          let h = holds-sound s at r q (w .shape) (o .row) in
+          all-map _ _ (λ (e : Entry) b. omega (arith, w .within .sizes (rowOf r (at + 4) .basis))) (rowOf r (at + 4) .entries) (h .indices)
+
       weight-low : r .weight < 2 ^ 16
       weight-low = rw (holds-weight s at r q) (number-low s bytes (at + 2))
 
@@ -233,8 +282,8 @@ module _ {s : List ℕ} {j : ℕ} where
       unfolding outerAt
       added-small x = outer-bound _ _ _ gathering-entries (r .weight) weight-low x (r .count) (omega arith)
 
-      row-is : (x : ℕ) → added x ≡ coefficient x (outer (rowAt s at))
-      row-is x = sym (outer-is r (at + 4) x) ∙ ap (λ (y : Row). coefficient x (outer y)) (q .row)
+      row-is : (x : ℕ) → added x ≡ upper x (coefficient x (outer (rowAt s at)))
+      row-is x = outer-is r (at + 4) row-low x ∙ ap (λ (y : Row). upper x (coefficient x (outer y))) (q .row)
 
       basis-is : r .basis ≡ rowAt s at .basis
       unfolding rowOf
@@ -257,8 +306,9 @@ module _ {s : List ℕ} {j : ℕ} where
             holds = λ x h.
                 d .there x h
                 ∙ ap (λ (z : ℤ). z +ℤ added x) (w .holds x h)
-                ∙ ap (λ (z : ℤ). coefficient x (gram (w .run)) +ℤ z) (row-is x)
-                ∙ sym (gram-more x (w .run) (rowAt s at));
+                ∙ ap (λ (z : ℤ). upper x (coefficient x (gram (w .run))) +ℤ z) (row-is x)
+                ∙ upper-plus x (coefficient x (gram (w .run))) (coefficient x (outer (rowAt s at)))
+                ∙ ap (upper x) (sym (gram-more x (w .run) (rowAt s at)));
             below = record {
               long = d .long;
               small = λ x h.
@@ -288,10 +338,6 @@ module _ {s : List ℕ} {j : ℕ} where
           }
 
 -- ---- one basis: what the table of sums gives is the squares of the rows on it
-spread-gram : (p : Problem) (j : ℕ) (g : List ℤ) (k : ℕ) → spreadAt (basisOf p j) (multiplier p j) g k ≡ coefficient k (expanded p j (placed g))
-unfolding spreadAt
-spread-gram p j g k = sym (expanded-coefficient p j (placed g) k)
-
 module _ {s keys exponents : List ℕ} {coefficients : List ℤ} {l : Lengths} (flat : Flattened keys exponents coefficients l) (shaped : Shaped (l .sizes) s) (j : ℕ) where
   abbrev size : ℕ
   size = getD (l .sizes) j 0
@@ -306,7 +352,7 @@ module _ {s keys exponents : List ℕ} {coefficients : List ℤ} {l : Lengths} (
   pub gathered-none : {g : List ℤ} → size ≡ 0 → Below 0 g → Gathered s j g
   gathered-none {g} e z =
       record {
-        holds = λ x h. zero-below g z x h ∙ sym (coefficient-none _ x (gram (rowsOn j (rowsOf s))) framing (λ f. omega (arith, f .0)));
+        holds = λ x h. zero-below g z x h ∙ sym (upper-none x _ (coefficient-none _ x (gram (rowsOn j (rowsOf s))) framing (λ f. omega (arith, f .0))));
         below = record { long = z .long; small = λ x h. omega (arith, z .small x h) };
       }
 
@@ -315,21 +361,22 @@ module _ {s keys exponents : List ℕ} {coefficients : List ℤ} {l : Lengths} (
     gathered-framed =
         record {
           long = w .below .long;
-          rows = λ x h b. w .holds x h ∙ coefficient-none _ x (gram (rowsOn j (rowsOf s))) framing (λ f. omega (arith, f .0));
-          columns = λ x h b. w .holds x h ∙ coefficient-none _ x (gram (rowsOn j (rowsOf s))) framing (λ f. omega (arith, f .1));
+          rows = λ x h b. w .holds x h ∙ upper-none x _ (coefficient-none _ x (gram (rowsOn j (rowsOf s))) framing (λ f. omega (arith, f .0)));
+          columns = λ x h b. w .holds x h ∙ upper-none x _ (coefficient-none _ x (gram (rowsOn j (rowsOf s))) framing (λ f. omega (arith, f .1)));
           small = w .below .small;
         }
 
     pub gathered-summed : {table : List ℕ} {n : ℕ} {hi₀ hi₁ : List ℤ} {lo₀ lo₁ : List ℕ} {g₁ : List ℤ} → j < 9
         → Spread table n (part 64 (l .sizes) keys j) (multiplierIn exponents coefficients (l .counts) j) g hi₀ lo₀ g₁ hi₁ lo₁
         → Summed (λ p. squares p (rowsOn j (rowsOf s))) keys exponents coefficients l table n 1 hi₀ lo₀ hi₁ lo₁
+    unfolding spreadAt
     gathered-summed b d =
         let rs = rowsOn j (rowsOf s) in
         let low : All (λ (r : Row). All (λ (e : Entry). e .index < 64) (r .entries)) rs = all-map _ _ (λ (r : Row) a. all-map _ _ (λ (e : Entry) b. omega (arith, size-few)) (r .entries) a) rs (on-low shaped j) in
         record {
           sums = spreadAt (part 64 (l .sizes) keys j) (multiplierIn exponents coefficients (l .counts) j) g;
           grown = grown-same (d .grown) (λ k. refl) (omega arith);
-          are = λ p t k. rw (t .bases j b, t .multipliers j b) (spread-gram p j g k ∙ sym (gram-table p j rs (rows-on j (rowsOf s)) low g (w .holds) k));
+          are = λ p t k. rw (t .bases j b, t .multipliers j b) (sym (gram-table p j rs (rows-on j (rowsOf s)) low g (w .holds) k));
         }
 
 pub spread-below : {table : List ℕ} {n : ℕ} {B : List ℕ} {G : List Term} {g₀ g₁ hi₀ hi₁ : List ℤ} {lo₀ lo₁ : List ℕ} → Spread table n B G g₀ hi₀ lo₀ g₁ hi₁ lo₁ → Below 0 g₁

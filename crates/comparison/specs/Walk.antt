@@ -12,7 +12,7 @@ use Rattle.rounds.specs.Bytes.{part}
 use Rattle.certificate.specs.Rows.{rowsOf}
 use Rattle.certificate.specs.declared.Shape.{Shape}
 use Rattle.identity.specs.Identity.{multiplier}
-use Rattle.identity.specs.Gram.{gram, rowsOn}
+use Rattle.identity.specs.Gram.{gram, upper, rowsOn}
 use Rattle.comparison.specs.declared.Lengths.{Lengths}
 use Rattle.comparison.specs.Places.{Rows}
 use Rattle.comparison.specs.Tables.{Grown}
@@ -30,9 +30,9 @@ pub record Shaped (sizes s : List ℕ) : Type 0 where
   pub sizes-are : shape .sizes ≡ sizes
   pub rows : Rows shape s
 
--- the table of sums holds the products of the rows on basis j
+-- the table of sums holds the upper half of the products of the rows on basis j
 pub record Gathered (s : List ℕ) (j : ℕ) (g : List ℤ) : Type 0 where
-  pub holds : (x : ℕ) → x < 4096 → getD g x (pos 0) ≡ coefficient x (gram (rowsOn j (rowsOf s)))
+  pub holds : (x : ℕ) → x < 4096 → getD g x (pos 0) ≡ upper x (coefficient x (gram (rowsOn j (rowsOf s))))
   pub below : Below (2 ^ 53) g
 
 -- the sums grew by a polynomial Q of the problem, and by at most what c tables add

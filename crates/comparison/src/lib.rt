@@ -15,7 +15,7 @@ ghost use Rattle.joining.specs.Joining.{closing};
 ghost use Rattle.certificate.specs.Rules.{Certificate, shapeOf, readCertificate};
 ghost use Rattle.certificate.specs.Rows.{rowOf, rowsOf};
 ghost use Rattle.identity.specs.Identity.{squares};
-ghost use Rattle.identity.specs.Gram.{rowsOn};
+ghost use Rattle.identity.specs.Gram.{rowsOn, times};
 ghost use Rattle.identity.specs.Judgement.{rowSplit, splitPlace, differenceKey};
 ghost use Rattle.comparison.specs.Places.{placeOf, byteAt, Walkable, Indexed};
 ghost use Rattle.comparison.specs.Tables.{unit, Sought, Ready, Grown, Addable, claimed, Negates};
@@ -135,7 +135,7 @@ fn add_term(
     x: i64,
     c: i32,
 )
-    requires { ⌜ Ready (now table) n (now hi) (now lo) unit × (natAbs x ≤ 2 ^ 53) ⌝ }
+    requires { ⌜ Ready (now table) n (now hi) (now lo) unit × (natAbs x ≤ 2 ^ 54) ⌝ }
     ensures { λ _. ⌜ Grown (now (table .entry)) n (now (hi .entry)) (now (lo .entry)) (λ k. x *ℤ c *ℤ match k key) unit (now (hi .exit)) (now (lo .exit)) ⌝ }
 {
     let p = place_of(table, n, places, key);
@@ -223,7 +223,18 @@ fn add_claim(
     add_term(table, n, places, hi, lo, 0, y, 1);
 }
 
-// Adds one entry of the table of sums: a times b * b' for the indices of its place, times the multiplier.
+// An entry on the diagonal counts once, and any other for its mirror image too.
+fn counted(x: usize, a: i64) -> i64
+    requires { ⌜ natAbs a ≤ 2 ^ 53 ⌝ }
+    ensures { λ r. ⌜ (r ≡ times x *ℤ a) × (natAbs r ≤ 2 ^ 54) ⌝ }
+{
+    if x / 64 == x % 64 {
+        return a;
+    }
+    2 * a
+}
+
+// Adds one entry of the table of sums, as often as it counts: a times b * b' for the indices of its place, times the multiplier.
 fn add_entry(
     basis: &[u64],
     exponents: &[u64],
@@ -238,7 +249,7 @@ fn add_entry(
 )
     requires { ⌜ Ready (now table) n (now hi) (now lo) entryUnit ⌝ }
     requires { ⌜ Spreadable (now basis) (now exponents) (now coefficients) × Entered (now basis) x a ⌝ }
-    ensures { λ _. ⌜ Grown (now (table .entry)) n (now (hi .entry)) (now (lo .entry)) (λ k. a *ℤ share (now (basis .entry)) (termsIn (length (now (exponents .entry))) (now (exponents .entry)) (now (coefficients .entry))) k x) entryUnit (now (hi .exit)) (now (lo .exit)) ⌝ }
+    ensures { λ _. ⌜ Grown (now (table .entry)) n (now (hi .entry)) (now (lo .entry)) (λ k. a *ℤ (times x *ℤ share (now (basis .entry)) (termsIn (length (now (exponents .entry))) (now (exponents .entry)) (now (coefficients .entry))) k x)) entryUnit (now (hi .exit)) (now (lo .exit)) ⌝ }
 {
     if a == 0 {
         return;
@@ -246,7 +257,8 @@ fn add_entry(
     let i = x / 64;
     let k = x % 64;
     let key = basis[i] + basis[k];
-    add_terms(table, n, places, hi, lo, exponents, coefficients, key, a);
+    let y = counted(x, a);
+    add_terms(table, n, places, hi, lo, exponents, coefficients, key, y);
 }
 
 // Adds the whole table of sums, and clears it. Past the basis's last index there is nothing to add.
@@ -319,20 +331,20 @@ fn flush(
     spread(g, &keys[a..b], es, cs, table, n, places, hi, lo);
 }
 
-// Adds a times each factor of a row, in the table's row i.
+// Adds a times each factor of a row from entry `first` on, in the table's row of that entry's index.
 fn add_products(
     g: &mut [i64; 4096],
     indices: &[u8; 64],
     factors: &[i16; 64],
     count: usize,
-    i: usize,
+    first: usize,
     a: i64,
 )
-    requires { ⌜ Entries (now indices) (now factors) count × Below (2 ^ 54) (now g) × (i < 64) × (natAbs a ≤ 2 ^ 31) ⌝ }
-    ensures { λ _. ⌜ Raised (now (g .entry)) (λ x. a *ℤ inRow (termsIn count (now (indices .entry)) (now (factors .entry))) x i) (now (g .exit)) ⌝ }
+    requires { ⌜ Entries (now indices) (now factors) count × Below (2 ^ 54) (now g) × (first < count) × (natAbs a ≤ 2 ^ 31) ⌝ }
+    ensures { λ _. ⌜ Raised (now (g .entry)) (λ x. a *ℤ inRow (termsIn count (now (indices .entry)) (now (factors .entry))) x (getD (now (indices .entry)) first 0)) (now (g .exit)) ⌝ }
 {
-    let from = 64 * i;
-    let mut k = 0;
+    let from = 64 * (indices[first] as usize);
+    let mut k = first;
     while k < count {
         let x = from + (indices[k] as usize);
         let y = a * (factors[k] as i64);
@@ -342,7 +354,7 @@ fn add_products(
     }
 }
 
-// Adds the products w * l * l' of each two entries of a row to the table of sums.
+// Adds the products w * l * l' of each two entries of a row, an entry with itself and with those after it, to the table of sums.
 fn add_outer(g: &mut [i64; 4096], row: certificate::StoredRow)
     requires { ⌜ Entries (row .indices) (row .factors) (row .count) × Below (2 ^ 53) (now g) ⌝ }
     ensures { λ _. ⌜ Raised (now (g .entry)) (outerAt (row .weight) (termsIn (row .count) (row .indices) (row .factors))) (now (g .exit)) ⌝ }
@@ -353,9 +365,8 @@ fn add_outer(g: &mut [i64; 4096], row: certificate::StoredRow)
     let w = row.weight as i64;
     let mut k = 0;
     while k < count {
-        let i = indices[k] as usize;
         let a = w * (factors[k] as i64);
-        add_products(g, &indices, &factors, count, i, a);
+        add_products(g, &indices, &factors, count, k, a);
         k += 1;
     }
 }
