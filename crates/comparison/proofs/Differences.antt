@@ -20,6 +20,7 @@ use Rattle.problem.specs.Bases.{multiplierOf, Flat, coefficientsOf, FlatCoeffic
 use Rattle.support.proofs.Laws.{inside}
 use Rattle.sums.specs.Sums.{valueAt, First}
 use Rattle.certificate.specs.Rules.{Row, Certificate, shapeOf}
+use Rattle.certificate.specs.Rows.{rowsOf}
 use Rattle.certificate.specs.declared.Header.{Header}
 use Rattle.certificate.proofs.Limits.{shape-within}
 use Rattle.certificate.proofs.Rows.{rows-read}
@@ -205,7 +206,7 @@ module _ (p : Problem) (c : Certificate) (s : List ℕ) (header : Header) (keys 
 
   module _ {hi₀ hi₁ hi₂ : List ℤ} {lo₀ lo₁ lo₂ : List ℕ} {a r : ℕ} (z : Zeroed table n hi₀ lo₀)
       (g : Grown table n hi₀ lo₀ (λ k. negℤ (coefficient k (claimed (objectiveTerms objective) header))) a hi₁ lo₁)
-      (m : Summed s keys exponents coefficients l table n hi₁ lo₁ hi₂ lo₂) (f : First hi₂ lo₂ n r) where
+      (m : Summed (λ p. squares p (rowsOf s)) keys exponents coefficients l table n 9 hi₁ lo₁ hi₂ lo₂) (f : First hi₂ lo₂ n r) where
     claim-is : (k : ℕ) → coefficient k (claimed (objectiveTerms objective) header) ≡ coefficient k (claim p (c .header))
     claim-is k = rw (given .objective-is, given .header-is, problem-claim p (c .header))
 

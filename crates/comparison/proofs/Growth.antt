@@ -12,13 +12,13 @@ use lib.IntN.{ℤ, pos, natAbs, one, _+ℤ_, _*ℤ_, +ℤ-assoc, +ℤ-idr, *ℤ-
 use lib.ListN.{length, getD, take}
 use lib.Seq.{getD-take, length-take-le}
 use Rattle.polynomial.specs.Algebra.{match}
-use Rattle.support.specs.Table.{findIn, rank}
+use Rattle.support.specs.Table.{Holds, findIn, rank}
 use Rattle.support.specs.Sets.{member}
 use Rattle.support.specs.declared.Found.the-variants.{At, Gap}
 use Rattle.support.proofs.Laws.{inside, rising-in, member-at, at-tells, gap-tells, told-in, miss-in}
 use Rattle.sums.specs.Sums.{valueAt, Room, Added, Sums}
 use Rattle.sums.proofs.Tables.{added-at, bound-at, sums-kept}
-use Rattle.comparison.specs.Tables.{Ready, Grown}
+use Rattle.comparison.specs.Tables.{Sought, Ready, Grown}
 
 module _ {keys : List ℕ} {n : ℕ} {hi₀ hi₁ : List ℤ} {lo₀ lo₁ : List ℕ} where
   pub ready-after : {f : ℕ → ℤ} {c d e : ℕ} → Ready keys n hi₀ lo₀ e → Grown keys n hi₀ lo₀ f c hi₁ lo₁ → c + d ≤ e → Ready keys n hi₁ lo₁ d
@@ -77,22 +77,14 @@ grown-none {hi = hi} {lo = lo} r e =
       lo-length = refl;
     }
 
--- ---- one number added at the place that a search gives
+-- ---- one number added at the place of a key
 matched : (x : ℤ) (k j : ℕ) → (k ≡ j → ⊥) → x *ℤ match k j ≡ pos 0
 matched x k j f = rw (ne-eqb j k (λ e. f (sym e)), *ℤ-zero)
 
-module _ {keys : List ℕ} {n : ℕ} {hi : List ℤ} {lo : List ℕ} {c : ℕ} (r : Ready keys n hi lo c) (key p : ℕ) where
+-- what a search tells
+module _ {keys : List ℕ} {n : ℕ} (support : Holds keys n) (key p : ℕ) where
   within : n ≤ length keys
-  within = inside (r .support)
-
-  other-key : (a b : ℕ) → a < n → b < n → (a ≡ b → ⊥) → getD keys a 0 ≡ getD keys b 0 → ⊥
-  other-key a b x y f e = go (ltb a b) refl
-    where
-      go : (t : Bool) → ltb a b ≡ t → ⊥
-      go true h = omega (arith, rising-in keys n within a b (r .support .rising) (ltb-true a b h) y)
-      go false h =
-          let l = ltb-false a b h in
-          ⊎-elim (λ q. f (sym q)) (λ (d : b < a). omega (arith, rising-in keys n within b a (r .support .rising) d x)) (eq-or-lt-of-le {n = b} {m = a} l)
+  within = inside support
 
   rank-of : findIn key (take n keys) ≡ At p → p ≡ rank key (take n keys)
   rank-of = go (member key (take n keys))
@@ -101,35 +93,52 @@ module _ {keys : List ℕ} {n : ℕ} {hi : List ℤ} {lo : List ℕ} {c : ℕ} (
       go true e = cc
       go false e = absurd (let z : _≡_ {A = ℕ} 0 1 = cc in omega arith)
 
-  found-in : findIn key (take n keys) ≡ At p → (p < n) × (getD keys p 0 ≡ key)
-  found-in e =
+  pub sought-at : findIn key (take n keys) ≡ At p → Sought keys n key p
+  sought-at e =
       let t = at-tells key (take n keys) p e in
       let k = rank-of e in
       let b : p < n = before t k (ltb p n) refl in
-      (b, eqb-true _ _ (sym (told-in keys n within key p k (r .support .rising) b) ∙ t))
+      record { there = λ _. eqb-true _ _ (sym (told-in keys n within key p k (support .rising) b) ∙ t); none = λ l. absurd (omega arith) }
     where
       before : member key (take n keys) ≡ true → p ≡ rank key (take n keys) → (x : Bool) → ltb p n ≡ x → p < n
       before t k true x = ltb-true p n x
       before t k false x =
           let h = ltb-false p n x in
-          let m = miss-in keys n within key p k (λ b q. omega arith) (r .support .rising) in
+          let m = miss-in keys n within key p k (λ b q. omega arith) (support .rising) in
           absurd (let z : _≡_ {A = ℕ} 0 1 = cc in omega arith)
 
-  pub room-in : findIn key (take n keys) ≡ At p → Room hi lo p
-  room-in e =
-      let b = found-in e .0 in
-      record { in-hi = omega (arith, r .in-hi); in-lo = omega (arith, r .in-lo); small = omega (arith, r .small p b); low = r .low p b }
+  pub sought-gap : findIn key (take n keys) ≡ Gap p → Sought keys n key n
+  sought-gap e =
+      record {
+        there = λ l. absurd (omega arith);
+        none = λ _ q b w.
+            let m = gap-tells key (take n keys) p e .0 in
+            let l = length-take-le n keys within in
+            let t = member-at key (take n keys) q (omega arith) (getD-take n keys q 0 b ∙ w) in
+            absurd (let z : _≡_ {A = ℕ} 0 1 = cc in omega arith);
+      }
+
+module _ {keys : List ℕ} {n : ℕ} {hi : List ℤ} {lo : List ℕ} {c : ℕ} (r : Ready keys n hi lo c) (key p : ℕ) (s : Sought keys n key p) where
+  other-key : (a b : ℕ) → a < n → b < n → (a ≡ b → ⊥) → getD keys a 0 ≡ getD keys b 0 → ⊥
+  other-key a b x y f e = go (ltb a b) refl
+    where
+      go : (t : Bool) → ltb a b ≡ t → ⊥
+      go true h = omega (arith, rising-in keys n (inside (r .support)) a b (r .support .rising) (ltb-true a b h) y)
+      go false h =
+          let l = ltb-false a b h in
+          ⊎-elim (λ q. f (sym q)) (λ (d : b < a). omega (arith, rising-in keys n (inside (r .support)) b a (r .support .rising) d x)) (eq-or-lt-of-le {n = b} {m = a} l)
+
+  pub room-in : p < n → Room hi lo p
+  room-in b = record { in-hi = omega (arith, r .in-hi); in-lo = omega (arith, r .in-lo); small = omega (arith, r .small p b); low = r .low p b }
 
   sums : Sums hi lo n
   sums = record { in-hi = r .in-hi; in-lo = r .in-lo; low = r .low }
 
-  pub grown-at : {hi₁ : List ℤ} {lo₁ : List ℕ} (z : ℤ) → findIn key (take n keys) ≡ At p → natAbs z ≤ c → Added hi lo p z hi₁ lo₁ → Grown keys n hi lo (λ k. z *ℤ match k key) c hi₁ lo₁
+  pub grown-at : {hi₁ : List ℤ} {lo₁ : List ℕ} (z : ℤ) → p < n → natAbs z ≤ c → Added hi lo p z hi₁ lo₁ → Grown keys n hi lo (λ k. z *ℤ match k key) c hi₁ lo₁
   unfolding one
-  grown-at z e s d =
-      let f = found-in e in
-      let b = f .0 in
+  grown-at z a small d =
       record {
-        there = λ q b. added-at d q ∙ ap (λ (y : ℤ). valueAt hi lo q +ℤ y) (go q b (f .0) (f .1) (eqb p q) refl);
+        there = λ q b. added-at d q ∙ ap (λ (y : ℤ). valueAt hi lo q +ℤ y) (go q b (eqb p q) refl);
         near = λ q b. omega (arith, bound-at d q (natAbs (valueAt hi lo q)) (omega arith));
         low = sums-kept d sums .low;
         hi-rest = λ q l. d .hi-kept q (λ w. omega arith);
@@ -138,14 +147,9 @@ module _ {keys : List ℕ} {n : ℕ} {hi : List ℤ} {lo : List ℕ} {c : ℕ} (
         lo-length = d .lo-length;
       }
     where
-      go : (q : ℕ) → q < n → p < n → getD keys p 0 ≡ key → (t : Bool) → eqb p q ≡ t → cond t z (pos 0) ≡ z *ℤ match (getD keys q 0) key
-      go q b a f true x = rw (eq-eqb key (getD keys q 0) (sym f ∙ ap (λ (i : ℕ). getD keys i 0) (eqb-true p q x))) (sym (*ℤ-one z))
-      go q b a f false x = sym (matched z (getD keys q 0) key (λ w. other-key p q a b (eqb-false p q x) (f ∙ sym w)))
+      go : (q : ℕ) → q < n → (t : Bool) → eqb p q ≡ t → cond t z (pos 0) ≡ z *ℤ match (getD keys q 0) key
+      go q b true x = rw (eq-eqb key (getD keys q 0) (sym (s .there a) ∙ ap (λ (i : ℕ). getD keys i 0) (eqb-true p q x))) (sym (*ℤ-one z))
+      go q b false x = sym (matched z (getD keys q 0) key (λ w. other-key p q a b (eqb-false p q x) (s .there a ∙ sym w)))
 
-  pub grown-gap : (z : ℤ) → findIn key (take n keys) ≡ Gap p → Grown keys n hi lo (λ k. z *ℤ match k key) c hi lo
-  grown-gap z e =
-      grown-none r (λ q b. matched z (getD keys q 0) key (λ w.
-      let m = gap-tells key (take n keys) p e .0 in
-      let l = length-take-le n keys within in
-      let t = member-at key (take n keys) q (omega arith) (getD-take n keys q 0 b ∙ w) in
-      absurd (let z : _≡_ {A = ℕ} 0 1 = cc in omega arith)))
+  pub grown-gap : (z : ℤ) → n ≤ p → Grown keys n hi lo (λ k. z *ℤ match k key) c hi lo
+  grown-gap z l = grown-none r (λ q b. matched z (getD keys q 0) key (s .none l q b))

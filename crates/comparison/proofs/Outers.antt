@@ -4,21 +4,22 @@ use mathlib.Core.Bool.{Bool, true, false, cond}
 use mathlib.Core.List.{List}
 use mathlib.Core.Logic.{⊎-elim}
 use Prim.Native.Nat.{ℕ, zero, suc, _+_, _-_, _*_, _/_, _^_, _≤_, _<_}
+use native.Mathlib.Nat.{eq-or-lt-of-le}
 use native.Mathlib.Numerals.{add-one}
 use native.Mathlib.Omega.{arith}
-use borrow.Author.Tests.{eq-eqb, ne-eqb}
-use lib.Dec.{eqb}
+use borrow.Author.Tests.{eq-eqb, ne-eqb, le-leb, lt-leb}
+use lib.Dec.{eqb, leb}
 use lib.IntN.{ℤ, pos, one, natAbs, _+ℤ_, _*ℤ_, +ℤ-assoc, +ℤ-idl, +ℤ-idr, *ℤ-zero, *ℤ-one}
 use lib.ListN.{length, getD, set, replicate, length-set, length-replicate, getD-replicate}
 use lib.Seq.{getD-set-same, getD-set-other}
 use Rattle.integers.proofs.Ranges.{abs-sum, abs-mul-le}
 use Rattle.counting.proofs.Listed.{same-or-not}
-use Rattle.polynomial.specs.Terms.{Term, term, termsIn}
+use Rattle.polynomial.specs.Terms.{Term, termsIn}
 use Rattle.polynomial.specs.Algebra.{sum, match}
-use Rattle.comparison.specs.Outer.{rowUnit, Entries, Below, Raised, inRow, outerAt}
-use Rattle.comparison.proofs.Products.{at, sum-none, sum-more, times-none, times-more}
+use Rattle.comparison.specs.Outer.{rowUnit, Entries, Below, Raised, above, inRow, outerAt}
+use Rattle.comparison.proofs.Products.{at, sum-none, sum-more, times-more}
 
-match-other : (x y : ℕ) → (y ≡ x → ⊥) → match x y ≡ pos 0
+pub match-other : (x y : ℕ) → (y ≡ x → ⊥) → match x y ≡ pos 0
 match-other x y f = rw (ne-eqb y x f)
 
 match-small : (x y : ℕ) → natAbs (match x y) ≤ 1
@@ -27,6 +28,28 @@ match-small x y = go (eqb y x)
     go : (b : Bool) → natAbs (cond b (pos 1) (pos 0)) ≤ 1
     go true = omega arith
     go false = omega arith
+
+-- ---- the places on and above the diagonal
+module _ (x i k : ℕ) where
+  pub above-other : (64 * i + k ≡ x → ⊥) → above x i k ≡ pos 0
+  above-other f = go (leb i k)
+    where
+      go : (b : Bool) → cond b (match x (64 * i + k)) (pos 0) ≡ pos 0
+      go true = match-other x (64 * i + k) f
+      go false = refl
+
+  above-small : natAbs (above x i k) ≤ 1
+  above-small = go (leb i k)
+    where
+      go : (b : Bool) → natAbs (cond b (match x (64 * i + k)) (pos 0)) ≤ 1
+      go true = match-small x (64 * i + k)
+      go false = omega arith
+
+  above-low : k < i → above x i k ≡ pos 0
+  above-low h = rw (lt-leb i k h)
+
+  above-high : i ≤ k → above x i k ≡ match x (64 * i + k)
+  above-high h = rw (le-leb i k h)
 
 -- ---- a sum in which at most one term counts is no larger than that term
 module _ (m : ℕ → ℤ) (E : List ℕ) (C : List ℤ) where
@@ -66,12 +89,22 @@ module _ (E : List ℕ) (C : List ℤ) (count : ℕ) (e : Entries E C count) whe
   inner-small x i n h =
       omega (
         arith,
-        single (λ i′. match x (64 * i + i′)) E C (x - 64 * i) 1 (2 ^ 15) (λ k f. match-other x (64 * i + k) (λ q. f (omega arith))) (λ k. match-small x (64 * i + k)) n
+        single (above x i) E C (x - 64 * i) 1 (2 ^ 15) (λ k f. above-other x i k (λ q. f (omega arith))) (above-small x i) n
             (λ i k a b. e .rising i k a (omega arith)) (λ k b. e .factors-small k (omega arith)),
       )
 
   other-row : (x i : ℕ) → (i ≡ x / 64 → ⊥) → inRow F x i ≡ pos 0
-  other-row x i f = sum-zero (λ i′. match x (64 * i + i′)) E C count (λ k b. match-other x (64 * i + getD E k 0) (λ q. f (let l = e .indices-low k b in omega arith)))
+  other-row x i f = sum-zero (above x i) E C count (λ k b. above-other x i (getD E k 0) (λ q. f (let l = e .indices-low k b in omega arith)))
+
+  -- the entries before one have lower indices
+  pub before-none : (first : ℕ) → first < count → (x : ℕ) → inRow (termsIn first E C) x (getD E first 0) ≡ pos 0
+  before-none first h x = sum-zero (above x (getD E first 0)) E C first (λ k b. above-low x (getD E first 0) (getD E k 0) (e .rising k first b h))
+
+  -- and those from it on have no lower ones
+  pub from-high : (first k : ℕ) → first ≤ k → k < count → (x : ℕ) → above x (getD E first 0) (getD E k 0) ≡ match x (64 * getD E first 0 + getD E k 0)
+  from-high first k l h x =
+      above-high x (getD E first 0) (getD E k 0)
+      (⊎-elim (λ q. omega (arith, ap (λ (i : ℕ). getD E i 0) q)) (λ b. omega (arith, e .rising first k b h)) (eq-or-lt-of-le {n = first} {m = k} l))
 
   -- the first n entries with all
   outer-small : (x n : ℕ) → n ≤ count → natAbs (sum (inRow F x) (termsIn n E C)) ≤ 2 ^ 30
@@ -93,10 +126,13 @@ pub record Raising (g₀ : List ℤ) (m : ℕ → ℕ → ℤ) (x : ℤ) (E : Li
   pub raised : Raised g₀ (λ y. x *ℤ sum (m y) (termsIn t E C)) g₁
 
 module _ {g₀ : List ℤ} {m : ℕ → ℕ → ℤ} {x : ℤ} {E : List ℕ} {C : List ℤ} where
+  pub raising-from : {t : ℕ} → length g₀ ≡ 4096 → ((y : ℕ) → sum (m y) (termsIn t E C) ≡ pos 0) → Raising g₀ m x E C t g₀
+  raising-from {t} l e =
+      record { raised = record { long = l; there = λ y b. sym (ap (λ (z : ℤ). getD g₀ y (pos 0) +ℤ x *ℤ z) (e y) ∙ ap (λ (z : ℤ). getD g₀ y (pos 0) +ℤ z) (*ℤ-zero x) ∙ +ℤ-idr (getD g₀ y (pos 0))) } }
+
   pub raising-start : length g₀ ≡ 4096 → Raising g₀ m x E C 0 g₀
   unfolding termsIn
-  raising-start l =
-      record { raised = record { long = l; there = λ y b. sym (ap (λ (z : ℤ). getD g₀ y (pos 0) +ℤ z) (times-none (m y) (at E C) x) ∙ +ℤ-idr (getD g₀ y (pos 0))) } }
+  raising-start l = raising-from l (λ y. sum-none (m y) (at E C))
 
   pub raising-more : {g₁ g₂ : List ℤ} {t : ℕ} → Raising g₀ m x E C t g₁ → Raised g₁ (λ y. x *ℤ getD C t (pos 0) *ℤ m y (getD E t 0)) g₂ → Raising g₀ m x E C (t + 1) g₂
   unfolding termsIn
@@ -120,6 +156,9 @@ module _ {g₀ : List ℤ} {m : ℕ → ℕ → ℤ} {x : ℤ} {E : List ℕ} {C
             let e = ap natAbs (h .raised .there y l) in
             omega (arith, abs-sum (getD g₀ y (pos 0)) (x *ℤ sum (m y) (termsIn t E C)), b .small y l, f y);
       }
+
+pub raised-same : {g₀ g₁ : List ℤ} {f h : ℕ → ℤ} → Raised g₀ f g₁ → ((y : ℕ) → f y ≡ h y) → Raised g₀ h g₁
+raised-same {g₀} r e = record { long = r .long; there = λ y b. r .there y b ∙ ap (λ (z : ℤ). getD g₀ y (pos 0) +ℤ z) (e y) }
 
 -- all entries with all
 pub raising-all : {g₀ g₁ : List ℤ} {w count t : ℕ} {E : List ℕ} {C : List ℤ} → Raising g₀ (inRow (termsIn count E C)) (pos w) E C t g₁ → t ≡ count → Raised g₀ (outerAt w (termsIn count E C)) g₁

@@ -27,6 +27,7 @@ use Rattle.certificate.proofs.Rows.{no-row, one-row, rows-read}
 use Rattle.certificate.proofs.Walk.{onward, holds-sound, sound-basis, sound-index}
 use Rattle.identity.specs.Identity.{blockOf, RowsFit}
 use Rattle.identity.specs.Judgement.{firstOutside, rowSplit, orElse, splitPlace}
+use Rattle.identity.proofs.Gram.{all-map}
 use Rattle.identity.proofs.Fits.{read-fits}
 use Rattle.comparison.specs.declared.Place.the-variants.{At, Nowhere}
 use Rattle.comparison.specs.Places.{placeOf, byteAt, splitIn, Walkable, Indexed}
@@ -177,11 +178,6 @@ byte-at L j i h b x =
     let q : (64 * j + i) / 64 ≡ j = omega arith in
     let r : (64 * j + i) % 64 ≡ i = omega arith in
     listed-at 576 (λ x. getD (getD L (x / 64) []) (x % 64) 255) (64 * j + i) 0 (omega arith) ∙ rw (q, r) (default-any (getD L j []) i 255 0 x)
-
-all-map : {X : Type 0} (A B : X → Type 0) → ((x : X) → A x → B x) → (l : List X) → All A l → All B l
-unfolding All
-all-map A B f [] h = tt
-all-map A B f (x ∷ l) h = (f x (h .0), all-map A B f l (h .1))
 
 module _ (p : Problem) (limits : Limits p) where
   shape : Within (shapeOf p)

@@ -6,14 +6,16 @@ use mathlib.Core.Logic.{⊎-elim}
 use Prim.Native.Nat.{ℕ, zero, suc, _+_, _-_, _*_, _/_, _%_, _≤_, _<_}
 use native.Mathlib.Nat.{eq-or-lt-of-le}
 use native.Mathlib.Omega.{arith}
-use borrow.Author.Tests.{ltb-true, ltb-false}
+use borrow.Author.Tests.{eq-eqb, ne-eqb, ltb-true, ltb-false}
 use lib.Dec.{ltb}
-use lib.IntN.{ℤ, pos, _+ℤ_, _*ℤ_, +ℤ-idr, zero-*ℤ}
+use lib.IntN.{ℤ, pos, _+ℤ_, _*ℤ_, +ℤ-idr, zero-*ℤ, one, *ℤ-one, *ℤ-comm}
 use lib.ListN.{length, getD, set, length-set}
 use lib.Seq.{getD-set-same, getD-set-other}
+use Rattle.integers.proofs.Ring.{*ℤ-assoc, *ℤ-left-comm}
 use Rattle.counting.specs.Counting.{listed}
 use Rattle.polynomial.specs.Terms.{Term, term}
 use Rattle.polynomial.specs.Algebra.{sum}
+use Rattle.identity.specs.Gram.{times}
 use Rattle.comparison.specs.Tables.{Ready, Grown}
 use Rattle.comparison.specs.Spread.{entryUnit, share, spreadAt, Framed, Entered, Spread}
 use Rattle.comparison.proofs.Growth.{grown-none, grown-same, grown-then}
@@ -35,6 +37,18 @@ module _ (basis : List ℕ) (x : ℕ) (a : ℤ) (e : Entered basis x a) (f : a �
       go true q = ltb-true _ _ q
       go false q = absurd (f (e .column (ltb-false _ _ q)))
 
+-- ---- how often an entry counts
+module _ (x : ℕ) (a : ℤ) where
+  pub counts-once : x / 64 ≡ x % 64 → a ≡ times x *ℤ a
+  unfolding one
+  counts-once e = rw (eq-eqb (x / 64) (x % 64) e) (sym (*ℤ-comm (pos 1) a ∙ *ℤ-one a))
+
+  pub counts-twice : (x / 64 ≡ x % 64 → ⊥) → pos 2 *ℤ a ≡ times x *ℤ a
+  counts-twice f = rw (ne-eqb (x / 64) (x % 64) f)
+
+  pub counts-moved : (y s : ℤ) → y ≡ times x *ℤ a → y *ℤ s ≡ a *ℤ (times x *ℤ s)
+  counts-moved y s e = rw e (*ℤ-assoc (times x) a s ∙ *ℤ-left-comm (times x) a s)
+
 -- the terms past a place of the table have coefficient 0
 rest-none : (m : ℕ → ℤ) (f : ℕ → Term) (n d : ℕ) → ((i : ℕ) → n ≤ i → i < n + d → f i .coefficient ≡ pos 0) → sum m (listed n f) ≡ sum m (listed (n + d) f)
 rest-none m f n zero h = ap (λ (k : ℕ). sum m (listed k f)) (omega arith)
@@ -48,7 +62,7 @@ rest-none m f n (suc d) h =
 -- ---- the places before x are spread and 0
 pub record Spreading (keys : List ℕ) (n : ℕ) (B : List ℕ) (G : List Term) (g₀ : List ℤ) (hi₀ : List ℤ) (lo₀ : List ℕ) (x : ℕ) (g₁ : List ℤ) (hi₁ : List ℤ) (lo₁ : List ℕ) : Type 0 where
   pub within : x ≤ 64 * length B
-  pub grown : Grown keys n hi₀ lo₀ (λ k. sum (share B G k) (listed x (λ y. term y (getD g₀ y (pos 0))))) (x * entryUnit) hi₁ lo₁
+  pub grown : Grown keys n hi₀ lo₀ (λ k. sum (λ y. times y *ℤ share B G k y) (listed x (λ y. term y (getD g₀ y (pos 0))))) (x * entryUnit) hi₁ lo₁
   pub behind : (y : ℕ) → y < x → getD g₁ y (pos 0) ≡ pos 0
   pub ahead : (y : ℕ) → x ≤ y → getD g₁ y (pos 0) ≡ getD g₀ y (pos 0)
   pub long : length g₁ ≡ 4096
@@ -58,7 +72,7 @@ module _ {keys : List ℕ} {n : ℕ} {B : List ℕ} {G : List Term} {g₀ : List
   spreading-start r l =
       record {
         within = omega arith;
-        grown = grown-none r (λ q b. sum-none (share B G (getD keys q 0)) (λ y. term y (getD g₀ y (pos 0))));
+        grown = grown-none r (λ q b. sum-none (λ y. times y *ℤ share B G (getD keys q 0) y) (λ y. term y (getD g₀ y (pos 0))));
         behind = λ y b. absurd (omega arith);
         ahead = λ y b. refl;
         long = l;
@@ -71,13 +85,13 @@ module _ {keys : List ℕ} {n : ℕ} {B : List ℕ} {G : List Term} {g₀ : List
           rw (h .ahead x (omega arith))
           record { row = f .rows x (omega arith); column = f .columns x (omega arith); small = f .small x (omega arith) }
 
-      pub spreading-more : {hi₂ : List ℤ} {lo₂ : List ℕ} → Grown keys n hi₁ lo₁ (λ k. getD g₁ x (pos 0) *ℤ share B G k x) entryUnit hi₂ lo₂ → Spreading keys n B G g₀ hi₀ lo₀ (x + 1) (set g₁ x (pos 0)) hi₂ lo₂
+      pub spreading-more : {hi₂ : List ℤ} {lo₂ : List ℕ} → Grown keys n hi₁ lo₁ (λ k. getD g₁ x (pos 0) *ℤ (times x *ℤ share B G k x)) entryUnit hi₂ lo₂ → Spreading keys n B G g₀ hi₀ lo₀ (x + 1) (set g₁ x (pos 0)) hi₂ lo₂
       spreading-more k =
           let l = h .long in
           let i : x < length g₁ = omega arith in
           record {
             within = omega arith;
-            grown = grown-then (h .grown) (rw (h .ahead x (omega arith)) at k) (λ k. sum-more (share B G k) (λ y. term y (getD g₀ y (pos 0))) x) (omega arith);
+            grown = grown-then (h .grown) (rw (h .ahead x (omega arith)) at k) (λ k. sum-more (λ y. times y *ℤ share B G k y) (λ y. term y (getD g₀ y (pos 0))) x) (omega arith);
             behind = λ y l. ⊎-elim (λ e. rw e (getD-set-same g₁ x (pos 0) (pos 0) i)) (λ d. getD-set-other g₁ x y (pos 0) (pos 0) (λ e. omega arith) ∙ h .behind y d) (eq-or-lt-of-le {n = y} {m = x} (omega arith));
             ahead = λ y l. getD-set-other g₁ x y (pos 0) (pos 0) (λ e. omega arith) ∙ h .ahead y (omega arith);
             long = length-set g₁ x (pos 0) ∙ h .long;
@@ -89,8 +103,8 @@ module _ {keys : List ℕ} {n : ℕ} {B : List ℕ} {G : List Term} {g₀ : List
         let w = h .within in
         record {
           grown = grown-same (h .grown) (λ k.
-              rest-none (share B G k) (λ y. term y (getD g₀ y (pos 0))) x (4096 - x) (λ i a b. f .rows i (omega arith) (omega arith))
-              ∙ ap (λ (z : ℕ). sum (share B G k) (listed z (λ y. term y (getD g₀ y (pos 0))))) (omega arith))
+              rest-none (λ y. times y *ℤ share B G k y) (λ y. term y (getD g₀ y (pos 0))) x (4096 - x) (λ i a b. f .rows i (omega arith) (omega arith))
+              ∙ ap (λ (z : ℕ). sum (λ y. times y *ℤ share B G k y) (listed z (λ y. term y (getD g₀ y (pos 0))))) (omega arith))
               (omega arith);
           cleared = λ y b. go y b (ltb y x) refl;
           long = h .long;

@@ -1,13 +1,16 @@
--- The walk over the rows: the sums hold the squares of the rows that were flushed, and the table of sums holds the products of the
--- rows since, which are all on one basis.
+-- The walks over the rows, one for each basis: the table of sums holds the products of the rows on the basis so far, and the sums
+-- hold the squares of the rows on the bases before it.
 use mathlib.Core.Path.{_≡_, refl, sym, ap, _∙_}
-use mathlib.Core.Bool.{true, false}
+use mathlib.Core.Bool.{Bool, true, false, cond}
 use mathlib.Core.List.{List, [], _∷_, _++_, append-assoc, append-nil}
 use mathlib.Core.Logic.{⊎-elim}
 use Prim.Native.Nat.{ℕ, zero, suc, _+_, _-_, _*_, _/_, _%_, _^_, _≤_, _<_}
 use native.Mathlib.Nat.{eq-or-lt-of-le}
+use native.Mathlib.Numerals.{add-one}
 use native.Mathlib.Omega.{arith}
-use lib.IntN.{ℤ, pos, natAbs, _+ℤ_, _*ℤ_, +ℤ-assoc, +ℤ-idl}
+use borrow.Author.Tests.{eq-eqb, ne-eqb}
+use lib.Dec.{leb}
+use lib.IntN.{ℤ, pos, natAbs, _+ℤ_, _*ℤ_, *ℤ-zero}
 use lib.ListN.{length, getD}
 use Rattle.integers.proofs.Ranges.{abs-zero, abs-sum, fits-abs}
 use Rattle.counting.specs.Counting.{listed}
@@ -17,30 +20,70 @@ use Rattle.polynomial.specs.Terms.{Term, term, termsIn}
 use Rattle.polynomial.specs.Algebra.{sum, match, coefficient, _⊗_, Keys}
 use Rattle.polynomial.proofs.Sums.{coefficient-append, coefficient-none}
 use Rattle.polynomial.proofs.Products.{keys-append, keys-scale, keys-⊗, keys-map}
-use Rattle.problem.specs.Rules.{Problem}
-use Rattle.problem.specs.Bases.{basisOf}
 use Rattle.problem.specs.Limits.{All}
-use Rattle.problem.proofs.Limits.{all-more}
 use Rattle.rounds.specs.Bytes.{part}
 use Rattle.certificate.specs.Kept.{Within}
 use Rattle.certificate.specs.Limits.{Rising, SoundRow}
 use Rattle.certificate.specs.Rules.{Entry, Row}
-use Rattle.certificate.specs.Rows.{stands, entryCount, entryAt, rowAt, afterRow, rowsFrom, rowsOf, storedEntry, rowOf, Holds, Chain}
+use Rattle.certificate.specs.Rows.{stands, entryCount, entryAt, rowAt, afterRow, rowsFrom, rowsOf, storedEntry, rowOf, Holds, Chain, done, more}
 use Rattle.certificate.specs.declared.Shape.{Shape}
 use Rattle.certificate.specs.declared.StoredRow.{StoredRow}
 use Rattle.certificate.proofs.Stored.{signed-fits}
 use Rattle.certificate.proofs.Rows.{no-row, one-row}
 use Rattle.certificate.proofs.Walk.{Onward, onward, holds-entries, holds-weight, holds-count, holds-sound, sound-basis, sound-index}
-use Rattle.identity.specs.Identity.{multiplier, square, squares}
-use Rattle.identity.specs.Gram.{factors, rekeyed, outer, gram, placed, expanded}
-use Rattle.identity.proofs.Gram.{gram-table, gram-more, outer-coefficient, expanded-coefficient}
+use Rattle.identity.specs.Identity.{squares}
+use Rattle.identity.specs.Gram.{factors, rekeyed, outer, gram, upper, rowsOn, byBasis}
+use Rattle.identity.proofs.Reach.{all-both}
+use Rattle.identity.proofs.Halves.{sum-alike, sum-zeros, gram-table}
+use Rattle.identity.proofs.Gram.{all-map, sum-same, factors-small, gram-more, outer-coefficient, rows-on, rows-all, squares-bases}
 use Rattle.comparison.specs.declared.Lengths.{Lengths}
-use Rattle.comparison.specs.Tables.{Ready, Grown}
-use Rattle.comparison.specs.Spread.{tableUnit, spreadAt, Framed, Spread, multiplierIn, Flattened}
-use Rattle.comparison.specs.Outer.{rowUnit, Entries, Below, Raised, outerAt}
-use Rattle.comparison.specs.Walk.{Stands, Shaped, Changed, Summed}
-use Rattle.comparison.proofs.Growth.{grown-none, grown-then, ready-after}
-use Rattle.comparison.proofs.Outers.{outer-bound}
+use Rattle.comparison.specs.Tables.{Ready}
+use Rattle.comparison.specs.Spread.{spreadAt, Framed, Spread, multiplierIn, Flattened}
+use Rattle.comparison.specs.Outer.{rowUnit, Entries, Below, Raised, above, inRow, outerAt}
+use Rattle.comparison.specs.Places.{Walkable}
+use Rattle.comparison.specs.Walk.{Shaped, Gathered, Summed}
+use Rattle.comparison.proofs.Growth.{grown-none, grown-same, grown-then}
+use Rattle.comparison.proofs.Outers.{match-other, above-other, outer-bound}
+
+-- ---- the upper half
+module _ (x : ℕ) where
+  upper-plus : (a b : ℤ) → upper x a +ℤ upper x b ≡ upper x (a +ℤ b)
+  upper-plus a b = go (leb (x / 64) (x % 64))
+    where
+      go : (t : Bool) → cond t a (pos 0) +ℤ cond t b (pos 0) ≡ cond t (a +ℤ b) (pos 0)
+      go true = refl
+      go false = refl
+
+  upper-times : (a b : ℤ) → a *ℤ upper x b ≡ upper x (a *ℤ b)
+  upper-times a b = go (leb (x / 64) (x % 64))
+    where
+      go : (t : Bool) → a *ℤ cond t b (pos 0) ≡ cond t (a *ℤ b) (pos 0)
+      go true = refl
+      go false = *ℤ-zero a
+
+  upper-none : (a : ℤ) → a ≡ pos 0 → upper x a ≡ pos 0
+  upper-none a e = go (leb (x / 64) (x % 64))
+    where
+      go : (t : Bool) → cond t a (pos 0) ≡ pos 0
+      go true = e
+      go false = refl
+
+  above-is : (i k : ℕ) → k < 64 → above x i k ≡ upper x (match x (64 * i + k))
+  above-is i k h =
+      ⊎-elim
+      (λ e.
+      let q : x / 64 ≡ i = omega arith in
+      let r : x % 64 ≡ k = omega arith in
+      rw (q, r))
+      (λ f. above-other x i k f ∙ sym (upper-none _ (match-other x (64 * i + k) f)))
+      (same-or-not (64 * i + k) x)
+
+  outer-upper : (F : List Term) → Keys (λ i. i < 64) F → sum (inRow F x) F ≡ upper x (sum (λ i. sum (λ i′. match x (64 * i + i′)) F) F)
+  outer-upper F low = sum-alike _ _ (λ i. sum-same (λ i. i < 64) _ _ (λ k b. above-is i k b) F low) F ∙ go (leb (x / 64) (x % 64))
+    where
+      go : (t : Bool) → sum (λ i. sum (λ i′. cond t (match x (64 * i + i′)) (pos 0)) F) F ≡ cond t (sum (λ i. sum (λ i′. match x (64 * i + i′)) F) F) (pos 0)
+      go true = refl
+      go false = sum-alike _ _ (λ i. sum-zeros F) F ∙ sum-zeros F
 
 -- ---- a row in arrays, as the table of sums takes it
 module _ (r : StoredRow) (at : ℕ) where
@@ -57,11 +100,15 @@ module _ (r : StoredRow) (at : ℕ) where
   unfolding rowOf termsIn
   row-factors = factors-listed (r .count) (storedEntry r at)
 
-  pub outer-is : (x : ℕ) → coefficient x (outer (rowOf r at)) ≡ outerAt (r .weight) (termsIn (r .count) (r .indices) (r .factors)) x
-  unfolding outerAt rowOf
-  outer-is x =
-      outer-coefficient x (rowOf r at)
-      ∙ ap (λ (F : List Term). pos (r .weight) *ℤ sum (λ i. sum (λ i′. match x (64 * i + i′)) F) F) row-factors
+  -- the upper half of the products
+  pub outer-is : All (λ (e : Entry). e .index < 64) (rowOf r at .entries) → (x : ℕ) → outerAt (r .weight) (termsIn (r .count) (r .indices) (r .factors)) x ≡ upper x (coefficient x (outer (rowOf r at)))
+  unfolding outerAt
+  outer-is low x =
+      let F = factors (rowOf r at .entries) in
+      ap (λ (P : List Term). pos (r .weight) *ℤ sum (inRow P x) P) (sym row-factors)
+      ∙ ap (λ (z : ℤ). pos (r .weight) *ℤ z) (outer-upper x F (factors-small (rowOf r at .entries) low))
+      ∙ upper-times x (pos (r .weight)) (sum (λ i. sum (λ i′. match x (64 * i + i′)) F) F)
+      ∙ ap (upper x) (sym (unfold rowOf in outer-coefficient x (rowOf r at)))
 
 rising-next : (es : List Entry) (d : Entry) → Rising es → (k : ℕ) → suc k < length es → getD es k d .index < getD es (suc k) d .index
 unfolding Rising
@@ -120,7 +167,7 @@ module _ (h : Shape) (within : Within h) (s : List ℕ) (bytes : (i : ℕ) → g
   row-basis = omega (arith, sound-basis h r (at + 4) stored-sound, within .constraints)
 
 -- ---- the products of rows with low indices are at low indices
-module _ (m : ℕ) (few : m ≤ 64) where
+module _ (m : ℕ) where
   abbrev Low : Row → Type 0
   Low r = All (λ (e : Entry). e .index < m) (r .entries)
 
@@ -136,244 +183,226 @@ module _ (m : ℕ) (few : m ≤ 64) where
   keys-rekeyed A f [] h = tt
   keys-rekeyed A f (t ∷ P) h = (h .0, keys-rekeyed A f P (h .1))
 
-  outer-framed : (r : Row) → Low r → Keys Framing (outer r)
-  outer-framed r h =
-      let F = factors (r .entries) in
-      let b = factors-low (r .entries) h in
-      keys-scale _ (pos (r .weight)) (rekeyed (λ i. 64 * i) F ⊗ F)
-      (keys-⊗ _ (rekeyed (λ i. 64 * i) F) F (keys-rekeyed _ (λ i. 64 * i) F (keys-map _ _ (λ i l. keys-map _ _ (λ i′ l′. (omega arith, omega arith)) F b) F b)))
+  module _ (few : m ≤ 64) where
+    outer-framed : (r : Row) → Low r → Keys Framing (outer r)
+    outer-framed r h =
+        let F = factors (r .entries) in
+        let b = factors-low (r .entries) h in
+        keys-scale _ (pos (r .weight)) (rekeyed (λ i. 64 * i) F ⊗ F)
+        (keys-⊗ _ (rekeyed (λ i. 64 * i) F) F (keys-rekeyed _ (λ i. 64 * i) F (keys-map _ _ (λ i l. keys-map _ _ (λ i′ l′. (omega arith, omega arith)) F b) F b)))
 
-  pub gram-framed : (rs : List Row) → All Low rs → Keys Framing (gram rs)
-  unfolding gram All
-  gram-framed [] h = tt
-  gram-framed (r ∷ rs) h = keys-append _ (outer r) (gram rs) (outer-framed r (h .0)) (gram-framed rs (h .1))
+    pub gram-framed : (rs : List Row) → All Low rs → Keys Framing (gram rs)
+    unfolding gram All
+    gram-framed [] h = tt
+    gram-framed (r ∷ rs) h = keys-append _ (outer r) (gram rs) (outer-framed r (h .0)) (gram-framed rs (h .1))
 
-all-map : {X : Type 0} (A B : X → Type 0) → ((x : X) → A x → B x) → (l : List X) → All A l → All B l
+-- ---- the rows of a stream keep the limits
+chain-sound : {h : Shape} {s : List ℕ} {n at : ℕ} → Chain h s n at → All (SoundRow h) (rowsFrom n s at)
 unfolding All
-all-map A B f [] h = tt
-all-map A B f (x ∷ l) h = (f x (h .0), all-map A B f l (h .1))
+chain-sound {s = s} {n = n} {at = at} (done f) = rw (no-row s at n f) tt
+chain-sound {s = s} {at = at} (more {n} t r c) = rw (one-row s at n t) (r, chain-sound c)
 
--- ---- the squares of two lists of rows
-squares-append : (p : Problem) (A B : List Row) → squares p (A ++ B) ≡ squares p A ++ squares p B
-unfolding squares
-squares-append p [] B = refl
-squares-append p (r ∷ A) B = rw (squares-append p A B) (sym (append-assoc (square p r) (squares p A) (squares p B)))
+module _ {sizes s : List ℕ} (w : Shaped sizes s) where
+  sound : All (SoundRow (w .shape)) (rowsOf s)
+  unfolding rowsOf
+  sound = chain-sound (w .rows .chain)
 
-squares-sum : (p : Problem) (A B : List Row) (k : ℕ) → coefficient k (squares p (A ++ B)) ≡ coefficient k (squares p A) +ℤ coefficient k (squares p B)
-squares-sum p A B k = rw (squares-append p A B) (coefficient-append k (squares p A) (squares p B))
+  on-bases : All (λ (r : Row). r .basis < 9) (rowsOf s)
+  on-bases = all-map _ _ (λ (r : Row) q. omega (arith, q .basis, w .rows .within .constraints)) (rowsOf s) sound
 
--- ---- the walk; spare is 1 between a flush and the row that it was for
-pub record Walking (s keys exponents : List ℕ) (coefficients : List ℤ) (l : Lengths) (table : List ℕ) (n : ℕ) (hi₀ : List ℤ) (lo₀ : List ℕ) (spare at j : ℕ) (g : List ℤ) (hi₁ : List ℤ) (lo₁ : List ℕ) : Type 0 where
-  pub shape : Shape
-  pub sizes-are : shape .sizes ≡ l .sizes
-  pub within : Within shape
-  pub left : ℕ
-  pub few : left ≤ 128
-  pub chain : Chain shape s left at
-  pub used : ℕ
-  pub budget : used + left ≤ 128 + spare
-  pub done : ℕ → ℤ
-  pub grown : Grown table n hi₀ lo₀ done (used * tableUnit) hi₁ lo₁
-  pub basis : j < 9
-  pub run : List Row
-  pub on : All (λ (r : Row). r .basis ≡ j) run
-  pub low : All (λ (r : Row). All (λ (e : Entry). e .index < getD (l .sizes) j 0) (r .entries)) run
-  pub holds : (x : ℕ) → x < 4096 → getD g x (pos 0) ≡ coefficient x (gram run)
-  pub below : Below ((128 - left) * rowUnit) g
-  pub same : (p : Problem) → Stands p keys exponents coefficients l → (k : ℕ) → done k +ℤ coefficient k (squares p (run ++ rowsFrom left s at)) ≡ coefficient k (squares p (rowsOf s))
+  -- those on basis j have its indices
+  on-low : (j : ℕ) → All (Low (getD sizes j 0)) (rowsOn j (rowsOf s))
+  on-low j =
+      all-both _ _ _ (λ (r : Row) e q. rw (e, w .sizes-are) at (q .indices)) (rowsOn j (rowsOf s)) (rows-on j (rowsOf s)) (rows-all _ j (rowsOf s) sound)
 
 zero-below : (g : List ℤ) → Below 0 g → (x : ℕ) → x < 4096 → getD g x (pos 0) ≡ pos 0
 zero-below g b x h = abs-zero _ (omega (arith, b .small x h))
 
-spread-gram : (p : Problem) (j : ℕ) (g : List ℤ) (k : ℕ) → spreadAt (basisOf p j) (multiplier p j) g k ≡ coefficient k (expanded p j (placed g))
-unfolding spreadAt
-spread-gram p j g k = sym (expanded-coefficient p j (placed g) k)
+-- ---- the walk for basis j: the table of sums holds the products of the rows on it so far
+pub record Gathering (s : List ℕ) (j at : ℕ) (g : List ℤ) : Type 0 where
+  pub shape : Shape
+  pub within : Within shape
+  pub left : ℕ
+  pub few : left ≤ 128
+  pub chain : Chain shape s left at
+  pub run : List Row
+  pub holds : (x : ℕ) → x < 4096 → getD g x (pos 0) ≡ upper x (coefficient x (gram run))
+  pub below : Below ((128 - left) * rowUnit) g
+  pub same : run ++ rowsOn j (rowsFrom left s at) ≡ rowsOn j (rowsOf s)
 
-module _ {s keys exponents : List ℕ} {coefficients : List ℤ} {l : Lengths} {table : List ℕ} {n : ℕ} {hi₀ : List ℤ} {lo₀ : List ℕ} where
-  pub walking-start : {c : ℕ} {g : List ℤ} → Ready table n hi₀ lo₀ c → Shaped (l .sizes) s → Below 0 g → Walking s keys exponents coefficients l table n hi₀ lo₀ 0 10 0 g hi₀ lo₀
-  unfolding All gram coefficient rowsOf
-  walking-start {g = g} r w z =
+module _ {s : List ℕ} {j : ℕ} where
+  pub gathering-start : {g : List ℤ} → Below 0 g → Walkable s → Gathering s j 10 g
+  unfolding gram coefficient rowsOf
+  gathering-start {g} z w =
       record {
         shape = w .shape;
-        sizes-are = w .sizes-are;
         within = w .rows .within;
         left = 128;
         few = omega arith;
         chain = w .rows .chain;
-        used = 0;
-        budget = omega arith;
-        done = λ k. pos 0;
-        grown = grown-none r (λ q b. refl);
-        basis = omega arith;
         run = [];
-        on = tt;
-        low = tt;
-        holds = zero-below g z;
+        holds = λ x h. zero-below g z x h ∙ sym (upper-none x (pos 0) refl);
         below = record { long = z .long; small = λ x h. omega (arith, z .small x h) };
-        same = λ p t k. +ℤ-idl (coefficient k (squares p (rowsFrom 128 s 10)));
+        same = refl;
       }
 
-  module _ (flat : Flattened keys exponents coefficients l) {spare at j : ℕ} {g hi₁ : List ℤ} {lo₁ : List ℕ} (w : Walking s keys exponents coefficients l table n hi₀ lo₀ spare at j g hi₁ lo₁) where
-    size-few : getD (l .sizes) j 0 ≤ 64
-    size-few = flat .arrays .sized .small j
+  module _ {at : ℕ} {g : List ℤ} (w : Gathering s j at g) where
+    small : Below (2 ^ 53) g
+    small = record { long = w .below .long; small = λ x h. omega (arith, w .below .small x h, w .few) }
 
-    pub walking-framed : Framed (getD (l .sizes) j 0) g
-    walking-framed =
-        let F = gram-framed (getD (l .sizes) j 0) size-few (w .run) (w .low) in
-        record {
-          long = w .below .long;
-          rows = λ x h b. w .holds x h ∙ coefficient-none _ x (gram (w .run)) F (λ f. omega (arith, f .0));
-          columns = λ x h b. w .holds x h ∙ coefficient-none _ x (gram (w .run)) F (λ f. omega (arith, f .1));
-          small = λ x h. omega (arith, w .below .small x h, w .few);
-        }
+    pub gathering-end : stands 0x11 s at ≡ false → Gathered s j g
+    unfolding rowsOn
+    gathering-end f =
+        let e : w .run ≡ rowsOn j (rowsOf s) = sym (append-nil (w .run)) ∙ ap (λ (rs : List Row). w .run ++ rowsOn j rs) (sym (no-row s at (w .left) f)) ∙ w .same in
+        record { holds = λ x h. w .holds x h ∙ ap (λ (rs : List Row). upper x (coefficient x (gram rs))) e; below = small }
 
-    pub walking-ready : Ready table n hi₀ lo₀ (129 * tableUnit) → spare ≡ 0 → Ready table n hi₁ lo₁ tableUnit
-    walking-ready r e = ready-after r (w .grown) (omega (arith, w .budget))
+    -- one row more
+    module _ (bytes : (i : ℕ) → getD s i 0 < 256) (t : stands 0x11 s at ≡ true) (r : StoredRow) (q : Holds s at r) where
+      abbrev o : Onward (w .shape) s (w .left) at
+      o = onward (w .chain) t
 
-    -- what the table of sums gives is the squares of its rows
-    spread-is : (p : Problem) → Stands p keys exponents coefficients l → (k : ℕ)
-        → spreadAt (part 64 (l .sizes) keys j) (multiplierIn exponents coefficients (l .counts) j) g k ≡ coefficient k (squares p (w .run))
-    spread-is p t k =
-        let small : All (λ (r : Row). All (λ (e : Entry). e .index < 64) (r .entries)) (w .run) = all-map _ _ (λ (r : Row) a. all-map _ _ (λ (e : Entry) b. omega (arith, size-few)) (r .entries) a) (w .run) (w .low) in
-        rw (t .bases j (w .basis), t .multipliers j (w .basis)) (spread-gram p j g k ∙ sym (gram-table p j (w .run) (w .on) small g (w .holds) k))
+      pub gathering-entries : Entries (r .indices) (r .factors) (r .count)
+      gathering-entries = row-entries (w .shape) (w .within) s bytes at r q (o .row)
 
-  module _ (flat : Flattened keys exponents coefficients l) {at j : ℕ} {g hi₁ : List ℤ} {lo₁ : List ℕ} (w : Walking s keys exponents coefficients l table n hi₀ lo₀ 0 at j g hi₁ lo₁) where
-    abbrev B : List ℕ
-    B = part 64 (l .sizes) keys j
+      pub gathering-below : Below (2 ^ 53) g
+      gathering-below = small
 
-    abbrev G : List Term
-    G = multiplierIn exponents coefficients (l .counts) j
+      abbrev added : ℕ → ℤ
+      added = outerAt (r .weight) (termsIn (r .count) (r .indices) (r .factors))
 
-    -- the rows after the flush
-    flushed : (p : Problem) → Stands p keys exponents coefficients l → (k : ℕ) (rest : List Row) → w .done k +ℤ spreadAt B G g k +ℤ coefficient k (squares p rest) ≡ w .done k +ℤ coefficient k (squares p (w .run ++ rest))
-    flushed p t k rest =
-        +ℤ-assoc (w .done k) (spreadAt B G g k) (coefficient k (squares p rest))
-        ∙ ap (λ (z : ℤ). w .done k +ℤ (z +ℤ coefficient k (squares p rest))) (spread-is flat w p t k)
-        ∙ ap (λ (z : ℤ). w .done k +ℤ z) (sym (squares-sum p (w .run) rest k))
+      row-low : All (λ (e : Entry). e .index < 64) (rowOf r (at + 4) .entries)
+      row-low =
+          let h = holds-sound s at r q (w .shape) (o .row) in
+          all-map _ _ (λ (e : Entry) b. omega (arith, w .within .sizes (rowOf r (at + 4) .basis))) (rowOf r (at + 4) .entries) (h .indices)
 
-    pub walking-end : {g₂ hi₂ : List ℤ} {lo₂ : List ℕ} → stands 0x11 s at ≡ false → Spread table n B G g hi₁ lo₁ g₂ hi₂ lo₂ → Summed s keys exponents coefficients l table n hi₀ lo₀ hi₂ lo₂
-    walking-end f d =
-        record {
-          sums = λ k. w .done k +ℤ spreadAt B G g k;
-          grown = grown-then (w .grown) (d .grown) (λ k. refl) (omega (arith, w .budget));
-          are = λ p t k.
-              ap (λ (z : ℤ). w .done k +ℤ z) (spread-is flat w p t k ∙ ap (λ (rs : List Row). coefficient k (squares p rs)) (sym (append-nil (w .run)) ∙ ap (λ (rs : List Row). w .run ++ rs) (sym (no-row s at (w .left) f))))
-              ∙ w .same p t k;
-        }
+      weight-low : r .weight < 2 ^ 16
+      weight-low = rw (holds-weight s at r q) (number-low s bytes (at + 2))
 
-    spared : Walking s keys exponents coefficients l table n hi₀ lo₀ 1 at j g hi₁ lo₁
-    spared = record {
-      shape = w .shape;
-      sizes-are = w .sizes-are;
-      within = w .within;
-      left = w .left;
-      few = w .few;
-      chain = w .chain;
-      used = w .used;
-      budget = omega (arith, w .budget);
-      done = w .done;
-      grown = w .grown;
-      basis = w .basis;
-      run = w .run;
-      on = w .on;
-      low = w .low;
-      holds = w .holds;
-      below = w .below;
-      same = w .same;
-    }
+      added-small : (x : ℕ) → natAbs (added x) ≤ rowUnit
+      unfolding outerAt
+      added-small x = outer-bound _ _ _ gathering-entries (r .weight) weight-low x (r .count) (omega arith)
 
-    module _ {b : ℕ} {g₂ hi₂ : List ℤ} {lo₂ : List ℕ} (h : b < 9) where
-      emptied : Spread table n B G g hi₁ lo₁ g₂ hi₂ lo₂ → Walking s keys exponents coefficients l table n hi₀ lo₀ 1 at b g₂ hi₂ lo₂
-      unfolding All gram coefficient
-      emptied d =
+      row-is : (x : ℕ) → added x ≡ upper x (coefficient x (outer (rowAt s at)))
+      row-is x = outer-is r (at + 4) row-low x ∙ ap (λ (y : Row). upper x (coefficient x (outer y))) (q .row)
+
+      basis-is : r .basis ≡ rowAt s at .basis
+      unfolding rowOf
+      basis-is = ap (λ (y : Row). y .basis) (q .row)
+
+      rows-left : rowsFrom (w .left) s at ≡ rowAt s at ∷ rowsFrom (o .left) s (afterRow s at)
+      rows-left = ap (λ (m : ℕ). rowsFrom m s at) (o .one-less) ∙ one-row s at (o .left) t
+
+      pub gathering-row : {g₂ : List ℤ} → r .basis ≡ j → Raised g added g₂ → Gathering s j (r .next) g₂
+      unfolding rowsOn
+      gathering-row {g₂} e d =
+          rw (q .next)
           record {
             shape = w .shape;
-            sizes-are = w .sizes-are;
             within = w .within;
-            left = w .left;
-            few = w .few;
-            chain = w .chain;
-            used = w .used + 1;
-            budget = omega (arith, w .budget);
-            done = λ k. w .done k +ℤ spreadAt B G g k;
-            grown = grown-then (w .grown) (d .grown) (λ k. refl) (omega arith);
-            basis = h;
-            run = [];
-            on = tt;
-            low = tt;
-            holds = d .cleared;
-            below = record { long = d .long; small = λ x b. omega (arith, ap natAbs (d .cleared x b)) };
-            same = λ p t k. flushed p t k (rowsFrom (w .left) s at) ∙ w .same p t k;
+            left = o .left;
+            few = omega (arith, w .few, o .one-less);
+            chain = o .rest;
+            run = w .run ++ (rowAt s at ∷ []);
+            holds = λ x h.
+                d .there x h
+                ∙ ap (λ (z : ℤ). z +ℤ added x) (w .holds x h)
+                ∙ ap (λ (z : ℤ). upper x (coefficient x (gram (w .run))) +ℤ z) (row-is x)
+                ∙ upper-plus x (coefficient x (gram (w .run))) (coefficient x (outer (rowAt s at)))
+                ∙ ap (upper x) (sym (gram-more x (w .run) (rowAt s at)));
+            below = record {
+              long = d .long;
+              small = λ x h.
+                  let v = ap natAbs (d .there x h) in
+                  omega (arith, abs-sum (getD g x (pos 0)) (added x), w .below .small x h, added-small x, w .few, o .one-less);
+            };
+            same =
+                append-assoc (w .run) (rowAt s at ∷ []) (rowsOn j (rowsFrom (o .left) s (afterRow s at)))
+                ∙ ap (λ (rs : List Row). w .run ++ rs) (sym (rw (rows-left, eq-eqb (rowAt s at .basis) j (sym basis-is ∙ e))))
+                ∙ w .same;
           }
 
-      pub walking-change : Changed j b keys exponents coefficients l table n g hi₁ lo₁ g₂ hi₂ lo₂ → Walking s keys exponents coefficients l table n hi₀ lo₀ 1 at b g₂ hi₂ lo₂
-      walking-change c =
-          ⊎-elim
-          (λ e. let q = c .same e in rw (q .0, q .1, q .2, ← e) spared)
-          (λ f. emptied (c .other f))
-          (same-or-not j b)
+      pub gathering-other : (r .basis ≡ j → ⊥) → Gathering s j (r .next) g
+      unfolding rowsOn
+      gathering-other f =
+          rw (q .next)
+          record {
+            shape = w .shape;
+            within = w .within;
+            left = o .left;
+            few = omega (arith, w .few, o .one-less);
+            chain = o .rest;
+            run = w .run;
+            holds = w .holds;
+            below = record { long = w .below .long; small = λ x h. omega (arith, w .below .small x h, w .few, o .one-less) };
+            same = ap (λ (rs : List Row). w .run ++ rs) (sym (rw (rows-left, ne-eqb (rowAt s at .basis) j (λ e. f (basis-is ∙ e))))) ∙ w .same;
+          }
 
-  -- one row more
-  module _ (bytes : (i : ℕ) → getD s i 0 < 256) {spare at b : ℕ} {g hi₁ : List ℤ} {lo₁ : List ℕ} (w : Walking s keys exponents coefficients l table n hi₀ lo₀ spare at b g hi₁ lo₁)
-      (t : stands 0x11 s at ≡ true) (r : StoredRow) (q : Holds s at r) where
-    abbrev o : Onward (w .shape) s (w .left) at
-    o = onward (w .chain) t
+-- ---- one basis: what the table of sums gives is the squares of the rows on it
+module _ {s keys exponents : List ℕ} {coefficients : List ℤ} {l : Lengths} (flat : Flattened keys exponents coefficients l) (shaped : Shaped (l .sizes) s) (j : ℕ) where
+  abbrev size : ℕ
+  size = getD (l .sizes) j 0
 
-    pub walking-entries : Entries (r .indices) (r .factors) (r .count)
-    walking-entries = row-entries (w .shape) (w .within) s bytes at r q (o .row)
+  size-few : size ≤ 64
+  size-few = flat .arrays .sized .small j
 
-    pub walking-basis : r .basis < 9
-    walking-basis = row-basis (w .shape) (w .within) s bytes at r q (o .row)
+  framing : Keys (Framing size) (gram (rowsOn j (rowsOf s)))
+  framing = gram-framed size size-few (rowsOn j (rowsOf s)) (on-low shaped j)
 
-    pub walking-below : Below (2 ^ 53) g
-    walking-below = record { long = w .below .long; small = λ x h. omega (arith, w .below .small x h, w .few) }
+  -- an empty basis has no products
+  pub gathered-none : {g : List ℤ} → size ≡ 0 → Below 0 g → Gathered s j g
+  gathered-none {g} e z =
+      record {
+        holds = λ x h. zero-below g z x h ∙ sym (upper-none x _ (coefficient-none _ x (gram (rowsOn j (rowsOf s))) framing (λ f. omega (arith, f .0))));
+        below = record { long = z .long; small = λ x h. omega (arith, z .small x h) };
+      }
 
-    weight-low : r .weight < 2 ^ 16
-    weight-low = rw (holds-weight s at r q) (number-low s bytes (at + 2))
-
-    added-small : (x : ℕ) → natAbs (outerAt (r .weight) (termsIn (r .count) (r .indices) (r .factors)) x) ≤ rowUnit
-    unfolding outerAt
-    added-small x = outer-bound _ _ _ walking-entries (r .weight) weight-low x (r .count) (omega arith)
-
-    row-is : (x : ℕ) → outerAt (r .weight) (termsIn (r .count) (r .indices) (r .factors)) x ≡ coefficient x (outer (rowAt s at))
-    row-is x = sym (outer-is r (at + 4) x) ∙ ap (λ (y : Row). coefficient x (outer y)) (q .row)
-
-    basis-is : r .basis ≡ b → rowAt s at .basis ≡ b
-    unfolding rowOf
-    basis-is e = ap (λ (y : Row). y .basis) (sym (q .row)) ∙ e
-
-    pub walking-row : {g₂ : List ℤ} → spare ≡ 1 → r .basis ≡ b → Raised g (outerAt (r .weight) (termsIn (r .count) (r .indices) (r .factors))) g₂ → Walking s keys exponents coefficients l table n hi₀ lo₀ 0 (r .next) b g₂ hi₁ lo₁
-    walking-row {g₂} e f d =
-        rw (q .next)
+  module _ {g : List ℤ} (w : Gathered s j g) where
+    pub gathered-framed : Framed size g
+    gathered-framed =
         record {
-          shape = w .shape;
-          sizes-are = w .sizes-are;
-          within = w .within;
-          left = o .left;
-          few = omega (arith, w .few, o .one-less);
-          chain = o .rest;
-          used = w .used;
-          budget = omega (arith, w .budget, o .one-less);
-          done = w .done;
-          grown = w .grown;
-          basis = w .basis;
-          run = w .run ++ (rowAt s at ∷ []);
-          on = all-more _ (w .run) (rowAt s at) (w .on) (basis-is f);
-          low = all-more _ (w .run) (rowAt s at) (w .low) (rw (basis-is f, w .sizes-are) at (o .row .indices));
-          holds = λ x h.
-              d .there x h
-              ∙ ap (λ (z : ℤ). z +ℤ outerAt (r .weight) (termsIn (r .count) (r .indices) (r .factors)) x) (w .holds x h)
-              ∙ ap (λ (z : ℤ). coefficient x (gram (w .run)) +ℤ z) (row-is x)
-              ∙ sym (gram-more x (w .run) (rowAt s at));
-          below = record {
-            long = d .long;
-            small = λ x h.
-                let v = ap natAbs (d .there x h) in
-                omega (arith, abs-sum (getD g x (pos 0)) (outerAt (r .weight) (termsIn (r .count) (r .indices) (r .factors)) x), w .below .small x h, added-small x, w .few, o .one-less);
-          };
-          same = λ p u k.
-              ap (λ (rs : List Row). w .done k +ℤ coefficient k (squares p rs))
-              (append-assoc (w .run) (rowAt s at ∷ []) (rowsFrom (o .left) s (afterRow s at))
-              ∙ ap (λ (rs : List Row). w .run ++ rs) (sym (one-row s at (o .left) t) ∙ ap (λ (m : ℕ). rowsFrom m s at) (sym (o .one-less))))
-              ∙ w .same p u k;
+          long = w .below .long;
+          rows = λ x h b. w .holds x h ∙ upper-none x _ (coefficient-none _ x (gram (rowsOn j (rowsOf s))) framing (λ f. omega (arith, f .0)));
+          columns = λ x h b. w .holds x h ∙ upper-none x _ (coefficient-none _ x (gram (rowsOn j (rowsOf s))) framing (λ f. omega (arith, f .1)));
+          small = w .below .small;
+        }
+
+    pub gathered-summed : {table : List ℕ} {n : ℕ} {hi₀ hi₁ : List ℤ} {lo₀ lo₁ : List ℕ} {g₁ : List ℤ} → j < 9
+        → Spread table n (part 64 (l .sizes) keys j) (multiplierIn exponents coefficients (l .counts) j) g hi₀ lo₀ g₁ hi₁ lo₁
+        → Summed (λ p. squares p (rowsOn j (rowsOf s))) keys exponents coefficients l table n 1 hi₀ lo₀ hi₁ lo₁
+    unfolding spreadAt
+    gathered-summed b d =
+        let rs = rowsOn j (rowsOf s) in
+        let low : All (λ (r : Row). All (λ (e : Entry). e .index < 64) (r .entries)) rs = all-map _ _ (λ (r : Row) a. all-map _ _ (λ (e : Entry) b. omega (arith, size-few)) (r .entries) a) rs (on-low shaped j) in
+        record {
+          sums = spreadAt (part 64 (l .sizes) keys j) (multiplierIn exponents coefficients (l .counts) j) g;
+          grown = grown-same (d .grown) (λ k. refl) (omega arith);
+          are = λ p t k. rw (t .bases j b, t .multipliers j b) (sym (gram-table p j rs (rows-on j (rowsOf s)) low g (w .holds) k));
+        }
+
+pub spread-below : {table : List ℕ} {n : ℕ} {B : List ℕ} {G : List Term} {g₀ g₁ hi₀ hi₁ : List ℤ} {lo₀ lo₁ : List ℕ} → Spread table n B G g₀ hi₀ lo₀ g₁ hi₁ lo₁ → Below 0 g₁
+spread-below d = record { long = d .long; small = λ x b. omega (arith, ap natAbs (d .cleared x b)) }
+
+-- ---- all bases
+module _ (s : List ℕ) {keys exponents : List ℕ} {coefficients : List ℤ} {l : Lengths} {table : List ℕ} {n : ℕ} {hi₀ : List ℤ} {lo₀ : List ℕ} where
+  pub walked-start : {c : ℕ} → Ready table n hi₀ lo₀ c → Summed (λ p. byBasis p (rowsOf s) 0) keys exponents coefficients l table n 0 hi₀ lo₀ hi₀ lo₀
+  unfolding byBasis coefficient
+  walked-start r = record { sums = λ k. pos 0; grown = grown-none r (λ q b. refl); are = λ p t k. refl }
+
+  module _ {j : ℕ} {hi₁ : List ℤ} {lo₁ : List ℕ} (w : Summed (λ p. byBasis p (rowsOf s) j) keys exponents coefficients l table n j hi₀ lo₀ hi₁ lo₁) where
+    pub walked-more : {hi₂ : List ℤ} {lo₂ : List ℕ} → Summed (λ p. squares p (rowsOn j (rowsOf s))) keys exponents coefficients l table n 1 hi₁ lo₁ hi₂ lo₂ → Summed (λ p. byBasis p (rowsOf s) (j + 1)) keys exponents coefficients l table n (j + 1) hi₀ lo₀ hi₂ lo₂
+    unfolding byBasis
+    walked-more d =
+        rw (add-one j)
+        record {
+          sums = λ k. w .sums k +ℤ d .sums k;
+          grown = grown-then (w .grown) (d .grown) (λ k. refl) (omega arith);
+          are = λ p t k. rw (w .are p t k, d .are p t k) (sym (coefficient-append k (byBasis p (rowsOf s) j) (squares p (rowsOn j (rowsOf s)))));
+        }
+
+    pub walked-end : Shaped (l .sizes) s → j ≡ 9 → Summed (λ p. squares p (rowsOf s)) keys exponents coefficients l table n 9 hi₀ lo₀ hi₁ lo₁
+    walked-end h e =
+        record {
+          sums = w .sums;
+          grown = grown-same (w .grown) (λ k. refl) (omega arith);
+          are = λ p t k. w .are p t k ∙ ap (λ (i : ℕ). coefficient k (byBasis p (rowsOf s) i)) e ∙ sym (squares-bases p (rowsOf s) 9 (on-bases h) k);
         }

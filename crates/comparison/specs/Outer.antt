@@ -1,7 +1,9 @@
--- The products w × l × l' of a row, added into the table of 64 × 64 sums.
+-- The products w × l × l' of a row, added into the table of 64 × 64 sums. They are symmetric: only those with i ≤ i' are added.
 use mathlib.Core.Path.{_≡_}
+use mathlib.Core.Bool.{cond}
 use mathlib.Core.List.{List}
 use Prim.Native.Nat.{ℕ, _+_, _*_, _^_, _≤_, _<_}
+use lib.Dec.{leb}
 use lib.IntN.{ℤ, pos, natAbs, _+ℤ_, _*ℤ_}
 use lib.ListN.{length, getD}
 use Rattle.polynomial.specs.Terms.{Term}
@@ -28,10 +30,14 @@ pub record Raised (g₀ : List ℤ) (f : ℕ → ℤ) (g₁ : List ℤ) : Type 0
   pub long : length g₁ ≡ 4096
   pub there : (x : ℕ) → x < 4096 → getD g₁ x (pos 0) ≡ getD g₀ x (pos 0) +ℤ f x
 
--- the factors of the entries at index i′ with 64 × i + i′ = x
-abbrev pub inRow : List Term → ℕ → ℕ → ℤ
-inRow F x i = sum (λ i′. match x (64 * i + i′)) F
+-- whether place x is that of i and i′, with i′ from i on
+abbrev pub above : ℕ → ℕ → ℕ → ℤ
+above x i i′ = cond (leb i i′) (match x (64 * i + i′)) (pos 0)
 
--- w × l × l' for each two entries, at its place
+-- the factors of the entries at index i′ ≥ i with 64 × i + i′ = x
+abbrev pub inRow : List Term → ℕ → ℕ → ℤ
+inRow F x i = sum (above x i) F
+
+-- w × l × l' for each two entries, at its place on or above the diagonal
 unfoldable pub outerAt : ℕ → List Term → ℕ → ℤ
 outerAt w F x = pos w *ℤ sum (inRow F x) F

@@ -3,13 +3,13 @@
 use mathlib.Core.Path.{_≡_}
 use mathlib.Core.List.{List}
 use Prim.Native.Nat.{ℕ, _+_, _*_, _/_, _%_, _^_, _≤_, _<_}
-use lib.IntN.{ℤ, pos, natAbs}
+use lib.IntN.{ℤ, pos, natAbs, _*ℤ_}
 use lib.ListN.{length, getD, drop}
 use Rattle.polynomial.specs.Terms.{Term, termsIn}
 use Rattle.polynomial.specs.Algebra.{sum, match}
 use Rattle.blocks.specs.Limits.{Bounded}
 use Rattle.rounds.specs.Arrays.{Arrays}
-use Rattle.identity.specs.Gram.{pairKey, placed}
+use Rattle.identity.specs.Gram.{pairKey, placed, times}
 use Rattle.comparison.specs.declared.Lengths.{Lengths}
 use Rattle.comparison.specs.Tables.{unit, Grown}
 
@@ -25,9 +25,9 @@ tableUnit = 4096 * entryUnit
 abbrev pub share : List ℕ → List Term → ℕ → ℕ → ℤ
 share B G k x = sum (λ t. match k (pairKey B x + t)) G
 
--- what the whole table adds at a key
+-- what the whole table adds at a key: it has the upper half, so what is off the diagonal counts twice
 unfoldable pub spreadAt : List ℕ → List Term → List ℤ → ℕ → ℤ
-spreadAt B G g k = sum (share B G k) (placed g)
+spreadAt B G g k = sum (λ x. times x *ℤ share B G k x) (placed g)
 
 -- the entries that are not 0 are at indices below m, and none is above 2^53
 pub record Framed (m : ℕ) (g : List ℤ) : Type 0 where

@@ -13,9 +13,14 @@ use Rattle.certificate.specs.declared.Header.{Header}
 use Rattle.identity.specs.Identity.{turned}
 use Rattle.comparison.specs.declared.Negated.{Negated}
 
--- what one product at most adds: a number of at most 2^53 times a coefficient of at most 2^31
+-- what one product at most adds: a number of at most 2^54 times a coefficient of at most 2^31
 abbrev pub unit : ℕ
-unit = 2 ^ 84
+unit = 2 ^ 85
+
+-- r is the place of a key among the first n, or n or more where it has none
+pub record Sought (keys : List ℕ) (n key r : ℕ) : Type 0 where
+  pub there : r < n → getD keys r 0 ≡ key
+  pub none : n ≤ r → (q : ℕ) → q < n → getD keys q 0 ≡ key → ⊥
 
 -- the first n keys rise, and the sum of each has room for c
 pub record Ready (keys : List ℕ) (n : ℕ) (hi : List ℤ) (lo : List ℕ) (c : ℕ) : Type 0 where
@@ -40,7 +45,7 @@ pub record Addable (exponents : List ℕ) (coefficients : List ℤ) (key : ℕ) 
   pub paired : length exponents ≤ length coefficients
   pub low : Bounded (32 * 2 ^ 56) exponents
   pub key-low : key ≤ 16 * 2 ^ 56
-  pub small : natAbs x ≤ 2 ^ 53
+  pub small : natAbs x ≤ 2 ^ 54
 
 -- ---- the claim, taken away
 -- "D × (q × objective − p)", with both signs turned for side 1, of an objective

@@ -4,6 +4,7 @@ ghost use mathlib.Core.Path.{_≡_};
 ghost use Prim.Native.Nat.{ℕ, _+_, _*_, _^_, _≤_, _<_};
 ghost use lib.IntN.{pos, natAbs, negℤ, _*ℤ_};
 ghost use lib.ListN.{length, getD};
+ghost use Rattle.support.specs.Table.{Holds};
 ghost use Rattle.polynomial.specs.Terms.{termsIn};
 ghost use Rattle.polynomial.specs.Algebra.{sum, match, coefficient};
 ghost use Rattle.stream.specs.Commands.{given};
@@ -12,13 +13,15 @@ ghost use Rattle.problem.specs.Limits.{Limits};
 ghost use Rattle.rounds.specs.Bytes.{blockBytes, part};
 ghost use Rattle.joining.specs.Joining.{closing};
 ghost use Rattle.certificate.specs.Rules.{Certificate, shapeOf, readCertificate};
-ghost use Rattle.certificate.specs.Rows.{rowOf};
+ghost use Rattle.certificate.specs.Rows.{rowOf, rowsOf};
+ghost use Rattle.identity.specs.Identity.{squares};
+ghost use Rattle.identity.specs.Gram.{rowsOn, times};
 ghost use Rattle.identity.specs.Judgement.{rowSplit, splitPlace, differenceKey};
 ghost use Rattle.comparison.specs.Places.{placeOf, byteAt, Walkable, Indexed};
-ghost use Rattle.comparison.specs.Tables.{unit, Ready, Grown, Addable, claimed, Negates};
+ghost use Rattle.comparison.specs.Tables.{unit, Sought, Ready, Grown, Addable, claimed, Negates};
 ghost use Rattle.comparison.specs.Spread.{entryUnit, tableUnit, share, Framed, Spreadable, Entered, Spread, multiplierIn, Flattened};
 ghost use Rattle.comparison.specs.Outer.{Entries, Below, Raised, inRow, outerAt};
-ghost use Rattle.comparison.specs.Walk.{Shaped, Changed, Summed};
+ghost use Rattle.comparison.specs.Walk.{Shaped, Gathered, Summed};
 ghost use Rattle.comparison.specs.Compare.{differenceOf, Zeroed, Comparable, Given, Untouched};
 use polynomial::Objective;
 
@@ -70,14 +73,74 @@ pub fn split_place(s: &[u8], labels: &[u8]) -> Place
     Place::Nowhere
 }
 
-// Adds a product at the place of a key, where it has one.
-fn add_term(table: &[u64], n: usize, hi: &mut [i64], lo: &mut [u64], key: u64, x: i64, c: i32)
-    requires { ⌜ Ready (now table) n (now hi) (now lo) unit × (natAbs x ≤ 2 ^ 53) ⌝ }
-    ensures { λ _. ⌜ Grown (now (table .entry)) n (now (hi .entry)) (now (lo .entry)) (λ k. x *ℤ c *ℤ match k key) unit (now (hi .exit)) (now (lo .exit)) ⌝ }
+// Where the index has the place of a key.
+fn slot(key: u64) -> usize
+    ensures { λ r. ⌜ r < 4096 ⌝ }
+{
+    (key % 4093) as usize
+}
+
+fn wide(x: u16) -> usize
+    ensures { λ r. ⌜ r ≡ x ⌝ }
+{
+    x as usize
+}
+
+// Notes the places of the first n keys in the index. Of keys with one slot the last stays.
+fn note_places(places: &mut [u16; 4096], table: &[u64], n: usize)
+    requires { ⌜ Holds (now table) n ⌝ }
+{
+    let mut i = 0;
+    while i < n {
+        let k = slot(table[i]);
+        places[k] = i as u16;
+        i += 1;
+    }
+}
+
+// The place of a key among the first n, by a search; n where it has none.
+fn search_place(table: &[u64], n: usize, key: u64) -> usize
+    requires { ⌜ Holds (now table) n ⌝ }
+    ensures { λ r. ⌜ Sought (now (table .entry)) n key r ⌝ }
 {
     match support::find(table, n, key) {
-        support::Found::At(p) => sums::add_scaled(hi, lo, p, x, c as i64),
-        support::Found::Gap(_) => {}
+        support::Found::At(p) => p,
+        support::Found::Gap(_) => n,
+    }
+}
+
+// The same, with an index that spares most searches. The answer is right whatever the index holds.
+fn place_of(table: &[u64], n: usize, places: &[u16; 4096], key: u64) -> usize
+    requires { ⌜ Holds (now table) n ⌝ }
+    ensures { λ r. ⌜ Sought (now (table .entry)) n key r ⌝ }
+{
+    let k = slot(key);
+    let p = wide(places[k]);
+    if p < n {
+        if table[p] == key {
+            return p;
+        }
+    }
+    search_place(table, n, key)
+}
+
+// Adds a product at the place of a key, where it has one.
+fn add_term(
+    table: &[u64],
+    n: usize,
+    places: &[u16; 4096],
+    hi: &mut [i64],
+    lo: &mut [u64],
+    key: u64,
+    x: i64,
+    c: i32,
+)
+    requires { ⌜ Ready (now table) n (now hi) (now lo) unit × (natAbs x ≤ 2 ^ 54) ⌝ }
+    ensures { λ _. ⌜ Grown (now (table .entry)) n (now (hi .entry)) (now (lo .entry)) (λ k. x *ℤ c *ℤ match k key) unit (now (hi .exit)) (now (lo .exit)) ⌝ }
+{
+    let p = place_of(table, n, places, key);
+    if p < n {
+        sums::add_scaled(hi, lo, p, x, c as i64);
     }
 }
 
@@ -85,6 +148,7 @@ fn add_term(table: &[u64], n: usize, hi: &mut [i64], lo: &mut [u64], key: u64, x
 fn add_terms(
     table: &[u64],
     n: usize,
+    places: &[u16; 4096],
     hi: &mut [i64],
     lo: &mut [u64],
     exponents: &[u64],
@@ -98,7 +162,16 @@ fn add_terms(
 {
     let mut t = 0;
     while t < exponents.len() {
-        add_term(table, n, hi, lo, key + exponents[t], x, coefficients[t]);
+        add_term(
+            table,
+            n,
+            places,
+            hi,
+            lo,
+            key + exponents[t],
+            x,
+            coefficients[t],
+        );
         t += 1;
     }
 }
@@ -132,6 +205,7 @@ fn negate(side: usize, scale: u16, p: i32, q: u16) -> Negated
 fn add_claim(
     table: &[u64],
     n: usize,
+    places: &[u16; 4096],
     hi: &mut [i64],
     lo: &mut [u64],
     exponents: &[u64],
@@ -145,17 +219,29 @@ fn add_claim(
     let f = negate(t.side, t.scale, t.p, t.q);
     let x = f.objective;
     let y = f.constant;
-    add_terms(table, n, hi, lo, exponents, coefficients, 0, x);
-    add_term(table, n, hi, lo, 0, y, 1);
+    add_terms(table, n, places, hi, lo, exponents, coefficients, 0, x);
+    add_term(table, n, places, hi, lo, 0, y, 1);
 }
 
-// Adds one entry of the table of sums: a times b * b' for the indices of its place, times the multiplier.
+// An entry on the diagonal counts once, and any other for its mirror image too.
+fn counted(x: usize, a: i64) -> i64
+    requires { ⌜ natAbs a ≤ 2 ^ 53 ⌝ }
+    ensures { λ r. ⌜ (r ≡ times x *ℤ a) × (natAbs r ≤ 2 ^ 54) ⌝ }
+{
+    if x / 64 == x % 64 {
+        return a;
+    }
+    2 * a
+}
+
+// Adds one entry of the table of sums, as often as it counts: a times b * b' for the indices of its place, times the multiplier.
 fn add_entry(
     basis: &[u64],
     exponents: &[u64],
     coefficients: &[i32],
     table: &[u64],
     n: usize,
+    places: &[u16; 4096],
     hi: &mut [i64],
     lo: &mut [u64],
     x: usize,
@@ -163,7 +249,7 @@ fn add_entry(
 )
     requires { ⌜ Ready (now table) n (now hi) (now lo) entryUnit ⌝ }
     requires { ⌜ Spreadable (now basis) (now exponents) (now coefficients) × Entered (now basis) x a ⌝ }
-    ensures { λ _. ⌜ Grown (now (table .entry)) n (now (hi .entry)) (now (lo .entry)) (λ k. a *ℤ share (now (basis .entry)) (termsIn (length (now (exponents .entry))) (now (exponents .entry)) (now (coefficients .entry))) k x) entryUnit (now (hi .exit)) (now (lo .exit)) ⌝ }
+    ensures { λ _. ⌜ Grown (now (table .entry)) n (now (hi .entry)) (now (lo .entry)) (λ k. a *ℤ (times x *ℤ share (now (basis .entry)) (termsIn (length (now (exponents .entry))) (now (exponents .entry)) (now (coefficients .entry))) k x)) entryUnit (now (hi .exit)) (now (lo .exit)) ⌝ }
 {
     if a == 0 {
         return;
@@ -171,7 +257,8 @@ fn add_entry(
     let i = x / 64;
     let k = x % 64;
     let key = basis[i] + basis[k];
-    add_terms(table, n, hi, lo, exponents, coefficients, key, a);
+    let y = counted(x, a);
+    add_terms(table, n, places, hi, lo, exponents, coefficients, key, y);
 }
 
 // Adds the whole table of sums, and clears it. Past the basis's last index there is nothing to add.
@@ -182,6 +269,7 @@ fn spread(
     coefficients: &[i32],
     table: &[u64],
     n: usize,
+    places: &[u16; 4096],
     hi: &mut [i64],
     lo: &mut [u64],
 )
@@ -194,7 +282,18 @@ fn spread(
     while x < last {
         let a = g[x];
         g[x] = 0;
-        add_entry(basis, exponents, coefficients, table, n, hi, lo, x, a);
+        add_entry(
+            basis,
+            exponents,
+            coefficients,
+            table,
+            n,
+            places,
+            hi,
+            lo,
+            x,
+            a,
+        );
         x += 1;
     }
 }
@@ -215,6 +314,7 @@ fn flush(
     l: Lengths,
     table: &[u64],
     n: usize,
+    places: &[u16; 4096],
     hi: &mut [i64],
     lo: &mut [u64],
 )
@@ -228,23 +328,23 @@ fn flush(
     let d = c + l.counts[j];
     let es = &exponents[c..d];
     let cs = &coefficients[c..d];
-    spread(g, &keys[a..b], es, cs, table, n, hi, lo);
+    spread(g, &keys[a..b], es, cs, table, n, places, hi, lo);
 }
 
-// Adds a times each factor of a row, in the table's row i.
+// Adds a times each factor of a row from entry `first` on, in the table's row of that entry's index.
 fn add_products(
     g: &mut [i64; 4096],
     indices: &[u8; 64],
     factors: &[i16; 64],
     count: usize,
-    i: usize,
+    first: usize,
     a: i64,
 )
-    requires { ⌜ Entries (now indices) (now factors) count × Below (2 ^ 54) (now g) × (i < 64) × (natAbs a ≤ 2 ^ 31) ⌝ }
-    ensures { λ _. ⌜ Raised (now (g .entry)) (λ x. a *ℤ inRow (termsIn count (now (indices .entry)) (now (factors .entry))) x i) (now (g .exit)) ⌝ }
+    requires { ⌜ Entries (now indices) (now factors) count × Below (2 ^ 54) (now g) × (first < count) × (natAbs a ≤ 2 ^ 31) ⌝ }
+    ensures { λ _. ⌜ Raised (now (g .entry)) (λ x. a *ℤ inRow (termsIn count (now (indices .entry)) (now (factors .entry))) x (getD (now (indices .entry)) first 0)) (now (g .exit)) ⌝ }
 {
-    let from = 64 * i;
-    let mut k = 0;
+    let from = 64 * (indices[first] as usize);
+    let mut k = first;
     while k < count {
         let x = from + (indices[k] as usize);
         let y = a * (factors[k] as i64);
@@ -254,7 +354,7 @@ fn add_products(
     }
 }
 
-// Adds the products w * l * l' of each two entries of a row to the table of sums.
+// Adds the products w * l * l' of each two entries of a row, an entry with itself and with those after it, to the table of sums.
 fn add_outer(g: &mut [i64; 4096], row: certificate::StoredRow)
     requires { ⌜ Entries (row .indices) (row .factors) (row .count) × Below (2 ^ 53) (now g) ⌝ }
     ensures { λ _. ⌜ Raised (now (g .entry)) (outerAt (row .weight) (termsIn (row .count) (row .indices) (row .factors))) (now (g .exit)) ⌝ }
@@ -265,39 +365,66 @@ fn add_outer(g: &mut [i64; 4096], row: certificate::StoredRow)
     let w = row.weight as i64;
     let mut k = 0;
     while k < count {
-        let i = indices[k] as usize;
         let a = w * (factors[k] as i64);
-        add_products(g, &indices, &factors, count, i, a);
+        add_products(g, &indices, &factors, count, k, a);
         k += 1;
     }
 }
 
-// Flushes the table of sums of basis j before a row on basis b, unless it is the same.
-fn change_basis(
+// Adds the products of the rows on basis j to the table of sums, which is empty. Other rows are stepped over.
+fn add_basis_rows(g: &mut [i64; 4096], s: &[u8], j: usize)
+    requires { ⌜ Below 0 (now g) × Walkable (now s) ⌝ }
+    ensures { λ _. ⌜ Gathered (now (s .entry)) j (now (g .exit)) ⌝ }
+{
+    let mut at = 10;
+    while certificate::stands_at(0x11, s, at) {
+        let row = certificate::row_at(s, at);
+        if row.basis == j {
+            add_outer(g, row);
+        }
+        at = row.next;
+    }
+}
+
+// Adds the weighted squares of the rows on basis j times its multiplier: their products are summed by their indices first, so that
+// a product with the multiplier is made once for all of them. An empty basis has no rows to look for.
+fn add_basis(
     g: &mut [i64; 4096],
+    s: &[u8],
     j: usize,
-    b: usize,
     keys: &[u64],
     exponents: &[u64],
     coefficients: &[i32],
     l: Lengths,
     table: &[u64],
     n: usize,
+    places: &[u16; 4096],
     hi: &mut [i64],
     lo: &mut [u64],
 )
-    requires { ⌜ Ready (now table) n (now hi) (now lo) tableUnit ⌝ }
-    requires { ⌜ Flattened (now keys) (now exponents) (now coefficients) l × (j < 9) × Framed (getD (l .sizes) j 0) (now g) ⌝ }
-    ensures { λ _. ⌜ Changed j b (now (keys .entry)) (now (exponents .entry)) (now (coefficients .entry)) l (now (table .entry)) n (now (g .entry)) (now (hi .entry)) (now (lo .entry)) (now (g .exit)) (now (hi .exit)) (now (lo .exit)) ⌝ }
+    requires { ⌜ Ready (now table) n (now hi) (now lo) tableUnit × Below 0 (now g) × (j < 9) ⌝ }
+    requires { ⌜ Flattened (now keys) (now exponents) (now coefficients) l × Shaped (l .sizes) (now s) ⌝ }
+    ensures { λ _. ⌜ Summed (λ p. squares p (rowsOn j (rowsOf (now (s .entry))))) (now (keys .entry)) (now (exponents .entry)) (now (coefficients .entry)) l (now (table .entry)) n 1 (now (hi .entry)) (now (lo .entry)) (now (hi .exit)) (now (lo .exit)) × Below 0 (now (g .exit)) ⌝ }
 {
-    if j == b {
-        return;
+    if l.sizes[j] != 0 {
+        add_basis_rows(g, s, j);
     }
-    flush(g, j, keys, exponents, coefficients, l, table, n, hi, lo);
+    flush(
+        g,
+        j,
+        keys,
+        exponents,
+        coefficients,
+        l,
+        table,
+        n,
+        places,
+        hi,
+        lo,
+    );
 }
 
-// Adds the weighted square of every row times its multiplier. The products of rows on one basis are summed first, by their indices,
-// in a table that is flushed when a row on another basis comes: a product with a multiplier is then made once for all of them.
+// Adds the weighted square of every row times its multiplier, basis by basis.
 fn sum_rows(
     g: &mut [i64; 4096],
     s: &[u8],
@@ -307,24 +434,32 @@ fn sum_rows(
     l: Lengths,
     table: &[u64],
     n: usize,
+    places: &[u16; 4096],
     hi: &mut [i64],
     lo: &mut [u64],
 )
-    requires { ⌜ Ready (now table) n (now hi) (now lo) (129 * tableUnit) × Below 0 (now g) ⌝ }
+    requires { ⌜ Ready (now table) n (now hi) (now lo) (9 * tableUnit) × Below 0 (now g) ⌝ }
     requires { ⌜ Flattened (now keys) (now exponents) (now coefficients) l × Shaped (l .sizes) (now s) ⌝ }
-    ensures { λ _. ⌜ Summed (now (s .entry)) (now (keys .entry)) (now (exponents .entry)) (now (coefficients .entry)) l (now (table .entry)) n (now (hi .entry)) (now (lo .entry)) (now (hi .exit)) (now (lo .exit)) ⌝ }
+    ensures { λ _. ⌜ Summed (λ p. squares p (rowsOf (now (s .entry)))) (now (keys .entry)) (now (exponents .entry)) (now (coefficients .entry)) l (now (table .entry)) n 9 (now (hi .entry)) (now (lo .entry)) (now (hi .exit)) (now (lo .exit)) ⌝ }
 {
     let mut j: usize = 0;
-    let mut at = 10;
-    while certificate::stands_at(0x11, s, at) {
-        let row = certificate::row_at(s, at);
-        let b = row.basis;
-        change_basis(g, j, b, keys, exponents, coefficients, l, table, n, hi, lo);
-        add_outer(g, row);
-        j = b;
-        at = row.next;
+    while j < 9 {
+        add_basis(
+            g,
+            s,
+            j,
+            keys,
+            exponents,
+            coefficients,
+            l,
+            table,
+            n,
+            places,
+            hi,
+            lo,
+        );
+        j += 1;
     }
-    flush(g, j, keys, exponents, coefficients, l, table, n, hi, lo);
 }
 
 // The same, with the table of sums made here.
@@ -336,12 +471,13 @@ fn add_rows(
     l: Lengths,
     table: &[u64],
     n: usize,
+    places: &[u16; 4096],
     hi: &mut [i64],
     lo: &mut [u64],
 )
-    requires { ⌜ Ready (now table) n (now hi) (now lo) (129 * tableUnit) ⌝ }
+    requires { ⌜ Ready (now table) n (now hi) (now lo) (9 * tableUnit) ⌝ }
     requires { ⌜ Flattened (now keys) (now exponents) (now coefficients) l × Shaped (l .sizes) (now s) ⌝ }
-    ensures { λ _. ⌜ Summed (now (s .entry)) (now (keys .entry)) (now (exponents .entry)) (now (coefficients .entry)) l (now (table .entry)) n (now (hi .entry)) (now (lo .entry)) (now (hi .exit)) (now (lo .exit)) ⌝ }
+    ensures { λ _. ⌜ Summed (λ p. squares p (rowsOf (now (s .entry)))) (now (keys .entry)) (now (exponents .entry)) (now (coefficients .entry)) l (now (table .entry)) n 9 (now (hi .entry)) (now (lo .entry)) (now (hi .exit)) (now (lo .exit)) ⌝ }
 {
     let mut g: [i64; 4096] = [0; 4096];
     sum_rows(
@@ -353,6 +489,7 @@ fn add_rows(
         l,
         table,
         n,
+        places,
         hi,
         lo,
     );
@@ -384,11 +521,24 @@ pub fn compare(
     ensures difference { λ r. ⌜ ((p : Problem) (c : Certificate) → Given p c (now (s .entry)) header (now (keys .entry)) (now (exponents .entry)) (now (coefficients .entry)) l objective (now (table .entry)) n → r ≡ differenceOf (differenceKey p c)) ⌝ }
     ensures tables { λ _. ⌜ Untouched (now (hi .entry)) (now (hi .exit)) × Untouched (now (lo .entry)) (now (lo .exit)) ⌝ }
 {
+    let mut places: [u16; 4096] = [0; 4096];
+    note_places(&mut places, table, n);
     let es = objective.keys;
     let cs = objective.coefficients;
     let m = objective.count;
-    add_claim(table, n, hi, lo, &es[..m], &cs[..m], header);
-    add_rows(s, keys, exponents, coefficients, l, table, n, hi, lo);
+    add_claim(table, n, &places, hi, lo, &es[..m], &cs[..m], header);
+    add_rows(
+        s,
+        keys,
+        exponents,
+        coefficients,
+        l,
+        table,
+        n,
+        &places,
+        hi,
+        lo,
+    );
     let first = sums::first_nonzero(hi, lo, n);
     if first < n {
         return Difference::Differs(table[first]);

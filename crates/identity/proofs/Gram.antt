@@ -18,14 +18,13 @@ use Rattle.polynomial.proofs.Sums.{sum-append, sum-scale, sum-⊗, same-sums, c
 use Rattle.polynomial.proofs.Products.{keys-append, keys-scale, keys-⊗, keys-map}
 use Rattle.problem.specs.Rules.{Problem}
 use Rattle.problem.specs.Bases.{basisOf}
-use Rattle.problem.specs.Limits.{All, Limits}
-use Rattle.problem.proofs.Limits.{all-at, monomials-none}
+use Rattle.problem.specs.Limits.{All}
 use Rattle.certificate.specs.Rules.{Entry, Row}
-use Rattle.identity.specs.Identity.{multiplier, combination, square, squares, RowsFit}
-use Rattle.identity.specs.Gram.{factors, rekeyed, outer, gram, pairKey, placed, expanded, rowsOn, byBasis}
+use Rattle.identity.specs.Identity.{multiplier, combination, square, squares}
+use Rattle.identity.specs.Gram.{factors, rekeyed, outer, gram, pairKey, expanded, rowsOn, byBasis}
 
 -- ---- sums under another m
-sum-same : (A : ℕ → Type 0) (m m′ : ℕ → ℤ) → ((k : ℕ) → A k → m k ≡ m′ k) → (P : List Term) → Keys A P → sum m P ≡ sum m′ P
+pub sum-same : (A : ℕ → Type 0) (m m′ : ℕ → ℤ) → ((k : ℕ) → A k → m k ≡ m′ k) → (P : List Term) → Keys A P → sum m P ≡ sum m′ P
 sum-same A m m′ f [] h = refl
 sum-same A m m′ f (t ∷ P) h = rw (f (t .key) (h .0), sum-same A m m′ f P (h .1))
 
@@ -37,12 +36,12 @@ combination-factors : (B : List ℕ) (es : List Entry) → combination B es ≡ 
 combination-factors B [] = refl
 combination-factors B (e ∷ es) = rw (combination-factors B es)
 
-all-map : {X : Type 0} (A B : X → Type 0) → ((x : X) → A x → B x) → (l : List X) → All A l → All B l
+pub all-map : {X : Type 0} (A B : X → Type 0) → ((x : X) → A x → B x) → (l : List X) → All A l → All B l
 unfolding All
 all-map A B f [] h = tt
 all-map A B f (x ∷ l) h = (f x (h .0), all-map A B f l (h .1))
 
-factors-small : (es : List Entry) → All (λ (e : Entry). e .index < 64) es → Keys (λ i. i < 64) (factors es)
+pub factors-small : (es : List Entry) → All (λ (e : Entry). e .index < 64) es → Keys (λ i. i < 64) (factors es)
 unfolding All
 factors-small [] h = tt
 factors-small (e ∷ es) h = (h .0, factors-small es (h .1))
@@ -87,13 +86,13 @@ module _ (f : ℕ → ℤ) where
 
 module _ (p : Problem) (j : ℕ) where
   -- what the terms of g_j give a monomial s, and so a place of the table
-  abbrev under : (ℕ → ℤ) → ℕ → ℤ
+  abbrev pub under : (ℕ → ℤ) → ℕ → ℤ
   under m s = sum (λ t. m (s + t)) (multiplier p j)
 
-  abbrev at : (ℕ → ℤ) → ℕ → ℤ
+  abbrev pub at : (ℕ → ℤ) → ℕ → ℤ
   at m n = under m (pairKey (basisOf p j) n)
 
-  place-key : (i i′ : ℕ) → i′ < 64 → pairKey (basisOf p j) (64 * i + i′) ≡ getD (basisOf p j) i 0 + getD (basisOf p j) i′ 0
+  pub place-key : (i i′ : ℕ) → i′ < 64 → pairKey (basisOf p j) (64 * i + i′) ≡ getD (basisOf p j) i 0 + getD (basisOf p j) i′ 0
   place-key i i′ h =
       let q : (64 * i + i′) / 64 ≡ i = omega arith in
       let r : (64 * i + i′) % 64 ≡ i′ = omega arith in
@@ -122,7 +121,7 @@ module _ (p : Problem) (j : ℕ) where
     unfolding square
     row-gram r e h = rw e (square-sum (r .weight) (r .entries) ∙ sym (outer-sum r h))
 
-    rows-gram : (rs : List Row) → All (λ (r : Row). r .basis ≡ j) rs → All (λ (r : Row). All (λ (e : Entry). e .index < 64) (r .entries)) rs → sum m (squares p rs) ≡ sum (at m) (gram rs)
+    pub rows-gram : (rs : List Row) → All (λ (r : Row). r .basis ≡ j) rs → All (λ (r : Row). All (λ (e : Entry). e .index < 64) (r .entries)) rs → sum m (squares p rs) ≡ sum (at m) (gram rs)
     unfolding squares gram All
     rows-gram [] e h = refl
     rows-gram (r ∷ rs) e h = rw (sum-append m (square p r) (squares p rs), sum-append (at m) (outer r) (gram rs), row-gram r (e .0) (h .0), rows-gram rs (e .1) (h .1))
@@ -136,17 +135,6 @@ module _ (p : Problem) (j : ℕ) where
     pub gram-squares : (M : List Term) → ((n : ℕ) → coefficient n M ≡ coefficient n (gram rs)) → (k : ℕ) → coefficient k (squares p rs) ≡ coefficient k (expanded p j M)
     unfolding coefficient
     gram-squares M e k = rows-gram (match k) rs on small ∙ same-sums (gram rs) M (λ n. sym (e n)) (at (match k)) ∙ sym (expanded-sum (match k) M)
-
-    -- and so does a table of 64 × 64 numbers
-    pub gram-table : (table : List ℤ) → ((n : ℕ) → n < 4096 → getD table n (pos 0) ≡ coefficient n (gram rs)) → (k : ℕ) → coefficient k (squares p rs) ≡ coefficient k (expanded p j (placed table))
-    gram-table table e = gram-squares (placed table) (λ n. go n (ltb n 4096) refl)
-      where
-        go : (n : ℕ) (b : Bool) → ltb n 4096 ≡ b → coefficient n (placed table) ≡ coefficient n (gram rs)
-        go n true q = let l = ltb-true n 4096 q in listed-coefficient (λ n. getD table n (pos 0)) 4096 n l ∙ e n l
-        go n false q =
-            let l = ltb-false n 4096 q in
-            coefficient-none (λ n. n < 4096) n (placed table) (listed-keys (λ n. getD table n (pos 0)) 4096) (λ b. omega arith)
-            ∙ sym (coefficient-none (λ n. n < 4096) n (gram rs) (gram-keys rs small) (λ b. omega arith))
 
 -- ---- what the two loops add up
 -- a row adds w × l × l' at the place of each two entries
@@ -164,10 +152,19 @@ gram-more n (x ∷ rs) r =
     rw (coefficient-append n (outer x) (gram (rs ++ (r ∷ []))), coefficient-append n (outer x) (gram rs), gram-more n rs r)
     (sym (+ℤ-assoc (coefficient n (outer x)) (coefficient n (gram rs)) (coefficient n (outer r))))
 
--- each entry of a matrix adds its number times the coefficient of each term of g_j
-pub expanded-coefficient : (p : Problem) (j : ℕ) (M : List Term) (k : ℕ) → coefficient k (expanded p j M) ≡ sum (λ n. sum (λ t. match k (pairKey (basisOf p j) n + t)) (multiplier p j)) M
-unfolding coefficient
-expanded-coefficient p j M k = expanded-sum p j (match k) M
+-- 64 × 64 numbers, each the rows' products at its place, have the same sums as the rows' products
+pub gram-places : (rs : List Row) → All (λ (r : Row). All (λ (e : Entry). e .index < 64) (r .entries)) rs → (m : ℕ → ℤ) → sum m (gram rs) ≡ sum m (listed 4096 (λ n. term n (coefficient n (gram rs))))
+gram-places rs small m = same-sums (gram rs) (listed 4096 (λ n. term n (f n))) (λ n. sym (go n (ltb n 4096) refl)) m
+  where
+    f : ℕ → ℤ
+    f n = coefficient n (gram rs)
+
+    go : (n : ℕ) (b : Bool) → ltb n 4096 ≡ b → coefficient n (listed 4096 (λ n. term n (f n))) ≡ f n
+    go n true q = listed-coefficient f 4096 n (ltb-true n 4096 q)
+    go n false q =
+        let l = ltb-false n 4096 q in
+        coefficient-none (λ n. n < 4096) n (listed 4096 (λ n. term n (f n))) (listed-keys f 4096) (λ b. omega arith)
+        ∙ sym (coefficient-none (λ n. n < 4096) n (gram rs) (gram-keys rs small) (λ b. omega arith))
 
 -- ---- the rows basis by basis
 pub rows-on : (j : ℕ) (rs : List Row) → All (λ (r : Row). r .basis ≡ j) (rowsOn j rs)
@@ -230,26 +227,3 @@ module _ (p : Problem) where
   pub squares-bases : (rs : List Row) (n : ℕ) → All (λ (r : Row). r .basis < n) rs → (k : ℕ) → coefficient k (squares p rs) ≡ coefficient k (byBasis p rs n)
   unfolding coefficient
   squares-bases rs n h k = bases-sum (match k) n rs h
-
-  -- one basis more: what its table gives is added
-  pub bases-more : (rs : List Row) → All (λ (r : Row). All (λ (e : Entry). e .index < 64) (r .entries)) rs → (j : ℕ) (table : List ℤ) → ((n : ℕ) → n < 4096 → getD table n (pos 0) ≡ coefficient n (gram (rowsOn j rs)))
-      → (k : ℕ) → coefficient k (byBasis p rs (suc j)) ≡ coefficient k (byBasis p rs j) +ℤ coefficient k (expanded p j (placed table))
-  unfolding byBasis
-  bases-more rs small j table e k =
-      coefficient-append k (byBasis p rs j) (squares p (rowsOn j rs))
-      ∙ ap (λ (z : ℤ). coefficient k (byBasis p rs j) +ℤ z) (gram-table p j (rowsOn j rs) (rows-on j rs) (rows-all _ j rs small) table e k)
-
--- ---- rows of a problem within its limits
-module _ (p : Problem) (limits : Limits p) where
-  pub fits-bases : (rs : List Row) → RowsFit p rs → All (λ (r : Row). r .basis < 9) rs
-  unfolding All
-  fits-bases [] f = tt
-  fits-bases (r ∷ rs) f = (let c = limits .constraints in let b = f .0 .basis in omega arith, fits-bases rs (f .1))
-
-  pub fits-small : (rs : List Row) → RowsFit p rs → All (λ (r : Row). All (λ (e : Entry). e .index < 64) (r .entries)) rs
-  unfolding All basisOf
-  fits-small [] f = tt
-  fits-small (r ∷ rs) f = (
-    all-map _ _ (λ (e : Entry) l. let c = all-at _ (p .bases) (r .basis) [] (limits .members) (monomials-none _ _ _) .count in omega arith) (r .entries) (f .0 .indices),
-    fits-small rs (f .1),
-  )

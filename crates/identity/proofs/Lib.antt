@@ -6,3 +6,4 @@ pub mod Accepted
 pub mod Bounds
 pub mod Worked
 pub mod Gram
+pub mod Halves

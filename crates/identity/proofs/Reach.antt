@@ -43,7 +43,7 @@ unfolding All
 keys-combination A B [] h = tt
 keys-combination A B (e ∷ es) h = (h .0, keys-combination A B es (h .1))
 
-all-both : {X : Type 0} (A B C : X → Type 0) → ((x : X) → A x → B x → C x) → (l : List X) → All A l → All B l → All C l
+pub all-both : {X : Type 0} (A B C : X → Type 0) → ((x : X) → A x → B x → C x) → (l : List X) → All A l → All B l → All C l
 unfolding All
 all-both A B C f [] h k = tt
 all-both A B C f (x ∷ l) h k = (f x (h .0) (k .0), all-both A B C f l (h .1) (k .1))

@@ -3,7 +3,7 @@
 use mathlib.Core.Bool.{cond}
 use mathlib.Core.List.{List, [], _∷_, _++_}
 use Prim.Native.Nat.{ℕ, zero, suc, _+_, _*_, _/_, _%_}
-use lib.Dec.{eqb}
+use lib.Dec.{eqb, leb}
 use lib.IntN.{ℤ, pos}
 use lib.ListN.{getD}
 use Rattle.counting.specs.Counting.{listed}
@@ -40,6 +40,14 @@ pairKey B n = getD B (n / 64) 0 + getD B (n % 64) 0
 -- the entries of a table, each at its place
 abbrev pub placed : List ℤ → List Term
 placed table = listed 4096 (λ n. term n (getD table n (pos 0)))
+
+-- half of a symmetric matrix: what stands below the diagonal, at places with i' < i, is left out
+abbrev pub upper : ℕ → ℤ → ℤ
+upper n v = cond (leb (n / 64) (n % 64)) v (pos 0)
+
+-- how often a number of the upper half counts: once on the diagonal, and else for its mirror image too
+abbrev pub times : ℕ → ℤ
+times n = cond (eqb (n / 64) (n % 64)) (pos 1) (pos 2)
 
 -- each entry of a matrix times b × b' times g_j
 abbrev pub expanded : Problem → ℕ → List Term → List Term

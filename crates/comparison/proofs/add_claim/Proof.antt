@@ -37,13 +37,13 @@ add-terms-requires : tie.Need-add-terms-requires
 add-terms-requires c κs =
     let g = c .before .before .before .before in
     let p = s g .pre in
-    (ready-less (p .0) (omega arith), simp (toZ-ofZ (fits-x g)) record { paired = p .1 .paired; low = p .1 .low; key-low = p .1 .key-low; small = factors g .objective-small })
+    (ready-less (p .0) (omega arith), simp (toZ-ofZ (fits-x g)) record { paired = p .1 .paired; low = p .1 .low; key-low = p .1 .key-low; small = omega (arith, factors g .objective-small) })
 
 add-term-requires : tie.Need-add-term-requires
 add-term-requires c κs =
     let a = c .before .before .before .before .before in
     let g = a .before .before .before .before .before in
-    (ready-after (s g .pre .0) (a .add-terms .ensures) (omega arith), simp (toZ-ofZ (fits-y g)) (factors g .constant-small))
+    (ready-after (s g .pre .0) (a .add-terms .ensures) (omega arith), simp (toZ-ofZ (fits-y g)) (omega (arith, factors g .constant-small)))
 
 same-length : tie.Need-same-length
 same-length c = search needs

@@ -60,12 +60,6 @@ cast-w c = search needs
 loop-holds : tie.Need-loop-holds Inv-loop μ-loop
 loop-holds c = let s = c .before .before .before in (omega arith, raising-start (s .pre .1 .long))
 
-array-read-i : tie.Need-array-read-i Inv-loop μ-loop
-array-read-i c = let s = c .before .before .before .before .before in omega (arith, s .pre .0 .few)
-
-cast-i : tie.Need-cast-i Inv-loop μ-loop
-cast-i c = search needs
-
 mul-a : tie.Need-mul-a Inv-loop μ-loop
 mul-a c = search needs
 
@@ -92,7 +86,7 @@ add-products-requires c κs =
     let h = a .before .loop-test .taken in
     let v : SFits w16 (factor l) = sfits-of (a .a .given) in
     let u : SFits w64 (factor l) = sfits-widen tt v in
-    (s l .pre .0, below l h, s l .pre .0 .indices-low (l .loop .k) h, simp (toZ-ofZ, fits-weight l, v, u, fits-product l h) (product-small l h))
+    (s l .pre .0, below l h, h, simp (toZ-ofZ, fits-weight l, v, u, fits-product l h) (product-small l h))
 
 add-k : tie.Need-add-k Inv-loop μ-loop
 add-k c = search needs
@@ -123,8 +117,6 @@ add-outer-spec =
     μ-loop
     cast-w
     loop-holds
-    array-read-i
-    cast-i
     mul-a
     array-copy-out-a
     cast-a

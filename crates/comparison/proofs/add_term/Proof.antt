@@ -1,9 +1,8 @@
--- `add_term`: the search finds the key's place, or the key has none and nothing is added.
-use mathlib.Core.Path.{sym, _∙_}
+-- `add_term`: the product is added at the key's place, or the key has none and nothing is added.
 use Prim.Native.Nat.{_^_, _-_, _*_, _≤_}
 use native.Mathlib.Omega.{arith}
 use borrow.Author.Needs.{needs}
-use lib.IntN.{ℤ, natAbs, _*ℤ_}
+use lib.IntN.{natAbs, _*ℤ_}
 use mir.Facts.{toZ-ofZ, sfits-widen}
 use mir.Syntax.{w64}
 use mir.Val.{SFits}
@@ -19,27 +18,22 @@ module _ (c : tie.Start) where
   wide = sfits-widen tt (c .fits .c)
 
   small : natAbs (c .args .x *ℤ c .args .c) ≤ unit
-  small = abs-mul-le (c .args .x) (c .args .c) (2 ^ 53) (2 ^ 31) (c .pre .1) (fits-abs (c .fits .c))
+  small = abs-mul-le (c .args .x) (c .args .c) (2 ^ 54) (2 ^ 31) (c .pre .1) (fits-abs (c .fits .c))
 
-find-requires : tie.Need-find-requires
-find-requires c κs = search needs
-
-enum-known-p : tie.Need-enum-known-p
-enum-known-p c = search needs
+place-of-requires : tie.Need-place-of-requires
+place-of-requires c κs = search needs
 
 cast-add-scaled : tie.Need-cast-add-scaled
-cast-add-scaled c = let s = c .before .before .before .before .before .before .before .before in simp (toZ-ofZ (s .fits .c)) (wide s)
+cast-add-scaled c = let s = c .before .before .before .before .before .before in simp (toZ-ofZ (s .fits .c)) (wide s)
 
 add-scaled-requires : tie.Need-add-scaled-requires
 add-scaled-requires c κs =
-    let f = c .before .before .before .before .before in
+    let i = c .before .before in
+    let f = i .before in
     let s = f .before .before .before in (
-      room-in (s .pre .0) (s .args .key) _ (sym (f .find .ensures) ∙ c .before .before .before .p .given .1),
+      room-in (s .pre .0) (s .args .key) _ (f .place-of .ensures) (i .if1 .taken),
       simp (toZ-ofZ, s .fits .x, s .fits .c, wide s) record { first = omega (arith, s .pre .1); second = fits-abs (s .fits .c) },
     )
-
-enum-told : tie.Need-enum-told
-enum-told c = search needs
 
 same-length : tie.Need-same-length
 same-length c = search needs
@@ -50,23 +44,25 @@ same-length-2 c = search needs
 returns : tie.Need-returns
 returns c =
     let a = c .before .before .before in
-    let f = a .before .before .before .before .before .before in
+    let i = a .before .before .before in
+    let f = i .before in
     let s = f .before .before .before in
-    grown-at (s .pre .0) (s .args .key) _ (s .args .x *ℤ s .args .c) (sym (f .find .ensures) ∙ a .before .before .before .before .p .given .1) (small s)
+    grown-at (s .pre .0) (s .args .key) _ (f .place-of .ensures) (s .args .x *ℤ s .args .c) (i .if1 .taken) (small s)
     (simp (toZ-ofZ, s .fits .x, s .fits .c, wide s) at (a .add-scaled .ensures))
 
 returns-2 : tie.Need-returns-2
-returns-2 c = let s = c .before .before .before .before .before in grown-gap (s .pre .0) (s .args .key) _ (s .args .x *ℤ s .args .c) (sym (c .before .before .find .ensures) ∙ c .enum-told .given .1)
+returns-2 c =
+    let f = c .before in
+    let s = f .before .before .before in
+    grown-gap (s .pre .0) (s .args .key) _ (f .place-of .ensures) (s .args .x *ℤ s .args .c) (c .if1 .left)
 
 pub add-term-spec : {M : Type 1} → statement M
 add-term-spec =
     tie.close
     (tie.spec
-    find-requires
-    enum-known-p
+    place-of-requires
     cast-add-scaled
     add-scaled-requires
-    enum-told
     same-length
     same-length-2
     returns

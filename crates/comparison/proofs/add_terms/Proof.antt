@@ -15,11 +15,11 @@ use Rattle.comparison.proofs.add_terms.Statement.{statement}
 use Rattle.comparison.proofs.add_terms.Tie as tie
 
 abbrev Inv-loop : tie.InvT-loop
-Inv-loop table n high₀ low₀ exponents coefficients key x t₀ high low t =
+Inv-loop table n places high₀ low₀ exponents coefficients key x t₀ high low t =
     (t ≤ length exponents) × Summing table n high₀ low₀ (λ k e. match k (key + e)) (toZ w64 x) exponents coefficients t high low
 
 abbrev μ-loop : tie.MeasureT-loop
-μ-loop table n high₀ low₀ exponents coefficients key x t₀ high low t = length exponents - t
+μ-loop table n places high₀ low₀ exponents coefficients key x t₀ high low t = length exponents - t
 
 loop-holds : tie.Need-loop-holds Inv-loop μ-loop
 loop-holds c = let s = c .before .before .before in (omega arith, summing-start (s .pre .0))

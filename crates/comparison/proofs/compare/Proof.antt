@@ -27,23 +27,26 @@ module _ (c : tie.Start) where
   coefficients-long = let f = c .pre .1 .objective-filled in length-take-le (q .count) (q .coefficients) (omega (arith, f .count-low, f .coefficients-length))
 
 abbrev at-start : tie.After-add-claim → tie.Start
-at-start c = c .before .before .before .before .before .before .before .before .before .before .before .before
+at-start c = c .before .before .before .before .before .before .before .before .before .before .before .before .before .before .before
+
+note-places-requires : tie.Need-note-places-requires
+note-places-requires c κs = search needs
 
 array-share-prefix-es : tie.Need-array-share-prefix-es
 array-share-prefix-es c = search needs
 
 slice-aggregate-add-claim : tie.Need-slice-aggregate-add-claim
-slice-aggregate-add-claim c = sym (keys-long (c .before .before .before .before .before .before .before .before .before .before))
+slice-aggregate-add-claim c = sym (keys-long (c .before .before .before .before .before .before .before .before .before .before .before .before .before))
 
 array-share-prefix-cs : tie.Need-array-share-prefix-cs
 array-share-prefix-cs c = search needs
 
 slice-aggregate-add-claim-2 : tie.Need-slice-aggregate-add-claim-2
-slice-aggregate-add-claim-2 c = sym (coefficients-long (c .before .before .before .before .before .before .before .before .before .before .before))
+slice-aggregate-add-claim-2 c = sym (coefficients-long (c .before .before .before .before .before .before .before .before .before .before .before .before .before .before))
 
 add-claim-requires : tie.Need-add-claim-requires
 add-claim-requires c κs =
-    let s = c .before .before .before .before .before .before .before .before .before .before .before in
+    let s = c .before .before .before .before .before .before .before .before .before .before .before .before .before .before in
     let f = s .pre .1 .objective-filled in
     let k = keys-long s in
     let l = coefficients-long s in (
@@ -58,14 +61,14 @@ add-claim-requires c κs =
 
 add-rows-requires : tie.Need-add-rows-requires
 add-rows-requires c κs =
-    let a = c .before .before .before .before .before in
+    let a = c .before .before .before .before .before .before in
     let p = at-start a .pre in
-    (ready-after (zeroed-ready (p .0) (257 * unit + 129 * tableUnit) (omega arith)) (claim-first _ _ (at-start a .pre .1 .objective-filled) (a .add-claim .ensures)) (omega arith), (p .1 .flat, p .1 .rows))
+    (ready-after (zeroed-ready (p .0) (257 * unit + 9 * tableUnit) (omega arith)) (claim-first _ _ (at-start a .pre .1 .objective-filled) (a .add-claim .ensures)) (omega arith), (p .1 .flat, p .1 .rows))
 
 first-nonzero-requires : tie.Need-first-nonzero-requires
 first-nonzero-requires c κs =
     let r = c .before .before .before .before .before in
-    let a = r .before .before .before .before .before .before in
+    let a = r .before .before .before .before .before .before .before in
     let z = at-start a .pre .0 in
     let g = claim-first _ _ (at-start a .pre .1 .objective-filled) (a .add-claim .ensures) in
     let h = r .add-rows .ensures .grown in
@@ -75,17 +78,17 @@ first-nonzero-requires c κs =
       low = h .low;
     }
 
-mul-t34 : tie.Need-mul-t34
-mul-t34 c =
+mul-t38 : tie.Need-mul-t38
+mul-t38 c =
     let f = c .before in
-    let a = f .before .before .before .before .before .before .before .before .before .before .before .before in
+    let a = f .before .before .before .before .before .before .before .before .before .before .before .before .before in
     let z = at-start a .pre .0 in
     omega (arith, z .support .few, c .if1 .taken)
 
-shared-slice-read-t36 : tie.Need-shared-slice-read-t36
-shared-slice-read-t36 c =
+shared-slice-read-t40 : tie.Need-shared-slice-read-t40
+shared-slice-read-t40 c =
     let f = c .before .before in
-    let a = f .before .before .before .before .before .before .before .before .before .before .before .before in
+    let a = f .before .before .before .before .before .before .before .before .before .before .before .before .before in
     omega (arith, inside (at-start a .pre .0 .support), c .before .if1 .taken)
 
 same-length : tie.Need-same-length
@@ -98,10 +101,10 @@ returns : tie.Need-returns
 returns c =
     let f = c .before .before in
     let r = f .before .before .before .before .before .before in
-    let a = r .before .before .before .before .before .before in
+    let a = r .before .before .before .before .before .before .before in
     let z = at-start a .pre .0 in
     let m = r .add-rows .ensures in
-    let w = grown-then {e = 257 * unit + 129 * tableUnit} (claim-first _ _ (at-start a .pre .1 .objective-filled) (a .add-claim .ensures)) (m .grown) (λ k. refl) (omega arith) in
+    let w = grown-then {e = 257 * unit + 9 * tableUnit} (claim-first _ _ (at-start a .pre .1 .objective-filled) (a .add-claim .ensures)) (m .grown) (λ k. refl) (omega arith) in
     (λ p k given. found-differs p k _ _ _ _ _ _ _ _ _ given z (claim-first _ _ (at-start a .pre .1 .objective-filled) (a .add-claim .ensures)) m (f .first-nonzero .ensures) (c .before .if1 .taken), (grown-hi (z .support .few) w, grown-lo (z .support .few) w))
 
 same-length-3 : tie.Need-same-length-3
@@ -114,16 +117,17 @@ returns-2 : tie.Need-returns-2
 returns-2 c =
     let f = c .before in
     let r = f .before .before .before .before .before .before in
-    let a = r .before .before .before .before .before .before in
+    let a = r .before .before .before .before .before .before .before in
     let z = at-start a .pre .0 in
     let m = r .add-rows .ensures in
-    let w = grown-then {e = 257 * unit + 129 * tableUnit} (claim-first _ _ (at-start a .pre .1 .objective-filled) (a .add-claim .ensures)) (m .grown) (λ k. refl) (omega arith) in
+    let w = grown-then {e = 257 * unit + 9 * tableUnit} (claim-first _ _ (at-start a .pre .1 .objective-filled) (a .add-claim .ensures)) (m .grown) (λ k. refl) (omega arith) in
     (λ p k given. found-same p k _ _ _ _ _ _ _ _ _ given z (claim-first _ _ (at-start a .pre .1 .objective-filled) (a .add-claim .ensures)) m (f .first-nonzero .ensures) (c .if1 .left), (grown-hi (z .support .few) w, grown-lo (z .support .few) w))
 
 pub compare-spec : {M : Type 1} → statement M
 compare-spec =
     tie.close
     (tie.spec
+    note-places-requires
     array-share-prefix-es
     slice-aggregate-add-claim
     array-share-prefix-cs
@@ -131,8 +135,8 @@ compare-spec =
     add-claim-requires
     add-rows-requires
     first-nonzero-requires
-    mul-t34
-    shared-slice-read-t36
+    mul-t38
+    shared-slice-read-t40
     same-length
     same-length-2
     returns

@@ -15,11 +15,11 @@ use Rattle.comparison.proofs.spread.Statement.{statement}
 use Rattle.comparison.proofs.spread.Tie as tie
 
 abbrev Inv-loop : tie.InvT-loop
-Inv-loop g₀ basis exponents coefficients table n high₀ low₀ last x₀ g high low x =
+Inv-loop g₀ basis exponents coefficients table n places high₀ low₀ last x₀ g high low x =
     (last ≡ 64 * length basis) × Spreading table n basis (termsIn (length exponents) exponents coefficients) g₀ high₀ low₀ x g high low
 
 abbrev μ-loop : tie.MeasureT-loop
-μ-loop g₀ basis exponents coefficients table n high₀ low₀ last x₀ g high low x = last - x
+μ-loop g₀ basis exponents coefficients table n places high₀ low₀ last x₀ g high low x = last - x
 
 -- the entry that is read
 module _ (c : tie.After-a Inv-loop μ-loop) where
