@@ -1,6 +1,7 @@
--- The first place whose sum is not 0 is the first key at which the claim and the squares differ.
+-- The smallest key whose sum is not 0 is the first at which the claim and the squares differ.
 use mathlib.Core.Path.{_≡_, refl, sym, ap, ap₂, _∙_, subst}
-use mathlib.Core.Bool.{true, false}
+use mathlib.Core.Logic.{⊎-elim}
+use mathlib.Core.Bool.{Bool, true, false, cond}
 use mathlib.Core.List.{List, [], _∷_, map}
 use mathlib.Core.Option.{none, some}
 use Prim.Native.Nat.{ℕ, zero, suc, _+_, _-_, _*_, _^_, _≤_, _<_}
@@ -17,8 +18,11 @@ use Rattle.polynomial.specs.declared.Objective.{Objective}
 use Rattle.polynomial.specs.Algebra.{coefficient}
 use Rattle.problem.specs.Rules.{Problem}
 use Rattle.problem.specs.Bases.{multiplierOf, Flat, coefficientsOf, FlatCoefficients}
-use Rattle.support.proofs.Laws.{inside}
-use Rattle.sums.specs.Sums.{valueAt, First}
+use Rattle.support.specs.Sets.{In, Above, Rising}
+use Rattle.support.specs.Table.{keysIn, Holds, Indexed}
+use Rattle.support.proofs.Elements.{not-nil, in-here, in-there, in-cons, above-in}
+use Rattle.support.proofs.Keys.{keys-rising, keys-at, at-keys}
+use Rattle.sums.specs.Sums.{valueAt}
 use Rattle.certificate.specs.Rules.{Row, Certificate, shapeOf}
 use Rattle.certificate.specs.Rows.{rowsOf}
 use Rattle.certificate.specs.declared.Header.{Header}
@@ -26,12 +30,13 @@ use Rattle.certificate.proofs.Limits.{shape-within}
 use Rattle.certificate.proofs.Rows.{rows-read}
 use Rattle.identity.specs.Identity.{multiplier, squares, claim}
 use Rattle.identity.specs.Judgement.{sameNumber, firstDifference, differenceKey}
+use Rattle.identity.proofs.Difference.{same-equal}
 use Rattle.comparison.specs.declared.Difference.the-variants.{Same, Differs}
 use Rattle.comparison.specs.declared.Lengths.{Lengths}
 use Rattle.comparison.specs.Tables.{unit, Ready, Grown, claimed}
 use Rattle.comparison.specs.Spread.{multiplierIn}
 use Rattle.comparison.specs.Walk.{Stands, Summed}
-use Rattle.comparison.specs.Compare.{differenceOf, Zeroed, Given, Untouched}
+use Rattle.comparison.specs.Compare.{differenceOf, Zeroed, Smallest, Given, Untouched}
 use Rattle.comparison.proofs.Growth.{grown-same}
 use Rattle.comparison.proofs.Claims.{problem-claim}
 
@@ -50,17 +55,25 @@ same-not (negsuc a) (pos b) f = refl
 same-not (negsuc a) (negsuc b) f = ne-eqb a b (λ e. f (ap negsuc e))
 
 module _ (P Q : List Term) where
-  difference-none : (ks : List ℕ) → ((i : ℕ) → i < length ks → coefficient (getD ks i 0) P ≡ coefficient (getD ks i 0) Q) → firstDifference P Q ks ≡ none
+  abbrev Equal : ℕ → Type 0
+  Equal k = coefficient k P ≡ coefficient k Q
+
+  difference-none : (ks : List ℕ) → ((k : ℕ) → In k ks → Equal k) → firstDifference P Q ks ≡ none
   unfolding firstDifference
   difference-none [] h = refl
-  difference-none (k ∷ ks) h = rw (same-self (coefficient k P) (coefficient k Q) (h 0 (omega arith))) (difference-none ks (λ i b. h (suc i) (omega arith)))
+  difference-none (k ∷ ks) h = rw (same-self (coefficient k P) (coefficient k Q) (h k (in-here k k ks refl))) (difference-none ks (λ j m. h j (in-there j k ks m)))
 
-  difference-at : (ks : List ℕ) (r : ℕ) → r < length ks → ((i : ℕ) → i < r → coefficient (getD ks i 0) P ≡ coefficient (getD ks i 0) Q)
-      → (coefficient (getD ks r 0) P ≡ coefficient (getD ks r 0) Q → ⊥) → firstDifference P Q ks ≡ some (getD ks r 0)
+  -- the smallest of rising keys that differs is the first
+  difference-at : (ks : List ℕ) → Rising ks → (x : ℕ) → In x ks → (Equal x → ⊥) → ((k : ℕ) → In k ks → (Equal k → ⊥) → x ≤ k) → firstDifference P Q ks ≡ some x
   unfolding firstDifference
-  difference-at [] r b h f = absurd (omega arith)
-  difference-at (k ∷ ks) zero b h f = rw (same-not (coefficient k P) (coefficient k Q) f)
-  difference-at (k ∷ ks) (suc r) b h f = rw (same-self (coefficient k P) (coefficient k Q) (h 0 (omega arith))) (difference-at ks r (omega arith) (λ i c. h (suc i) (omega arith)) f)
+  difference-at [] r x m f h = not-nil x m
+  difference-at (k ∷ ks) r x m f h = go (sameNumber (coefficient k P) (coefficient k Q)) refl (λ n. difference-at ks (r .1) x n f (λ j i. h j (in-there j k ks i)))
+    where
+      go : (b : Bool) → sameNumber (coefficient k P) (coefficient k Q) ≡ b → (In x ks → firstDifference P Q ks ≡ some x) → cond b (firstDifference P Q ks) (some k) ≡ some x
+      go true e i = ⊎-elim (λ w. absurd (f (rw (← w) (same-equal _ _ e)))) i (in-cons x k ks m)
+      go false e i =
+          let l : x ≤ k = h k (in-here k k ks refl) (λ w. let t = same-self (coefficient k P) (coefficient k Q) w in let z : _≡_ {A = ℕ} 0 1 = cc in omega arith) in
+          ⊎-elim (λ w. ap some w) (λ n. let u = above-in k x ks (r .0) n in absurd (omega arith)) (in-cons x k ks m)
 
 -- ---- a sum is 0 where the two sides are equal
 zero-equal : (a b : ℤ) → negℤ a +ℤ b ≡ pos 0 → a ≡ b
@@ -71,30 +84,31 @@ zero-equal a b e =
 equal-zero : (a b : ℤ) → a ≡ b → negℤ a +ℤ b ≡ pos 0
 equal-zero a b e = rw (e, view b .eq) (simp diffs (⊖-eq _ _ _ _ (omega arith)))
 
-module _ (P Q : List Term) (table : List ℕ) (n : ℕ) (hi : List ℤ) (lo : List ℕ) (l : n ≤ length table)
-    (v : (q : ℕ) → q < n → valueAt hi lo q ≡ negℤ (coefficient (getD table q 0) P) +ℤ coefficient (getD table q 0) Q) (r : ℕ) (f : First hi lo n r) where
-  long : length (take n table) ≡ n
-  long = length-take-le n table l
+-- the places of a table and the elements of its set
+module _ (P Q : List Term) {table : List ℕ} {n : ℕ} (h : Holds table n) (hi : List ℤ) (lo : List ℕ)
+    (v : (q : ℕ) → q < n → valueAt hi lo q ≡ negℤ (coefficient (getD table q 0) P) +ℤ coefficient (getD table q 0) Q) (r : ℕ) (f : Smallest table hi lo n n r) where
+  equal : (q : ℕ) → q < n → valueAt hi lo q ≡ pos 0 → Equal P Q (getD table q 0)
+  equal q b e = zero-equal _ _ (sym (v q b) ∙ e)
 
-  equal : (i : ℕ) → i < n → valueAt hi lo i ≡ pos 0 → coefficient (getD (take n table) i 0) P ≡ coefficient (getD (take n table) i 0) Q
-  equal i b e = rw (getD-take n table i 0 b) (zero-equal (coefficient (getD table i 0) P) (coefficient (getD table i 0) Q) (sym (v i b) ∙ e))
+  unequal : (q : ℕ) → q < n → (Equal P Q (getD table q 0) → ⊥) → valueAt hi lo q ≡ pos 0 → ⊥
+  unequal q b g e = g (equal q b e)
 
-  pub tables-same : n ≤ r → firstDifference P Q (take n table) ≡ none
-  tables-same h = let w = f .within in let e = long in difference-none P Q (take n table) (λ i b. equal i (omega arith) (f .before i (omega arith)))
+  pub tables-same : n ≤ r → firstDifference P Q (keysIn n table) ≡ none
+  tables-same l = difference-none P Q (keysIn n table) (λ k m. keys-at h k m (λ q b e. rw (← e) (equal q b (f .none l q b))))
 
-  pub tables-differ : r < n → firstDifference P Q (take n table) ≡ some (getD table r 0)
-  tables-differ h =
-      let e = long in
-      difference-at P Q (take n table) r (omega arith) (λ i b. equal i (omega arith) (f .before i b))
-      (λ d. f .there h (v r h ∙ equal-zero _ _ (rw (getD-take n table r 0 h) at d)))
-      ∙ ap some (getD-take n table r 0 h)
+  pub tables-differ : r < n → firstDifference P Q (keysIn n table) ≡ some (getD table r 0)
+  tables-differ l =
+      difference-at P Q (keysIn n table) (keys-rising n table) (getD table r 0) (at-keys h r l)
+      (λ e. f .there l (v r l ∙ equal-zero _ _ e))
+      (λ k m g. keys-at h k m (λ q b e. rw (← e) (f .least l q b (unequal q b (λ w. g (rw (← e) w))))))
 
 -- ---- the tables at the start and at the end
-pub zeroed-ready : {table : List ℕ} {n : ℕ} {hi : List ℤ} {lo : List ℕ} → Zeroed table n hi lo → (c : ℕ) → c ≤ 2 ^ 120 → Ready table n hi lo c
-zeroed-ready {table} {n} {hi} {lo} z c h =
+pub zeroed-ready : {table idx : List ℕ} {n : ℕ} {hi : List ℤ} {lo : List ℕ} → Zeroed table n hi lo → Indexed idx table n → (c : ℕ) → c ≤ 2 ^ 120 → Ready table idx n hi lo c
+zeroed-ready {n = n} {hi = hi} {lo = lo} z x c h =
     let few = z .support .few in
     record {
       support = z .support;
+      index = x;
       in-hi = omega (arith, z .in-hi);
       in-lo = omega (arith, z .in-lo);
       low = λ q b. let e = z .lo-zero q b in omega arith;
@@ -206,7 +220,7 @@ module _ (p : Problem) (c : Certificate) (s : List ℕ) (header : Header) (keys 
 
   module _ {hi₀ hi₁ hi₂ : List ℤ} {lo₀ lo₁ lo₂ : List ℕ} {a r : ℕ} (z : Zeroed table n hi₀ lo₀)
       (g : Grown table n hi₀ lo₀ (λ k. negℤ (coefficient k (claimed (objectiveTerms objective) header))) a hi₁ lo₁)
-      (m : Summed (λ p. squares p (rowsOf s)) keys exponents coefficients l table n 9 hi₁ lo₁ hi₂ lo₂) (f : First hi₂ lo₂ n r) where
+      (m : Summed (λ p. squares p (rowsOf s)) keys exponents coefficients l table n 9 hi₁ lo₁ hi₂ lo₂) (f : Smallest table hi₂ lo₂ n n r) where
     claim-is : (k : ℕ) → coefficient k (claimed (objectiveTerms objective) header) ≡ coefficient k (claim p (c .header))
     claim-is k = rw (given .objective-is, given .header-is, problem-claim p (c .header))
 
@@ -223,12 +237,12 @@ module _ (p : Problem) (c : Certificate) (s : List ℕ) (header : Header) (keys 
         ∙ ap (λ (v : ℤ). negℤ v +ℤ m .sums k) (claim-is k)
         ∙ ap (λ (v : ℤ). negℤ (coefficient k (claim p (c .header))) +ℤ v) (squares-are k)
 
-    key-is : firstDifference (claim p (c .header)) (squares p (c .rows)) (take n table) ≡ differenceKey p c
+    key-is : firstDifference (claim p (c .header)) (squares p (c .rows)) (keysIn n table) ≡ differenceKey p c
     unfolding differenceKey
     key-is = rw (given .compared)
 
     pub found-same : n ≤ r → Same ≡ differenceOf (differenceKey p c)
-    found-same h = ap differenceOf (sym (tables-same _ _ table n hi₂ lo₂ (inside (z .support)) sum-is r f h) ∙ key-is)
+    found-same h = ap differenceOf (sym (tables-same _ _ (z .support) hi₂ lo₂ sum-is r f h) ∙ key-is)
 
     pub found-differs : r < n → Differs (getD table r 0) ≡ differenceOf (differenceKey p c)
-    found-differs h = ap differenceOf (sym (tables-differ _ _ table n hi₂ lo₂ (inside (z .support)) sum-is r f h) ∙ key-is)
+    found-differs h = ap differenceOf (sym (tables-differ _ _ (z .support) hi₂ lo₂ sum-is r f h) ∙ key-is)

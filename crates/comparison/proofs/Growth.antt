@@ -12,19 +12,22 @@ use lib.IntN.{ℤ, pos, natAbs, one, _+ℤ_, _*ℤ_, +ℤ-assoc, +ℤ-idr, *ℤ-
 use lib.ListN.{length, getD, take}
 use lib.Seq.{getD-take, length-take-le}
 use Rattle.polynomial.specs.Algebra.{match}
-use Rattle.support.specs.Table.{Holds, findIn, rank}
+use Rattle.support.specs.Table.{Holds, Finds}
 use Rattle.support.specs.Sets.{member}
-use Rattle.support.specs.declared.Found.the-variants.{At, Gap}
-use Rattle.support.proofs.Laws.{inside, rising-in, member-at, at-tells, gap-tells, told-in, miss-in}
+use Rattle.support.specs.declared.Found.{Found}
+use Rattle.support.specs.declared.Found.the-variants.{At, Nowhere}
+use Rattle.support.proofs.Elements.{member-at}
+use Rattle.support.proofs.Keys.{inside, keys-apart}
 use Rattle.sums.specs.Sums.{valueAt, Room, Added, Sums}
 use Rattle.sums.proofs.Tables.{added-at, bound-at, sums-kept}
 use Rattle.comparison.specs.Tables.{Sought, Ready, Grown}
 
 module _ {keys : List ℕ} {n : ℕ} {hi₀ hi₁ : List ℤ} {lo₀ lo₁ : List ℕ} where
-  pub ready-after : {f : ℕ → ℤ} {c d e : ℕ} → Ready keys n hi₀ lo₀ e → Grown keys n hi₀ lo₀ f c hi₁ lo₁ → c + d ≤ e → Ready keys n hi₁ lo₁ d
+  pub ready-after : {idx : List ℕ} {f : ℕ → ℤ} {c d e : ℕ} → Ready keys idx n hi₀ lo₀ e → Grown keys n hi₀ lo₀ f c hi₁ lo₁ → c + d ≤ e → Ready keys idx n hi₁ lo₁ d
   ready-after r h l =
       record {
         support = r .support;
+        index = r .index;
         in-hi = omega (arith, r .in-hi, h .hi-length);
         in-lo = omega (arith, r .in-lo, h .lo-length);
         low = h .low;
@@ -61,11 +64,11 @@ module _ {keys : List ℕ} {n : ℕ} {hi₀ hi₁ : List ℤ} {lo₀ lo₁ : Lis
         lo-length = y .lo-length ∙ x .lo-length;
       }
 
-pub ready-less : {keys : List ℕ} {n : ℕ} {hi : List ℤ} {lo : List ℕ} {c d : ℕ} → Ready keys n hi lo c → d ≤ c → Ready keys n hi lo d
+pub ready-less : {keys idx : List ℕ} {n : ℕ} {hi : List ℤ} {lo : List ℕ} {c d : ℕ} → Ready keys idx n hi lo c → d ≤ c → Ready keys idx n hi lo d
 ready-less r l =
-    record { support = r .support; in-hi = r .in-hi; in-lo = r .in-lo; low = r .low; small = λ q b. omega (arith, r .small q b) }
+    record { support = r .support; index = r .index; in-hi = r .in-hi; in-lo = r .in-lo; low = r .low; small = λ q b. omega (arith, r .small q b) }
 
-pub grown-none : {keys : List ℕ} {n : ℕ} {hi : List ℤ} {lo : List ℕ} {f : ℕ → ℤ} {c d : ℕ} → Ready keys n hi lo c → ((q : ℕ) → q < n → f (getD keys q 0) ≡ pos 0) → Grown keys n hi lo f d hi lo
+pub grown-none : {keys idx : List ℕ} {n : ℕ} {hi : List ℤ} {lo : List ℕ} {f : ℕ → ℤ} {c d : ℕ} → Ready keys idx n hi lo c → ((q : ℕ) → q < n → f (getD keys q 0) ≡ pos 0) → Grown keys n hi lo f d hi lo
 grown-none {hi = hi} {lo = lo} r e =
     record {
       there = λ q b. sym (ap (λ (z : ℤ). valueAt hi lo q +ℤ z) (e q b) ∙ +ℤ-idr (valueAt hi lo q));
@@ -82,51 +85,33 @@ matched : (x : ℤ) (k j : ℕ) → (k ≡ j → ⊥) → x *ℤ match k j ≡ p
 matched x k j f = rw (ne-eqb j k (λ e. f (sym e)), *ℤ-zero)
 
 -- what a search tells
-module _ {keys : List ℕ} {n : ℕ} (support : Holds keys n) (key p : ℕ) where
-  within : n ≤ length keys
-  within = inside support
+module _ {keys : List ℕ} {n : ℕ} (support : Holds keys n) (key : ℕ) (r : Found) (f : Finds key (take n keys) r) where
+  long : length (take n keys) ≡ n
+  long = length-take-le n keys (inside support)
 
-  rank-of : findIn key (take n keys) ≡ At p → p ≡ rank key (take n keys)
-  rank-of = go (member key (take n keys))
-    where
-      go : (b : Bool) → cond b (At (rank key (take n keys))) (Gap (rank key (take n keys))) ≡ At p → p ≡ rank key (take n keys)
-      go true e = cc
-      go false e = absurd (let z : _≡_ {A = ℕ} 0 1 = cc in omega arith)
+  pub sought-at : (p : ℕ) → r ≡ At p → Sought keys n key p
+  sought-at p e =
+      let g = rw e at f in
+      let b : p < n = omega (arith, g .0, long) in
+      record { there = λ _. sym (getD-take n keys p 0 b) ∙ g .1; none = λ l. absurd (omega arith) }
 
-  pub sought-at : findIn key (take n keys) ≡ At p → Sought keys n key p
-  sought-at e =
-      let t = at-tells key (take n keys) p e in
-      let k = rank-of e in
-      let b : p < n = before t k (ltb p n) refl in
-      record { there = λ _. eqb-true _ _ (sym (told-in keys n within key p k (support .rising) b) ∙ t); none = λ l. absurd (omega arith) }
-    where
-      before : member key (take n keys) ≡ true → p ≡ rank key (take n keys) → (x : Bool) → ltb p n ≡ x → p < n
-      before t k true x = ltb-true p n x
-      before t k false x =
-          let h = ltb-false p n x in
-          let m = miss-in keys n within key p k (λ b q. omega arith) (support .rising) in
-          absurd (let z : _≡_ {A = ℕ} 0 1 = cc in omega arith)
-
-  pub sought-gap : findIn key (take n keys) ≡ Gap p → Sought keys n key n
-  sought-gap e =
+  pub sought-nowhere : r ≡ Nowhere → Sought keys n key n
+  sought-nowhere e =
       record {
         there = λ l. absurd (omega arith);
         none = λ _ q b w.
-            let m = gap-tells key (take n keys) p e .0 in
-            let l = length-take-le n keys within in
-            let t = member-at key (take n keys) q (omega arith) (getD-take n keys q 0 b ∙ w) in
+            let m : member key (take n keys) ≡ false = rw e at f in
+            let t = member-at key (take n keys) q (omega (arith, long)) (getD-take n keys q 0 b ∙ w) in
             absurd (let z : _≡_ {A = ℕ} 0 1 = cc in omega arith);
       }
 
-module _ {keys : List ℕ} {n : ℕ} {hi : List ℤ} {lo : List ℕ} {c : ℕ} (r : Ready keys n hi lo c) (key p : ℕ) (s : Sought keys n key p) where
+module _ {keys idx : List ℕ} {n : ℕ} {hi : List ℤ} {lo : List ℕ} {c : ℕ} (r : Ready keys idx n hi lo c) (key p : ℕ) (s : Sought keys n key p) where
   other-key : (a b : ℕ) → a < n → b < n → (a ≡ b → ⊥) → getD keys a 0 ≡ getD keys b 0 → ⊥
   other-key a b x y f e = go (ltb a b) refl
     where
       go : (t : Bool) → ltb a b ≡ t → ⊥
-      go true h = omega (arith, rising-in keys n (inside (r .support)) a b (r .support .rising) (ltb-true a b h) y)
-      go false h =
-          let l = ltb-false a b h in
-          ⊎-elim (λ q. f (sym q)) (λ (d : b < a). omega (arith, rising-in keys n (inside (r .support)) b a (r .support .rising) d x)) (eq-or-lt-of-le {n = b} {m = a} l)
+      go true h = keys-apart (r .support) a b (ltb-true a b h) y e
+      go false h = ⊎-elim (λ q. f (sym q)) (λ (d : b < a). keys-apart (r .support) b a d x (sym e)) (eq-or-lt-of-le {n = b} {m = a} (ltb-false a b h))
 
   pub room-in : p < n → Room hi lo p
   room-in b = record { in-hi = omega (arith, r .in-hi); in-lo = omega (arith, r .in-lo); small = omega (arith, r .small p b); low = r .low p b }

@@ -7,3 +7,4 @@ pub mod Parts
 pub mod Outers
 pub mod Walks
 pub mod Differences
+pub mod Least

@@ -40,7 +40,7 @@ pub record Summing (keys : List ℕ) (n : ℕ) (hi₀ : List ℤ) (lo₀ : List 
   pub grown : Grown keys n hi₀ lo₀ (λ k. x *ℤ sum (m k) (termsIn t exponents coefficients)) (t * unit) hi₁ lo₁
 
 module _ {keys : List ℕ} {n : ℕ} {m : ℕ → ℕ → ℤ} {x : ℤ} {exponents : List ℕ} {coefficients : List ℤ} where
-  pub summing-start : {hi : List ℤ} {lo : List ℕ} {c : ℕ} → Ready keys n hi lo c → Summing keys n hi lo m x exponents coefficients 0 hi lo
+  pub summing-start : {idx : List ℕ} {hi : List ℤ} {lo : List ℕ} {c : ℕ} → Ready keys idx n hi lo c → Summing keys n hi lo m x exponents coefficients 0 hi lo
   unfolding termsIn
   summing-start r = record { grown = grown-none r (λ q b. times-none (m (getD keys q 0)) (at exponents coefficients) x) }
 

@@ -68,7 +68,7 @@ pub record Spreading (keys : List ℕ) (n : ℕ) (B : List ℕ) (G : List Term) 
   pub long : length g₁ ≡ 4096
 
 module _ {keys : List ℕ} {n : ℕ} {B : List ℕ} {G : List Term} {g₀ : List ℤ} {hi₀ : List ℤ} {lo₀ : List ℕ} where
-  pub spreading-start : {c : ℕ} → Ready keys n hi₀ lo₀ c → length g₀ ≡ 4096 → Spreading keys n B G g₀ hi₀ lo₀ 0 g₀ hi₀ lo₀
+  pub spreading-start : {idx : List ℕ} {c : ℕ} → Ready keys idx n hi₀ lo₀ c → length g₀ ≡ 4096 → Spreading keys n B G g₀ hi₀ lo₀ 0 g₀ hi₀ lo₀
   spreading-start r l =
       record {
         within = omega arith;

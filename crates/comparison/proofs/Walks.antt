@@ -384,7 +384,7 @@ spread-below d = record { long = d .long; small = λ x b. omega (arith, ap natAb
 
 -- ---- all bases
 module _ (s : List ℕ) {keys exponents : List ℕ} {coefficients : List ℤ} {l : Lengths} {table : List ℕ} {n : ℕ} {hi₀ : List ℤ} {lo₀ : List ℕ} where
-  pub walked-start : {c : ℕ} → Ready table n hi₀ lo₀ c → Summed (λ p. byBasis p (rowsOf s) 0) keys exponents coefficients l table n 0 hi₀ lo₀ hi₀ lo₀
+  pub walked-start : {idx : List ℕ} {c : ℕ} → Ready table idx n hi₀ lo₀ c → Summed (λ p. byBasis p (rowsOf s) 0) keys exponents coefficients l table n 0 hi₀ lo₀ hi₀ lo₀
   unfolding byBasis coefficient
   walked-start r = record { sums = λ k. pos 0; grown = grown-none r (λ q b. refl); are = λ p t k. refl }
 

@@ -1,17 +1,19 @@
 -- Refusal 9 by the tables: what the comparison asks for, and its answer's cases.
 use mathlib.Core.Path.{_≡_}
+use mathlib.Core.Logic.{_⊎_}
 use mathlib.Core.List.{List}
 use mathlib.Core.Option.{Option, none, some}
 use Prim.Native.Nat.{ℕ, _≤_, _<_}
 use lib.IntN.{ℤ, pos}
-use lib.ListN.{length, getD, take, drop}
+use lib.ListN.{length, getD, drop}
 use Rattle.stream.specs.Commands.{given}
 use Rattle.polynomial.specs.Terms.{objectiveTerms, Filled}
 use Rattle.polynomial.specs.declared.Objective.{Objective}
 use Rattle.problem.specs.Rules.{Problem}
 use Rattle.problem.specs.Limits.{Limits}
 use Rattle.problem.specs.Bases.{basisOf, Flat, FlatCoefficients}
-use Rattle.support.specs.Table.{Holds}
+use Rattle.support.specs.Table.{keysIn, Holds}
+use Rattle.sums.specs.Sums.{valueAt}
 use Rattle.rounds.specs.Bytes.{part}
 use Rattle.certificate.specs.Rules.{Certificate, shapeOf, readCertificate}
 use Rattle.certificate.specs.declared.Header.{Header}
@@ -27,13 +29,25 @@ abbrev pub differenceOf : Option ℕ → Difference
 differenceOf (some k) = Differs k
 differenceOf none = Same
 
--- the first n numbers of the table rise, and the sums at their places are 0
+-- the first n numbers of the table differ, and the sums at their places are 0
 pub record Zeroed (table : List ℕ) (n : ℕ) (hi : List ℤ) (lo : List ℕ) : Type 0 where
   pub support : Holds table n
   pub in-hi : 2048 ≤ length hi
   pub in-lo : 2048 ≤ length lo
   pub hi-zero : (q : ℕ) → q < n → getD hi q (pos 0) ≡ pos 0
   pub lo-zero : (q : ℕ) → q < n → getD lo q 0 ≡ 0
+
+-- r is the one of the places a and b with the smaller key, where a may be no place below n
+pub record Smaller (table : List ℕ) (n a b r : ℕ) : Type 0 where
+  pub one : ((r ≡ a) × (a < n)) ⊎ (r ≡ b)
+  pub first : a < n → getD table r 0 ≤ getD table a 0
+  pub second : getD table r 0 ≤ getD table b 0
+
+-- r is the place of the smallest of the first m keys whose sum is not 0, and n where there is none
+pub record Smallest (table : List ℕ) (hi : List ℤ) (lo : List ℕ) (n m r : ℕ) : Type 0 where
+  pub none : n ≤ r → (k : ℕ) → k < m → valueAt hi lo k ≡ pos 0
+  pub there : r < n → valueAt hi lo r ≡ pos 0 → ⊥
+  pub least : r < n → (k : ℕ) → k < m → (valueAt hi lo k ≡ pos 0 → ⊥) → getD table r 0 ≤ getD table k 0
 
 -- the arrays have their lengths, and the rows keep their limits
 pub record Comparable (s keys exponents : List ℕ) (coefficients : List ℤ) (l : Lengths) (objective : Objective) : Type 0 where
@@ -50,7 +64,7 @@ pub record Given (p : Problem) (c : Certificate) (s : List ℕ) (header : Header
   pub multipliers : Flat p (record { keys = exponents; counts = l .counts })
   pub factors : FlatCoefficients p coefficients
   pub objective-is : objectiveTerms objective ≡ p .objective
-  pub compared : take n table ≡ comparedKeys p
+  pub compared : keysIn n table ≡ comparedKeys p
 
 -- what a call leaves of a lent table from place 2,048 on
 pub record Untouched {ℓ} {A : Type ℓ} (t₀ t₁ : List A) : Type ℓ where

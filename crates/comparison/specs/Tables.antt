@@ -6,7 +6,7 @@ use lib.IntN.{ℤ, pos, natAbs, negℤ, _+ℤ_, _*ℤ_}
 use lib.ListN.{length, getD}
 use Rattle.polynomial.specs.Terms.{Term, term}
 use Rattle.polynomial.specs.Algebra.{scale}
-use Rattle.support.specs.Table.{Holds}
+use Rattle.support.specs.Table.{Holds, Indexed}
 use Rattle.sums.specs.Sums.{base, valueAt}
 use Rattle.blocks.specs.Limits.{Bounded}
 use Rattle.certificate.specs.declared.Header.{Header}
@@ -22,9 +22,10 @@ pub record Sought (keys : List ℕ) (n key r : ℕ) : Type 0 where
   pub there : r < n → getD keys r 0 ≡ key
   pub none : n ≤ r → (q : ℕ) → q < n → getD keys q 0 ≡ key → ⊥
 
--- the first n keys rise, and the sum of each has room for c
-pub record Ready (keys : List ℕ) (n : ℕ) (hi : List ℤ) (lo : List ℕ) (c : ℕ) : Type 0 where
+-- the first n keys differ and have their index, and the sum of each has room for c
+pub record Ready (keys idx : List ℕ) (n : ℕ) (hi : List ℤ) (lo : List ℕ) (c : ℕ) : Type 0 where
   pub support : Holds keys n
+  pub index : Indexed idx keys n
   pub in-hi : n ≤ length hi
   pub in-lo : n ≤ length lo
   pub low : (q : ℕ) → q < n → getD lo q 0 < base

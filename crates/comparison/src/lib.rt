@@ -5,6 +5,8 @@ ghost use Prim.Native.Nat.{ℕ, _+_, _*_, _^_, _≤_, _<_};
 ghost use lib.IntN.{pos, natAbs, negℤ, _*ℤ_};
 ghost use lib.ListN.{length, getD};
 ghost use Rattle.support.specs.Table.{Holds};
+ghost use Rattle.support.specs.Table as Support;
+ghost use Rattle.sums.specs.Sums.{Sums};
 ghost use Rattle.polynomial.specs.Terms.{termsIn};
 ghost use Rattle.polynomial.specs.Algebra.{sum, match, coefficient};
 ghost use Rattle.stream.specs.Commands.{given};
@@ -22,7 +24,7 @@ ghost use Rattle.comparison.specs.Tables.{unit, Sought, Ready, Grown, Ad
 ghost use Rattle.comparison.specs.Spread.{entryUnit, tableUnit, share, Framed, Spreadable, Entered, Spread, multiplierIn, Flattened};
 ghost use Rattle.comparison.specs.Outer.{Entries, Below, Raised, inRow, outerAt};
 ghost use Rattle.comparison.specs.Walk.{Shaped, Gathered, Summed};
-ghost use Rattle.comparison.specs.Compare.{differenceOf, Zeroed, Comparable, Given, Untouched};
+ghost use Rattle.comparison.specs.Compare.{differenceOf, Zeroed, Smaller, Smallest, Comparable, Given, Untouched};
 use polynomial::Objective;
 
 // Where a row leaves its block.
@@ -73,72 +75,32 @@ pub fn split_place(s: &[u8], labels: &[u8]) -> Place
     Place::Nowhere
 }
 
-// Where the index has the place of a key.
-fn slot(key: u64) -> usize
-    ensures { λ r. ⌜ r < 4096 ⌝ }
-{
-    (key % 4093) as usize
-}
-
-fn wide(x: u16) -> usize
-    ensures { λ r. ⌜ r ≡ x ⌝ }
-{
-    x as usize
-}
-
-// Notes the places of the first n keys in the index. Of keys with one slot the last stays.
-fn note_places(places: &mut [u16; 4096], table: &[u64], n: usize)
-    requires { ⌜ Holds (now table) n ⌝ }
-{
-    let mut i = 0;
-    while i < n {
-        let k = slot(table[i]);
-        places[k] = i as u16;
-        i += 1;
-    }
-}
-
-// The place of a key among the first n, by a search; n where it has none.
-fn search_place(table: &[u64], n: usize, key: u64) -> usize
-    requires { ⌜ Holds (now table) n ⌝ }
+// The place of a key among the first n; n where it has none.
+fn place_of(table: &[u64], n: usize, index: &[u16; 6144], key: u64) -> usize
+    requires { ⌜ Holds (now table) n × Support.Indexed (now index) (now table) n ⌝ }
     ensures { λ r. ⌜ Sought (now (table .entry)) n key r ⌝ }
 {
-    match support::find(table, n, key) {
+    match support::find(table, index, n, key) {
         support::Found::At(p) => p,
-        support::Found::Gap(_) => n,
+        support::Found::Nowhere => n,
     }
-}
-
-// The same, with an index that spares most searches. The answer is right whatever the index holds.
-fn place_of(table: &[u64], n: usize, places: &[u16; 4096], key: u64) -> usize
-    requires { ⌜ Holds (now table) n ⌝ }
-    ensures { λ r. ⌜ Sought (now (table .entry)) n key r ⌝ }
-{
-    let k = slot(key);
-    let p = wide(places[k]);
-    if p < n {
-        if table[p] == key {
-            return p;
-        }
-    }
-    search_place(table, n, key)
 }
 
 // Adds a product at the place of a key, where it has one.
 fn add_term(
     table: &[u64],
     n: usize,
-    places: &[u16; 4096],
+    index: &[u16; 6144],
     hi: &mut [i64],
     lo: &mut [u64],
     key: u64,
     x: i64,
     c: i32,
 )
-    requires { ⌜ Ready (now table) n (now hi) (now lo) unit × (natAbs x ≤ 2 ^ 54) ⌝ }
+    requires { ⌜ Ready (now table) (now index) n (now hi) (now lo) unit × (natAbs x ≤ 2 ^ 54) ⌝ }
     ensures { λ _. ⌜ Grown (now (table .entry)) n (now (hi .entry)) (now (lo .entry)) (λ k. x *ℤ c *ℤ match k key) unit (now (hi .exit)) (now (lo .exit)) ⌝ }
 {
-    let p = place_of(table, n, places, key);
+    let p = place_of(table, n, index, key);
     if p < n {
         sums::add_scaled(hi, lo, p, x, c as i64);
     }
@@ -148,7 +110,7 @@ fn add_term(
 fn add_terms(
     table: &[u64],
     n: usize,
-    places: &[u16; 4096],
+    index: &[u16; 6144],
     hi: &mut [i64],
     lo: &mut [u64],
     exponents: &[u64],
@@ -156,7 +118,7 @@ fn add_terms(
     key: u64,
     x: i64,
 )
-    requires { ⌜ Ready (now table) n (now hi) (now lo) (length (now exponents) * unit) ⌝ }
+    requires { ⌜ Ready (now table) (now index) n (now hi) (now lo) (length (now exponents) * unit) ⌝ }
     requires { ⌜ Addable (now exponents) (now coefficients) key x ⌝ }
     ensures { λ _. ⌜ Grown (now (table .entry)) n (now (hi .entry)) (now (lo .entry)) (λ k. x *ℤ sum (λ t. match k (key + t)) (termsIn (length (now (exponents .entry))) (now (exponents .entry)) (now (coefficients .entry)))) (length (now (exponents .entry)) * unit) (now (hi .exit)) (now (lo .exit)) ⌝ }
 {
@@ -165,7 +127,7 @@ fn add_terms(
         add_term(
             table,
             n,
-            places,
+            index,
             hi,
             lo,
             key + exponents[t],
@@ -205,22 +167,22 @@ fn negate(side: usize, scale: u16, p: i32, q: u16) -> Negated
 fn add_claim(
     table: &[u64],
     n: usize,
-    places: &[u16; 4096],
+    index: &[u16; 6144],
     hi: &mut [i64],
     lo: &mut [u64],
     exponents: &[u64],
     coefficients: &[i32],
     t: certificate::Header,
 )
-    requires { ⌜ Ready (now table) n (now hi) (now lo) ((length (now exponents) + 1) * unit) ⌝ }
+    requires { ⌜ Ready (now table) (now index) n (now hi) (now lo) ((length (now exponents) + 1) * unit) ⌝ }
     requires { ⌜ Addable (now exponents) (now coefficients) 0 (pos 0) ⌝ }
     ensures { λ _. ⌜ Grown (now (table .entry)) n (now (hi .entry)) (now (lo .entry)) (λ k. negℤ (coefficient k (claimed (termsIn (length (now (exponents .entry))) (now (exponents .entry)) (now (coefficients .entry))) t))) ((length (now (exponents .entry)) + 1) * unit) (now (hi .exit)) (now (lo .exit)) ⌝ }
 {
     let f = negate(t.side, t.scale, t.p, t.q);
     let x = f.objective;
     let y = f.constant;
-    add_terms(table, n, places, hi, lo, exponents, coefficients, 0, x);
-    add_term(table, n, places, hi, lo, 0, y, 1);
+    add_terms(table, n, index, hi, lo, exponents, coefficients, 0, x);
+    add_term(table, n, index, hi, lo, 0, y, 1);
 }
 
 // An entry on the diagonal counts once, and any other for its mirror image too.
@@ -241,13 +203,13 @@ fn add_entry(
     coefficients: &[i32],
     table: &[u64],
     n: usize,
-    places: &[u16; 4096],
+    index: &[u16; 6144],
     hi: &mut [i64],
     lo: &mut [u64],
     x: usize,
     a: i64,
 )
-    requires { ⌜ Ready (now table) n (now hi) (now lo) entryUnit ⌝ }
+    requires { ⌜ Ready (now table) (now index) n (now hi) (now lo) entryUnit ⌝ }
     requires { ⌜ Spreadable (now basis) (now exponents) (now coefficients) × Entered (now basis) x a ⌝ }
     ensures { λ _. ⌜ Grown (now (table .entry)) n (now (hi .entry)) (now (lo .entry)) (λ k. a *ℤ (times x *ℤ share (now (basis .entry)) (termsIn (length (now (exponents .entry))) (now (exponents .entry)) (now (coefficients .entry))) k x)) entryUnit (now (hi .exit)) (now (lo .exit)) ⌝ }
 {
@@ -258,7 +220,7 @@ fn add_entry(
     let k = x % 64;
     let key = basis[i] + basis[k];
     let y = counted(x, a);
-    add_terms(table, n, places, hi, lo, exponents, coefficients, key, y);
+    add_terms(table, n, index, hi, lo, exponents, coefficients, key, y);
 }
 
 // Adds the whole table of sums, and clears it. Past the basis's last index there is nothing to add.
@@ -269,11 +231,11 @@ fn spread(
     coefficients: &[i32],
     table: &[u64],
     n: usize,
-    places: &[u16; 4096],
+    index: &[u16; 6144],
     hi: &mut [i64],
     lo: &mut [u64],
 )
-    requires { ⌜ Ready (now table) n (now hi) (now lo) tableUnit ⌝ }
+    requires { ⌜ Ready (now table) (now index) n (now hi) (now lo) tableUnit ⌝ }
     requires { ⌜ Spreadable (now basis) (now exponents) (now coefficients) × Framed (length (now basis)) (now g) ⌝ }
     ensures { λ _. ⌜ Spread (now (table .entry)) n (now (basis .entry)) (termsIn (length (now (exponents .entry))) (now (exponents .entry)) (now (coefficients .entry))) (now (g .entry)) (now (hi .entry)) (now (lo .entry)) (now (g .exit)) (now (hi .exit)) (now (lo .exit)) ⌝ }
 {
@@ -288,7 +250,7 @@ fn spread(
             coefficients,
             table,
             n,
-            places,
+            index,
             hi,
             lo,
             x,
@@ -314,11 +276,11 @@ fn flush(
     l: Lengths,
     table: &[u64],
     n: usize,
-    places: &[u16; 4096],
+    index: &[u16; 6144],
     hi: &mut [i64],
     lo: &mut [u64],
 )
-    requires { ⌜ Ready (now table) n (now hi) (now lo) tableUnit ⌝ }
+    requires { ⌜ Ready (now table) (now index) n (now hi) (now lo) tableUnit ⌝ }
     requires { ⌜ Flattened (now keys) (now exponents) (now coefficients) l × (j < 9) × Framed (getD (l .sizes) j 0) (now g) ⌝ }
     ensures { λ _. ⌜ Spread (now (table .entry)) n (part 64 (l .sizes) (now (keys .entry)) j) (multiplierIn (now (exponents .entry)) (now (coefficients .entry)) (l .counts) j) (now (g .entry)) (now (hi .entry)) (now (lo .entry)) (now (g .exit)) (now (hi .exit)) (now (lo .exit)) ⌝ }
 {
@@ -328,7 +290,7 @@ fn flush(
     let d = c + l.counts[j];
     let es = &exponents[c..d];
     let cs = &coefficients[c..d];
-    spread(g, &keys[a..b], es, cs, table, n, places, hi, lo);
+    spread(g, &keys[a..b], es, cs, table, n, index, hi, lo);
 }
 
 // Adds a times each factor of a row from entry `first` on, in the table's row of that entry's index.
@@ -398,11 +360,11 @@ fn add_basis(
     l: Lengths,
     table: &[u64],
     n: usize,
-    places: &[u16; 4096],
+    index: &[u16; 6144],
     hi: &mut [i64],
     lo: &mut [u64],
 )
-    requires { ⌜ Ready (now table) n (now hi) (now lo) tableUnit × Below 0 (now g) × (j < 9) ⌝ }
+    requires { ⌜ Ready (now table) (now index) n (now hi) (now lo) tableUnit × Below 0 (now g) × (j < 9) ⌝ }
     requires { ⌜ Flattened (now keys) (now exponents) (now coefficients) l × Shaped (l .sizes) (now s) ⌝ }
     ensures { λ _. ⌜ Summed (λ p. squares p (rowsOn j (rowsOf (now (s .entry))))) (now (keys .entry)) (now (exponents .entry)) (now (coefficients .entry)) l (now (table .entry)) n 1 (now (hi .entry)) (now (lo .entry)) (now (hi .exit)) (now (lo .exit)) × Below 0 (now (g .exit)) ⌝ }
 {
@@ -418,7 +380,7 @@ fn add_basis(
         l,
         table,
         n,
-        places,
+        index,
         hi,
         lo,
     );
@@ -434,11 +396,11 @@ fn sum_rows(
     l: Lengths,
     table: &[u64],
     n: usize,
-    places: &[u16; 4096],
+    index: &[u16; 6144],
     hi: &mut [i64],
     lo: &mut [u64],
 )
-    requires { ⌜ Ready (now table) n (now hi) (now lo) (9 * tableUnit) × Below 0 (now g) ⌝ }
+    requires { ⌜ Ready (now table) (now index) n (now hi) (now lo) (9 * tableUnit) × Below 0 (now g) ⌝ }
     requires { ⌜ Flattened (now keys) (now exponents) (now coefficients) l × Shaped (l .sizes) (now s) ⌝ }
     ensures { λ _. ⌜ Summed (λ p. squares p (rowsOf (now (s .entry)))) (now (keys .entry)) (now (exponents .entry)) (now (coefficients .entry)) l (now (table .entry)) n 9 (now (hi .entry)) (now (lo .entry)) (now (hi .exit)) (now (lo .exit)) ⌝ }
 {
@@ -454,7 +416,7 @@ fn sum_rows(
             l,
             table,
             n,
-            places,
+            index,
             hi,
             lo,
         );
@@ -471,11 +433,11 @@ fn add_rows(
     l: Lengths,
     table: &[u64],
     n: usize,
-    places: &[u16; 4096],
+    index: &[u16; 6144],
     hi: &mut [i64],
     lo: &mut [u64],
 )
-    requires { ⌜ Ready (now table) n (now hi) (now lo) (9 * tableUnit) ⌝ }
+    requires { ⌜ Ready (now table) (now index) n (now hi) (now lo) (9 * tableUnit) ⌝ }
     requires { ⌜ Flattened (now keys) (now exponents) (now coefficients) l × Shaped (l .sizes) (now s) ⌝ }
     ensures { λ _. ⌜ Summed (λ p. squares p (rowsOf (now (s .entry)))) (now (keys .entry)) (now (exponents .entry)) (now (coefficients .entry)) l (now (table .entry)) n 9 (now (hi .entry)) (now (lo .entry)) (now (hi .exit)) (now (lo .exit)) ⌝ }
 {
@@ -489,10 +451,39 @@ fn add_rows(
         l,
         table,
         n,
-        places,
+        index,
         hi,
         lo,
     );
+}
+
+// Of two places the one with the smaller key. The first may be n, which is no place.
+fn smaller(table: &[u64], n: usize, a: usize, b: usize) -> usize
+    requires { ⌜ (n ≤ length (now table)) × (b < n) ⌝ }
+    ensures { λ r. ⌜ Smaller (now (table .entry)) n a b r ⌝ }
+{
+    if a < n {
+        if table[a] <= table[b] {
+            return a;
+        }
+    }
+    b
+}
+
+// The place of the smallest of the first n keys whose sum is not 0; n where there is none.
+fn smallest(table: &[u64], n: usize, hi: &[i64], lo: &[u64]) -> usize
+    requires { ⌜ (n ≤ length (now table)) × Sums (now hi) (now lo) n ⌝ }
+    ensures { λ r. ⌜ Smallest (now (table .entry)) (now (hi .entry)) (now (lo .entry)) n n r ⌝ }
+{
+    let mut found = n;
+    let mut i = 0;
+    while i < n {
+        if !sums::is_zero(hi, lo, i) {
+            found = smaller(table, n, found, i);
+        }
+        i += 1;
+    }
+    found
 }
 
 // Whether the identity holds; if not, the smallest key at which its sides differ.
@@ -521,12 +512,12 @@ pub fn compare(
     ensures difference { λ r. ⌜ ((p : Problem) (c : Certificate) → Given p c (now (s .entry)) header (now (keys .entry)) (now (exponents .entry)) (now (coefficients .entry)) l objective (now (table .entry)) n → r ≡ differenceOf (differenceKey p c)) ⌝ }
     ensures tables { λ _. ⌜ Untouched (now (hi .entry)) (now (hi .exit)) × Untouched (now (lo .entry)) (now (lo .exit)) ⌝ }
 {
-    let mut places: [u16; 4096] = [0; 4096];
-    note_places(&mut places, table, n);
+    let mut index: [u16; 6144] = [0; 6144];
+    support::mark(&mut index, table, n);
     let es = objective.keys;
     let cs = objective.coefficients;
     let m = objective.count;
-    add_claim(table, n, &places, hi, lo, &es[..m], &cs[..m], header);
+    add_claim(table, n, &index, hi, lo, &es[..m], &cs[..m], header);
     add_rows(
         s,
         keys,
@@ -535,13 +526,13 @@ pub fn compare(
         l,
         table,
         n,
-        &places,
+        &index,
         hi,
         lo,
     );
-    let first = sums::first_nonzero(hi, lo, n);
-    if first < n {
-        return Difference::Differs(table[first]);
+    let found = smallest(table, n, hi, lo);
+    if found < n {
+        return Difference::Differs(table[found]);
     }
     Difference::Same
 }

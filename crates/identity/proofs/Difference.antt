@@ -13,14 +13,14 @@ use Rattle.polynomial.specs.Algebra.{coefficient}
 use Rattle.problem.specs.Rules.{Problem}
 use Rattle.problem.specs.Limits.{Limits}
 use Rattle.support.specs.Sets.{In, Above, Rising, member}
-use Rattle.support.proofs.Elements.{in-cons, not-nil}
+use Rattle.support.proofs.Elements.{in-cons, not-nil, above-in}
 use Rattle.certificate.specs.Rules.{Certificate}
 use Rattle.identity.specs.Identity.{squares, claim, Identity, KeepsBlocks, RowsFit}
 use Rattle.identity.specs.Judgement.{sameNumber, firstDifference, comparedKeys, differenceKey, Smallest}
 use Rattle.identity.proofs.Reach.{compared-rising, claim-outside, squares-outside}
 
 -- ---- one comparison
-same-equal : (a b : ℤ) → sameNumber a b ≡ true → a ≡ b
+pub same-equal : (a b : ℤ) → sameNumber a b ≡ true → a ≡ b
 same-equal (pos a) (pos b) e = ap pos (eqb-true a b e)
 same-equal (pos a) (negsuc b) e = absurd (let z : _≡_ {A = ℕ} 0 1 = cc in omega arith)
 same-equal (negsuc a) (pos b) e = absurd (let z : _≡_ {A = ℕ} 0 1 = cc in omega arith)
@@ -29,10 +29,6 @@ same-equal (negsuc a) (negsuc b) e = ap negsuc (eqb-true a b e)
 same-self : (a : ℤ) → sameNumber a a ≡ true
 same-self (pos a) = eq-eqb a a refl
 same-self (negsuc a) = eq-eqb a a refl
-
-above-in : (x k : ℕ) (ks : List ℕ) → Above x ks → In k ks → x < k
-above-in x k [] a m = not-nil k m
-above-in x k (y ∷ ks) a m = ⊎-elim (λ e. subst (λ z. x < z) e (a .0)) (λ i. above-in x k ks (a .1) i) (in-cons k y ks m)
 
 -- ---- one key after another
 module _ (P Q : List Term) where

@@ -1,5 +1,6 @@
 -- Exact sums in two tables: the number at a place is high · 2^60 + low, with the low part below 2^60.
 use mathlib.Core.Path.{_≡_}
+use mathlib.Core.Bool.{Bool, true, false}
 use mathlib.Core.List.{List}
 use Prim.Native.Nat.{ℕ, _^_, _<_, _≤_}
 use lib.IntN.{ℤ, pos, natAbs, _+ℤ_, _*ℤ_}
@@ -58,8 +59,13 @@ pub record Sums (hi : List ℤ) (lo : List ℕ) (n : ℕ) : Type 0 where
   pub in-lo : n ≤ length lo
   pub low : (k : ℕ) → k < n → getD lo k 0 < base
 
--- r is the first of the first n places whose number is not 0, and n where there is none
-pub record First (hi : List ℤ) (lo : List ℕ) (n r : ℕ) : Type 0 where
-  pub within : r ≤ n
-  pub before : (k : ℕ) → k < r → valueAt hi lo k ≡ pos 0
-  pub there : r < n → valueAt hi lo r ≡ pos 0 → ⊥
+-- place k is in both tables, and its low part below the base
+pub record Placed (hi : List ℤ) (lo : List ℕ) (k : ℕ) : Type 0 where
+  pub in-hi : k < length hi
+  pub in-lo : k < length lo
+  pub low : getD lo k 0 < base
+
+-- whether the number at k is 0
+pub record ZeroAt (hi : List ℤ) (lo : List ℕ) (k : ℕ) (r : Bool) : Type 0 where
+  pub yes : r ≡ true → valueAt hi lo k ≡ pos 0
+  pub no : r ≡ false → valueAt hi lo k ≡ pos 0 → ⊥

@@ -4,7 +4,7 @@
 // number; and two tables hold 2^120, wide enough for factors of 32 bits and sums to 2^117.
 ghost use mathlib.Core.Path.{_≡_};
 ghost use lib.IntN.{pos, _*ℤ_};
-ghost use Rattle.sums.specs.Sums.{base, root, value, Parted, Addend, Factors, Room, Added, Sums, First};
+ghost use Rattle.sums.specs.Sums.{base, root, value, Parted, Addend, Factors, Room, Added, Placed, ZeroAt};
 
 const BASE: i64 = 1 << 60;
 
@@ -81,22 +81,14 @@ pub fn add_scaled(hi: &mut [i64], lo: &mut [u64], at: usize, a: i64, b: i64)
     add_parts(hi, lo, at, h, l);
 }
 
-// The first of n places whose number is not 0; n where there is none. With the low part below the base, a number is 0 only where both
-// parts are.
-pub fn first_nonzero(hi: &[i64], lo: &[u64], n: usize) -> usize
-    requires { ⌜ Sums (now hi) (now lo) n ⌝ }
-    ensures { λ r. ⌜ First (now (hi .entry)) (now (lo .entry)) n r ⌝ }
+// Whether the number at a place is 0. With the low part below the base, it is only where both parts are.
+pub fn is_zero(hi: &[i64], lo: &[u64], at: usize) -> bool
+    requires { ⌜ Placed (now hi) (now lo) at ⌝ }
+    ensures { λ r. ⌜ ZeroAt (now (hi .entry)) (now (lo .entry)) at r ⌝ }
 {
-    let mut i = 0;
-    while i < n {
-        let h = hi[i];
-        if h != 0 {
-            return i;
-        }
-        if lo[i] != 0 {
-            return i;
-        }
-        i += 1;
+    let h = hi[at];
+    if h != 0 {
+        return false;
     }
-    i
+    lo[at] == 0
 }

@@ -132,6 +132,10 @@ unfolding member
 beyond k x [] h a = refl
 beyond k x (y ∷ ys) h a = let n : y ≡ k → ⊥ = λ e. omega (arith, a .0) in rw (ne-eqb y k n) (beyond k x ys h (a .1))
 
+pub above-in : (x k : ℕ) (ks : List ℕ) → Above x ks → In k ks → x < k
+above-in x k [] a m = not-nil k m
+above-in x k (y ∷ ks) a m = ⊎-elim (λ e. rw (← e) (a .0)) (λ i. above-in x k ks (a .1) i) (in-cons k y ks m)
+
 -- ---- an insertion adds one number or nothing
 
 pub insert-member : (k : ℕ) (l : List ℕ) → Rising l → member k l ≡ true → insert k l ≡ l

@@ -102,6 +102,22 @@ module _ {t : List ℕ} {n : ℕ} (h : Holds t n) where
       let w = keys-few (n - (b + 1)) (b + 1) t (omega arith) in
       omega (arith, h .apart, ap length s, ap (λ (m : ℕ). length (keysIn m t)) f, ap (λ (m : ℕ). length (keysIn m t)) (let g : 0 + b ≡ b = omega arith in g), ap length (keys-none t))
 
+-- ---- the places of the numbers, and the elements of their set
+in-place : (x : ℕ) (l : List ℕ) {P : Type 0} → ((q : ℕ) → q < length l → getD l q 0 ≡ x → P) → In x l → P
+in-place x [] f m = not-nil x m
+in-place x (y ∷ l) f m = ⊎-elim (λ e. f 0 (omega arith) e) (λ w. in-place x l (λ q b e. f (suc q) (omega arith) e) w) (in-cons x y l m)
+
+module _ {t : List ℕ} {n : ℕ} (h : Holds t n) where
+  pub keys-at : (x : ℕ) {P : Type 0} → In x (keysIn n t) → ((q : ℕ) → q < n → getD t q 0 ≡ x → P) → P
+  keys-at x m f =
+      let l = length-take-le n t (inside h) in
+      in-place x (take n t) (λ q b e. let i : q < n = omega arith in f q i (sym (getD-take n t q 0 i) ∙ e)) (keys-from n t x m)
+
+  pub at-keys : (q : ℕ) → q < n → In (getD t q 0) (keysIn n t)
+  at-keys q b =
+      let l = length-take-le n t (inside h) in
+      keys-in n t (getD t q 0) (member-at (getD t q 0) (take n t) q (omega arith) (getD-take n t q 0 b))
+
 -- ---- what the place of a key tells
 module _ (k n : ℕ) (t : List ℕ) (r : Found) (f : Finds k (take n t) r) where
   pub found-at : (p : ℕ) → r ≡ At p → true ≡ member k (keysIn n t)
