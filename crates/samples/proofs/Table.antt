@@ -12,13 +12,13 @@ use Rattle.polynomial.specs.Terms.{keysOf}
 use Rattle.problem.specs.Layout.{commandOf}
 use Rattle.problem.specs.Rules.{appendAt, fitting, applied, verdict, next, readProblem}
 use Rattle.problem.specs.Bases.{basisOf, multiplierOf}
-use Rattle.support.specs.Sets.{member, insert}
+use Rattle.support.specs.Sets.{member, insert, insertAll}
 use Rattle.blocks.specs.Join.{linked, merged, joinPair, join}
 use Rattle.blocks.specs.Extend.{addTerms, addPair, extend, lowestFrom}
 use Rattle.rounds.specs.Rounds.{singles, start, joinAll, extendAll, round, same, sameAll, sameState, closeFrom, blocksIn}
 use Rattle.rounds.specs.Rounds as Rounds
 use Rattle.rounds.specs.Bytes.{blockBytes}
-use Rattle.joining.specs.Joining.{insertAll, startFrom, startSet, closing, tooLarge, blockTotal}
+use Rattle.joining.specs.Joining.{startFrom, startSet, closing, tooLarge, blockTotal}
 use Rattle.checker.specs.Refusals.{noRefusal}
 use Rattle.checker.specs.Blocks.{refusedBlocks, blocksOf, blocksVerdict, bytesOf, bytesLeft}
 use Rattle.checker.specs.declared.BlocksVerdict.{BlocksVerdict}
