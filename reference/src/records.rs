@@ -3,6 +3,7 @@
 use std::io::{self, BufWriter, Read, Write};
 
 use crate::answer::Checker;
+use crate::refusal::Refusal;
 
 /// Longest byte run of a record.
 pub const RUN: usize = 65_536;
@@ -61,6 +62,16 @@ impl Record {
             BLOCKS => line(checker.blocks(problem)),
             CHECK => line(checker.check(problem, first)),
             _ => line(checker.pair(problem, first, second)),
+        }
+    }
+
+    /// The refusal of the record, when it is refused.
+    pub fn refusal(&self, checker: &mut Checker) -> Option<Refusal> {
+        let [problem, first, second] = &self.runs;
+        match self.kind {
+            BLOCKS => checker.blocks(problem).err(),
+            CHECK => checker.check(problem, first).err(),
+            _ => checker.pair(problem, first, second).err(),
         }
     }
 
