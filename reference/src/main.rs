@@ -22,7 +22,7 @@ use std::path::Path;
 use std::process::ExitCode;
 
 const USAGE: &str = "usage: reference replay | generate KINDS SEED COUNT | corpus KINDS
-                 | vectors DIR | workload NAME | time";
+                 | refusals | vectors DIR | workload NAME | time";
 
 fn main() -> ExitCode {
     let arguments: Vec<String> = std::env::args().skip(1).collect();
@@ -58,6 +58,7 @@ fn run(arguments: &[&str]) -> io::Result<ExitCode> {
                 return Ok(ExitCode::FAILURE);
             }
         }
+        ["refusals"] => generate::refusals::print(),
         ["time"] => timing::run()?,
         _ => return Ok(usage()),
     }

@@ -12,6 +12,7 @@ mod draft;
 mod largest;
 mod limits;
 mod problems;
+pub mod refusals;
 mod rng;
 mod rules;
 mod samples;
@@ -67,11 +68,13 @@ pub fn corpus(kinds: &str) -> Vec<Record> {
 }
 
 fn special(kind: u8) -> Vec<Record> {
-    match kind {
+    let mut all = match kind {
         BLOCKS => blocks::special().into_iter().map(Record::blocks).collect(),
         CHECK => [samples::checks(), certificates::special(kind)].concat(),
         _ => [samples::pairs(), certificates::special(kind)].concat(),
-    }
+    };
+    all.extend(refusals::records(kind));
+    all
 }
 
 #[cfg(test)]
