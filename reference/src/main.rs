@@ -22,7 +22,7 @@ use std::path::Path;
 use std::process::ExitCode;
 
 const USAGE: &str = "usage: reference replay | generate KINDS SEED COUNT | corpus KINDS
-                 | refusals | vectors DIR | workload NAME | time";
+                 | changes NAME | refusals | vectors DIR | workload NAME | time";
 
 fn main() -> ExitCode {
     let arguments: Vec<String> = std::env::args().skip(1).collect();
@@ -49,6 +49,10 @@ fn run(arguments: &[&str]) -> io::Result<ExitCode> {
         ["corpus", kinds] if generate::are_kinds(kinds) => {
             records::write_all(generate::corpus(kinds))?;
         }
+        ["changes", name] => match generate::neighbours(name) {
+            Some(records) => records::write_all(records)?,
+            None => return Ok(usage()),
+        },
         ["workload", name] => match generate::workload(name) {
             Some(records) => records::write_all(records)?,
             None => return Ok(usage()),

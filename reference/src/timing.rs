@@ -4,13 +4,12 @@ use std::io;
 use std::time::{Duration, Instant};
 
 use crate::answer::Checker;
-use crate::records::{read_input, Record, Records};
+use crate::records::{input, Record};
 
 /// Answers the records of the standard input again and again for about a second, and prints the
 /// nanoseconds that one took.
 pub fn run() -> io::Result<()> {
-    let input = read_input()?;
-    let records: Vec<Record> = Records(&input).collect();
+    let records: Vec<Record> = input().collect();
     if records.is_empty() {
         println!("0");
         return Ok(());

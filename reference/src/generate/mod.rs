@@ -11,6 +11,7 @@ mod damage;
 mod draft;
 mod largest;
 mod limits;
+mod neighbours;
 mod problems;
 pub mod refusals;
 mod rng;
@@ -20,6 +21,7 @@ mod support;
 mod workloads;
 
 use crate::records::{Record, BLOCKS, CHECK, PAIR};
+pub use neighbours::neighbours;
 use rng::Rng;
 pub use workloads::workload;
 
