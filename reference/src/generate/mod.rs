@@ -19,6 +19,7 @@ mod rules;
 mod samples;
 mod support;
 mod workloads;
+mod worst;
 
 use crate::records::{Record, BLOCKS, CHECK, PAIR};
 pub use neighbours::neighbours;
