@@ -6,13 +6,16 @@ mod generate;
 mod identity;
 mod joining;
 mod monomial;
+mod pairs;
 mod parity;
+mod partition;
 #[cfg(test)]
 mod plain;
 mod problem;
 mod records;
 mod refusal;
 mod stream;
+mod sums;
 mod table;
 mod timing;
 mod vectors;
@@ -63,7 +66,7 @@ fn run(arguments: &[&str]) -> io::Result<ExitCode> {
             }
         }
         ["refusals"] => generate::refusals::print(),
-        ["time"] => timing::run()?,
+        ["time"] => timing::run(),
         _ => return Ok(usage()),
     }
     Ok(ExitCode::SUCCESS)

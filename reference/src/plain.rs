@@ -183,7 +183,7 @@ mod tests {
                 continue;
             }
             let key = identity
-                .check(&problem, &closure, &certificate, FIRST)
+                .check(&problem, &mut closure, &certificate, FIRST)
                 .err()
                 .map(|refusal| refusal.key);
             let first = differences(&problem, &certificate).into_keys().next();

@@ -17,6 +17,7 @@ pub mod refusals;
 mod rng;
 mod rules;
 mod samples;
+mod series;
 mod support;
 mod workloads;
 mod worst;

@@ -11,6 +11,7 @@ use crate::generate::largest::largest;
 use crate::generate::problems;
 use crate::generate::rng::Rng;
 use crate::generate::samples;
+use crate::generate::series::series;
 use crate::generate::worst::worst;
 use crate::records::{Record, CHECK, PAIR};
 
@@ -27,7 +28,7 @@ pub fn workload(name: &str) -> Option<Vec<Record>> {
         "largest-check" => largest_check(rng, 16),
         "damaged-pairs" => damaged_pairs(rng, 5_000),
         "worst-pair" => vec![plain(PAIR, &worst(rng))],
-        _ => return None,
+        _ => return series(rng, name),
     })
 }
 
