@@ -3,12 +3,14 @@
 
 mod calls;
 mod short;
+mod stack;
 mod time;
 
 fn main() {
     let command = std::env::args().nth(1);
     match command.as_deref() {
         Some("time") => time::run(),
+        Some("stack") => stack::run(),
         Some("short") => short::run(),
         _ => {
             eprintln!("usage: bench time | stack | short");
