@@ -1,5 +1,7 @@
-//! Runs the proved calls from outside: `bench time` and `bench stack` on the records of the standard input, `bench short` with
-//! tables that are too short.
+//! Runs the proved calls from outside: `bench numbers`, `bench time` and `bench stack` on the records of the standard input,
+//! `bench short` with tables that are too short.
+
+use std::io::Read;
 
 mod calls;
 mod short;
@@ -9,12 +11,23 @@ mod time;
 fn main() {
     let command = std::env::args().nth(1);
     match command.as_deref() {
+        Some("numbers") => numbers(),
         Some("time") => time::run(),
         Some("stack") => stack::run(),
         Some("short") => short::run(),
         _ => {
-            eprintln!("usage: bench time | stack | short");
+            eprintln!("usage: bench numbers | time | stack | short");
             std::process::exit(2);
         }
+    }
+}
+
+/// Prints the number of each record's refusal, or 0. What is lent is allocated anew for each, no longer than asked, so that a
+/// memory checker sees any step outside.
+fn numbers() {
+    let mut bytes = Vec::new();
+    std::io::stdin().read_to_end(&mut bytes).expect("the standard input is read");
+    for record in calls::records(&bytes) {
+        println!("{}", calls::answer(&record, &mut calls::Lent::new()));
     }
 }

@@ -25,7 +25,8 @@ use std::path::Path;
 use std::process::ExitCode;
 
 const USAGE: &str = "usage: reference replay | generate KINDS SEED COUNT | corpus KINDS
-                 | changes NAME | refusals | vectors DIR | workload NAME | time";
+                 | changes NAME | refusals | folders DIR | vectors DIR
+                 | workload NAME | time";
 
 fn main() -> ExitCode {
     let arguments: Vec<String> = std::env::args().skip(1).collect();
@@ -65,6 +66,7 @@ fn run(arguments: &[&str]) -> io::Result<ExitCode> {
                 return Ok(ExitCode::FAILURE);
             }
         }
+        ["folders", directory] => vectors::write(Path::new(directory))?,
         ["refusals"] => generate::refusals::print(),
         ["time"] => timing::run(),
         _ => return Ok(usage()),
