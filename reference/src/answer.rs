@@ -123,7 +123,7 @@ impl Checker {
         certificate.read(bytes, stream, &self.problem)?;
         certificate.check_blocks(stream, &self.closure)?;
         self.identity
-            .check(&self.problem, &self.closure, certificate, stream)?;
+            .check(&self.problem, &mut self.closure, certificate, stream)?;
         Ok(Check {
             side: certificate.side,
             bound: Fraction {

@@ -7,10 +7,10 @@
 //! squares fit in 64 signed bits and the sums in 128.
 
 use crate::certificate::{Certificate, Entry, LOWER};
-use crate::joining::{bits, Closure};
+use crate::joining::Closure;
+use crate::partition::bits;
 use crate::problem::{Problem, BASIS};
 use crate::refusal::{Refusal, IDENTITY};
-use crate::table::KeyTable;
 
 /// The sum over the rows of one basis of w x l x l', for the indices i and i' >= i of l and l'.
 struct Gram {
@@ -32,14 +32,25 @@ impl Default for Gram {
 impl Gram {
     /// Adds the products of a row.
     fn add(&mut self, weight: u16, entries: &[Entry]) {
+        let (Some(first), Some(last)) = (entries.first(), entries.last()) else {
+            return;
+        };
+        let gapless = last.index() - first.index() + 1 == entries.len();
         let mut rest: u64 = entries.iter().map(|entry| 1 << entry.index()).sum();
         for (place, entry) in entries.iter().enumerate() {
-            self.used[entry.index()] |= rest;
+            let (index, others) = (entry.index(), &entries[place..]);
+            self.used[index] |= rest;
             rest &= rest - 1;
             let factor = i64::from(weight) * i64::from(entry.factor);
-            let line = &mut self.products[BASIS * entry.index()..][..BASIS];
-            for other in &entries[place..] {
-                line[other.index()] += factor * i64::from(other.factor);
+            let line = &mut self.products[BASIS * index..][..BASIS];
+            if gapless {
+                for (product, other) in line[index..].iter_mut().zip(others) {
+                    *product += factor * i64::from(other.factor);
+                }
+            } else {
+                for other in others {
+                    line[other.index()] += factor * i64::from(other.factor);
+                }
             }
         }
     }
@@ -51,8 +62,7 @@ pub struct Identity {
     gram: Gram,
     /// Left side less T, for each member of the closed S with zero.
     differences: Vec<i128>,
-    /// The monomials of the squares of one basis, and their coefficients.
-    monomials: KeyTable,
+    /// The coefficients of the squares of one basis, by the number of the sum b + b'.
     squares: Vec<i64>,
 }
 
@@ -64,7 +74,7 @@ impl Identity {
     pub fn check(
         &mut self,
         problem: &Problem,
-        closure: &Closure,
+        closure: &mut Closure,
         certificate: &Certificate,
         stream: u8,
     ) -> Result<(), Refusal> {
@@ -72,8 +82,11 @@ impl Identity {
         self.differences.resize(closure.support().len(), 0);
         self.add_left_side(problem, closure, certificate);
         for j in problem.in_use() {
-            self.square(problem, certificate, j);
-            self.subtract_product(problem, closure, j);
+            // Rows on a constraint without terms add nothing.
+            if !problem.multipliers[j].support.is_empty() {
+                self.square(problem, closure, certificate, j);
+                self.subtract_product(problem, closure, j);
+            }
         }
         let keys = closure.support().keys();
         let pairs = keys.iter().zip(&self.differences);
@@ -100,8 +113,13 @@ impl Identity {
     }
 
     /// The sum over the rows of basis j of w x (sum of l x b)²; each l x l' counts twice in it.
-    fn square(&mut self, problem: &Problem, certificate: &Certificate, j: usize) {
-        self.monomials.clear();
+    fn square(
+        &mut self,
+        problem: &Problem,
+        closure: &mut Closure,
+        certificate: &Certificate,
+        j: usize,
+    ) {
         self.squares.clear();
         for row in certificate.rows.iter().filter(|row| row.basis == j) {
             self.gram.add(row.weight, certificate.entries(row));
@@ -111,26 +129,23 @@ impl Identity {
             for second in bits(std::mem::take(&mut self.gram.used[first])) {
                 let product = std::mem::take(&mut self.gram.products[BASIS * first + second]);
                 let times = if first == second { 1 } else { 2 };
-                self.add(key + basis[second], times * product);
+                let number = closure.number(problem, j, key + basis[second]);
+                if number >= self.squares.len() {
+                    self.squares.resize(number + 1, 0);
+                }
+                self.squares[number] += times * product;
             }
-        }
-    }
-
-    fn add(&mut self, key: u64, coefficient: i64) {
-        let number = self.monomials.insert(key);
-        match self.squares.get_mut(number) {
-            Some(sum) => *sum += coefficient,
-            None => self.squares.push(coefficient),
         }
     }
 
     /// Takes the squares times g_j away.
     fn subtract_product(&mut self, problem: &Problem, closure: &Closure, j: usize) {
-        let multiplier = &problem.multipliers[j];
-        for (&key, &square) in self.monomials.keys().iter().zip(&self.squares) {
-            let terms = multiplier.support.iter().zip(&multiplier.coefficients);
-            for (&t, &c) in terms {
-                self.differences[place(closure, t + key)] -= i128::from(square) * i128::from(c);
+        let coefficients = &problem.multipliers[j].coefficients;
+        for (places, &square) in closure.places(problem, j).zip(&self.squares) {
+            if square != 0 {
+                for (&place, &c) in places.iter().zip(coefficients) {
+                    self.differences[usize::from(place)] -= i128::from(square) * i128::from(c);
+                }
             }
         }
     }

@@ -1,9 +1,12 @@
 //! The joining rule: blocks, support set S and the number of rounds.
 
 use crate::monomial::divides;
+use crate::pairs::Pairs;
 use crate::parity::{parity, Parities, Shifts};
+use crate::partition::{bits, Partition};
 use crate::problem::{Problem, BASES, BASIS};
 use crate::refusal::{Refusal, PROBLEM, SUPPORT};
+use crate::sums::Sums;
 use crate::table::KeyTable;
 
 /// "The closed S with the zero exponent added may have at most 2,048 members."
@@ -11,85 +14,12 @@ pub const SUPPORT_MEMBERS: usize = 2_048;
 
 const NOWHERE: u8 = u8::MAX;
 
-/// From so many exponents of g_j on, each sum b + b' is looked at once only, and by parity first.
+/// From so many exponents of g_j on, each sum b + b' is looked at and added once only, and looked at
+/// by parity first.
 const MANY_EXPONENTS: usize = 4;
 
-/// The blocks of one basis.
-struct Partition {
-    /// The block number of each index: the lowest index of its block.
-    block: [u8; BASIS],
-    /// The indices of each block, as bits, at the block's number.
-    members: [u64; BASIS],
-    /// The partners of each index, as bits, whose sums are already in S.
-    spread: [u64; BASIS],
-    /// How many pairs of indices lie in two blocks.
-    split: usize,
-    /// How many blocks there are.
-    count: usize,
-    /// Whether a block has changed since the sums were last put in S.
-    changed: bool,
-}
-
-impl Partition {
-    fn new() -> Self {
-        Partition {
-            block: [0; BASIS],
-            members: [0; BASIS],
-            spread: [0; BASIS],
-            split: 0,
-            count: 0,
-            changed: false,
-        }
-    }
-
-    /// "Every basis starts as single blocks."
-    fn start(&mut self, size: usize) {
-        for index in 0..size {
-            self.block[index] = index as u8;
-            self.members[index] = 1 << index;
-            self.spread[index] = 0;
-        }
-        self.split = size * size.saturating_sub(1) / 2;
-        self.count = size;
-        self.changed = size > 0;
-    }
-
-    fn block_of(&self, index: usize) -> u64 {
-        self.members[usize::from(self.block[index])]
-    }
-
-    /// Makes one block of the blocks of two indices.
-    fn join(&mut self, first: usize, second: usize) {
-        let (first, second) = (self.block[first], self.block[second]);
-        if first == second {
-            return;
-        }
-        let (low, high) = (first.min(second), first.max(second));
-        let moved = self.members[usize::from(high)];
-        let kept = self.members[usize::from(low)];
-        for index in bits(moved) {
-            self.block[index] = low;
-        }
-        self.members[usize::from(low)] = kept | moved;
-        self.split -= (kept.count_ones() * moved.count_ones()) as usize;
-        self.count -= 1;
-        self.changed = true;
-    }
-}
-
-/// The places of the ones of a word, from the lowest.
-pub fn bits(mut word: u64) -> impl Iterator<Item = usize> {
-    std::iter::from_fn(move || {
-        if word == 0 {
-            return None;
-        }
-        let place = word.trailing_zeros() as usize;
-        word &= word - 1;
-        Some(place)
-    })
-}
-
 /// The closed blocks and S of a problem. The room it holds serves the next problem too.
+#[derive(Default)]
 pub struct Closure {
     support: KeyTable,
     /// The part of S, in order of arrival, that the last round added.
@@ -98,34 +28,31 @@ pub struct Closure {
     /// The parities of the first members of S, and how many those are.
     parities: Parities,
     noted: usize,
-    /// The sums b + b' of one basis that need not be looked at again.
-    sums: KeyTable,
+    /// The sums b + b' of one basis that need not be looked at again in this round.
+    seen: KeyTable,
     /// All basis monomials, and the index of each in every basis.
     monomials: KeyTable,
     indices: Vec<[u8; BASES]>,
+    pairs: [Pairs; BASES],
+    sums: [Sums; BASES],
     rounds: usize,
-}
-
-impl Default for Closure {
-    fn default() -> Self {
-        Closure {
-            support: KeyTable::default(),
-            fresh: 0..0,
-            partitions: std::array::from_fn(|_| Partition::new()),
-            parities: Parities::default(),
-            noted: 0,
-            sums: KeyTable::default(),
-            monomials: KeyTable::default(),
-            indices: Vec::new(),
-            rounds: 0,
-        }
-    }
 }
 
 impl Closure {
     /// The closed S with the zero exponent added.
     pub fn support(&self) -> &KeyTable {
         &self.support
+    }
+
+    /// The number of a sum b + b' of basis j with b, b' in one block.
+    #[inline]
+    pub fn number(&mut self, problem: &Problem, j: usize, sum: u64) -> usize {
+        self.sums[j].add(sum, &problem.multipliers[j].support, &mut self.support)
+    }
+
+    /// The places in S of t + b + b' for the exponents t of g_j, by the number of b + b'.
+    pub fn places(&self, problem: &Problem, j: usize) -> impl Iterator<Item = &[u16]> {
+        self.sums[j].places(problem.multipliers[j].support.len())
     }
 
     /// The number of rounds; the last, which changes nothing, counts too.
@@ -135,12 +62,12 @@ impl Closure {
 
     /// The block number of an index in a basis.
     pub fn block(&self, basis: usize, index: usize) -> u8 {
-        self.partitions[basis].block[index]
+        self.partitions[basis].block(index)
     }
 
     /// The number of blocks of all bases.
     pub fn count(&self, problem: &Problem) -> usize {
-        problem.in_use().map(|j| self.partitions[j].count).sum()
+        problem.in_use().map(|j| self.partitions[j].count()).sum()
     }
 
     /// Closes the blocks and S of a problem, or refuses with 7.
@@ -184,7 +111,10 @@ impl Closure {
         }
         self.fresh = 0..self.support.len();
         for j in problem.in_use() {
-            self.partitions[j].start(problem.bases[j].len());
+            let size = problem.bases[j].len();
+            self.partitions[j].start(size);
+            self.pairs[j].clear();
+            self.sums[j].start(size);
         }
     }
 
@@ -193,16 +123,21 @@ impl Closure {
     /// A pair in two blocks can be joined only by a member of S that the last round added. So
     /// either the pairs are looked up in S or the fresh members are taken apart, whichever is less.
     fn join(&mut self, problem: &Problem, j: usize) -> bool {
-        let (split, count) = (self.partitions[j].split, self.partitions[j].count);
-        if split == 0 || self.fresh.is_empty() || problem.multipliers[j].support.is_empty() {
+        let (basis, exponents) = (&problem.bases[j], &problem.multipliers[j].support);
+        let partition = &mut self.partitions[j];
+        let (split, count) = (partition.split(), partition.count());
+        if split == 0 || self.fresh.is_empty() || exponents.is_empty() {
             return false;
         }
-        if 2 * self.fresh.len() * problem.bases[j].len() < split {
-            self.join_by_fresh(problem, j);
-        } else {
+        if 2 * self.fresh.len() * basis.len() >= split {
             self.join_by_pairs(problem, j);
+        } else if self.pairs[j].serve(basis, self.fresh.len() * exponents.len() * basis.len()) {
+            let members = &self.support.keys()[self.fresh.clone()];
+            self.pairs[j].join(members, exponents, partition);
+        } else {
+            self.join_by_fresh(problem, j);
         }
-        self.partitions[j].count != count
+        self.partitions[j].count() != count
     }
 
     /// Joins b and b' when some exponent t of g_j has t + b + b' in S.
@@ -212,7 +147,7 @@ impl Closure {
         let many = exponents.len() >= MANY_EXPONENTS;
         if many {
             self.note_parities();
-            self.sums.clear();
+            self.seen.clear();
         }
         let shifts = if many {
             Shifts::of(exponents)
@@ -227,14 +162,14 @@ impl Closure {
                 let second = rest.trailing_zeros() as usize;
                 rest &= rest - 1;
                 let sum = key + basis[second];
-                if many && (!shifts.reach(sum, &self.parities) || self.sums.contains(sum)) {
+                if many && (!shifts.reach(sum, &self.parities) || self.seen.contains(sum)) {
                     continue;
                 }
                 if exponents.iter().any(|t| self.support.contains(t + sum)) {
                     partition.join(first, second);
                     rest &= !partition.block_of(first);
                 } else if many {
-                    self.sums.insert(sum);
+                    self.seen.insert(sum);
                 }
             }
         }
@@ -289,26 +224,20 @@ impl Closure {
 
     /// The second half of a round for basis j: adds to S every t + b + b' with b, b' in one block.
     fn spread(&mut self, problem: &Problem, j: usize) -> Result<(), Refusal> {
-        let partition = &mut self.partitions[j];
-        if !partition.changed {
+        let (basis, exponents) = (&problem.bases[j], &problem.multipliers[j].support);
+        let (partition, sums) = (&mut self.partitions[j], &mut self.sums[j]);
+        if exponents.is_empty() || !partition.take_change() {
             return Ok(());
         }
-        partition.changed = false;
-        let basis = &problem.bases[j];
-        let exponents = &problem.multipliers[j].support;
-        let many = exponents.len() >= MANY_EXPONENTS;
-        self.sums.clear();
         for (first, &key) in basis.iter().enumerate() {
-            let block = partition.block_of(first);
-            let partners = block & !partition.spread[first] & (u64::MAX << first);
-            partition.spread[first] = block;
-            for second in bits(partners) {
+            for second in bits(partition.take_partners(first)) {
                 let sum = key + basis[second];
-                if many && !self.sums.insert_new(sum) {
-                    continue;
-                }
-                for &t in exponents {
-                    self.support.insert(t + sum);
+                if exponents.len() >= MANY_EXPONENTS {
+                    sums.add(sum, exponents, &mut self.support);
+                } else {
+                    for &t in exponents {
+                        self.support.insert(t + sum);
+                    }
                 }
             }
             limit(&self.support)?;

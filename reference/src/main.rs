@@ -6,13 +6,16 @@ mod generate;
 mod identity;
 mod joining;
 mod monomial;
+mod pairs;
 mod parity;
+mod partition;
 #[cfg(test)]
 mod plain;
 mod problem;
 mod records;
 mod refusal;
 mod stream;
+mod sums;
 mod table;
 mod timing;
 mod vectors;
@@ -22,7 +25,8 @@ use std::path::Path;
 use std::process::ExitCode;
 
 const USAGE: &str = "usage: reference replay | generate KINDS SEED COUNT | corpus KINDS
-                 | vectors DIR | workload NAME | time";
+                 | changes NAME | refusals | folders DIR | vectors DIR
+                 | workload NAME | time";
 
 fn main() -> ExitCode {
     let arguments: Vec<String> = std::env::args().skip(1).collect();
@@ -49,6 +53,10 @@ fn run(arguments: &[&str]) -> io::Result<ExitCode> {
         ["corpus", kinds] if generate::are_kinds(kinds) => {
             records::write_all(generate::corpus(kinds))?;
         }
+        ["changes", name] => match generate::neighbours(name) {
+            Some(records) => records::write_all(records)?,
+            None => return Ok(usage()),
+        },
         ["workload", name] => match generate::workload(name) {
             Some(records) => records::write_all(records)?,
             None => return Ok(usage()),
@@ -58,7 +66,9 @@ fn run(arguments: &[&str]) -> io::Result<ExitCode> {
                 return Ok(ExitCode::FAILURE);
             }
         }
-        ["time"] => timing::run()?,
+        ["folders", directory] => vectors::write(Path::new(directory))?,
+        ["refusals"] => generate::refusals::print(),
+        ["time"] => timing::run(),
         _ => return Ok(usage()),
     }
     Ok(ExitCode::SUCCESS)

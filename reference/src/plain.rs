@@ -89,8 +89,8 @@ fn add(problem: &Problem, support: &mut BTreeSet<u64>, blocks: &[usize], j: usiz
     }
 }
 
-/// The smallest key where the identity of a certificate fails.
-pub fn first_difference(problem: &Problem, certificate: &Certificate) -> Option<u64> {
+/// The left side less T at every monomial where they differ.
+pub fn differences(problem: &Problem, certificate: &Certificate) -> BTreeMap<u64, i128> {
     let mut sums: BTreeMap<u64, i128> = BTreeMap::new();
     let sign = 1 - 2 * i128::from(certificate.side);
     let scale = sign * i128::from(certificate.denominator);
@@ -111,18 +111,22 @@ pub fn first_difference(problem: &Problem, certificate: &Certificate) -> Option<
             }
         }
     }
-    sums.into_iter()
-        .find(|&(_, sum)| sum != 0)
-        .map(|(key, _)| key)
+    sums.retain(|_, sum| *sum != 0);
+    sums
 }
 
 #[cfg(test)]
 mod tests {
     use super::*;
+    use crate::answer::Checker;
     use crate::generate::corpus;
     use crate::identity::Identity;
     use crate::joining::Closure;
-    use crate::refusal::FIRST;
+    use crate::records::Record;
+    use crate::refusal::{FIRST, IDENTITY};
+
+    /// Longer certificates take the plain version too long.
+    const LONG: usize = 16_384;
 
     /// Compares one closing with the plain one; tells whether the other rule has other rounds.
     fn compare(problem: &Problem, closure: &mut Closure) -> bool {
@@ -175,17 +179,55 @@ mod tests {
                 && closure.close(&problem).is_ok()
                 && certificate.read(bytes, FIRST, &problem).is_ok()
                 && certificate.check_blocks(FIRST, &closure).is_ok();
-            if !ready || bytes.len() > 16_384 {
+            if !ready || bytes.len() > LONG {
                 continue;
             }
             let key = identity
-                .check(&problem, &closure, &certificate, FIRST)
+                .check(&problem, &mut closure, &certificate, FIRST)
                 .err()
                 .map(|refusal| refusal.key);
-            assert_eq!(key, first_difference(&problem, &certificate));
+            let first = differences(&problem, &certificate).into_keys().next();
+            assert_eq!(key, first);
             held += usize::from(key.is_none());
             failed += usize::from(key.is_some());
         }
         assert!(held > 500 && failed > 300, "{held} held, {failed} failed");
+    }
+
+    /// The difference of the two sides of a record that is refused with 9, where it is one at a
+    /// single monomial, and the stream that is refused.
+    fn single_difference(record: &Record, checker: &mut Checker) -> Option<(u8, i128)> {
+        let refusal = record.refusal(checker)?;
+        let bytes = &record.runs[usize::from(refusal.stream)];
+        if refusal.number != IDENTITY || bytes.len() > LONG {
+            return None;
+        }
+        let (mut problem, mut certificate) = (Problem::default(), Certificate::default());
+        problem.read(&record.runs[0]).unwrap();
+        certificate.read(bytes, refusal.stream, &problem).unwrap();
+        let differences = differences(&problem, &certificate);
+        assert_eq!(differences.keys().next(), Some(&refusal.key));
+        let single = differences.len() == 1;
+        single.then(|| (refusal.stream, differences[&refusal.key]))
+    }
+
+    /// A sum that is kept in 32, 60 or 64 bits would pass these for equal.
+    #[test]
+    fn the_corpus_has_differences_that_narrow_sums_miss() {
+        let checker = &mut Checker::default();
+        for (kind, streams) in [("c", 1..=1), ("p", 1..=2)] {
+            let records = corpus(kind);
+            let found: Vec<(u8, i128)> = records
+                .iter()
+                .filter_map(|record| single_difference(record, checker))
+                .collect();
+            for stream in streams {
+                for zeros in [32..60, 60..64, 64..128] {
+                    let fitting =
+                        |&(s, d): &(u8, i128)| s == stream && zeros.contains(&d.trailing_zeros());
+                    assert!(found.iter().any(fitting), "{kind}, {stream}, {zeros:?}");
+                }
+            }
+        }
     }
 }

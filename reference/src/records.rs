@@ -1,8 +1,9 @@
 //! Records: a kind byte, three lengths and three byte runs.
 
-use std::io::{self, BufWriter, Read, Write};
+use std::io::{self, BufReader, BufWriter, Read, Write};
 
 use crate::answer::Checker;
+use crate::refusal::Refusal;
 
 /// Longest byte run of a record.
 pub const RUN: usize = 65_536;
@@ -64,6 +65,16 @@ impl Record {
         }
     }
 
+    /// The refusal of the record, when it is refused.
+    pub fn refusal(&self, checker: &mut Checker) -> Option<Refusal> {
+        let [problem, first, second] = &self.runs;
+        match self.kind {
+            BLOCKS => checker.blocks(problem).err(),
+            CHECK => checker.check(problem, first).err(),
+            _ => checker.pair(problem, first, second).err(),
+        }
+    }
+
     /// Answers the record without telling; the count of accepted ones keeps the work alive.
     pub fn run(&self, checker: &mut Checker) -> bool {
         let [problem, first, second] = &self.runs;
@@ -79,19 +90,19 @@ fn line<A: ToString, R: ToString>(answer: Result<A, R>) -> String {
     answer.map_or_else(|refusal| refusal.to_string(), |answer| answer.to_string())
 }
 
-/// The records of a byte run; they end before one that is cut, too long or of unknown kind.
-pub struct Records<'a>(pub &'a [u8]);
+/// The records that are read; they end before one that is cut, too long or of unknown kind.
+pub struct Records<R>(pub R);
 
-impl Iterator for Records<'_> {
+impl<R: Read> Iterator for Records<R> {
     type Item = Record;
 
     fn next(&mut self) -> Option<Record> {
-        let head = self.0.get(..HEAD)?;
+        let mut head = [0; HEAD];
+        self.0.read_exact(&mut head).ok()?;
         let kind = head[0];
         if ![BLOCKS, CHECK, PAIR].contains(&kind) {
             return None;
         }
-        let mut rest = &self.0[HEAD..];
         let mut runs: [Vec<u8>; 3] = Default::default();
         for (place, run) in runs.iter_mut().enumerate() {
             let length = head[1 + 4 * place..][..4].try_into().ok()?;
@@ -99,27 +110,23 @@ impl Iterator for Records<'_> {
             if length > RUN {
                 return None;
             }
-            *run = rest.get(..length)?.to_vec();
-            rest = &rest[length..];
+            run.resize(length, 0);
+            self.0.read_exact(run).ok()?;
         }
-        self.0 = rest;
         Some(Record { kind, runs })
     }
 }
 
-/// Reads all of the standard input.
-pub fn read_input() -> io::Result<Vec<u8>> {
-    let mut input = Vec::new();
-    io::stdin().lock().read_to_end(&mut input)?;
-    Ok(input)
+/// The records of the standard input.
+pub fn input() -> impl Iterator<Item = Record> {
+    Records(BufReader::with_capacity(1 << 16, io::stdin().lock()))
 }
 
 /// Answers the records of the standard input, a line for each.
 pub fn replay() -> io::Result<()> {
-    let input = read_input()?;
     let mut out = BufWriter::with_capacity(1 << 16, io::stdout().lock());
     let mut checker = Checker::default();
-    for record in Records(&input) {
+    for record in input() {
         writeln!(out, "{}", record.answer(&mut checker))?;
     }
     out.flush()

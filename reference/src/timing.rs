@@ -1,37 +1,22 @@
 //! The time per record.
 
-use std::io;
 use std::time::{Duration, Instant};
 
 use crate::answer::Checker;
-use crate::records::{read_input, Record, Records};
+use crate::records::{input, Record};
 
 /// Answers the records of the standard input again and again for about a second, and prints the
-/// nanoseconds that one took.
-pub fn run() -> io::Result<()> {
-    let input = read_input()?;
-    let records: Vec<Record> = Records(&input).collect();
-    if records.is_empty() {
-        println!("0");
-        return Ok(());
-    }
+/// nanoseconds that one took, by the fastest turn.
+pub fn run() {
+    let records: Vec<Record> = input().collect();
     let mut checker = Checker::default();
-    let mut accepted = pass(&records, &mut checker);
-    let start = Instant::now();
-    let mut passes = 0;
-    while start.elapsed() < Duration::from_secs(1) {
-        accepted += pass(&records, &mut checker);
-        passes += 1;
+    let mut best = f64::INFINITY;
+    let begun = Instant::now();
+    while begun.elapsed() < Duration::from_secs(1) {
+        let turn = Instant::now();
+        let accepted = records.iter().filter(|record| record.run(&mut checker));
+        std::hint::black_box(accepted.count());
+        best = best.min(turn.elapsed().as_nanos() as f64 / records.len() as f64);
     }
-    let nanoseconds = start.elapsed().as_nanos() as f64;
-    std::hint::black_box(accepted);
-    println!(
-        "{:.1}",
-        nanoseconds / (f64::from(passes) * records.len() as f64)
-    );
-    Ok(())
-}
-
-fn pass(records: &[Record], checker: &mut Checker) -> usize {
-    records.iter().filter(|record| record.run(checker)).count()
+    println!("{best:.1}");
 }

@@ -5,7 +5,10 @@ use std::io;
 use std::path::{Path, PathBuf};
 
 use crate::answer::Checker;
-use crate::records::RUN;
+use crate::records::{input, PAIR, RUN};
+
+/// The names of the three streams of a stored case.
+const STREAMS: [&str; 3] = ["problem.bin", "low.bin", "high.bin"];
 
 /// Runs every folder below `directory`; tells how many agree and whether all do.
 pub fn run(directory: &Path) -> io::Result<bool> {
@@ -26,9 +29,27 @@ pub fn run(directory: &Path) -> io::Result<bool> {
     Ok(agree == folders.len())
 }
 
+/// Writes each pair of the standard input as a stored case, in the folders 1, 2 and so on of
+/// `directory`.
+pub fn write(directory: &Path) -> io::Result<()> {
+    let mut checker = Checker::default();
+    let pairs = input().filter(|record| record.kind == PAIR);
+    for (place, record) in pairs.enumerate() {
+        let folder = directory.join((place + 1).to_string());
+        fs::create_dir_all(&folder)?;
+        let [problem, low, high] = &record.runs;
+        let expected = gapcheck(&mut checker, problem, low, high);
+        for (name, bytes) in STREAMS.iter().zip(&record.runs) {
+            fs::write(folder.join(name), bytes)?;
+        }
+        fs::write(folder.join("expected"), expected)?;
+    }
+    Ok(())
+}
+
 /// The first file of a folder that differs from the answer.
 fn difference(checker: &mut Checker, folder: &Path) -> io::Result<Option<&'static str>> {
-    let [problem, low, high] = ["problem.bin", "low.bin", "high.bin"].map(|name| folder.join(name));
+    let [problem, low, high] = STREAMS.map(|name| folder.join(name));
     let (problem, low, high) = (stream(&problem)?, stream(&low)?, stream(&high)?);
     let answers = [
         ("expected", gapcheck(checker, &problem, &low, &high)),

@@ -104,7 +104,9 @@ fn leaving(rng: &mut Rng, case: &mut Case) {
     }
 }
 
-/// Rows that add c x 2^45 x `count` at one monomial: 2^32 for c = 1 with weight 4, else 2^60 each.
+/// Equal rows on a constraint of one term, which move T at one monomial alone: with the
+/// coefficient 1 each row has weight 4 and adds 4 x 2^30 = 2^32; with -2^15 each has weight 2^15
+/// and takes 2^15 x 2^30 x 2^15 = 2^60 away, so 16 rows take 2^64 and 32 rows 2^65.
 fn multiple(rng: &mut Rng, case: &mut Case, coefficient: i16, count: usize) {
     let (m, b) = (some_monomial(rng, case), some_monomial(rng, case));
     let basis = case.problem.constrain(vec![(m, coefficient)], vec![b]);

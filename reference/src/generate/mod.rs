@@ -11,14 +11,19 @@ mod damage;
 mod draft;
 mod largest;
 mod limits;
+mod neighbours;
 mod problems;
+pub mod refusals;
 mod rng;
 mod rules;
 mod samples;
+mod series;
 mod support;
 mod workloads;
+mod worst;
 
 use crate::records::{Record, BLOCKS, CHECK, PAIR};
+pub use neighbours::neighbours;
 use rng::Rng;
 pub use workloads::workload;
 
@@ -67,11 +72,13 @@ pub fn corpus(kinds: &str) -> Vec<Record> {
 }
 
 fn special(kind: u8) -> Vec<Record> {
-    match kind {
+    let mut all = match kind {
         BLOCKS => blocks::special().into_iter().map(Record::blocks).collect(),
         CHECK => [samples::checks(), certificates::special(kind)].concat(),
         _ => [samples::pairs(), certificates::special(kind)].concat(),
-    }
+    };
+    all.extend(refusals::records(kind));
+    all
 }
 
 #[cfg(test)]

@@ -11,6 +11,8 @@ use crate::generate::largest::largest;
 use crate::generate::problems;
 use crate::generate::rng::Rng;
 use crate::generate::samples;
+use crate::generate::series::series;
+use crate::generate::worst::worst;
 use crate::records::{Record, CHECK, PAIR};
 
 /// The records of a workload, by its name.
@@ -25,7 +27,8 @@ pub fn workload(name: &str) -> Option<Vec<Record>> {
         "typical-pairs" => typical_pairs(rng, 5_000),
         "largest-check" => largest_check(rng, 16),
         "damaged-pairs" => damaged_pairs(rng, 5_000),
-        _ => return None,
+        "worst-pair" => vec![plain(PAIR, &worst(rng))],
+        _ => return series(rng, name),
     })
 }
 

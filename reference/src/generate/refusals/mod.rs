@@ -1,0 +1,165 @@
+//! Every way to be refused, each with the answer that document 01 gives, found by hand.
+//!
+//! The answers stand in the lists and not in the program: the test below holds the reference to
+//! them, and the stored corpus holds the proved calls to them.
+
+mod certificates;
+mod order;
+mod problems;
+mod sums;
+mod table;
+
+use crate::generate::samples;
+use crate::records::{Record, BLOCKS, CHECK};
+use crate::refusal::Refusal;
+pub use table::print;
+
+/// One way to be refused.
+#[derive(Clone)]
+pub struct Case {
+    pub name: &'static str,
+    /// What the refused stream has.
+    pub what: &'static str,
+    /// The words of document 01 that it comes from.
+    pub words: &'static str,
+    /// The refused stream as document 01 writes bytes, when it is short.
+    pub text: Option<&'static str>,
+    pub runs: [Vec<u8>; 3],
+    /// The kinds of the calls that meet it.
+    pub calls: &'static [u8],
+    /// The answer by document 01.
+    pub expected: Refusal,
+}
+
+impl Case {
+    /// The record of a call that meets it.
+    pub fn record(&self, call: u8) -> Record {
+        let [problem, first, second] = self.runs.clone();
+        match call {
+            BLOCKS => Record::blocks(problem),
+            CHECK => Record::check(problem, first),
+            _ => Record::pair(problem, first, second),
+        }
+    }
+}
+
+/// A line of a list: number and place of the refusal, the name, what the stream has, the words of
+/// document 01, and the stream. The key is 0.
+type Line = (
+    u8,
+    usize,
+    &'static str,
+    &'static str,
+    &'static str,
+    &'static str,
+);
+
+/// All cases, by the order of the lists.
+pub fn cases() -> Vec<Case> {
+    [
+        problems::cases(),
+        certificates::cases(),
+        sums::cases(),
+        order::cases(),
+    ]
+    .concat()
+}
+
+/// The records of one kind of call.
+pub fn records(call: u8) -> Vec<Record> {
+    let cases = cases().into_iter();
+    let met = cases.filter(|case| case.calls.contains(&call));
+    met.map(|case| case.record(call)).collect()
+}
+
+/// The bytes of a text as document 01 writes them: hexadecimal, with 0⁷ for seven zero bytes and 0⁸
+/// for eight; a bar stands between commands.
+fn bytes(text: &str) -> Vec<u8> {
+    let mut all = Vec::new();
+    for word in text.split_whitespace() {
+        match word {
+            "|" => {}
+            "0⁷" => all.extend([0; 7]),
+            "0⁸" => all.extend([0; 8]),
+            _ => all.push(u8::from_str_radix(word, 16).expect("two hexadecimal digits")),
+        }
+    }
+    all
+}
+
+/// The streams of case F: problem, lower and upper certificate.
+fn case_f() -> [Vec<u8>; 3] {
+    let certificates = [0, 1].map(samples::f_certificate);
+    let [lower, upper] = certificates;
+    [samples::f().bytes(), lower, upper]
+}
+
+/// A case for a line with the stream written out, put in the place `stream` of these runs.
+fn written(line: &Line, stream: u8, mut runs: [Vec<u8>; 3]) -> Case {
+    let &(number, place, name, what, words, text) = line;
+    runs[usize::from(stream)] = bytes(text);
+    Case {
+        name,
+        what,
+        words,
+        text: Some(text),
+        runs,
+        calls: calls(stream),
+        expected: Refusal::new(number, stream, place),
+    }
+}
+
+/// The calls that meet a refusal of this stream.
+fn calls(stream: u8) -> &'static [u8] {
+    [b"bcp".as_slice(), b"cp", b"p"][usize::from(stream)]
+}
+
+#[cfg(test)]
+mod tests {
+    use super::*;
+    use crate::answer::Checker;
+    use std::collections::BTreeSet;
+
+    #[test]
+    fn the_reference_gives_what_is_written_down() {
+        let checker = &mut Checker::default();
+        for case in cases() {
+            for &call in case.calls {
+                let refusal = case.record(call).refusal(checker);
+                let (number, name) = (case.expected.number, case.name);
+                assert_eq!(refusal, Some(case.expected), "{number}: {name}");
+            }
+        }
+    }
+
+    #[test]
+    fn every_refusal_has_a_case_in_every_stream() {
+        let met: BTreeSet<(u8, u8)> = cases()
+            .iter()
+            .map(|case| (case.expected.number, case.expected.stream))
+            .collect();
+        let in_problem = (2..=7).map(|number| (number, 0));
+        let in_certificate = [2, 3, 4, 5, 6, 8, 9, 10];
+        let in_certificate = in_certificate.iter().flat_map(|&n| [(n, 1), (n, 2)]);
+        assert_eq!(met, in_problem.chain(in_certificate).collect());
+    }
+
+    #[test]
+    fn names_tell_the_cases_apart() {
+        let mut names = BTreeSet::new();
+        for case in cases() {
+            let Refusal { number, stream, .. } = case.expected;
+            assert!(names.insert((number, stream, case.name)), "{}", case.name);
+        }
+    }
+
+    #[test]
+    fn texts_are_read_as_document_01_writes_them() {
+        assert_eq!(bytes("01 0A | 0⁷ FF"), [1, 10, 0, 0, 0, 0, 0, 0, 0, 255]);
+        let text = "01 01 | 02 01 0⁷ 01 00 00 00 | 03 | 04 0⁸ 01 00 | 04 02 0⁷ FF FF | 05 00 0⁸ \
+                    | 05 00 01 0⁷ | 05 01 0⁸ | 06";
+        let low = "10 00 02 00 FF FF FF FF 01 00 | 11 00 01 00 | 12 00 01 00 | 12 01 01 00 \
+                   | 11 01 01 00 | 12 00 01 00 | 13";
+        assert_eq!(case_f()[..2], [bytes(text), bytes(low)]);
+    }
+}

@@ -1,0 +1,120 @@
+//! The table of refusals as a page of markdown.
+
+use super::{cases, Case};
+use crate::answer::Checker;
+use crate::generate::corpus;
+use crate::records::{Record, BLOCKS, CHECK, PAIR};
+
+const HEAD: &str = "# Refusals
+
+Every way to be refused, by number and stream, each with the words of the scope (document 01) that it comes from. \
+The answers were found by hand from those words and stand beside the cases in `reference/src/generate/refusals`; a test \
+there holds the reference to them. Each case is in the stored corpus `crates/replay/stdin`, where the proved calls \
+meet it; the last columns give the number of its record there, which is that of the line in `stdout`, for each call that \
+meets it. `reference refusals` writes this page, and `./test` compares the two.
+
+An answer is `refused`, number, stream (0 problem, 1 first certificate, 2 second), place and key. Bytes are \
+hexadecimal, 0⁷ is seven zero bytes and 0⁸ eight, and a bar stands between commands.
+";
+
+const ONE: &str = "
+## 1: a lent table or the 576 bytes is too short
+
+A replayed record is always answered with tables lent in full, so no record meets refusal 1. It is stated in the public \
+contracts in `crates/checker/src/lib.rt`: `verdict` of each call says that it is given exactly when the named test holds, and \
+`bytes`, `keys_left`, `high_left` and `low_left` that nothing is written then. `bench short` calls the C functions with each \
+length one short, and sees refusal 1 and all that was lent untouched.
+
+| case | what is lent | answer | clause |
+|---|---|---|---|
+| blocks, bytes | 575 bytes for the blocks | `refused 1 0 0 0` | `verdict` of `blocks`, `blocksShort` |
+| blocks, keys | 2,047 numbers as the first table | `refused 1 0 0 0` | `verdict` of `blocks`, `blocksShort` |
+| blocks, high | 2,047 numbers as the second table | `refused 1 0 0 0` | `verdict` of `blocks`, `blocksShort` |
+| blocks, low | 2,047 numbers as the third table | `refused 1 0 0 0` | `verdict` of `blocks`, `blocksShort` |
+| check, keys | 2,047 numbers as the first table | `refused 1 0 0 0` | `verdict` of `check`, `tablesShort` |
+| check, high | 2,047 numbers as the second table | `refused 1 0 0 0` | `verdict` of `check`, `tablesShort` |
+| check, low | 2,047 numbers as the third table | `refused 1 0 0 0` | `verdict` of `check`, `tablesShort` |
+| pair, keys | 2,047 numbers as the first table | `refused 1 0 0 0` | `verdict` of `pair`, `tablesShort` |
+| pair, high | 2,047 numbers as the second table | `refused 1 0 0 0` | `verdict` of `pair`, `tablesShort` |
+| pair, low | 2,047 numbers as the third table | `refused 1 0 0 0` | `verdict` of `pair`, `tablesShort` |
+";
+
+/// The words of document 01's table for each number from 2 on.
+const TITLES: [&str; 9] = [
+    "stream ends in a command or without its end, or goes on after it",
+    "command unknown in this stream or misplaced",
+    "operand outside its rule",
+    "monomial repeated, or index not rising",
+    "one more than a count allows",
+    "closed S with zero above 2,048",
+    "a row in two blocks",
+    "identity false",
+    "in a pair, first side not 0 or second not 1",
+];
+
+const STREAMS: [&str; 3] = [
+    "in the problem",
+    "in the first certificate",
+    "in the second certificate",
+];
+
+/// Longer streams are not written out.
+const SHORT: usize = 130;
+
+/// Writes the page.
+pub fn print() {
+    let corpus = corpus("bcp");
+    let mut cases = cases();
+    cases.sort_by_key(|case| (case.expected.number, case.expected.stream));
+    print!("{HEAD}{ONE}");
+    let mut section = (1, 0);
+    for case in &cases {
+        let number = case.expected.number;
+        if number != section.0 {
+            println!("\n## {number}: {}", TITLES[usize::from(number) - 2]);
+        }
+        if (number, case.expected.stream) != section {
+            println!("\n### {}", STREAMS[usize::from(case.expected.stream)]);
+            println!("\n| case | what the stream has | stream | document 01 | answer | blocks | check | pair |");
+            println!("|---|---|---|---|---|---|---|---|");
+        }
+        section = (number, case.expected.stream);
+        println!("{}", line(case, &corpus));
+    }
+}
+
+fn line(case: &Case, corpus: &[Record]) -> String {
+    let text = case.text.filter(|text| text.len() <= SHORT);
+    let text = match text {
+        Some("") => "none".to_string(),
+        Some(text) => format!("`{}`", text.replace('|', "\\|")),
+        None => String::new(),
+    };
+    let call = *case.calls.last().expect("some call meets it");
+    let refusal = case.record(call).refusal(&mut Checker::default());
+    let answer = refusal.expect("every case is refused");
+    let places = [BLOCKS, CHECK, PAIR].map(|call| place(case, call, corpus));
+    let cells = [
+        case.name,
+        case.what,
+        &text,
+        &quoted(case.words),
+        &format!("`{answer}`"),
+    ];
+    format!("| {} | {} |", cells.join(" | "), places.join(" | "))
+}
+
+fn quoted(words: &str) -> String {
+    format!("\"{words}\"")
+}
+
+/// The number of the record in the corpus, counted from 1, when the call meets the case.
+fn place(case: &Case, call: u8, corpus: &[Record]) -> String {
+    if !case.calls.contains(&call) {
+        return String::new();
+    }
+    let record = case.record(call);
+    let found = corpus.iter().position(|other| *other == record);
+    let place = found.expect("the corpus has every case");
+    (place + 1).to_string()
+}
