@@ -3,25 +3,8 @@
 ghost use Prim.Native.Nat.{ℕ, _+_, _*_, _≤_, _<_};
 ghost use lib.ListN.{length};
 use libc::STDIN_FILENO;
-
-// The character of the last hexadecimal digit of a number.
-fn digit(n: u8) -> u8 {
-    let d = n % 16;
-    if d < 10 { b'0' + d } else { b'a' + (d - 10) }
-}
-
-// 576 bytes as hexadecimal digits.
-fn put_hex(bytes: &[u8; 576]) {
-    let mut text = [0u8; 1152];
-    let mut i = 0;
-    while i < 576 {
-        let b = bytes[i];
-        text[2 * i] = digit(b / 16);
-        text[2 * i + 1] = digit(b);
-        i += 1;
-    }
-    report::put(&text);
-}
+use libc::STDOUT_FILENO;
+use report::Text;
 
 // The length that four bytes of a record's head give.
 fn length_at(head: &[u8; 13], at: usize) -> usize
@@ -39,24 +22,18 @@ fn fill(bytes: &mut [u8], n: usize) -> bool {
     }
 }
 
+fn write(text: Text) {
+    let bytes = text.bytes;
+    io::write_all(STDOUT_FILENO, report::cut(&bytes, text.len));
+}
+
 fn run_blocks(problem: &[u8]) {
     let mut out = [0u8; 576];
     let mut keys = [0u64; 2048];
     let mut high = [0i64; 2048];
     let mut low = [0u64; 2048];
     let v = checker::blocks(problem, &mut out, &mut keys, &mut high, &mut low);
-    let r = v.refusal;
-    if r.number == 0 {
-        report::put(b"blocks ");
-        report::put_number(v.blocks as u64);
-        report::put(b" rounds ");
-        report::put_number(v.rounds as u64);
-        report::put(b" ");
-        put_hex(&out);
-        report::put(b"\n");
-    } else {
-        report::put_refusal(r);
-    }
+    write(report::blocks_line(v, &out));
 }
 
 fn run_check(problem: &[u8], certificate: &[u8]) {
@@ -64,18 +41,7 @@ fn run_check(problem: &[u8], certificate: &[u8]) {
     let mut high = [0i64; 2048];
     let mut low = [0u64; 2048];
     let v = checker::check(problem, certificate, &mut keys, &mut high, &mut low);
-    let r = v.refusal;
-    if r.number == 0 {
-        report::put(b"check ");
-        report::put_number(v.side as u64);
-        report::put(b" ");
-        report::put_fraction(v.bound);
-        report::put(b" rounds ");
-        report::put_number(v.rounds as u64);
-        report::put(b"\n");
-    } else {
-        report::put_refusal(r);
-    }
+    write(report::check_line(v));
 }
 
 fn run_pair(problem: &[u8], first: &[u8], second: &[u8]) {
@@ -83,20 +49,7 @@ fn run_pair(problem: &[u8], first: &[u8], second: &[u8]) {
     let mut high = [0i64; 2048];
     let mut low = [0u64; 2048];
     let v = checker::pair(problem, first, second, &mut keys, &mut high, &mut low);
-    let r = v.refusal;
-    if r.number == 0 {
-        report::put(b"pair ");
-        report::put_fraction(v.lower);
-        report::put(b" ");
-        report::put_fraction(v.upper);
-        report::put(b" gap ");
-        report::put_fraction(v.gap);
-        report::put(b" rounds ");
-        report::put_number(v.rounds as u64);
-        report::put(b"\n");
-    } else {
-        report::put_refusal(r);
-    }
+    write(report::pair_line(v));
 }
 
 // Answers a record of a kind; whether the kind is known.

@@ -1,52 +1,210 @@
-// For the programs: verdicts as text on standard output, and the part of a buffer that was read. What is written is tested and not proved; each function is safe and ends.
+// Verdicts as text: the lines that the programs write, made in a buffer first, each proved equal to its definition.
+ghost use mathlib.Core.Path.{_≡_};
+ghost use Prim.Native.Nat.{_+_, _*_, _≤_, _<_};
+ghost use lib.IntN.{natAbs};
+ghost use lib.ListN.{length, take};
+ghost use Rattle.io.specs.Digits.{glyph};
+ghost use Rattle.report.specs.Lines.{decimal, signed, ratio, ratioLine, hexadecimal, refusalLine, pairLines, blocksLine, checkLine, pairLine};
+ghost use Rattle.report.specs.Appending.{textOf, Appended};
+use checker::BlocksVerdict;
+use checker::CheckVerdict;
+use checker::PairVerdict;
 use checker::Refusal;
 use fraction::Fraction;
-use libc::STDOUT_FILENO;
 
-pub fn put(text: &[u8]) {
-    io::write_all(STDOUT_FILENO, text);
+// A text: the first `len` bytes. The longest, the line of the blocks, has 1,152 digits of bytes, two numbers of at most 20 digits
+// and 17 other characters.
+pub struct Text {
+    pub bytes: [u8; 1280],
+    pub len: usize,
+}
+
+fn append(out: &mut [u8], at: usize, text: &[u8]) -> usize
+    requires { ⌜ at + length (now text) ≤ length (now out) ⌝ }
+    ensures { λ r. ⌜ Appended (now (out .entry)) at (now (text .entry)) (now (out .exit)) r ⌝ }
+{
+    let mut i = 0;
+    while i < text.len() {
+        out[at + i] = text[i];
+        i += 1;
+    }
+    at + i
 }
 
 // A number in base ten.
-pub fn put_number(n: u64) {
-    io::print_decimal(STDOUT_FILENO, n);
+fn append_number(out: &mut [u8], at: usize, n: u64) -> usize
+    requires { ⌜ at + 20 ≤ length (now out) ⌝ }
+    ensures { λ r. ⌜ Appended (now (out .entry)) at (decimal n) (now (out .exit)) r × (r ≤ at + 20) ⌝ }
+{
+    let mut digits = [0u8; 20];
+    let count = io::decimal(n, &mut digits);
+    append(out, at, &digits[..count])
 }
 
-// A number in base ten, with a minus sign below 0. The numbers here, bounds and gaps, are below 2^48 in absolute value, so cut at 2^60
-// the high part is 0 or -1.
-pub fn put_signed(n: i64) {
-    let cut = sums::split(n);
-    let high = cut.hi;
-    let low = cut.lo;
-    if high < 0 {
-        put(b"-");
-        put_number(1152921504606846976 - low);
-    } else {
-        put_number(low);
+// The absolute value. The least number has no opposite in 64 bits, so what is turned is the number and 1.
+fn magnitude(n: i64) -> u64
+    ensures { λ r. ⌜ r ≡ natAbs n ⌝ }
+{
+    if n < 0 {
+        return (-1 - n) as u64 + 1;
     }
+    n as u64
+}
+
+// A number in base ten, with a minus sign below 0.
+fn append_signed(out: &mut [u8], at: usize, n: i64) -> usize
+    requires { ⌜ at + 21 ≤ length (now out) ⌝ }
+    ensures { λ r. ⌜ Appended (now (out .entry)) at (signed n) (now (out .exit)) r × (r ≤ at + 21) ⌝ }
+{
+    if n < 0 {
+        let next = append(out, at, b"-");
+        return append_number(out, next, magnitude(n));
+    }
+    append_number(out, at, magnitude(n))
 }
 
 // A fraction as it is, not reduced.
-pub fn put_fraction(f: Fraction) {
-    put_signed(f.num);
-    put(b"/");
-    put_number(f.den);
+fn append_ratio(out: &mut [u8], at: usize, f: Fraction) -> usize
+    requires { ⌜ at + 42 ≤ length (now out) ⌝ }
+    ensures { λ r. ⌜ Appended (now (out .entry)) at (ratio f) (now (out .exit)) r × (r ≤ at + 42) ⌝ }
+{
+    let a = append_signed(out, at, f.num);
+    let b = append(out, a, b"/");
+    append_number(out, b, f.den)
+}
+
+// A line with a name and a fraction.
+fn append_named(out: &mut [u8], at: usize, name: &[u8], f: Fraction) -> usize
+    requires { ⌜ at + length (now name) + 43 ≤ length (now out) ⌝ }
+    ensures { λ r. ⌜ Appended (now (out .entry)) at (ratioLine (now (name .entry)) f) (now (out .exit)) r × (r ≤ at + length (now (name .entry)) + 43) ⌝ }
+{
+    let a = append(out, at, name);
+    let b = append_ratio(out, a, f);
+    append(out, b, b"\n")
+}
+
+// The hexadecimal digit of a number below 16.
+fn digit(n: u8) -> u8
+    requires { ⌜ n < 16 ⌝ }
+    ensures { λ r. ⌜ r ≡ glyph n ⌝ }
+{
+    if n < 10 { 48 + n } else { 87 + n }
+}
+
+// Two hexadecimal digits for each byte.
+fn append_hexadecimal(out: &mut [u8], at: usize, bytes: &[u8]) -> usize
+    requires { ⌜ at + 2 * length (now bytes) ≤ length (now out) ⌝ }
+    ensures { λ r. ⌜ Appended (now (out .entry)) at (hexadecimal (now (bytes .entry))) (now (out .exit)) r × (r ≤ at + 2 * length (now (bytes .entry))) ⌝ }
+{
+    let mut end = at;
+    let mut i = 0;
+    while i < bytes.len() {
+        let b = bytes[i];
+        out[end] = digit(b / 16);
+        out[end + 1] = digit(b % 16);
+        end += 2;
+        i += 1;
+    }
+    end
 }
 
 // The line of a refusal: number, stream, place and key.
-pub fn put_refusal(r: Refusal) {
-    put(b"refused ");
-    put_number(r.number as u64);
-    put(b" ");
-    put_number(r.stream as u64);
-    put(b" ");
-    put_number(r.place as u64);
-    put(b" ");
-    put_number(r.key);
-    put(b"\n");
+fn refusal_line(r: Refusal) -> Text
+    ensures { λ t. ⌜ textOf t ≡ refusalLine r ⌝ }
+{
+    let mut out = [0u8; 1280];
+    let a = append(&mut out, 0, b"refused ");
+    let b = append_number(&mut out, a, r.number as u64);
+    let c = append(&mut out, b, b" ");
+    let d = append_number(&mut out, c, r.stream as u64);
+    let e = append(&mut out, d, b" ");
+    let f = append_number(&mut out, e, r.place as u64);
+    let g = append(&mut out, f, b" ");
+    let h = append_number(&mut out, g, r.key);
+    let len = append(&mut out, h, b"\n");
+    Text { bytes: out, len }
+}
+
+// What gapcheck writes: the bounds, the gap and the rounds, a line each, or the line of the refusal.
+pub fn pair_lines(v: PairVerdict) -> Text
+    ensures { λ t. ⌜ textOf t ≡ pairLines v ⌝ }
+{
+    let r = v.refusal;
+    if 0 < r.number {
+        return refusal_line(r);
+    }
+    let mut out = [0u8; 1280];
+    let a = append_named(&mut out, 0, b"lower ", v.lower);
+    let b = append_named(&mut out, a, b"upper ", v.upper);
+    let c = append_named(&mut out, b, b"gap ", v.gap);
+    let d = append(&mut out, c, b"rounds ");
+    let e = append_number(&mut out, d, v.rounds as u64);
+    let len = append(&mut out, e, b"\n");
+    Text { bytes: out, len }
+}
+
+// The line of the blocks call, with the 576 bytes that it left, or that of the refusal.
+pub fn blocks_line(v: BlocksVerdict, bytes: &[u8; 576]) -> Text
+    ensures { λ t. ⌜ textOf t ≡ blocksLine v (now (bytes .entry)) ⌝ }
+{
+    let r = v.refusal;
+    if 0 < r.number {
+        return refusal_line(r);
+    }
+    let mut out = [0u8; 1280];
+    let a = append(&mut out, 0, b"blocks ");
+    let b = append_number(&mut out, a, v.blocks as u64);
+    let c = append(&mut out, b, b" rounds ");
+    let d = append_number(&mut out, c, v.rounds as u64);
+    let e = append(&mut out, d, b" ");
+    let f = append_hexadecimal(&mut out, e, bytes);
+    let len = append(&mut out, f, b"\n");
+    Text { bytes: out, len }
+}
+
+// The line of the check, or that of the refusal.
+pub fn check_line(v: CheckVerdict) -> Text
+    ensures { λ t. ⌜ textOf t ≡ checkLine v ⌝ }
+{
+    let r = v.refusal;
+    if 0 < r.number {
+        return refusal_line(r);
+    }
+    let mut out = [0u8; 1280];
+    let a = append(&mut out, 0, b"check ");
+    let b = append_number(&mut out, a, v.side as u64);
+    let c = append(&mut out, b, b" ");
+    let d = append_ratio(&mut out, c, v.bound);
+    let e = append(&mut out, d, b" rounds ");
+    let f = append_number(&mut out, e, v.rounds as u64);
+    let len = append(&mut out, f, b"\n");
+    Text { bytes: out, len }
+}
+
+// The line of the pair, or that of the refusal.
+pub fn pair_line(v: PairVerdict) -> Text
+    ensures { λ t. ⌜ textOf t ≡ pairLine v ⌝ }
+{
+    let r = v.refusal;
+    if 0 < r.number {
+        return refusal_line(r);
+    }
+    let mut out = [0u8; 1280];
+    let a = append(&mut out, 0, b"pair ");
+    let b = append_ratio(&mut out, a, v.lower);
+    let c = append(&mut out, b, b" ");
+    let d = append_ratio(&mut out, c, v.upper);
+    let e = append(&mut out, d, b" gap ");
+    let f = append_ratio(&mut out, e, v.gap);
+    let g = append(&mut out, f, b" rounds ");
+    let h = append_number(&mut out, g, v.rounds as u64);
+    let len = append(&mut out, h, b"\n");
+    Text { bytes: out, len }
 }
 
 // The first n bytes, or all.
-pub fn cut(bytes: &[u8], n: usize) -> &[u8] {
+pub fn cut(bytes: &[u8], n: usize) -> &[u8]
+    ensures { λ r. ⌜ now r ≡ take n (now (bytes .entry)) ⌝ }
+{
     if n <= bytes.len() { &bytes[..n] } else { bytes }
 }

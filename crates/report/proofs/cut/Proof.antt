@@ -1,9 +1,9 @@
--- `cut`: the part that is lent is n bytes long.
+-- `cut`: the part that is lent is n bytes long, or nothing is cut off.
 use borrow.Author.Needs.{needs}
 use native.Mathlib.Omega.{arith}
 use mathlib.Core.Path.{_≡_, refl, sym, ap, _∙_, subst}
 use Prim.Native.Nat.{ℕ, zero, suc, _+_, _-_, _*_, _≤_, _<_}
-use lib.Seq.{length-take-le}
+use lib.Seq.{length-take-le, take-all}
 use lib.ListN.{length, getD, take, drop, set, length-set}
 use Rattle.report.proofs.cut.Statement.{statement}
 use Rattle.report.proofs.cut.Tie as tie
@@ -15,7 +15,7 @@ returns : tie.Need-returns
 returns c = search needs
 
 returns-2 : tie.Need-returns-2
-returns-2 c = search needs
+returns-2 c = let s = c .before in sym (take-all (s .args .n) (s .args .bytes .now) (omega (arith, c .if1 .left)))
 
 pub cut-spec : {M : Type 1} → statement M
 cut-spec = tie.close (tie.spec slice-aggregate-result returns returns-2)

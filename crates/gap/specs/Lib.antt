@@ -1,0 +1,2 @@
+-- What gapcheck writes.
+pub mod Answers

@@ -1,0 +1,14 @@
+-- A text in a buffer: its bytes are the buffer's first, and a function that appends keeps them and adds to them.
+use mathlib.Core.Path.{_≡_}
+use mathlib.Core.List.{List, _++_}
+use Prim.Native.Nat.{ℕ, _+_, _≤_}
+use lib.ListN.{length, take}
+use Rattle.report.specs.declared.Text.{Text}
+
+abbrev pub textOf : Text → List ℕ
+textOf t = take (t .len) (t .bytes)
+
+-- after the first `at` bytes of `before`, `added` stands in `after`, and ends at `end`
+pub record Appended (before : List ℕ) (at : ℕ) (added after : List ℕ) (end : ℕ) : Type 0 where
+  pub ends : end ≡ at + length added
+  pub bytes : take end after ≡ take at before ++ added

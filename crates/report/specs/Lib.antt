@@ -1,0 +1,3 @@
+-- The lines that the programs write, and what it means to append to a text.
+pub mod Lines
+pub mod Appending

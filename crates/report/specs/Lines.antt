@@ -1,0 +1,94 @@
+-- The lines that the programs write, byte by byte.
+use mathlib.Core.Bool.{cond}
+use mathlib.Core.List.{List, [] as nil, _∷_ as _cons_, _++_}
+use Prim.Native.Nat.{ℕ, zero, suc, _/_, _%_}
+use Prim.Native.Char.{Char, code}
+use Prim.Native.String.{String, [], _∷_}
+use lib.Dec.{ltb}
+use lib.IntN.{ℤ, pos, natAbs}
+use lib.Signed.{ltZ}
+use Rattle.io.specs.Digits.{glyph}
+use Rattle.fraction.specs.declared.Fraction.{Fraction}
+use Rattle.checker.specs.declared.Refusal.{Refusal}
+use Rattle.checker.specs.declared.BlocksVerdict.{BlocksVerdict}
+use Rattle.checker.specs.declared.CheckVerdict.{CheckVerdict}
+use Rattle.checker.specs.declared.PairVerdict.{PairVerdict}
+
+-- the bytes of a text, one for each character
+abbrev pub ascii : String → List ℕ
+ascii [] = nil
+ascii (c ∷ s) = code c cons ascii s
+
+-- ---- numbers: "in base ten, unreduced, with a minus sign below 0"
+
+-- the digits of m, none where m is 0; at most f of them
+abbrev pub leading : ℕ → ℕ → List ℕ
+leading zero m = nil
+leading (suc f) zero = nil
+leading (suc f) (suc m) = leading f (suc m / 10) ++ (glyph (suc m % 10) cons nil)
+
+-- the digits of the tenth part, and the last digit
+unfoldable pub decimal : ℕ → List ℕ
+decimal n = leading n (n / 10) ++ (glyph (n % 10) cons nil)
+
+unfoldable pub signed : ℤ → List ℕ
+signed n = cond (ltZ n (pos 0)) (ascii "-" ++ decimal (natAbs n)) (decimal (natAbs n))
+
+unfoldable pub ratio : Fraction → List ℕ
+ratio f = signed (f .num) ++ ascii "/" ++ decimal (f .den)
+
+-- two hexadecimal digits for each byte
+abbrev pub hexadecimal : List ℕ → List ℕ
+hexadecimal nil = nil
+hexadecimal (b cons s) = glyph (b / 16) cons (glyph (b % 16) cons hexadecimal s)
+
+-- ---- "A refusal is one line, `refused` and then number, stream, place and key"
+unfoldable pub refusalLine : Refusal → List ℕ
+refusalLine r =
+    ascii "refused " ++ decimal (r .number)
+    ++ ascii " " ++ decimal (r .stream)
+    ++ ascii " " ++ decimal (r .place)
+    ++ ascii " " ++ decimal (r .key)
+    ++ ascii "\n"
+
+-- the line of the refusal, or what stands in its place where nothing is refused
+abbrev pub unlessRefused : Refusal → List ℕ → List ℕ
+unlessRefused r lines = cond (ltb 0 (r .number)) (refusalLine r) lines
+
+-- ---- gapcheck: "The lines give p/q, P/Q, the gap and the rounds"; "each line ends in byte 0A"
+unfoldable pub ratioLine : List ℕ → Fraction → List ℕ
+ratioLine name f = name ++ ratio f ++ ascii "\n"
+
+unfoldable pub pairLines : PairVerdict → List ℕ
+pairLines v =
+    unlessRefused (v .refusal)
+    (ratioLine (ascii "lower ") (v .lower)
+    ++ ratioLine (ascii "upper ") (v .upper)
+    ++ ratioLine (ascii "gap ") (v .gap)
+    ++ ascii "rounds " ++ decimal (v .rounds) ++ ascii "\n")
+
+-- ---- replay: one line for each record
+unfoldable pub blocksLine : BlocksVerdict → List ℕ → List ℕ
+blocksLine v out =
+    unlessRefused (v .refusal)
+    (ascii "blocks " ++ decimal (v .blocks)
+    ++ ascii " rounds " ++ decimal (v .rounds)
+    ++ ascii " " ++ hexadecimal out
+    ++ ascii "\n")
+
+unfoldable pub checkLine : CheckVerdict → List ℕ
+checkLine v =
+    unlessRefused (v .refusal)
+    (ascii "check " ++ decimal (v .side)
+    ++ ascii " " ++ ratio (v .bound)
+    ++ ascii " rounds " ++ decimal (v .rounds)
+    ++ ascii "\n")
+
+unfoldable pub pairLine : PairVerdict → List ℕ
+pairLine v =
+    unlessRefused (v .refusal)
+    (ascii "pair " ++ ratio (v .lower)
+    ++ ascii " " ++ ratio (v .upper)
+    ++ ascii " gap " ++ ratio (v .gap)
+    ++ ascii " rounds " ++ decimal (v .rounds)
+    ++ ascii "\n")
