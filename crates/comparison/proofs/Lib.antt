@@ -3,6 +3,7 @@ pub mod Growth
 pub mod Products
 pub mod Claims
 pub mod Spreading
+pub mod Folds
 pub mod Parts
 pub mod Outers
 pub mod Walks

@@ -38,7 +38,7 @@ use Rattle.identity.proofs.Halves.{sum-alike, sum-zeros, gram-table}
 use Rattle.identity.proofs.Gram.{all-map, sum-same, factors-small, gram-more, outer-coefficient, rows-on, rows-all, squares-bases}
 use Rattle.comparison.specs.declared.Lengths.{Lengths}
 use Rattle.comparison.specs.Tables.{Ready}
-use Rattle.comparison.specs.Spread.{spreadAt, Framed, Spread, multiplierIn, Flattened}
+use Rattle.comparison.specs.Spread.{halfAt, Framed, Spread, multiplierIn, Flattened}
 use Rattle.comparison.specs.Outer.{rowUnit, Entries, Below, Raised, above, inRow, outerAt}
 use Rattle.comparison.specs.Places.{Walkable}
 use Rattle.comparison.specs.Walk.{Shaped, Gathered, Summed}
@@ -357,7 +357,7 @@ module _ {s keys exponents : List ℕ} {coefficients : List ℤ} {l : Lengths} (
       }
 
   module _ {g : List ℤ} (w : Gathered s j g) where
-    pub gathered-framed : Framed size g
+    pub gathered-framed : Framed size (2 ^ 53) g
     gathered-framed =
         record {
           long = w .below .long;
@@ -367,19 +367,19 @@ module _ {s keys exponents : List ℕ} {coefficients : List ℤ} {l : Lengths} (
         }
 
     pub gathered-summed : {table : List ℕ} {n : ℕ} {hi₀ hi₁ : List ℤ} {lo₀ lo₁ : List ℕ} {g₁ : List ℤ} → j < 9
-        → Spread table n (part 64 (l .sizes) keys j) (multiplierIn exponents coefficients (l .counts) j) g hi₀ lo₀ g₁ hi₁ lo₁
+        → Spread table n (halfAt (part 64 (l .sizes) keys j) (multiplierIn exponents coefficients (l .counts) j) g) hi₀ lo₀ g₁ hi₁ lo₁
         → Summed (λ p. squares p (rowsOn j (rowsOf s))) keys exponents coefficients l table n 1 hi₀ lo₀ hi₁ lo₁
-    unfolding spreadAt
+    unfolding halfAt
     gathered-summed b d =
         let rs = rowsOn j (rowsOf s) in
         let low : All (λ (r : Row). All (λ (e : Entry). e .index < 64) (r .entries)) rs = all-map _ _ (λ (r : Row) a. all-map _ _ (λ (e : Entry) b. omega (arith, size-few)) (r .entries) a) rs (on-low shaped j) in
         record {
-          sums = spreadAt (part 64 (l .sizes) keys j) (multiplierIn exponents coefficients (l .counts) j) g;
+          sums = halfAt (part 64 (l .sizes) keys j) (multiplierIn exponents coefficients (l .counts) j) g;
           grown = grown-same (d .grown) (λ k. refl) (omega arith);
           are = λ p t k. rw (t .bases j b, t .multipliers j b) (sym (gram-table p j rs (rows-on j (rowsOf s)) low g (w .holds) k));
         }
 
-pub spread-below : {table : List ℕ} {n : ℕ} {B : List ℕ} {G : List Term} {g₀ g₁ hi₀ hi₁ : List ℤ} {lo₀ lo₁ : List ℕ} → Spread table n B G g₀ hi₀ lo₀ g₁ hi₁ lo₁ → Below 0 g₁
+pub spread-below : {table : List ℕ} {n : ℕ} {f : ℕ → ℤ} {g₁ hi₀ hi₁ : List ℤ} {lo₀ lo₁ : List ℕ} → Spread table n f hi₀ lo₀ g₁ hi₁ lo₁ → Below 0 g₁
 spread-below d = record { long = d .long; small = λ x b. omega (arith, ap natAbs (d .cleared x b)) }
 
 -- ---- all bases

@@ -25,16 +25,26 @@ tableUnit = 4096 * entryUnit
 abbrev pub share : List ℕ → List Term → ℕ → ℕ → ℤ
 share B G k x = sum (λ t. match k (pairKey B x + t)) G
 
--- what the whole table adds at a key: it has the upper half, so what is off the diagonal counts twice
+-- what the whole table adds at a key
 unfoldable pub spreadAt : List ℕ → List Term → List ℤ → ℕ → ℤ
-spreadAt B G g k = sum (λ x. times x *ℤ share B G k x) (placed g)
+spreadAt B G g k = sum (share B G k) (placed g)
 
--- the entries that are not 0 are at indices below m, and none is above 2^53
-pub record Framed (m : ℕ) (g : List ℤ) : Type 0 where
+-- the same of an upper half: what is off the diagonal counts twice
+unfoldable pub halfAt : List ℕ → List Term → List ℤ → ℕ → ℤ
+halfAt B G g k = sum (λ x. times x *ℤ share B G k x) (placed g)
+
+-- the entries that are not 0 are at indices below m, and none is above c
+pub record Framed (m c : ℕ) (g : List ℤ) : Type 0 where
   pub long : length g ≡ 4096
   pub rows : (x : ℕ) → x < 4096 → m ≤ x / 64 → getD g x (pos 0) ≡ pos 0
   pub columns : (x : ℕ) → x < 4096 → m ≤ x % 64 → getD g x (pos 0) ≡ pos 0
-  pub small : (x : ℕ) → x < 4096 → natAbs (getD g x (pos 0)) ≤ 2 ^ 53
+  pub small : (x : ℕ) → x < 4096 → natAbs (getD g x (pos 0)) ≤ c
+
+-- r is a place after x, and no index below m has a column between them
+pub record Next (m x r : ℕ) : Type 0 where
+  pub later : x < r
+  pub within : r ≤ 64 * m
+  pub between : (y : ℕ) → x < y → y < r → m ≤ y % 64
 
 -- a basis, and its multiplier in two arrays
 pub record Spreadable (basis exponents : List ℕ) (coefficients : List ℤ) : Type 0 where
@@ -44,15 +54,15 @@ pub record Spreadable (basis exponents : List ℕ) (coefficients : List ℤ) : T
   pub few : length exponents ≤ 32
   pub low : Bounded (16 * 2 ^ 56) exponents
 
--- an entry that is not 0 is at indices of the basis
-pub record Entered (basis : List ℕ) (x : ℕ) (a : ℤ) : Type 0 where
+-- an entry that is not 0 is at indices of the basis, and is at most c
+pub record Entered (c : ℕ) (basis : List ℕ) (x : ℕ) (a : ℤ) : Type 0 where
   pub row : length basis ≤ x / 64 → a ≡ pos 0
   pub column : length basis ≤ x % 64 → a ≡ pos 0
-  pub small : natAbs a ≤ 2 ^ 53
+  pub small : natAbs a ≤ c
 
--- the table g₀ was spread, and all its entries are 0
-pub record Spread (keys : List ℕ) (n : ℕ) (B : List ℕ) (G : List Term) (g₀ : List ℤ) (hi₀ : List ℤ) (lo₀ : List ℕ) (g₁ : List ℤ) (hi₁ : List ℤ) (lo₁ : List ℕ) : Type 0 where
-  pub grown : Grown keys n hi₀ lo₀ (spreadAt B G g₀) tableUnit hi₁ lo₁
+-- the sums grew by f, what a table gives, and all its entries are 0
+pub record Spread (keys : List ℕ) (n : ℕ) (f : ℕ → ℤ) (hi₀ : List ℤ) (lo₀ : List ℕ) (g₁ : List ℤ) (hi₁ : List ℤ) (lo₁ : List ℕ) : Type 0 where
+  pub grown : Grown keys n hi₀ lo₀ f tableUnit hi₁ lo₁
   pub cleared : (x : ℕ) → x < 4096 → getD g₁ x (pos 0) ≡ pos 0
   pub long : length g₁ ≡ 4096
 

@@ -13,9 +13,9 @@ use Rattle.certificate.specs.declared.Header.{Header}
 use Rattle.identity.specs.Identity.{turned}
 use Rattle.comparison.specs.declared.Negated.{Negated}
 
--- what one product at most adds: a number of at most 2^54 times a coefficient of at most 2^31
+-- what one product at most adds: a number of at most 2^60 times a coefficient of at most 2^31
 abbrev pub unit : ℕ
-unit = 2 ^ 85
+unit = 2 ^ 91
 
 -- r is the place of a key among the first n, or n or more where it has none
 pub record Sought (keys : List ℕ) (n key r : ℕ) : Type 0 where
@@ -46,7 +46,7 @@ pub record Addable (exponents : List ℕ) (coefficients : List ℤ) (key : ℕ) 
   pub paired : length exponents ≤ length coefficients
   pub low : Bounded (32 * 2 ^ 56) exponents
   pub key-low : key ≤ 16 * 2 ^ 56
-  pub small : natAbs x ≤ 2 ^ 54
+  pub small : natAbs x ≤ 2 ^ 60
 
 -- ---- the claim, taken away
 -- "D × (q × objective − p)", with both signs turned for side 1, of an objective

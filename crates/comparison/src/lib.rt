@@ -1,17 +1,20 @@
 // Whether a certificate that was read is accepted: each row in one block, and the identity, key by key. The rows are read off the
 // certificate's bytes again, one at a time.
 ghost use mathlib.Core.Path.{_≡_};
+ghost use mathlib.Core.Bool.{true};
+ghost use mathlib.Core.List.{List};
 ghost use Prim.Native.Nat.{ℕ, _+_, _*_, _^_, _≤_, _<_};
 ghost use lib.IntN.{pos, natAbs, negℤ, _*ℤ_};
 ghost use lib.ListN.{length, getD};
 ghost use Rattle.support.specs.Table.{Holds};
 ghost use Rattle.support.specs.Table as Support;
 ghost use Rattle.sums.specs.Sums.{Sums};
-ghost use Rattle.polynomial.specs.Terms.{termsIn};
+ghost use Rattle.polynomial.specs.Terms.{Term, termsIn};
 ghost use Rattle.polynomial.specs.Algebra.{sum, match, coefficient};
 ghost use Rattle.stream.specs.Commands.{given};
 ghost use Rattle.problem.specs.Rules.{Problem};
 ghost use Rattle.problem.specs.Limits.{Limits};
+ghost use Rattle.blocks.specs.Limits.{Bounded};
 ghost use Rattle.rounds.specs.Bytes.{blockBytes, part};
 ghost use Rattle.joining.specs.Joining.{closing};
 ghost use Rattle.certificate.specs.Rules.{Certificate, shapeOf, readCertificate};
@@ -21,7 +24,8 @@ ghost use Rattle.identity.specs.Gram.{rowsOn, times};
 ghost use Rattle.identity.specs.Judgement.{rowSplit, splitPlace, differenceKey};
 ghost use Rattle.comparison.specs.Places.{placeOf, byteAt, Walkable, Indexed};
 ghost use Rattle.comparison.specs.Tables.{unit, Sought, Ready, Grown, Addable, claimed, Negates};
-ghost use Rattle.comparison.specs.Spread.{entryUnit, tableUnit, share, Framed, Spreadable, Entered, Spread, multiplierIn, Flattened};
+ghost use Rattle.comparison.specs.Spread.{entryUnit, tableUnit, share, spreadAt, halfAt, Next, Framed, Spreadable, Entered, Spread, multiplierIn, Flattened};
+ghost use Rattle.comparison.specs.Fold.{Paired, Folded};
 ghost use Rattle.comparison.specs.Outer.{Entries, Below, Raised, inRow, outerAt};
 ghost use Rattle.comparison.specs.Walk.{Shaped, Gathered, Summed};
 ghost use Rattle.comparison.specs.Compare.{differenceOf, Zeroed, Smaller, Smallest, Comparable, Given, Untouched};
@@ -97,7 +101,7 @@ fn add_term(
     x: i64,
     c: i32,
 )
-    requires { ⌜ Ready (now table) (now index) n (now hi) (now lo) unit × (natAbs x ≤ 2 ^ 54) ⌝ }
+    requires { ⌜ Ready (now table) (now index) n (now hi) (now lo) unit × (natAbs x ≤ 2 ^ 60) ⌝ }
     ensures { λ _. ⌜ Grown (now (table .entry)) n (now (hi .entry)) (now (lo .entry)) (λ k. x *ℤ c *ℤ match k key) unit (now (hi .exit)) (now (lo .exit)) ⌝ }
 {
     let p = place_of(table, n, index, key);
@@ -185,18 +189,7 @@ fn add_claim(
     add_term(table, n, index, hi, lo, 0, y, 1);
 }
 
-// An entry on the diagonal counts once, and any other for its mirror image too.
-fn counted(x: usize, a: i64) -> i64
-    requires { ⌜ natAbs a ≤ 2 ^ 53 ⌝ }
-    ensures { λ r. ⌜ (r ≡ times x *ℤ a) × (natAbs r ≤ 2 ^ 54) ⌝ }
-{
-    if x / 64 == x % 64 {
-        return a;
-    }
-    2 * a
-}
-
-// Adds one entry of the table of sums, as often as it counts: a times b * b' for the indices of its place, times the multiplier.
+// Adds one entry of the table of sums: a times b * b' for the indices of its place, times the multiplier.
 fn add_entry(
     basis: &[u64],
     exponents: &[u64],
@@ -210,8 +203,8 @@ fn add_entry(
     a: i64,
 )
     requires { ⌜ Ready (now table) (now index) n (now hi) (now lo) entryUnit ⌝ }
-    requires { ⌜ Spreadable (now basis) (now exponents) (now coefficients) × Entered (now basis) x a ⌝ }
-    ensures { λ _. ⌜ Grown (now (table .entry)) n (now (hi .entry)) (now (lo .entry)) (λ k. a *ℤ (times x *ℤ share (now (basis .entry)) (termsIn (length (now (exponents .entry))) (now (exponents .entry)) (now (coefficients .entry))) k x)) entryUnit (now (hi .exit)) (now (lo .exit)) ⌝ }
+    requires { ⌜ Spreadable (now basis) (now exponents) (now coefficients) × Entered (2 ^ 60) (now basis) x a ⌝ }
+    ensures { λ _. ⌜ Grown (now (table .entry)) n (now (hi .entry)) (now (lo .entry)) (λ k. a *ℤ share (now (basis .entry)) (termsIn (length (now (exponents .entry))) (now (exponents .entry)) (now (coefficients .entry))) k x) entryUnit (now (hi .exit)) (now (lo .exit)) ⌝ }
 {
     if a == 0 {
         return;
@@ -219,8 +212,18 @@ fn add_entry(
     let i = x / 64;
     let k = x % 64;
     let key = basis[i] + basis[k];
-    let y = counted(x, a);
-    add_terms(table, n, index, hi, lo, exponents, coefficients, key, y);
+    add_terms(table, n, index, hi, lo, exponents, coefficients, key, a);
+}
+
+// The place after x, past the columns that no index of a basis of this size has.
+fn next_place(x: usize, size: usize) -> usize
+    requires { ⌜ (x < 64 * size) × (size ≤ 64) ⌝ }
+    ensures { λ r. ⌜ Next size x r ⌝ }
+{
+    if x % 64 + 1 < size {
+        return x + 1;
+    }
+    64 * (x / 64 + 1)
 }
 
 // Adds the whole table of sums, and clears it. Past the basis's last index there is nothing to add.
@@ -236,10 +239,11 @@ fn spread(
     lo: &mut [u64],
 )
     requires { ⌜ Ready (now table) (now index) n (now hi) (now lo) tableUnit ⌝ }
-    requires { ⌜ Spreadable (now basis) (now exponents) (now coefficients) × Framed (length (now basis)) (now g) ⌝ }
-    ensures { λ _. ⌜ Spread (now (table .entry)) n (now (basis .entry)) (termsIn (length (now (exponents .entry))) (now (exponents .entry)) (now (coefficients .entry))) (now (g .entry)) (now (hi .entry)) (now (lo .entry)) (now (g .exit)) (now (hi .exit)) (now (lo .exit)) ⌝ }
+    requires { ⌜ Spreadable (now basis) (now exponents) (now coefficients) × Framed (length (now basis)) (2 ^ 60) (now g) ⌝ }
+    ensures { λ _. ⌜ Spread (now (table .entry)) n (spreadAt (now (basis .entry)) (termsIn (length (now (exponents .entry))) (now (exponents .entry)) (now (coefficients .entry))) (now (g .entry))) (now (hi .entry)) (now (lo .entry)) (now (g .exit)) (now (hi .exit)) (now (lo .exit)) ⌝ }
 {
-    let last = 64 * basis.len();
+    let size = basis.len();
+    let last = 64 * size;
     let mut x = 0;
     while x < last {
         let a = g[x];
@@ -256,7 +260,102 @@ fn spread(
             x,
             a,
         );
-        x += 1;
+        x = next_place(x, size);
+    }
+}
+
+// An entry on the diagonal counts once, and any other for its mirror image too.
+fn counted(x: usize, a: i64) -> i64
+    requires { ⌜ natAbs a ≤ 2 ^ 53 ⌝ }
+    ensures { λ r. ⌜ (r ≡ times x *ℤ a) × (natAbs r ≤ 2 ^ 54) ⌝ }
+{
+    if x / 64 == x % 64 {
+        return a;
+    }
+    2 * a
+}
+
+// Whether place y is one of the basis, with this product b * b'.
+fn is_pair(basis: &[u64], y: usize, key: u64) -> bool
+    requires { ⌜ Bounded (8 * 2 ^ 56) (now basis) ⌝ }
+    ensures { λ r. ⌜ (r ≡ true → Paired (now (basis .entry)) y key) ⌝ }
+{
+    let i = y / 64;
+    let k = y % 64;
+    if i < basis.len() {
+        if k < basis.len() {
+            return basis[i] + basis[k] == key;
+        }
+    }
+    false
+}
+
+// Far from the largest number, so that an entry can be added.
+fn is_low(z: i64) -> bool
+    ensures { λ r. ⌜ (r ≡ true → natAbs z ≤ 2 ^ 59) ⌝ }
+{
+    if z < -576460752303423488 {
+        return false;
+    }
+    z <= 576460752303423488
+}
+
+// Where `lasts` has a place with the product b * b' that a key is.
+fn hint(key: u64) -> usize
+    ensures { λ r. ⌜ r < 2048 ⌝ }
+{
+    (key % 2039) as usize
+}
+
+// A number of 16 bits as a place.
+fn wide(x: u16) -> usize
+    ensures { λ r. ⌜ r ≡ x ⌝ }
+{
+    x as usize
+}
+
+// Moves the entry at place x, as often as it counts, to the place before it that has the same b * b' last, if there is one. `lasts` is
+// only a hint where that is.
+fn fold_entry(g: &mut [i64; 4096], basis: &[u64], lasts: &mut [u16; 2048], x: usize)
+    requires { ⌜ Bounded (8 * 2 ^ 56) (now basis) × (x < 4096) × Entered (2 ^ 53) (now basis) x (getD (now g) x (pos 0)) × (length (now g) ≡ 4096) ⌝ }
+    ensures { λ _. ⌜ Folded (now (basis .entry)) x (now (g .entry)) (now (g .exit)) ⌝ }
+{
+    let a = g[x];
+    if a == 0 {
+        return;
+    }
+    let v = counted(x, a);
+    let i = x / 64;
+    let k = x % 64;
+    let key = basis[i] + basis[k];
+    let t = hint(key);
+    let y = wide(lasts[t]);
+    if y < x {
+        if is_pair(basis, y, key) {
+            let z = g[y];
+            if is_low(z) {
+                g[y] = z + v;
+                g[x] = 0;
+                return;
+            }
+        }
+    }
+    lasts[t] = x as u16;
+    g[x] = v;
+}
+
+// Sums the entries with the same product b * b', so that most products with the multiplier are made once for all of them.
+fn fold(g: &mut [i64; 4096], basis: &[u64])
+    requires { ⌜ (length (now basis) ≤ 64) × Bounded (8 * 2 ^ 56) (now basis) × Framed (length (now basis)) (2 ^ 53) (now g) ⌝ }
+    ensures { λ _. ⌜ Framed (length (now (basis .entry))) (2 ^ 60) (now (g .exit)) × ((G : List Term) (k : ℕ) → spreadAt (now (basis .entry)) G (now (g .exit)) k ≡ halfAt (now (basis .entry)) G (now (g .entry)) k) ⌝ }
+{
+    let mut lasts: [u16; 2048] = [0; 2048];
+    let size = basis.len();
+    let last = 64 * size;
+    let mut x = 0;
+    while x < last {
+        fold_entry(g, basis, &mut lasts, x);
+        x = next_place(x, size);
     }
 }
 
@@ -266,7 +365,7 @@ pub struct Lengths {
     pub counts: [usize; 9],
 }
 
-// Adds the table of sums of basis j, and clears it.
+// Adds the upper half of the table of sums of basis j, and clears it.
 fn flush(
     g: &mut [i64; 4096],
     j: usize,
@@ -281,16 +380,18 @@ fn flush(
     lo: &mut [u64],
 )
     requires { ⌜ Ready (now table) (now index) n (now hi) (now lo) tableUnit ⌝ }
-    requires { ⌜ Flattened (now keys) (now exponents) (now coefficients) l × (j < 9) × Framed (getD (l .sizes) j 0) (now g) ⌝ }
-    ensures { λ _. ⌜ Spread (now (table .entry)) n (part 64 (l .sizes) (now (keys .entry)) j) (multiplierIn (now (exponents .entry)) (now (coefficients .entry)) (l .counts) j) (now (g .entry)) (now (hi .entry)) (now (lo .entry)) (now (g .exit)) (now (hi .exit)) (now (lo .exit)) ⌝ }
+    requires { ⌜ Flattened (now keys) (now exponents) (now coefficients) l × (j < 9) × Framed (getD (l .sizes) j 0) (2 ^ 53) (now g) ⌝ }
+    ensures { λ _. ⌜ Spread (now (table .entry)) n (halfAt (part 64 (l .sizes) (now (keys .entry)) j) (multiplierIn (now (exponents .entry)) (now (coefficients .entry)) (l .counts) j) (now (g .entry))) (now (hi .entry)) (now (lo .entry)) (now (g .exit)) (now (hi .exit)) (now (lo .exit)) ⌝ }
 {
     let a = 64 * j;
     let b = a + l.sizes[j];
     let c = 32 * j;
     let d = c + l.counts[j];
+    let basis = &keys[a..b];
     let es = &exponents[c..d];
     let cs = &coefficients[c..d];
-    spread(g, &keys[a..b], es, cs, table, n, index, hi, lo);
+    fold(g, basis);
+    spread(g, basis, es, cs, table, n, index, hi, lo);
 }
 
 // Adds a times each factor of a row from entry `first` on, in the table's row of that entry's index.

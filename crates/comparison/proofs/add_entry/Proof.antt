@@ -1,19 +1,16 @@
 -- `add_entry`: an entry that is 0 adds nothing; any other is at indices of the basis.
 use mathlib.Core.Path.{_≡_, refl}
-use Prim.Native.Nat.{_/_, _%_, _^_, _-_, _*_, _≤_, _<_}
+use Prim.Native.Nat.{_/_, _%_, _-_, _*_, _<_}
 use native.Mathlib.Omega.{arith}
 use borrow.Author.Needs.{needs}
-use lib.IntN.{ℤ, pos, natAbs, _*ℤ_, zero-*ℤ}
+use lib.IntN.{pos, _*ℤ_, zero-*ℤ}
 use lib.ListN.{length, getD}
 use mir.Facts.{toZ-ofZ}
-use mir.Syntax.{w64}
-use mir.Val.{SFits}
-use Rattle.integers.proofs.Ranges.{zero-bits, abs-fits}
+use Rattle.integers.proofs.Ranges.{zero-bits}
 use Rattle.polynomial.specs.Terms.{termsIn}
-use Rattle.identity.specs.Gram.{times}
 use Rattle.comparison.specs.Spread.{share}
 use Rattle.comparison.proofs.Growth.{ready-less, grown-none, grown-same}
-use Rattle.comparison.proofs.Spreading.{entered-row, entered-column, counts-moved}
+use Rattle.comparison.proofs.Spreading.{entered-row, entered-column}
 use Rattle.comparison.proofs.add_entry.Statement.{statement}
 use Rattle.comparison.proofs.add_entry.Tie as tie
 
@@ -26,10 +23,10 @@ module _ (c : tie.Else1) where
   not-zero e = c .if1 .left (rw e refl)
 
   row : s .args .x / 64 < length (s .args .basis .now)
-  row = entered-row _ (s .args .x) (s .args .a) (s .pre .1 .1) not-zero
+  row = entered-row _ _ (s .args .x) (s .args .a) (s .pre .1 .1) not-zero
 
   column : s .args .x % 64 < length (s .args .basis .now)
-  column = entered-column _ (s .args .x) (s .args .a) (s .pre .1 .1) not-zero
+  column = entered-column _ _ (s .args .x) (s .args .a) (s .pre .1 .1) not-zero
 
 returns : tie.Need-returns
 returns c =
@@ -37,7 +34,7 @@ returns c =
     let a = s .args in
     let e : a .a ≡ pos 0 = zero-bits (s .fits .a) (c .if1 .taken) in
     let G = termsIn (length (a .exponents .now)) (a .exponents .now) (a .coefficients .now) in
-    grown-none (s .pre .0) (λ q b. rw e (zero-*ℤ (times (a .x) *ℤ share (a .basis .now) G (getD (a .table .now) q 0) (a .x))))
+    grown-none (s .pre .0) (λ q b. rw e (zero-*ℤ (share (a .basis .now) G (getD (a .table .now) q 0) (a .x))))
 
 mul-key : tie.Need-mul-key
 mul-key c = search needs
@@ -57,33 +54,16 @@ add-key c =
     let p = s e .pre .1 .0 in
     omega (arith, p .basis-low (s e .args .x / 64), p .basis-low (s e .args .x % 64))
 
-counted-requires : tie.Need-counted-requires
-counted-requires c κs = let e = c .before .before in simp (toZ-ofZ (s e .fits .a)) (s e .pre .1 .1 .small)
-
--- how often the entry counts
-module _ (c : tie.After-counted) where
-  abbrev e : tie.Else1
-  e = c .before .before .before
-
-  abbrev y : ℤ
-  y = c .counted .result
-
-  counted-is : (y ≡ times (s e .args .x) *ℤ s e .args .a) × (natAbs y ≤ 2 ^ 54)
-  counted-is = simp (toZ-ofZ (s e .fits .a)) at (c .counted .ensures)
-
-  fits-y : SFits w64 y
-  fits-y = abs-fits (omega (arith, counted-is .1))
-
 add-terms-requires : tie.Need-add-terms-requires
 add-terms-requires c κs =
-    let d = c .before .before in
-    let p = s (e d) .pre .1 .0 in (
-      ready-less (s (e d) .pre .0) (omega (arith, p .few)),
-      simp (toZ-ofZ (fits-y d)) record {
+    let e = c .before .before .before .before in
+    let p = s e .pre .1 .0 in (
+      ready-less (s e .pre .0) (omega (arith, p .few)),
+      simp (toZ-ofZ (s e .fits .a)) record {
         paired = p .paired;
         low = λ i. omega (arith, p .low i);
-        key-low = omega (arith, p .basis-low (s (e d) .args .x / 64), p .basis-low (s (e d) .args .x % 64));
-        small = counted-is d .1;
+        key-low = omega (arith, p .basis-low (s e .args .x / 64), p .basis-low (s e .args .x % 64));
+        small = s e .pre .1 .1 .small;
       },
     )
 
@@ -96,9 +76,9 @@ same-length-2 c = search needs
 returns-2 : tie.Need-returns-2
 returns-2 c =
     let a = c .before .before .before in
-    let d = a .before .before .before in
-    let p = s (e d) .pre .1 .0 in
-    grown-same (simp (toZ-ofZ (fits-y d)) at (a .add-terms .ensures)) (λ k. counts-moved (s (e d) .args .x) (s (e d) .args .a) (y d) _ (counted-is d .0)) (omega (arith, p .few))
+    let e = a .before .before .before .before .before in
+    let p = s e .pre .1 .0 in
+    grown-same (simp (toZ-ofZ (s e .fits .a)) at (a .add-terms .ensures)) (λ k. refl) (omega (arith, p .few))
 
 pub add-entry-spec : {M : Type 1} → statement M
 add-entry-spec =
@@ -110,7 +90,6 @@ add-entry-spec =
     mul-key-2
     shared-slice-read-key-2
     add-key
-    counted-requires
     add-terms-requires
     same-length
     same-length-2

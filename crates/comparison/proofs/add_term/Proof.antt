@@ -18,7 +18,7 @@ module _ (c : tie.Start) where
   wide = sfits-widen tt (c .fits .c)
 
   small : natAbs (c .args .x *ℤ c .args .c) ≤ unit
-  small = abs-mul-le (c .args .x) (c .args .c) (2 ^ 54) (2 ^ 31) (c .pre .1) (fits-abs (c .fits .c))
+  small = abs-mul-le (c .args .x) (c .args .c) (2 ^ 60) (2 ^ 31) (c .pre .1) (fits-abs (c .fits .c))
 
 place-of-requires : tie.Need-place-of-requires
 place-of-requires c κs = search needs

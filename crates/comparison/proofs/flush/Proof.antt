@@ -1,9 +1,13 @@
--- `flush`: the parts of the flat arrays are those of basis j.
-use Prim.Native.Nat.{ℕ, _+_, _-_, _*_, _≤_}
+-- `flush`: the parts of the flat arrays are those of basis j, and folding changes nothing in what the table gives.
+use mathlib.Core.Path.{_≡_}
+use mathlib.Core.List.{List}
+use Prim.Native.Nat.{ℕ, _+_, _-_, _*_, _^_, _≤_}
 use native.Mathlib.Omega.{arith}
 use borrow.Author.Needs.{needs}
 use lib.ListN.{length, getD, take, drop}
-use Rattle.comparison.specs.Spread.{Spreadable, Framed}
+use Rattle.polynomial.specs.Terms.{Term}
+use Rattle.comparison.specs.Spread.{spreadAt, halfAt, Spreadable, Framed}
+use Rattle.comparison.proofs.Spreading.{spread-same}
 use Rattle.comparison.proofs.Parts.{cut-is, basis-end, exponents-end, coefficients-end, basis-long, parts-spreadable, multiplier-is}
 use Rattle.comparison.proofs.flush.Statement.{statement}
 use Rattle.comparison.proofs.flush.Tie as tie
@@ -34,7 +38,7 @@ module _ (c : tie.After-slice-known) where
   spreadable : Spreadable (take size (drop (64 * j) (s .args .keys .now))) (take count (drop (32 * j) (s .args .exponents .now))) (take count (drop (32 * j) (s .args .coefficients .now)))
   spreadable = parts-spreadable _ _ _ _ (s .pre .1 .0) j (s .pre .1 .1)
 
-  framed : Framed (length (take size (drop (64 * j) (s .args .keys .now)))) (s .args .g .now)
+  framed : Framed (length (take size (drop (64 * j) (s .args .keys .now)))) (2 ^ 53) (s .args .g .now)
   framed = rw (basis-long _ _ _ _ (s .pre .1 .0) j (s .pre .1 .1)) (s .pre .1 .2)
 
 mul-a : tie.Need-mul-a
@@ -61,6 +65,18 @@ element-copy-out-d c = search needs
 add-d : tie.Need-add-d
 add-d c = omega (arith, terms-end (c .before .before))
 
+mul-basis : tie.Need-mul-basis
+mul-basis c = search needs
+
+sub-basis : tie.Need-sub-basis
+sub-basis c = search needs
+
+part-basis-start : tie.Need-part-basis-start
+part-basis-start c = search needs
+
+part-basis-end : tie.Need-part-basis-end
+part-basis-end c = omega (arith, keys-end (c .before .before))
+
 mul-es : tie.Need-mul-es
 mul-es c = search needs
 
@@ -71,7 +87,7 @@ part-es-start : tie.Need-part-es-start
 part-es-start c = search needs
 
 part-es-end : tie.Need-part-es-end
-part-es-end c = omega (arith, terms-end (c .before .before))
+part-es-end c = omega (arith, terms-end (c .before .before .before))
 
 mul-cs : tie.Need-mul-cs
 mul-cs c = search needs
@@ -83,27 +99,31 @@ part-cs-start : tie.Need-part-cs-start
 part-cs-start c = search needs
 
 part-cs-end : tie.Need-part-cs-end
-part-cs-end c = omega (arith, factors-end (c .before .before .before))
+part-cs-end c = omega (arith, factors-end (c .before .before .before .before))
 
-mul-spread : tie.Need-mul-spread
-mul-spread c = search needs
+fold-requires : tie.Need-fold-requires
+fold-requires c κs =
+    let b = c .before .before .before .before .before .before in
+    rw (cut-is (64 * j b) (size b) (s b .args .keys .now)) (spreadable b .basis-few, spreadable b .basis-low, framed b)
 
-sub-spread : tie.Need-sub-spread
-sub-spread c = search needs
+-- after the folding
+module _ (c : tie.After-fold) where
+  abbrev b : tie.After-slice-known
+  b = c .before .before .before .before .before .before .before
 
-part-spread-start : tie.Need-part-spread-start
-part-spread-start c = search needs
+  abbrev B : List ℕ
+  B = take (size b) (drop (64 * j b) (s b .args .keys .now))
 
-part-spread-end : tie.Need-part-spread-end
-part-spread-end c = omega (arith, keys-end (c .before .before .before .before .before))
+  folded : Framed (length B) (2 ^ 60) (c .fold .last .0) × ((G : List Term) (k : ℕ) → spreadAt B G (c .fold .last .0) k ≡ halfAt B G (s b .args .g .now) k)
+  folded = rw (cut-is (64 * j b) (size b) (s b .args .keys .now)) at (c .fold .ensures)
 
 spread-requires : tie.Need-spread-requires
 spread-requires c κs =
-    let b = c .before .before .before .before .before .before .before .before in
-    let a = s b .args in (
-      s b .pre .0,
-      rw (cut-is (64 * j b) (size b) (a .keys .now), cut-is (32 * j b) (count b) (a .exponents .now), cut-is (32 * j b) (count b) (a .coefficients .now))
-          (spreadable b, framed b),
+    let f = c .before .before .before in
+    let a = s (b f) .args in (
+      s (b f) .pre .0,
+      rw (cut-is (64 * j (b f)) (size (b f)) (a .keys .now), cut-is (32 * j (b f)) (count (b f)) (a .exponents .now), cut-is (32 * j (b f)) (count (b f)) (a .coefficients .now))
+          (spreadable (b f), folded f .0),
     )
 
 same-length : tie.Need-same-length
@@ -115,10 +135,12 @@ same-length-2 c = search needs
 returns : tie.Need-returns
 returns c =
     let e = c .before .before .before in
-    let b = e .before .before .before .before .before .before .before .before .before in
-    let a = s b .args in
-    rw (cut-is (64 * j b) (size b) (a .keys .now), cut-is (32 * j b) (count b) (a .exponents .now), cut-is (32 * j b) (count b) (a .coefficients .now), multiplier-is _ _ _ _ (s b .pre .1 .0) (j b) (s b .pre .1 .1)) at
-    (e .spread .ensures)
+    let f = e .before .before .before .before in
+    let a = s (b f) .args in
+    spread-same
+    (rw (cut-is (64 * j (b f)) (size (b f)) (a .keys .now), cut-is (32 * j (b f)) (count (b f)) (a .exponents .now), cut-is (32 * j (b f)) (count (b f)) (a .coefficients .now), multiplier-is _ _ _ _ (s (b f) .pre .1 .0) (j (b f)) (s (b f) .pre .1 .1)) at
+    (e .spread .ensures))
+    (folded f .1 _)
 
 pub flush-spec : {M : Type 1} → statement M
 flush-spec =
@@ -132,6 +154,10 @@ flush-spec =
     mul-d
     element-copy-out-d
     add-d
+    mul-basis
+    sub-basis
+    part-basis-start
+    part-basis-end
     mul-es
     sub-es
     part-es-start
@@ -140,10 +166,7 @@ flush-spec =
     sub-cs
     part-cs-start
     part-cs-end
-    mul-spread
-    sub-spread
-    part-spread-start
-    part-spread-end
+    fold-requires
     spread-requires
     same-length
     same-length-2
