@@ -1,16 +1,11 @@
 use borrow.Author.Needs.{needs}
 use native.Mathlib.Omega.{arith}
-use mathlib.Core.Path.{_≡_, refl, sym, ap, _∙_, subst}
-use Prim.Native.Nat.{ℕ, zero, suc, _+_, _-_, _*_, _≤_, _<_}
+use mathlib.Core.Path.{_∙_}
+use Prim.Native.Nat.{_-_, _≤_}
 use lib.Seq.{length-take-le}
-use lib.ListN.{length, getD, take, drop, set, length-set}
 use Rattle.report.proofs.Digits.{fewest-decimal, fewest-short}
 use Rattle.report.proofs.append_number.Statement.{statement}
 use Rattle.report.proofs.append_number.Tie as tie
-use Rattle.report.proofs.append_number.Reads as reads
-use Rattle.report.proofs.append_number.Lts as lts
-use Rattle.io.proofs.decimal.Reads as decimal-reads
-use Rattle.report.proofs.append.Reads as append-reads
 
 short : (c : tie.After-decimal) → c .decimal .result ≤ 20
 short c = let s = c .before .before .before in fewest-short (s .args .n) (c .decimal .result) (s .fits .n .fits) (c .decimal .ensures .1 .0)
