@@ -2,7 +2,6 @@
 use borrow.Author.Needs.{needs}
 use native.Mathlib.Omega.{arith}
 use mathlib.Core.Path.{sym}
-use Prim.Native.Nat.{_-_}
 use lib.Seq.{length-take-le, take-all}
 use Rattle.report.proofs.cut.Statement.{statement}
 use Rattle.report.proofs.cut.Tie as tie
