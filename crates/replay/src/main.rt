@@ -1,7 +1,6 @@
 // Answers the records of the standard input, one line for each, until it ends. A record is a kind byte (b: blocks, c: check, p: pair), three lengths of
 // 32 bits, little-endian, and three byte runs, each of at most 65,536 bytes.
-ghost use Prim.Native.Nat.{ℕ, _+_, _*_, _≤_, _<_};
-ghost use lib.ListN.{length};
+ghost use Prim.Native.Nat.{_+_, _≤_};
 use libc::STDIN_FILENO;
 use libc::STDOUT_FILENO;
 use report::Text;

@@ -4,7 +4,7 @@ use native.Mathlib.Nat.{pow-suc, one-le-pow, pow-le-pow-right, eq-zero-or-pos}
 use mathlib.Core.Path.{_≡_, refl, sym, ap, _∙_}
 use mathlib.Core.Logic.{⊎-elim}
 use mathlib.Core.List.{List, [], _∷_, _++_}
-use Prim.Native.Nat.{ℕ, zero, suc, _+_, _-_, _*_, _/_, _%_, _^_, _≤_, _<_}
+use Prim.Native.Nat.{ℕ, zero, suc, _+_, _-_, _/_, _%_, _^_, _≤_, _<_}
 use Rattle.io.specs.Digits.{digits, glyph, Fewest}
 use Rattle.report.specs.Lines.{leading, decimal}
 

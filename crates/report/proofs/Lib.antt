@@ -1,5 +1,6 @@
--- Laws that serve several functions.
+-- Laws that serve several functions, and samples of the lines.
 pub mod Appending
 pub mod Digits
 pub mod Hexadecimal
+pub mod Samples
 pub mod Signs

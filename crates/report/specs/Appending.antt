@@ -1,7 +1,7 @@
 -- A text in a buffer: its bytes are the buffer's first, and a function that appends keeps them and adds to them.
 use mathlib.Core.Path.{_≡_}
 use mathlib.Core.List.{List, _++_}
-use Prim.Native.Nat.{ℕ, _+_, _≤_}
+use Prim.Native.Nat.{ℕ, _+_}
 use lib.ListN.{length, take}
 use Rattle.report.specs.declared.Text.{Text}
 

@@ -1,9 +1,9 @@
--- The lines that the programs write, byte by byte.
+-- The lines that the programs write, byte by byte, in document 01's words.
 use mathlib.Core.Bool.{cond}
-use mathlib.Core.List.{List, [] as nil, _∷_ as _cons_, _++_}
+use mathlib.Core.List.{List, [], _∷_, _++_}
 use Prim.Native.Nat.{ℕ, zero, suc, _/_, _%_}
-use Prim.Native.Char.{Char, code}
-use Prim.Native.String.{String, [], _∷_}
+use Prim.Native.Char.{code}
+use Prim.Native.String.{String, [] as none, _∷_ as _then_}
 use lib.Dec.{ltb}
 use lib.IntN.{ℤ, pos, natAbs}
 use lib.Signed.{ltZ}
@@ -16,31 +16,31 @@ use Rattle.checker.specs.declared.PairVerdict.{PairVerdict}
 
 -- the bytes of a text, one for each character
 abbrev pub ascii : String → List ℕ
-ascii [] = nil
-ascii (c ∷ s) = code c cons ascii s
+ascii none = []
+ascii (c then s) = code c ∷ ascii s
 
 -- ---- numbers: "in base ten, unreduced, with a minus sign below 0"
 
--- the digits of m, none where m is 0; at most f of them
+-- the digits of m, none where m is 0; f, which bounds how many, is at least m at every call
 abbrev pub leading : ℕ → ℕ → List ℕ
-leading zero m = nil
-leading (suc f) zero = nil
-leading (suc f) (suc m) = leading f (suc m / 10) ++ (glyph (suc m % 10) cons nil)
+leading zero m = []
+leading (suc f) zero = []
+leading (suc f) (suc m) = leading f (suc m / 10) ++ (glyph (suc m % 10) ∷ [])
 
 -- the digits of the tenth part, and the last digit
 unfoldable pub decimal : ℕ → List ℕ
-decimal n = leading n (n / 10) ++ (glyph (n % 10) cons nil)
+decimal n = leading n (n / 10) ++ (glyph (n % 10) ∷ [])
 
-unfoldable pub signed : ℤ → List ℕ
-signed n = cond (ltZ n (pos 0)) (ascii "-" ++ decimal (natAbs n)) (decimal (natAbs n))
+unfoldable pub signedDecimal : ℤ → List ℕ
+signedDecimal n = cond (ltZ n (pos 0)) (ascii "-" ++ decimal (natAbs n)) (decimal (natAbs n))
 
 unfoldable pub ratio : Fraction → List ℕ
-ratio f = signed (f .num) ++ ascii "/" ++ decimal (f .den)
+ratio f = signedDecimal (f .num) ++ ascii "/" ++ decimal (f .den)
 
 -- two hexadecimal digits for each byte
 abbrev pub hexadecimal : List ℕ → List ℕ
-hexadecimal nil = nil
-hexadecimal (b cons s) = glyph (b / 16) cons (glyph (b % 16) cons hexadecimal s)
+hexadecimal [] = []
+hexadecimal (b ∷ s) = glyph (b / 16) ∷ (glyph (b % 16) ∷ hexadecimal s)
 
 -- ---- "A refusal is one line, `refused` and then number, stream, place and key"
 unfoldable pub refusalLine : Refusal → List ℕ

@@ -4,7 +4,7 @@ ghost use Prim.Native.Nat.{_+_, _*_, _≤_, _<_};
 ghost use lib.IntN.{natAbs};
 ghost use lib.ListN.{length, take};
 ghost use Rattle.io.specs.Digits.{glyph};
-ghost use Rattle.report.specs.Lines.{decimal, signed, ratio, ratioLine, hexadecimal, refusalLine, pairLines, blocksLine, checkLine, pairLine};
+ghost use Rattle.report.specs.Lines.{decimal, signedDecimal, ratio, ratioLine, hexadecimal, refusalLine, pairLines, blocksLine, checkLine, pairLine};
 ghost use Rattle.report.specs.Appending.{textOf, Appended};
 use checker::BlocksVerdict;
 use checker::CheckVerdict;
@@ -19,6 +19,7 @@ pub struct Text {
     pub len: usize,
 }
 
+// Puts a text at a place of the buffer. What this and the functions below return is the place after what they put.
 fn append(out: &mut [u8], at: usize, text: &[u8]) -> usize
     requires { ⌜ at + length (now text) ≤ length (now out) ⌝ }
     ensures { λ r. ⌜ Appended (now (out .entry)) at (now (text .entry)) (now (out .exit)) r ⌝ }
@@ -54,7 +55,7 @@ fn magnitude(n: i64) -> u64
 // A number in base ten, with a minus sign below 0.
 fn append_signed(out: &mut [u8], at: usize, n: i64) -> usize
     requires { ⌜ at + 21 ≤ length (now out) ⌝ }
-    ensures { λ r. ⌜ Appended (now (out .entry)) at (signed n) (now (out .exit)) r × (r ≤ at + 21) ⌝ }
+    ensures { λ r. ⌜ Appended (now (out .entry)) at (signedDecimal n) (now (out .exit)) r × (r ≤ at + 21) ⌝ }
 {
     if n < 0 {
         let next = append(out, at, b"-");

@@ -1,12 +1,12 @@
 -- `append`: after i turns the first i bytes of the text are appended.
 use borrow.Author.Needs.{needs}
 use native.Mathlib.Omega.{arith}
-use mathlib.Core.Path.{_≡_, refl, sym, ap, _∙_, subst}
-use Prim.Native.Nat.{ℕ, zero, suc, _+_, _-_, _*_, _≤_, _<_}
+use mathlib.Core.Path.{_≡_, refl}
+use Prim.Native.Nat.{_+_, _-_, _≤_}
 use native.Mathlib.Nat.{add-zero, add-assoc}
 use native.Mathlib.Numerals.{add-one}
 use lib.Seq.{take-suc, take-all}
-use lib.ListN.{length, getD, take, drop, set, length-set}
+use lib.ListN.{length, getD, take, length-set}
 use Rattle.report.specs.Appending.{Appended}
 use Rattle.report.proofs.Appending.{appended-none, appended-byte}
 use Rattle.report.proofs.append.Statement.{statement}

@@ -1,10 +1,10 @@
 -- `append_hexadecimal`: after i turns the digits of the first i bytes are appended.
 use borrow.Author.Needs.{needs}
 use native.Mathlib.Omega.{arith}
-use mathlib.Core.Path.{_≡_, refl, sym, ap, _∙_}
-use Prim.Native.Nat.{ℕ, _+_, _-_, _*_, _≤_}
+use mathlib.Core.Path.{_≡_, refl}
+use Prim.Native.Nat.{_+_, _-_, _*_, _≤_}
 use lib.Seq.{take-all}
-use lib.ListN.{length, getD, take, length-set}
+use lib.ListN.{length, take, length-set}
 use Rattle.report.specs.Appending.{Appended}
 use Rattle.report.specs.Lines.{hexadecimal}
 use Rattle.report.proofs.Appending.{appended-none, appended-byte}

@@ -1,16 +1,12 @@
+-- `append_number`: the fewest digits that hold the number, which are at most 20.
 use borrow.Author.Needs.{needs}
 use native.Mathlib.Omega.{arith}
-use mathlib.Core.Path.{_≡_, refl, sym, ap, _∙_, subst}
-use Prim.Native.Nat.{ℕ, zero, suc, _+_, _-_, _*_, _≤_, _<_}
+use mathlib.Core.Path.{_∙_}
+use Prim.Native.Nat.{_≤_}
 use lib.Seq.{length-take-le}
-use lib.ListN.{length, getD, take, drop, set, length-set}
 use Rattle.report.proofs.Digits.{fewest-decimal, fewest-short}
 use Rattle.report.proofs.append_number.Statement.{statement}
 use Rattle.report.proofs.append_number.Tie as tie
-use Rattle.report.proofs.append_number.Reads as reads
-use Rattle.report.proofs.append_number.Lts as lts
-use Rattle.io.proofs.decimal.Reads as decimal-reads
-use Rattle.report.proofs.append.Reads as append-reads
 
 short : (c : tie.After-decimal) → c .decimal .result ≤ 20
 short c = let s = c .before .before .before in fewest-short (s .args .n) (c .decimal .result) (s .fits .n .fits) (c .decimal .ensures .1 .0)
@@ -18,26 +14,21 @@ short c = let s = c .before .before .before in fewest-short (s .args .n) (c .dec
 decimal-requires : tie.Need-decimal-requires
 decimal-requires c κs = search needs
 
--- src/lib.rt:39:21
 array-share-prefix-digits : tie.Need-array-share-prefix-digits
 array-share-prefix-digits c = search needs
 
--- src/lib.rt:39:21
 slice-aggregate-append : tie.Need-slice-aggregate-append
 slice-aggregate-append c = search needs
 
--- src/lib.rt:39:5
 append-requires : tie.Need-append-requires
 append-requires c κs =
     let d = c .before .before in
     let s = d .before .before .before in
     omega (arith, s .pre, short d, length-take-le (d .decimal .result) (d .decimal .last .1 .0) (d .decimal .ensures .0 .0))
 
--- src/lib.rt:33:1
 same-length : tie.Need-same-length
 same-length c = search needs
 
--- src/lib.rt:33:1
 returns : tie.Need-returns
 returns c =
     let a = c .before .before in

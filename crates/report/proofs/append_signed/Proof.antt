@@ -2,7 +2,7 @@
 use borrow.Author.Needs.{needs}
 use native.Mathlib.Omega.{arith}
 use mir.Facts.{toZ-ofZ}
-use Rattle.report.specs.Lines.{signed}
+use Rattle.report.specs.Lines.{signedDecimal}
 use Rattle.report.proofs.Appending.{appended-text}
 use Rattle.report.proofs.append_signed.Statement.{statement}
 use Rattle.report.proofs.append_signed.Tie as tie
@@ -23,7 +23,7 @@ same-length : tie.Need-same-length
 same-length c = search needs
 
 returns : tie.Need-returns
-unfolding signed
+unfolding signedDecimal
 returns c =
     let a = c .before .before in
     let m = a .before in
@@ -43,7 +43,7 @@ same-length-2 : tie.Need-same-length-2
 same-length-2 c = search needs
 
 returns-2 : tie.Need-returns-2
-unfolding signed
+unfolding signedDecimal
 returns-2 c =
     let a = c .before .before in
     let m = a .before in

@@ -1,10 +1,8 @@
 -- `cut`: the part that is lent is n bytes long, or nothing is cut off.
 use borrow.Author.Needs.{needs}
 use native.Mathlib.Omega.{arith}
-use mathlib.Core.Path.{_≡_, refl, sym, ap, _∙_, subst}
-use Prim.Native.Nat.{ℕ, zero, suc, _+_, _-_, _*_, _≤_, _<_}
+use mathlib.Core.Path.{sym}
 use lib.Seq.{length-take-le, take-all}
-use lib.ListN.{length, getD, take, drop, set, length-set}
 use Rattle.report.proofs.cut.Statement.{statement}
 use Rattle.report.proofs.cut.Tie as tie
 
