@@ -290,7 +290,7 @@ fn is_pair(basis: &[u64], y: usize, key: u64) -> bool
     false
 }
 
-// Far from the largest number, so that an entry can be added.
+// At most 2^59 in size, so that there is room for an entry.
 fn is_low(z: i64) -> bool
     ensures { λ r. ⌜ (r ≡ true → natAbs z ≤ 2 ^ 59) ⌝ }
 {
@@ -300,7 +300,7 @@ fn is_low(z: i64) -> bool
     z <= 576460752303423488
 }
 
-// Where `lasts` has a place with the product b * b' that a key is.
+// Where `lasts` names a place with this product b * b'.
 fn hint(key: u64) -> usize
     ensures { λ r. ⌜ r < 2048 ⌝ }
 {
@@ -314,8 +314,8 @@ fn wide(x: u16) -> usize
     x as usize
 }
 
-// Moves the entry at place x, as often as it counts, to the place before it that has the same b * b' last, if there is one. `lasts` is
-// only a hint where that is.
+// Moves the entry at place x, as often as it counts, to an earlier place with the same product b * b', if `lasts` names one. What it
+// names is looked at before it is believed.
 fn fold_entry(g: &mut [i64; 4096], basis: &[u64], lasts: &mut [u16; 2048], x: usize)
     requires { ⌜ Bounded (8 * 2 ^ 56) (now basis) × (x < 4096) × Entered (2 ^ 53) (now basis) x (getD (now g) x (pos 0)) × (length (now g) ≡ 4096) ⌝ }
     ensures { λ _. ⌜ Folded (now (basis .entry)) x (now (g .entry)) (now (g .exit)) ⌝ }
