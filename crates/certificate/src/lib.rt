@@ -7,7 +7,7 @@ ghost use Rattle.stream.specs.Operands.{number, signed};
 ghost use Rattle.certificate.specs.Layout.{commandOf, size, decode};
 ghost use Rattle.certificate.specs.Rules.{noHeader, placed, allowed, repeated, full, progressVerdict, readCertificate};
 ghost use Rattle.certificate.specs.Kept.{noProgress, headerOutcome, outcomeOf, headed, advanced, Within, Bounded};
-ghost use Rattle.certificate.specs.Rows.{stands, entryCount, Holds};
+ghost use Rattle.certificate.specs.Rows.{stands, entryCount, Holds, rowAt, afterRow};
 
 pub enum Command {
     Header,
@@ -341,6 +341,23 @@ fn factor_at(s: &[u8], at: usize) -> i16
     ensures { λ r. ⌜ r ≡ signed 15 (number 2 (now (s .entry)) at) ⌝ }
 {
     stream::signed16(stream::number_at(s, at, 2)) as i16
+}
+
+// What a walk needs of a row that it steps over: its basis, and the offset of the command after it.
+pub struct RowHead {
+    pub basis: usize,
+    pub next: usize,
+}
+
+pub fn head_at(s: &[u8], at: usize) -> RowHead
+    requires { ⌜ stands 0x11 (now s) at ≡ true ⌝ }
+    ensures { λ r. ⌜ (r .basis ≡ rowAt (now (s .entry)) at .basis) × (r .next ≡ afterRow (now (s .entry)) at) ⌝ }
+{
+    let here = at + 4;
+    RowHead {
+        basis: stream::number_at(s, at + 1, 1) as usize,
+        next: here + 4 * count_at(s, here),
+    }
 }
 
 // The row that begins at an offset.
