@@ -27,10 +27,10 @@ use Rattle.certificate.proofs.Limits.{shape-within}
 use Rattle.certificate.proofs.Walk.{chain-read}
 use Rattle.identity.specs.Judgement.{Judgement, judge, judgeRead, byBlocks, byIdentity, splitPlace, differenceKey, comparedKeys}
 use Rattle.identity.specs.Judgement as J
-use Rattle.comparison.specs.Places.{Rows, Walkable, placeOf}
+use Rattle.keeping.specs.Places.{Rows, Walkable, placeOf}
+use Rattle.keeping.specs.declared.Place.{Place}
+use Rattle.keeping.specs.declared.Place.the-variants as Place
 use Rattle.comparison.specs.Compare.{differenceOf}
-use Rattle.comparison.specs.declared.Place.{Place}
-use Rattle.comparison.specs.declared.Place.the-variants as Place
 use Rattle.comparison.specs.declared.Difference.{Difference}
 use Rattle.comparison.specs.declared.Difference.the-variants as Difference
 use Rattle.checker.specs.declared.Judged.{Judged}

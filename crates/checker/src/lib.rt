@@ -25,9 +25,9 @@ use certificate::Header;
 use certificate::Shape;
 use comparison::Difference;
 use comparison::Lengths;
-use comparison::Place;
 use fraction::Fraction;
 use joining::Joined;
+use keeping::Place;
 use problem::StoredProblem;
 
 // A refusal, as document 01's table numbers them: number is 0 where nothing is refused, and then the other fields are 0.
@@ -333,7 +333,7 @@ fn judge(
     }
     let labels = j.labels;
     let t = r.header;
-    match comparison::split_place(s, &labels) {
+    match keeping::split_place(s, &labels) {
         Place::At(place) => refuse(stream, 8, place, 0),
         Place::Nowhere => by_identity(stream, t, difference(p, j.len, t, s, keys, high, low)),
     }

@@ -1,11 +1,8 @@
-pub mod Splits
 pub mod Growth
 pub mod Products
 pub mod Claims
 pub mod Spreading
-pub mod Folds
 pub mod Parts
-pub mod Outers
 pub mod Walks
 pub mod Differences
 pub mod Least

@@ -1,59 +1,25 @@
 -- The table of sums, spread over the compared keys entry by entry.
-use mathlib.Core.Path.{_≡_, refl, sym, ap, _∙_}
+use mathlib.Core.Path.{_≡_, refl, ap, _∙_}
 use mathlib.Core.Bool.{Bool, true, false}
 use mathlib.Core.List.{List}
 use mathlib.Core.Logic.{⊎-elim}
-use Prim.Native.Nat.{ℕ, zero, suc, _+_, _-_, _*_, _/_, _%_, _≤_, _<_}
+use Prim.Native.Nat.{ℕ, _+_, _-_, _*_, _%_, _≤_, _<_}
 use native.Mathlib.Nat.{eq-or-lt-of-le}
 use native.Mathlib.Omega.{arith}
-use borrow.Author.Tests.{eq-eqb, ne-eqb, ltb-true, ltb-false}
+use borrow.Author.Tests.{ltb-true, ltb-false}
 use lib.Dec.{ltb}
-use lib.IntN.{ℤ, pos, _+ℤ_, _*ℤ_, +ℤ-idr, zero-*ℤ, one, *ℤ-one, *ℤ-comm}
+use lib.IntN.{ℤ, pos, _*ℤ_}
 use lib.ListN.{length, getD, set, length-set}
 use lib.Seq.{getD-set-same, getD-set-other}
 use Rattle.counting.specs.Counting.{listed}
 use Rattle.polynomial.specs.Terms.{Term, term}
 use Rattle.polynomial.specs.Algebra.{sum}
-use Rattle.identity.specs.Gram.{times}
+use Rattle.gram.specs.Frame.{share, spreadAt, Framed, Entered}
+use Rattle.gram.proofs.Prefixes.{sum-none, sum-more}
+use Rattle.gram.proofs.Frames.{rest-none}
 use Rattle.comparison.specs.Tables.{Ready, Grown}
-use Rattle.comparison.specs.Spread.{entryUnit, share, spreadAt, Framed, Entered, Spread}
+use Rattle.comparison.specs.Spread.{entryUnit, Spread}
 use Rattle.comparison.proofs.Growth.{grown-none, grown-same, grown-then}
-use Rattle.comparison.proofs.Products.{sum-none, sum-more}
-
--- an entry that is not 0 is at indices of the basis
-module _ (c : ℕ) (basis : List ℕ) (x : ℕ) (a : ℤ) (e : Entered c basis x a) (f : a ≡ pos 0 → ⊥) where
-  pub entered-row : x / 64 < length basis
-  entered-row = go (ltb (x / 64) (length basis)) refl
-    where
-      go : (b : Bool) → ltb (x / 64) (length basis) ≡ b → x / 64 < length basis
-      go true q = ltb-true _ _ q
-      go false q = absurd (f (e .row (ltb-false _ _ q)))
-
-  pub entered-column : x % 64 < length basis
-  entered-column = go (ltb (x % 64) (length basis)) refl
-    where
-      go : (b : Bool) → ltb (x % 64) (length basis) ≡ b → x % 64 < length basis
-      go true q = ltb-true _ _ q
-      go false q = absurd (f (e .column (ltb-false _ _ q)))
-
--- ---- how often an entry counts
-module _ (x : ℕ) (a : ℤ) where
-  pub counts-once : x / 64 ≡ x % 64 → a ≡ times x *ℤ a
-  unfolding one
-  counts-once e = rw (eq-eqb (x / 64) (x % 64) e) (sym (*ℤ-comm (pos 1) a ∙ *ℤ-one a))
-
-  pub counts-twice : (x / 64 ≡ x % 64 → ⊥) → pos 2 *ℤ a ≡ times x *ℤ a
-  counts-twice f = rw (ne-eqb (x / 64) (x % 64) f)
-
--- the terms past a place of the table have coefficient 0
-pub rest-none : (m : ℕ → ℤ) (f : ℕ → Term) (n d : ℕ) → ((i : ℕ) → n ≤ i → i < n + d → f i .coefficient ≡ pos 0) → sum m (listed n f) ≡ sum m (listed (n + d) f)
-rest-none m f n zero h = ap (λ (k : ℕ). sum m (listed k f)) (omega arith)
-rest-none m f n (suc d) h =
-    rest-none m f n d (λ i l u. h i l (omega arith))
-    ∙ sym (+ℤ-idr _)
-    ∙ ap (λ (z : ℤ). sum m (listed (n + d) f) +ℤ z) (sym (zero-*ℤ (m (f (n + d) .key))) ∙ ap (λ (z : ℤ). z *ℤ m (f (n + d) .key)) (sym (h (n + d) (omega arith) (omega arith))))
-    ∙ sum-more m f (n + d)
-    ∙ ap (λ (k : ℕ). sum m (listed k f)) (omega arith)
 
 -- ---- the places before x are spread and 0
 pub record Spreading (keys : List ℕ) (n : ℕ) (B : List ℕ) (G : List Term) (g₀ : List ℤ) (hi₀ : List ℤ) (lo₀ : List ℕ) (x : ℕ) (g₁ : List ℤ) (hi₁ : List ℤ) (lo₁ : List ℕ) : Type 0 where

@@ -18,11 +18,11 @@ use Rattle.rounds.specs.Bytes.{part}
 use Rattle.certificate.specs.Rules.{Certificate, shapeOf, readCertificate}
 use Rattle.certificate.specs.declared.Header.{Header}
 use Rattle.identity.specs.Judgement.{comparedKeys}
+use Rattle.gram.specs.Gather.{Shaped}
 use Rattle.comparison.specs.declared.Difference.{Difference}
 use Rattle.comparison.specs.declared.Difference.the-variants.{Same, Differs}
 use Rattle.comparison.specs.declared.Lengths.{Lengths}
 use Rattle.comparison.specs.Spread.{Flattened}
-use Rattle.comparison.specs.Walk.{Shaped}
 
 -- the answer's cases: the key of refusal 9, or none
 abbrev pub differenceOf : Option ℕ → Difference

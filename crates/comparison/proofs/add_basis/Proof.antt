@@ -2,7 +2,7 @@
 use mathlib.Core.Path.{sym, subst}
 use mathlib.Core.Logic.{⊎-elim}
 use borrow.Author.Needs.{needs}
-use Rattle.comparison.specs.Walk.{Gathered}
+use Rattle.gram.specs.Gather.{Gathered}
 use Rattle.comparison.proofs.Walks.{gathered-none, gathered-framed, gathered-summed, spread-below}
 use Rattle.comparison.proofs.add_basis.Statement.{statement}
 use Rattle.comparison.proofs.add_basis.Tie as tie

@@ -8,9 +8,9 @@ use lib.ListN.{length, getD}
 use mir.Facts.{toZ-ofZ}
 use Rattle.integers.proofs.Ranges.{zero-bits}
 use Rattle.polynomial.specs.Terms.{termsIn}
-use Rattle.comparison.specs.Spread.{share}
+use Rattle.gram.specs.Frame.{share}
+use Rattle.gram.proofs.Frames.{entered-row, entered-column}
 use Rattle.comparison.proofs.Growth.{ready-less, grown-none, grown-same}
-use Rattle.comparison.proofs.Spreading.{entered-row, entered-column}
 use Rattle.comparison.proofs.add_entry.Statement.{statement}
 use Rattle.comparison.proofs.add_entry.Tie as tie
 

@@ -1,7 +1,7 @@
 -- `add_rows`: a table of zeros holds no rows.
 use Prim.Native.Nat.{_-_}
 use borrow.Author.Needs.{needs}
-use Rattle.comparison.proofs.Outers.{none-below}
+use Rattle.gram.proofs.Outers.{none-below}
 use Rattle.comparison.proofs.add_rows.Statement.{statement}
 use Rattle.comparison.proofs.add_rows.Tie as tie
 

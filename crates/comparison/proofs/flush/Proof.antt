@@ -6,7 +6,8 @@ use native.Mathlib.Omega.{arith}
 use borrow.Author.Needs.{needs}
 use lib.ListN.{length, getD, take, drop}
 use Rattle.polynomial.specs.Terms.{Term}
-use Rattle.comparison.specs.Spread.{spreadAt, halfAt, Spreadable, Framed}
+use Rattle.gram.specs.Frame.{spreadAt, halfAt, Framed}
+use Rattle.comparison.specs.Spread.{Spreadable}
 use Rattle.comparison.proofs.Spreading.{spread-same}
 use Rattle.comparison.proofs.Parts.{cut-is, basis-end, exponents-end, coefficients-end, basis-long, parts-spreadable, multiplier-is}
 use Rattle.comparison.proofs.flush.Statement.{statement}

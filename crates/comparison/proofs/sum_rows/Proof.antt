@@ -4,7 +4,7 @@ use native.Mathlib.Omega.{arith}
 use borrow.Author.Needs.{needs}
 use Rattle.certificate.specs.Rows.{rowsOf}
 use Rattle.identity.specs.Gram.{byBasis}
-use Rattle.comparison.specs.Outer.{Below}
+use Rattle.gram.specs.Outer.{Below}
 use Rattle.comparison.specs.Walk.{Summed}
 use Rattle.comparison.proofs.Growth.{ready-after}
 use Rattle.comparison.proofs.Walks.{walked-start, walked-more, walked-end}

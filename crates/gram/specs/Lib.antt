@@ -1,0 +1,4 @@
+pub mod Outer
+pub mod Frame
+pub mod Fold
+pub mod Gather

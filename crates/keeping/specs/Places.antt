@@ -1,0 +1,43 @@
+-- Refusal 8 by the bytes: the block numbers are the 576 of the blocks call, and the rows are those of the stream.
+use mathlib.Core.Path.{_≡_}
+use mathlib.Core.List.{List, [], _∷_}
+use mathlib.Core.Option.{Option, none, some}
+use Prim.Native.Nat.{ℕ, _+_, _*_, _≤_, _<_}
+use lib.ListN.{length, getD}
+use Rattle.certificate.specs.Kept.{Within}
+use Rattle.certificate.specs.Rows.{Chain}
+use Rattle.certificate.specs.Rules.{Row}
+use Rattle.certificate.specs.declared.Shape.{Shape}
+use Rattle.certificate.specs.declared.StoredRow.{StoredRow}
+use Rattle.identity.specs.Judgement.{rowSplit, orElse}
+use Rattle.keeping.specs.declared.Place.{Place}
+use Rattle.keeping.specs.declared.Place.the-variants.{At, Nowhere}
+
+-- the answer's cases: the place of refusal 8, or none
+abbrev pub placeOf : Option ℕ → Place
+placeOf (some x) = At x
+placeOf none = Nowhere
+
+-- "byte 64j + i gets the block number of index i in basis j"
+abbrev pub byteAt : List ℕ → ℕ → ℕ → ℕ
+byteAt labels j i = getD labels (64 * j + i) 0
+
+unfoldable pub splitIn : List ℕ → List Row → Option ℕ
+splitIn labels [] = none
+splitIn labels (r ∷ rs) = orElse (rowSplit (byteAt labels (r .basis)) (r .entries)) (splitIn labels rs)
+
+-- ---- what a walk over the rows of a stream needs: there are at most 128, each within the limits of the shape
+pub record Rows (h : Shape) (s : List ℕ) : Type 0 where
+  pub within : Within h
+  pub chain : Chain h s 128 10
+
+pub record Walkable (s : List ℕ) : Type 0 where
+  pub shape : Shape
+  pub rows : Rows shape s
+
+-- a row in arrays, each of whose indices has a block number
+pub record Indexed (r : StoredRow) (labels : List ℕ) : Type 0 where
+  pub few : r .count ≤ 64
+  pub long : length (r .indices) ≡ 64
+  pub within : 64 * r .basis + 64 ≤ length labels
+  pub indices : (k : ℕ) → k < r .count → getD (r .indices) k 0 < 64
