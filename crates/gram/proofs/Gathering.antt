@@ -248,74 +248,16 @@ module _ {s : List ℕ} {j : ℕ} where
         record { holds = λ x h. w .holds x h ∙ ap (λ (rs : List Row). upper x (coefficient x (gram rs))) e; below = small }
 
     -- one row more
-    module _ (bytes : (i : ℕ) → getD s i 0 < 256) (t : stands 0x11 s at ≡ true) (r : StoredRow) (q : Holds s at r) where
+    module _ (t : stands 0x11 s at ≡ true) where
       abbrev o : Onward (w .shape) s (w .left) at
       o = onward (w .chain) t
-
-      pub gathering-entries : Entries (r .indices) (r .factors) (r .count)
-      gathering-entries = row-entries (w .shape) (w .within) s bytes at r q (o .row)
-
-      pub gathering-below : Below (2 ^ 53) g
-      gathering-below = small
-
-      abbrev added : ℕ → ℤ
-      added = outerAt (r .weight) (termsIn (r .count) (r .indices) (r .factors))
-
-      row-low : All (λ (e : Entry). e .index < 64) (rowOf r (at + 4) .entries)
-      row-low =
-          let h = holds-sound s at r q (w .shape) (o .row) in
-          all-map _ _ (λ (e : Entry) b. omega (arith, w .within .sizes (rowOf r (at + 4) .basis))) (rowOf r (at + 4) .entries) (h .indices)
-
-      weight-low : r .weight < 2 ^ 16
-      weight-low = rw (holds-weight s at r q) (number-low s bytes (at + 2))
-
-      added-small : (x : ℕ) → natAbs (added x) ≤ rowUnit
-      unfolding outerAt
-      added-small x = outer-bound _ _ _ gathering-entries (r .weight) weight-low x (r .count) (omega arith)
-
-      row-is : (x : ℕ) → added x ≡ upper x (coefficient x (outer (rowAt s at)))
-      row-is x = outer-is r (at + 4) row-low x ∙ ap (λ (y : Row). upper x (coefficient x (outer y))) (q .row)
-
-      basis-is : r .basis ≡ rowAt s at .basis
-      unfolding rowOf
-      basis-is = ap (λ (y : Row). y .basis) (q .row)
 
       rows-left : rowsFrom (w .left) s at ≡ rowAt s at ∷ rowsFrom (o .left) s (afterRow s at)
       rows-left = ap (λ (m : ℕ). rowsFrom m s at) (o .one-less) ∙ one-row s at (o .left) t
 
-      pub gathering-row : {g₂ : List ℤ} → r .basis ≡ j → Raised g added g₂ → Gathering s j (r .next) g₂
-      unfolding rowsOn
-      gathering-row {g₂} e d =
-          rw (q .next)
-          record {
-            shape = w .shape;
-            within = w .within;
-            left = o .left;
-            few = omega (arith, w .few, o .one-less);
-            chain = o .rest;
-            run = w .run ++ (rowAt s at ∷ []);
-            holds = λ x h.
-                d .there x h
-                ∙ ap (λ (z : ℤ). z +ℤ added x) (w .holds x h)
-                ∙ ap (λ (z : ℤ). upper x (coefficient x (gram (w .run))) +ℤ z) (row-is x)
-                ∙ upper-plus x (coefficient x (gram (w .run))) (coefficient x (outer (rowAt s at)))
-                ∙ ap (upper x) (sym (gram-more x (w .run) (rowAt s at)));
-            below = record {
-              long = d .long;
-              small = λ x h.
-                  let v = ap natAbs (d .there x h) in
-                  omega (arith, abs-sum (getD g x (pos 0)) (added x), w .below .small x h, added-small x, w .few, o .one-less);
-            };
-            same =
-                append-assoc (w .run) (rowAt s at ∷ []) (rowsOn j (rowsFrom (o .left) s (afterRow s at)))
-                ∙ ap (λ (rs : List Row). w .run ++ rs) (sym (rw (rows-left, eq-eqb (rowAt s at .basis) j (sym basis-is ∙ e))))
-                ∙ w .same;
-          }
-
-      pub gathering-other : (r .basis ≡ j → ⊥) → Gathering s j (r .next) g
+      pub gathering-other : (rowAt s at .basis ≡ j → ⊥) → Gathering s j (afterRow s at) g
       unfolding rowsOn
       gathering-other f =
-          rw (q .next)
           record {
             shape = w .shape;
             within = w .within;
@@ -325,5 +267,58 @@ module _ {s : List ℕ} {j : ℕ} where
             run = w .run;
             holds = w .holds;
             below = record { long = w .below .long; small = λ x h. omega (arith, w .below .small x h, w .few, o .one-less) };
-            same = ap (λ (rs : List Row). w .run ++ rs) (sym (rw (rows-left, ne-eqb (rowAt s at .basis) j (λ e. f (basis-is ∙ e))))) ∙ w .same;
+            same = ap (λ (rs : List Row). w .run ++ rs) (sym (rw (rows-left, ne-eqb (rowAt s at .basis) j f))) ∙ w .same;
           }
+
+      module _ (bytes : (i : ℕ) → getD s i 0 < 256) (r : StoredRow) (q : Holds s at r) where
+        pub gathering-entries : Entries (r .indices) (r .factors) (r .count)
+        gathering-entries = row-entries (w .shape) (w .within) s bytes at r q (o .row)
+
+        pub gathering-below : Below (2 ^ 53) g
+        gathering-below = small
+
+        abbrev added : ℕ → ℤ
+        added = outerAt (r .weight) (termsIn (r .count) (r .indices) (r .factors))
+
+        row-low : All (λ (e : Entry). e .index < 64) (rowOf r (at + 4) .entries)
+        row-low =
+            let h = holds-sound s at r q (w .shape) (o .row) in
+            all-map _ _ (λ (e : Entry) b. omega (arith, w .within .sizes (rowOf r (at + 4) .basis))) (rowOf r (at + 4) .entries) (h .indices)
+
+        weight-low : r .weight < 2 ^ 16
+        weight-low = rw (holds-weight s at r q) (number-low s bytes (at + 2))
+
+        added-small : (x : ℕ) → natAbs (added x) ≤ rowUnit
+        unfolding outerAt
+        added-small x = outer-bound _ _ _ gathering-entries (r .weight) weight-low x (r .count) (omega arith)
+
+        row-is : (x : ℕ) → added x ≡ upper x (coefficient x (outer (rowAt s at)))
+        row-is x = outer-is r (at + 4) row-low x ∙ ap (λ (y : Row). upper x (coefficient x (outer y))) (q .row)
+
+        pub gathering-row : {g₂ : List ℤ} → rowAt s at .basis ≡ j → Raised g added g₂ → Gathering s j (afterRow s at) g₂
+        unfolding rowsOn
+        gathering-row {g₂} e d =
+            record {
+              shape = w .shape;
+              within = w .within;
+              left = o .left;
+              few = omega (arith, w .few, o .one-less);
+              chain = o .rest;
+              run = w .run ++ (rowAt s at ∷ []);
+              holds = λ x h.
+                  d .there x h
+                  ∙ ap (λ (z : ℤ). z +ℤ added x) (w .holds x h)
+                  ∙ ap (λ (z : ℤ). upper x (coefficient x (gram (w .run))) +ℤ z) (row-is x)
+                  ∙ upper-plus x (coefficient x (gram (w .run))) (coefficient x (outer (rowAt s at)))
+                  ∙ ap (upper x) (sym (gram-more x (w .run) (rowAt s at)));
+              below = record {
+                long = d .long;
+                small = λ x h.
+                    let v = ap natAbs (d .there x h) in
+                    omega (arith, abs-sum (getD g x (pos 0)) (added x), w .below .small x h, added-small x, w .few, o .one-less);
+              };
+              same =
+                  append-assoc (w .run) (rowAt s at ∷ []) (rowsOn j (rowsFrom (o .left) s (afterRow s at)))
+                  ∙ ap (λ (rs : List Row). w .run ++ rs) (sym (rw (rows-left, eq-eqb (rowAt s at .basis) j e)))
+                  ∙ w .same;
+            }

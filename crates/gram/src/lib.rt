@@ -62,11 +62,12 @@ pub fn add_basis_rows(g: &mut [i64; 4096], s: &[u8], j: usize)
 {
     let mut at = 10;
     while certificate::stands_at(0x11, s, at) {
-        let row = certificate::row_at(s, at);
-        if row.basis == j {
+        let head = certificate::head_at(s, at);
+        if head.basis == j {
+            let row = certificate::row_at(s, at);
             add_outer(g, row);
         }
-        at = row.next;
+        at = head.next;
     }
 }
 
