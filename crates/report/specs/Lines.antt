@@ -42,13 +42,20 @@ abbrev pub hexadecimal : List ℕ → List ℕ
 hexadecimal [] = []
 hexadecimal (b ∷ s) = glyph (b / 16) ∷ (glyph (b % 16) ∷ hexadecimal s)
 
+-- ---- words, each with what stands after it
+abbrev pub withNumber : String → ℕ → List ℕ
+withNumber word n = ascii word ++ decimal n
+
+abbrev pub withRatio : String → Fraction → List ℕ
+withRatio word f = ascii word ++ ratio f
+
 -- ---- "A refusal is one line, `refused` and then number, stream, place and key"
 unfoldable pub refusalLine : Refusal → List ℕ
 refusalLine r =
-    ascii "refused " ++ decimal (r .number)
-    ++ ascii " " ++ decimal (r .stream)
-    ++ ascii " " ++ decimal (r .place)
-    ++ ascii " " ++ decimal (r .key)
+    withNumber "refused " (r .number)
+    ++ withNumber " " (r .stream)
+    ++ withNumber " " (r .place)
+    ++ withNumber " " (r .key)
     ++ ascii "\n"
 
 -- the line of the refusal, or what stands in its place where nothing is refused
@@ -56,39 +63,41 @@ abbrev pub unlessRefused : Refusal → List ℕ → List ℕ
 unlessRefused r lines = cond (ltb 0 (r .number)) (refusalLine r) lines
 
 -- ---- gapcheck: "The lines give p/q, P/Q, the gap and the rounds"; "each line ends in byte 0A"
-unfoldable pub ratioLine : List ℕ → Fraction → List ℕ
-ratioLine name f = name ++ ratio f ++ ascii "\n"
+abbrev pub ratioLine : String → Fraction → List ℕ
+ratioLine word f = withRatio word f ++ ascii "\n"
 
 unfoldable pub pairLines : PairVerdict → List ℕ
 pairLines v =
     unlessRefused (v .refusal)
-    (ratioLine (ascii "lower ") (v .lower)
-    ++ ratioLine (ascii "upper ") (v .upper)
-    ++ ratioLine (ascii "gap ") (v .gap)
-    ++ ascii "rounds " ++ decimal (v .rounds) ++ ascii "\n")
+    (ratioLine "lower " (v .lower)
+    ++ ratioLine "upper " (v .upper)
+    ++ ratioLine "gap " (v .gap)
+    ++ withNumber "rounds " (v .rounds)
+    ++ ascii "\n")
 
 -- ---- replay: one line for each record
 unfoldable pub blocksLine : BlocksVerdict → List ℕ → List ℕ
 blocksLine v out =
     unlessRefused (v .refusal)
-    (ascii "blocks " ++ decimal (v .blocks)
-    ++ ascii " rounds " ++ decimal (v .rounds)
-    ++ ascii " " ++ hexadecimal out
+    (withNumber "blocks " (v .blocks)
+    ++ withNumber " rounds " (v .rounds)
+    ++ ascii " "
+    ++ hexadecimal out
     ++ ascii "\n")
 
 unfoldable pub checkLine : CheckVerdict → List ℕ
 checkLine v =
     unlessRefused (v .refusal)
-    (ascii "check " ++ decimal (v .side)
-    ++ ascii " " ++ ratio (v .bound)
-    ++ ascii " rounds " ++ decimal (v .rounds)
+    (withNumber "check " (v .side)
+    ++ withRatio " " (v .bound)
+    ++ withNumber " rounds " (v .rounds)
     ++ ascii "\n")
 
 unfoldable pub pairLine : PairVerdict → List ℕ
 pairLine v =
     unlessRefused (v .refusal)
-    (ascii "pair " ++ ratio (v .lower)
-    ++ ascii " " ++ ratio (v .upper)
-    ++ ascii " gap " ++ ratio (v .gap)
-    ++ ascii " rounds " ++ decimal (v .rounds)
+    (withRatio "pair " (v .lower)
+    ++ withRatio " " (v .upper)
+    ++ withRatio " gap " (v .gap)
+    ++ withNumber " rounds " (v .rounds)
     ++ ascii "\n")

@@ -1,10 +1,11 @@
 // Verdicts as text: the lines that the programs write, made in a buffer first, each proved equal to its definition.
 ghost use mathlib.Core.Path.{_≡_};
+ghost use mathlib.Core.List.{_++_};
 ghost use Prim.Native.Nat.{_+_, _*_, _≤_, _<_};
 ghost use lib.IntN.{natAbs};
 ghost use lib.ListN.{length, take};
 ghost use Rattle.io.specs.Digits.{glyph};
-ghost use Rattle.report.specs.Lines.{decimal, signedDecimal, ratio, ratioLine, hexadecimal, refusalLine, pairLines, blocksLine, checkLine, pairLine};
+ghost use Rattle.report.specs.Lines.{ascii, decimal, signedDecimal, ratio, hexadecimal, refusalLine, pairLines, blocksLine, checkLine, pairLine};
 ghost use Rattle.report.specs.Appending.{textOf, Appended};
 use checker::BlocksVerdict;
 use checker::CheckVerdict;
@@ -74,14 +75,31 @@ fn append_ratio(out: &mut [u8], at: usize, f: Fraction) -> usize
     append_number(out, b, f.den)
 }
 
-// A line with a name and a fraction.
-fn append_named(out: &mut [u8], at: usize, name: &[u8], f: Fraction) -> usize
-    requires { ⌜ at + length (now name) + 43 ≤ length (now out) ⌝ }
-    ensures { λ r. ⌜ Appended (now (out .entry)) at (ratioLine (now (name .entry)) f) (now (out .exit)) r × (r ≤ at + length (now (name .entry)) + 43) ⌝ }
+// A word and a number after it.
+fn append_with_number(out: &mut [u8], at: usize, word: &[u8], n: u64) -> usize
+    requires { ⌜ at + length (now word) + 20 ≤ length (now out) ⌝ }
+    ensures { λ r. ⌜ Appended (now (out .entry)) at (now (word .entry) ++ decimal n) (now (out .exit)) r × (r ≤ at + length (now (word .entry)) + 20) ⌝ }
 {
-    let a = append(out, at, name);
-    let b = append_ratio(out, a, f);
-    append(out, b, b"\n")
+    let a = append(out, at, word);
+    append_number(out, a, n)
+}
+
+// A word and a fraction after it.
+fn append_with_ratio(out: &mut [u8], at: usize, word: &[u8], f: Fraction) -> usize
+    requires { ⌜ at + length (now word) + 42 ≤ length (now out) ⌝ }
+    ensures { λ r. ⌜ Appended (now (out .entry)) at (now (word .entry) ++ ratio f) (now (out .exit)) r × (r ≤ at + length (now (word .entry)) + 42) ⌝ }
+{
+    let a = append(out, at, word);
+    append_ratio(out, a, f)
+}
+
+// The same as a line.
+fn append_ratio_line(out: &mut [u8], at: usize, word: &[u8], f: Fraction) -> usize
+    requires { ⌜ at + length (now word) + 43 ≤ length (now out) ⌝ }
+    ensures { λ r. ⌜ Appended (now (out .entry)) at (now (word .entry) ++ ratio f ++ ascii "\n") (now (out .exit)) r × (r ≤ at + length (now (word .entry)) + 43) ⌝ }
+{
+    let a = append_with_ratio(out, at, word, f);
+    append(out, a, b"\n")
 }
 
 // The hexadecimal digit of a number below 16.
@@ -114,15 +132,11 @@ fn refusal_line(r: Refusal) -> Text
     ensures { λ t. ⌜ textOf t ≡ refusalLine r ⌝ }
 {
     let mut out = [0u8; 1280];
-    let a = append(&mut out, 0, b"refused ");
-    let b = append_number(&mut out, a, r.number as u64);
-    let c = append(&mut out, b, b" ");
-    let d = append_number(&mut out, c, r.stream as u64);
-    let e = append(&mut out, d, b" ");
-    let f = append_number(&mut out, e, r.place as u64);
-    let g = append(&mut out, f, b" ");
-    let h = append_number(&mut out, g, r.key);
-    let len = append(&mut out, h, b"\n");
+    let a = append_with_number(&mut out, 0, b"refused ", r.number as u64);
+    let b = append_with_number(&mut out, a, b" ", r.stream as u64);
+    let c = append_with_number(&mut out, b, b" ", r.place as u64);
+    let d = append_with_number(&mut out, c, b" ", r.key);
+    let len = append(&mut out, d, b"\n");
     Text { bytes: out, len }
 }
 
@@ -135,12 +149,11 @@ pub fn pair_lines(v: PairVerdict) -> Text
         return refusal_line(r);
     }
     let mut out = [0u8; 1280];
-    let a = append_named(&mut out, 0, b"lower ", v.lower);
-    let b = append_named(&mut out, a, b"upper ", v.upper);
-    let c = append_named(&mut out, b, b"gap ", v.gap);
-    let d = append(&mut out, c, b"rounds ");
-    let e = append_number(&mut out, d, v.rounds as u64);
-    let len = append(&mut out, e, b"\n");
+    let a = append_ratio_line(&mut out, 0, b"lower ", v.lower);
+    let b = append_ratio_line(&mut out, a, b"upper ", v.upper);
+    let c = append_ratio_line(&mut out, b, b"gap ", v.gap);
+    let d = append_with_number(&mut out, c, b"rounds ", v.rounds as u64);
+    let len = append(&mut out, d, b"\n");
     Text { bytes: out, len }
 }
 
@@ -153,13 +166,11 @@ pub fn blocks_line(v: BlocksVerdict, bytes: &[u8; 576]) -> Text
         return refusal_line(r);
     }
     let mut out = [0u8; 1280];
-    let a = append(&mut out, 0, b"blocks ");
-    let b = append_number(&mut out, a, v.blocks as u64);
-    let c = append(&mut out, b, b" rounds ");
-    let d = append_number(&mut out, c, v.rounds as u64);
-    let e = append(&mut out, d, b" ");
-    let f = append_hexadecimal(&mut out, e, bytes);
-    let len = append(&mut out, f, b"\n");
+    let a = append_with_number(&mut out, 0, b"blocks ", v.blocks as u64);
+    let b = append_with_number(&mut out, a, b" rounds ", v.rounds as u64);
+    let c = append(&mut out, b, b" ");
+    let d = append_hexadecimal(&mut out, c, bytes);
+    let len = append(&mut out, d, b"\n");
     Text { bytes: out, len }
 }
 
@@ -172,13 +183,10 @@ pub fn check_line(v: CheckVerdict) -> Text
         return refusal_line(r);
     }
     let mut out = [0u8; 1280];
-    let a = append(&mut out, 0, b"check ");
-    let b = append_number(&mut out, a, v.side as u64);
-    let c = append(&mut out, b, b" ");
-    let d = append_ratio(&mut out, c, v.bound);
-    let e = append(&mut out, d, b" rounds ");
-    let f = append_number(&mut out, e, v.rounds as u64);
-    let len = append(&mut out, f, b"\n");
+    let a = append_with_number(&mut out, 0, b"check ", v.side as u64);
+    let b = append_with_ratio(&mut out, a, b" ", v.bound);
+    let c = append_with_number(&mut out, b, b" rounds ", v.rounds as u64);
+    let len = append(&mut out, c, b"\n");
     Text { bytes: out, len }
 }
 
@@ -191,15 +199,11 @@ pub fn pair_line(v: PairVerdict) -> Text
         return refusal_line(r);
     }
     let mut out = [0u8; 1280];
-    let a = append(&mut out, 0, b"pair ");
-    let b = append_ratio(&mut out, a, v.lower);
-    let c = append(&mut out, b, b" ");
-    let d = append_ratio(&mut out, c, v.upper);
-    let e = append(&mut out, d, b" gap ");
-    let f = append_ratio(&mut out, e, v.gap);
-    let g = append(&mut out, f, b" rounds ");
-    let h = append_number(&mut out, g, v.rounds as u64);
-    let len = append(&mut out, h, b"\n");
+    let a = append_with_ratio(&mut out, 0, b"pair ", v.lower);
+    let b = append_with_ratio(&mut out, a, b" ", v.upper);
+    let c = append_with_ratio(&mut out, b, b" gap ", v.gap);
+    let d = append_with_number(&mut out, c, b" rounds ", v.rounds as u64);
+    let len = append(&mut out, d, b"\n");
     Text { bytes: out, len }
 }
 

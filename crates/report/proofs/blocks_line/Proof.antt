@@ -1,16 +1,10 @@
--- `blocks_line`: the line of the refusal, or seven pieces, one after the other.
+-- `blocks_line`: the line of the refusal, or the pieces, one after the other.
 use borrow.Author.Needs.{needs}
 use borrow.Author.Tests.{lt-ltb, le-ltb}
-use native.Mathlib.Omega.{arith}
-use Prim.Native.Nat.{_≤_}
 use Rattle.report.specs.Lines.{blocksLine}
 use Rattle.report.proofs.Appending.{appended-text}
 use Rattle.report.proofs.blocks_line.Statement.{statement}
 use Rattle.report.proofs.blocks_line.Tie as tie
-
--- what the first five pieces take
-half : (c : tie.After-append3) → c .append3 .result ≤ 56
-half c = search needs
 
 refusal-line-requires : tie.Need-refusal-line-requires
 refusal-line-requires c κs = search needs
@@ -21,6 +15,24 @@ returns c =
     let t = c .before in
     rw (lt-ltb 0 (t .before .before .before .args .v .refusal .number) (t .if1 .taken)) (c .refusal-line .ensures)
 
+slice-aggregate-append-with-number : tie.Need-slice-aggregate-append-with-number
+slice-aggregate-append-with-number c = search needs
+
+slice-aggregate-append-with-number-2 : tie.Need-slice-aggregate-append-with-number-2
+slice-aggregate-append-with-number-2 c = search needs
+
+append-with-number-requires : tie.Need-append-with-number-requires
+append-with-number-requires c κs = search needs
+
+slice-aggregate-append-with-number-3 : tie.Need-slice-aggregate-append-with-number-3
+slice-aggregate-append-with-number-3 c = search needs
+
+slice-aggregate-append-with-number-4 : tie.Need-slice-aggregate-append-with-number-4
+slice-aggregate-append-with-number-4 c = search needs
+
+append-with-number-requires-2 : tie.Need-append-with-number-requires-2
+append-with-number-requires-2 c κs = search needs
+
 slice-aggregate-append : tie.Need-slice-aggregate-append
 slice-aggregate-append c = search needs
 
@@ -30,11 +42,11 @@ slice-aggregate-append-2 c = search needs
 append-requires : tie.Need-append-requires
 append-requires c κs = search needs
 
-slice-aggregate-append-number : tie.Need-slice-aggregate-append-number
-slice-aggregate-append-number c = search needs
+slice-aggregate-append-hexadecimal : tie.Need-slice-aggregate-append-hexadecimal
+slice-aggregate-append-hexadecimal c = search needs
 
-append-number-requires : tie.Need-append-number-requires
-append-number-requires c κs = search needs
+append-hexadecimal-requires : tie.Need-append-hexadecimal-requires
+append-hexadecimal-requires c κs = search needs
 
 slice-aggregate-append-3 : tie.Need-slice-aggregate-append-3
 slice-aggregate-append-3 c = search needs
@@ -45,38 +57,6 @@ slice-aggregate-append-4 c = search needs
 append-requires-2 : tie.Need-append-requires-2
 append-requires-2 c κs = search needs
 
-slice-aggregate-append-number-2 : tie.Need-slice-aggregate-append-number-2
-slice-aggregate-append-number-2 c = search needs
-
-append-number-requires-2 : tie.Need-append-number-requires-2
-append-number-requires-2 c κs = search needs
-
-slice-aggregate-append-5 : tie.Need-slice-aggregate-append-5
-slice-aggregate-append-5 c = search needs
-
-slice-aggregate-append-6 : tie.Need-slice-aggregate-append-6
-slice-aggregate-append-6 c = search needs
-
-append-requires-3 : tie.Need-append-requires-3
-append-requires-3 c κs = search needs
-
-slice-aggregate-append-hexadecimal : tie.Need-slice-aggregate-append-hexadecimal
-slice-aggregate-append-hexadecimal c = search needs
-
-append-hexadecimal-requires : tie.Need-append-hexadecimal-requires
-append-hexadecimal-requires c κs = search needs
-
-slice-aggregate-append-7 : tie.Need-slice-aggregate-append-7
-slice-aggregate-append-7 c = search needs
-
-slice-aggregate-append-8 : tie.Need-slice-aggregate-append-8
-slice-aggregate-append-8 c = search needs
-
-append-requires-4 : tie.Need-append-requires-4
-append-requires-4 c κs =
-    let p1 = c .before .before .before in
-    omega (arith, half (p1 .before .before .before .before), p1 .append-hexadecimal .ensures .1)
-
 returns-2 : tie.Need-returns-2
 unfolding blocksLine
 returns-2 c =
@@ -84,14 +64,10 @@ returns-2 c =
     let p2 = p1 .before .before .before .before in
     let p3 = p2 .before .before .before .before in
     let p4 = p3 .before .before .before .before in
-    let p5 = p4 .before .before .before in
-    let p6 = p5 .before .before .before .before in
-    let p7 = p6 .before .before .before in
-    let t = p7 .before .before .before in
-    let blocks = appended-text (p7 .append .ensures) (p6 .append-number .ensures .0) in
-    let rounds = appended-text (appended-text blocks (p5 .append2 .ensures)) (p4 .append-number2 .ensures .0) in
-    let labels = appended-text (appended-text rounds (p3 .append3 .ensures)) (p2 .append-hexadecimal .ensures .0) in
-    rw (le-ltb 0 (t .before .before .before .args .v .refusal .number) (t .if1 .left)) (appended-text labels (p1 .append4 .ensures) .bytes)
+    let p5 = p4 .before .before .before .before in
+    let t = p5 .before .before .before in
+    let s = t .before .before .before in
+    rw (le-ltb 0 (s .args .v .refusal .number) (t .if1 .left)) (appended-text (appended-text (appended-text (appended-text (p5 .append-with-number .ensures .0) (p4 .append-with-number2 .ensures .0)) (p3 .append .ensures)) (p2 .append-hexadecimal .ensures .0)) (p1 .append2 .ensures) .bytes)
 
 pub blocks-line-spec : {M : Type 1} → statement M
 blocks-line-spec =
@@ -99,22 +75,18 @@ blocks-line-spec =
     (tie.spec
     refusal-line-requires
     returns
+    slice-aggregate-append-with-number
+    slice-aggregate-append-with-number-2
+    append-with-number-requires
+    slice-aggregate-append-with-number-3
+    slice-aggregate-append-with-number-4
+    append-with-number-requires-2
     slice-aggregate-append
     slice-aggregate-append-2
     append-requires
-    slice-aggregate-append-number
-    append-number-requires
+    slice-aggregate-append-hexadecimal
+    append-hexadecimal-requires
     slice-aggregate-append-3
     slice-aggregate-append-4
     append-requires-2
-    slice-aggregate-append-number-2
-    append-number-requires-2
-    slice-aggregate-append-5
-    slice-aggregate-append-6
-    append-requires-3
-    slice-aggregate-append-hexadecimal
-    append-hexadecimal-requires
-    slice-aggregate-append-7
-    slice-aggregate-append-8
-    append-requires-4
     returns-2)
