@@ -24,10 +24,10 @@ use Rattle.identity.specs.Bounds.{BoundedBelow, BoundedAbove, WithinGap}
 use Rattle.identity.proofs.Accepted.{judge-accepted, accepted-judge}
 use Rattle.identity.proofs.Bounds.{identity-below, identity-above, bounds-gap}
 use Rattle.fraction.specs.Fractions.{gapOf}
-use Rattle.checker.specs.declared.Refusal.{Refusal}
+use Rattle.judging.specs.declared.Refusal.{Refusal}
 use Rattle.checker.specs.declared.CheckVerdict.{CheckVerdict}
 use Rattle.checker.specs.declared.PairVerdict.{PairVerdict}
-use Rattle.checker.specs.Refusals.{noRefusal, problemRefusal, certificateRefusal}
+use Rattle.judging.specs.Refusals.{noRefusal, problemRefusal, certificateRefusal}
 use Rattle.checker.specs.Check.{refusedCheck, boundOf, checkJudged, checkOf, checkRead, checkVerdict}
 use Rattle.checker.specs.Pair.{refusedPair, acceptedPair, pairSides, pairSecond, pairFirst, pairOf, pairRead, pairVerdict}
 use Rattle.checker.specs.Promises.{RoundsTaken, FewRounds, AcceptedExactly, BothHold, Stated, PairExactly, HoldsBelow, HoldsAbove, HoldsGap}

@@ -27,7 +27,7 @@ use Rattle.rounds.proofs.Meaning.{labelOf, closing-closed, closing-least, closi
 use Rattle.joining.specs.Joining.{basesOf, startSet, closing, closedSupport, tooLarge, blockTotal}
 use Rattle.joining.proofs.Start.{start-rising}
 use Rattle.checker.specs.declared.BlocksVerdict.{BlocksVerdict}
-use Rattle.checker.specs.Refusals.{noRefusal}
+use Rattle.judging.specs.Refusals.{noRefusal}
 use Rattle.checker.specs.Blocks.{refusedBlocks, blocksOf, blocksRead, blocksVerdict, bytesOf, bytesRead, bytesLeft}
 use Rattle.checker.specs.Promises.{blockAt, Accepted, BlocksClosed, BlocksLeast, BlocksLowest, RoundsTaken, FewRounds, SevenExactly}
 

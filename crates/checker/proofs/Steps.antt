@@ -1,48 +1,80 @@
--- Laws of the steps: what was prepared and judged decides the verdicts of the check and of the pair.
+-- Laws of the steps: what was prepared and judged decides the verdicts of the three calls, and the bytes.
 use mathlib.Core.Path.{_≡_, refl, sym, ap, _∙_}
 use mathlib.Core.Bool.{Bool, true, false, cond}
-use mathlib.Core.List.{List}
-use Prim.Native.Nat.{ℕ, _<_}
-use native.Mathlib.Omega.{arith}
-use borrow.Author.Tests.{eq-eqb, ne-eqb}
+use mathlib.Core.List.{List, _++_}
+use Prim.Native.Nat.{ℕ}
+use lib.ListN.{drop}
 use Rattle.stream.specs.Commands.{Outcome, refused, given}
 use Rattle.problem.specs.Rules.{Problem}
 use Rattle.problem.specs.Stored.{problemOf}
-use Rattle.joining.specs.Joining.{closing, tooLarge}
+use Rattle.problem.specs.declared.StoredProblem.{StoredProblem}
+use Rattle.rounds.specs.Bytes.{blockBytes}
+use Rattle.joining.specs.Joining.{closing, tooLarge, blockTotal}
+use Rattle.joining.specs.declared.Joined.{Joined}
 use Rattle.certificate.specs.Rules.{Certificate}
 use Rattle.identity.specs.Judgement.{Judgement, judge}
 use Rattle.identity.specs.Judgement as J
-use Rattle.checker.specs.declared.Prepared.{Prepared}
-use Rattle.checker.specs.declared.Judged.{Judged}
-use Rattle.checker.specs.declared.Judged.the-variants as Judged
+use Rattle.judging.specs.declared.Judged.{Judged}
+use Rattle.judging.specs.declared.Judged.the-variants as Judged
+use Rattle.judging.specs.Refusals.{noRefusal, problemRefusal}
+use Rattle.judging.specs.Steps.{limited, Joins, judgedOf}
+use Rattle.checker.specs.declared.BlocksVerdict.{BlocksVerdict}
 use Rattle.checker.specs.declared.CheckVerdict.{CheckVerdict}
 use Rattle.checker.specs.declared.PairVerdict.{PairVerdict}
-use Rattle.checker.specs.Refusals.{problemRefusal}
+use Rattle.checker.specs.Blocks.{refusedBlocks, blocksOf, blocksRead, bytesOf, bytesRead}
 use Rattle.checker.specs.Check.{refusedCheck, checkJudged, checkOf, checkRead}
 use Rattle.checker.specs.Pair.{refusedPair, pairSides, pairSecond, pairFirst, pairOf, pairRead}
-use Rattle.checker.specs.Steps.{limited, preparedOf, judgedOf, checkFrom, pairFrom}
+use Rattle.checker.specs.Steps.{checkFrom, pairFrom}
 
--- ---- what is prepared
-module _ (r : Prepared) where
-  pub prepared-refused : 0 < r .number → preparedOf r ≡ refused (r .number) (r .place)
-  unfolding preparedOf
-  prepared-refused h = rw (ne-eqb (r .number) 0 (λ q. omega arith)) refl
-
-  pub prepared-given : r .number ≡ 0 → preparedOf r ≡ given (problemOf (r .problem))
-  unfolding preparedOf
-  prepared-given h = rw (eq-eqb (r .number) 0 h) refl
-
-pub limited-full : (p : Problem) → tooLarge p ≡ true → refused 7 0 ≡ limited (given p)
-limited-full p e = rw e refl
-
-pub limited-given : (p : Problem) → tooLarge p ≡ false → given p ≡ limited (given p)
-limited-given p e = rw e refl
-
--- ---- the check
+-- ---- a problem by commands, then refusal 7: f of a refusal and g of a problem within its limits are F of the reading
 abbrev onOutcome : {A : Type 0} → (ℕ → ℕ → A) → (Problem → A) → Outcome Problem → A
 onOutcome f g (refused number place) = f number place
 onOutcome f g (given p) = g p
 
+module _ {A : Type 0} (f : ℕ → ℕ → A) (g : Problem → A) (F : Outcome Problem → A) (on-refused : (n at : ℕ) → f n at ≡ F (refused n at)) (on-given : (p : Problem) → cond (tooLarge p) (f 7 0) (g p) ≡ F (given p)) where
+  steps : (o : Outcome Problem) → onOutcome f g (limited o) ≡ F o
+  steps (refused n at) = on-refused n at
+  steps (given p) = go (tooLarge p) ∙ on-given p
+    where
+      go : (b : Bool) → onOutcome f g (cond b (refused 7 0) (given p)) ≡ cond b (f 7 0) (g p)
+      go true = refl
+      go false = refl
+
+  from-refused : (o : Outcome Problem) (n at : ℕ) → refused n at ≡ limited o → f n at ≡ F o
+  from-refused o n at e = ap (onOutcome f g) e ∙ steps o
+
+  from-given : (o : Outcome Problem) (p : Problem) → given p ≡ limited o → g p ≡ F o
+  from-given o p e = ap (onOutcome f g) e ∙ steps o
+
+-- ---- the blocks
+abbrev foundBlocks : Problem → BlocksVerdict
+foundBlocks p = record { refusal = noRefusal; blocks = blockTotal p; rounds = closing p .rounds }
+
+abbrev foundBytes : List ℕ → Problem → List ℕ
+foundBytes out p = blockBytes (closing p .state .labels) ++ drop 576 out
+
+module _ (o : Outcome Problem) where
+  pub blocks-refused : (n at : ℕ) → refused n at ≡ limited o → refusedBlocks n at ≡ blocksRead o
+  unfolding blocksOf
+  blocks-refused = from-refused refusedBlocks foundBlocks blocksRead (λ n at. refl) (λ p. refl) o
+
+  pub bytes-refused : (out : List ℕ) (n at : ℕ) → refused n at ≡ limited o → out ≡ bytesRead o out
+  unfolding bytesOf
+  bytes-refused out = from-refused (λ n at. out) (foundBytes out) (λ o. bytesRead o out) (λ n at. refl) (λ p. refl) o
+
+  module _ (p : StoredProblem) (j : Joined) (keys : List ℕ) (joins : Joins p j keys) (e : given (problemOf p) ≡ limited o) where
+    pub blocks-found : record { refusal = noRefusal; blocks = j .blocks; rounds = j .rounds } ≡ blocksRead o
+    unfolding blocksOf blockTotal
+    blocks-found = rw (joins .joining .blocks (joins .few), joins .joining .rounds (joins .few)) (from-given refusedBlocks foundBlocks blocksRead (λ n at. refl) (λ p. refl) o (problemOf p) e)
+
+    pub bytes-found : (out out′ : List ℕ) → out′ ≡ j .labels ++ drop 576 out → out′ ≡ bytesRead o out
+    unfolding bytesOf
+    bytes-found out out′ h =
+        h
+        ∙ ap (λ (l : List ℕ). l ++ drop 576 out) (joins .joining .labels (joins .few))
+        ∙ from-given (λ n at. out) (foundBytes out) (λ o. bytesRead o out) (λ n at. refl) (λ p. refl) o (problemOf p) e
+
+-- ---- the check
 module _ (t : List ℕ) where
   abbrev checking : Outcome Problem → CheckVerdict
   checking = onOutcome (λ n at. refusedCheck (problemRefusal n at)) (λ p. checkJudged p (judge p t))

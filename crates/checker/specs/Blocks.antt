@@ -10,7 +10,7 @@ use Rattle.problem.specs.Rules.{Problem, readProblem}
 use Rattle.rounds.specs.Bytes.{blockBytes}
 use Rattle.joining.specs.Joining.{closing, tooLarge, blockTotal}
 use Rattle.checker.specs.Tables.{tablesShort}
-use Rattle.checker.specs.Refusals.{noRefusal, problemRefusal}
+use Rattle.judging.specs.Refusals.{noRefusal, problemRefusal}
 use Rattle.checker.specs.declared.BlocksVerdict.{BlocksVerdict}
 
 -- ---- refusal 1: "a lent table or the 576 bytes is too short"

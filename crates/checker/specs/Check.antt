@@ -10,9 +10,9 @@ use Rattle.fraction.specs.declared.Fraction.{Fraction}
 use Rattle.certificate.specs.Rules.{Certificate}
 use Rattle.identity.specs.Judgement.{Judgement, judge}
 use Rattle.identity.specs.Judgement as J
-use Rattle.checker.specs.declared.Refusal.{Refusal}
+use Rattle.judging.specs.declared.Refusal.{Refusal}
 use Rattle.checker.specs.declared.CheckVerdict.{CheckVerdict}
-use Rattle.checker.specs.Refusals.{noRefusal, problemRefusal, certificateRefusal}
+use Rattle.judging.specs.Refusals.{noRefusal, problemRefusal, certificateRefusal}
 
 -- "A refusal .. returns number, stream .., place and key; all other fields are 0"
 abbrev pub refusedCheck : Refusal → CheckVerdict

@@ -1,5 +1,4 @@
 pub mod Tables
-pub mod Refusals
 pub mod Blocks
 pub mod Check
 pub mod Pair

@@ -10,9 +10,9 @@ use Rattle.fraction.specs.Fractions.{none, gapOf}
 use Rattle.certificate.specs.Rules.{Certificate}
 use Rattle.identity.specs.Judgement.{Judgement, judge}
 use Rattle.identity.specs.Judgement as J
-use Rattle.checker.specs.declared.Refusal.{Refusal}
+use Rattle.judging.specs.declared.Refusal.{Refusal}
 use Rattle.checker.specs.declared.PairVerdict.{PairVerdict}
-use Rattle.checker.specs.Refusals.{noRefusal, problemRefusal, certificateRefusal}
+use Rattle.judging.specs.Refusals.{noRefusal, problemRefusal, certificateRefusal}
 use Rattle.checker.specs.Check.{boundOf}
 
 abbrev pub refusedPair : Refusal → PairVerdict

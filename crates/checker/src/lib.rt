@@ -1,42 +1,29 @@
-// The public calls.
+// The public calls: the blocks of a problem, the check of one certificate and the pair of two. What they share is in `judging`.
 ghost use mathlib.Core.Path.{_≡_};
-ghost use mathlib.Core.Bool.{true, _||_};
+ghost use mathlib.Core.Bool.{_||_};
 ghost use mathlib.Core.List.{_++_};
 ghost use Prim.Native.Nat.{ℕ, _≤_};
 ghost use lib.Dec.{ltb};
-ghost use lib.ListN.{length, drop, replicate};
+ghost use lib.ListN.{length, drop};
 ghost use lib.IntN.{pos};
 ghost use Rattle.problem.specs.Rules.{readProblem};
-ghost use Rattle.problem.specs.Stored.{problemOf, Kept};
-ghost use Rattle.stream.specs.Commands.{given};
-ghost use Rattle.certificate.specs.Rules.{Certificate, shapeOf, readCertificate};
+ghost use Rattle.problem.specs.Stored.{problemOf};
 ghost use Rattle.identity.specs.Judgement as J;
-ghost use Rattle.comparison.specs.Compare.{differenceOf, Untouched};
-ghost use Rattle.checker.specs.declared.Judged.the-variants as Judged;
 ghost use Rattle.checker.specs.Tables.{tablesShort, tableLeft};
 ghost use Rattle.checker.specs.Blocks.{blocksShort, refusedBlocks, blocksRead, bytesRead, blocksVerdict, bytesLeft};
 ghost use Rattle.fraction.specs.Fractions.{Bound, fraction};
-ghost use Rattle.checker.specs.Refusals.{problemRefusal, certificateRefusal};
+ghost use Rattle.judging.specs.Refusals.{certificateRefusal};
+ghost use Rattle.judging.specs.Steps.{Joins};
 ghost use Rattle.checker.specs.Check.{refusedCheck, checkRead, checkVerdict};
 ghost use Rattle.checker.specs.Pair.{refusedPair, pairFirst, pairRead, pairVerdict};
-ghost use Rattle.checker.specs.Steps.{Prepares, Joins, Compares, Stands, Rest, judgedOf, judgedFrom, checkFrom, sidesFrom, pairFrom};
+ghost use Rattle.checker.specs.Steps.{Rest, checkFrom, sidesFrom, pairFrom};
 ghost use Rattle.checker.specs.Promises.{BlocksClosed, BlocksLeast, BlocksLowest, RoundsTaken, FewRounds, SevenExactly, AcceptedExactly, PairExactly, HoldsBelow, HoldsAbove, HoldsGap};
 use certificate::Header;
-use certificate::Shape;
-use comparison::Difference;
-use comparison::Lengths;
 use fraction::Fraction;
 use joining::Joined;
-use keeping::Place;
+use judging::Judged;
+use judging::Refusal;
 use problem::StoredProblem;
-
-// A refusal, as document 01's table numbers them: number is 0 where nothing is refused, and then the other fields are 0.
-pub struct Refusal {
-    pub number: u8,
-    pub stream: u8,
-    pub place: usize,
-    pub key: u64,
-}
 
 // What the blocks call returns: the number of blocks over all bases, and the rounds of the joining rule. Both are 0 with a refusal.
 pub struct BlocksVerdict {
@@ -62,30 +49,6 @@ pub struct PairVerdict {
     pub upper: Fraction,
     pub gap: Fraction,
     pub rounds: usize,
-}
-
-// A work table's first 2,048 numbers set to zero.
-fn clear(t: &mut [u64])
-    requires { ⌜ 2048 ≤ length (now t) ⌝ }
-    ensures { λ _. ⌜ now (t .exit) ≡ replicate 2048 0 ++ drop 2048 (now (t .entry)) ⌝ }
-{
-    let mut i = 0;
-    while i < 2048 {
-        t[i] = 0;
-        i += 1;
-    }
-}
-
-// The same of the table of signed numbers.
-fn clear_signed(t: &mut [i64])
-    requires { ⌜ 2048 ≤ length (now t) ⌝ }
-    ensures { λ _. ⌜ now (t .exit) ≡ replicate 2048 (pos 0) ++ drop 2048 (now (t .entry)) ⌝ }
-{
-    let mut i = 0;
-    while i < 2048 {
-        t[i] = 0;
-        i += 1;
-    }
 }
 
 // The block numbers written to the lent bytes.
@@ -134,17 +97,12 @@ fn answer_blocks(problem: &[u8], out: &mut [u8], table: &mut [u64]) -> BlocksVer
     requires { ⌜ (576 ≤ length (now out)) × (2048 ≤ length (now table)) ⌝ }
     ensures { λ r. ⌜ (r ≡ blocksRead (readProblem (now (problem .entry)))) × (now (out .exit) ≡ bytesRead (readProblem (now (problem .entry))) (now (out .entry))) × (drop 2048 (now (table .exit)) ≡ drop 2048 (now (table .entry))) ⌝ }
 {
-    let r = problem::read(problem);
+    let r = judging::prepare(problem, table);
     let number = r.number;
     if 0 < number {
         return refuse_blocks(number, r.place);
     }
-    let p = r.problem;
-    let j = joining::join(p, table);
-    let full = j.full;
-    if full {
-        return refuse_blocks(7, 0);
-    }
+    let j = r.joined;
     let labels = j.labels;
     copy(out, &labels);
     BlocksVerdict {
@@ -186,168 +144,10 @@ pub fn blocks(
         return refuse_blocks(1, 0);
     }
     let v = answer_blocks(problem, out, keys);
-    clear(keys);
-    clear_signed(high);
-    clear(low);
+    judging::clear(keys);
+    judging::clear_signed(high);
+    judging::clear(low);
     v
-}
-
-// What becomes of a problem: number is 0 where it is read and within the limit of refusal 7, and then `joined` is what the joining
-// rule gives; else number and place are the refusal's.
-pub struct Prepared {
-    pub number: u8,
-    pub place: usize,
-    pub problem: StoredProblem,
-    pub joined: Joined,
-}
-
-// What becomes of one certificate: a refusal, or it is accepted, and what its first command states.
-pub enum Judged {
-    Refused(Refusal),
-    Accepted(Header),
-}
-
-// What stands in the place of a joining where the problem is refused.
-fn not_joined() -> Joined
-    ensures { λ r. ⌜ r .full ≡ true ⌝ }
-{
-    Joined {
-        full: true,
-        labels: [0; 576],
-        rounds: 0,
-        blocks: 0,
-        len: 0,
-    }
-}
-
-// Reads a problem and joins its blocks. The table then holds the compared keys.
-fn prepare(problem: &[u8], table: &mut [u64]) -> Prepared
-    requires { ⌜ 2048 ≤ length (now table) ⌝ }
-    ensures { λ r. ⌜ Prepares (readProblem (now (problem .entry))) (now (table .entry)) r (now (table .exit)) ⌝ }
-{
-    let r = problem::read(problem);
-    let number = r.number;
-    let p = r.problem;
-    if 0 < number {
-        return Prepared {
-            number,
-            place: r.place,
-            problem: p,
-            joined: not_joined(),
-        };
-    }
-    let j = joining::join(p, table);
-    let full = j.full;
-    Prepared {
-        number: if full { 7 } else { 0 },
-        place: 0,
-        problem: p,
-        joined: j,
-    }
-}
-
-// Whether the identity of a certificate that was read holds; if not, at which key it first differs. The compared keys are the first
-// n numbers of `table`; the sums at them are kept in the other tables, before place 2,048 only.
-fn difference(
-    p: StoredProblem,
-    n: usize,
-    header: Header,
-    s: &[u8],
-    table: &[u64],
-    high: &mut [i64],
-    low: &mut [u64],
-) -> Difference
-    requires { ⌜ Kept p × Compares (problemOf p) n (now table) × Stands (problemOf p) (now s) header × (2048 ≤ length (now high)) × (2048 ≤ length (now low)) ⌝ }
-    ensures { λ r. ⌜ ((c : Certificate) → readCertificate (shapeOf (problemOf p)) (now (s .entry)) ≡ given c → r ≡ differenceOf (J.differenceKey (problemOf p) c)) × Untouched (now (high .entry)) (now (high .exit)) × Untouched (now (low .entry)) (now (low .exit)) ⌝ }
-{
-    clear_signed(high);
-    clear(low);
-    let constraints = p.constraints;
-    let m = problem::multipliers_of(constraints, p.count);
-    let coefficients = problem::coefficients_of(constraints, p.count);
-    let bases = p.keys;
-    let exponents = m.keys;
-    let sizes = p.sizes;
-    let counts = m.counts;
-    let lengths = Lengths { sizes, counts };
-    let objective = p.objective;
-    comparison::compare(
-        s,
-        header,
-        &bases,
-        &exponents,
-        &coefficients,
-        lengths,
-        objective,
-        table,
-        n,
-        high,
-        low,
-    )
-}
-
-// A refusal of a certificate.
-fn refuse(stream: u8, number: u8, place: usize, key: u64) -> Judged
-    ensures { λ r. ⌜ r ≡ Judged.Refused (certificateRefusal stream number place key) ⌝ }
-{
-    Judged::Refused(Refusal {
-        number,
-        stream,
-        place,
-        key,
-    })
-}
-
-// A certificate whose rows keep to the blocks, by its identity.
-fn by_identity(stream: u8, header: Header, found: Difference) -> Judged
-    ensures { λ r. ⌜ r ≡ judgedFrom stream header found ⌝ }
-{
-    match found {
-        Difference::Differs(key) => refuse(stream, 9, 0, key),
-        Difference::Same => Judged::Accepted(header),
-    }
-}
-
-// One certificate against a problem with its blocks: it by commands, 8 by rows, 9.
-fn judge(
-    stream: u8,
-    p: StoredProblem,
-    j: Joined,
-    s: &[u8],
-    keys: &[u64],
-    high: &mut [i64],
-    low: &mut [u64],
-) -> Judged
-    requires { ⌜ Joins p j (now keys) × (2048 ≤ length (now high)) × (2048 ≤ length (now low)) ⌝ }
-    ensures { λ r. ⌜ (r ≡ judgedOf stream (J.judge (problemOf p) (now (s .entry)))) × (drop 2048 (now (high .exit)) ≡ drop 2048 (now (high .entry))) × (drop 2048 (now (low .exit)) ≡ drop 2048 (now (low .entry))) ⌝ }
-{
-    let sizes = p.sizes;
-    let shape = Shape {
-        constraints: p.count,
-        sizes,
-    };
-    let r = certificate::validate(shape, s);
-    let number = r.number;
-    if 0 < number {
-        return refuse(stream, number, r.place, 0);
-    }
-    let labels = j.labels;
-    let t = r.header;
-    match keeping::split_place(s, &labels) {
-        Place::At(place) => refuse(stream, 8, place, 0),
-        Place::Nowhere => by_identity(stream, t, difference(p, j.len, t, s, keys, high, low)),
-    }
-}
-
-fn problem_refusal(number: u8, place: usize) -> Refusal
-    ensures { λ r. ⌜ r ≡ problemRefusal number place ⌝ }
-{
-    Refusal {
-        number,
-        stream: 0,
-        place,
-        key: 0,
-    }
 }
 
 // The bound p/q that a certificate states.
@@ -378,7 +178,7 @@ fn check_one(judged: Judged, rounds: usize) -> CheckVerdict
     match judged {
         Judged::Refused(f) => refuse_check(f),
         Judged::Accepted(t) => CheckVerdict {
-            refusal: problem_refusal(0, 0),
+            refusal: judging::problem_refusal(0, 0),
             side: t.side,
             bound: bound(t.p, t.q),
             rounds,
@@ -397,14 +197,14 @@ fn answer_check(
     requires { ⌜ (2048 ≤ length (now keys)) × (2048 ≤ length (now high)) × (2048 ≤ length (now low)) ⌝ }
     ensures { λ r. ⌜ (r ≡ checkRead (readProblem (now (problem .entry))) (now (certificate .entry))) × Rest (now (keys .entry)) (now (high .entry)) (now (low .entry)) (now (keys .exit)) (now (high .exit)) (now (low .exit)) ⌝ }
 {
-    let r = prepare(problem, keys);
+    let r = judging::prepare(problem, keys);
     let number = r.number;
     if 0 < number {
-        return refuse_check(problem_refusal(number, r.place));
+        return refuse_check(judging::problem_refusal(number, r.place));
     }
     let p = r.problem;
     let j = r.joined;
-    let judged = judge(1, p, j, certificate, keys, high, low);
+    let judged = judging::judge(1, p, j, certificate, keys, high, low);
     check_one(judged, j.rounds)
 }
 
@@ -425,12 +225,12 @@ pub fn check(
     ensures few_rounds { λ r. ⌜ FewRounds (now (problem .entry)) (r .refusal .number) (r .rounds) ⌝ }
 {
     if is_short(keys.len(), high.len(), low.len()) {
-        return refuse_check(problem_refusal(1, 0));
+        return refuse_check(judging::problem_refusal(1, 0));
     }
     let v = answer_check(problem, certificate, keys, high, low);
-    clear(keys);
-    clear_signed(high);
-    clear(low);
+    judging::clear(keys);
+    judging::clear_signed(high);
+    judging::clear(low);
     v
 }
 
@@ -470,7 +270,7 @@ fn pair_sides(lower: Header, upper: Header, rounds: usize) -> PairVerdict
     let a = bound(lower.p, lower.q);
     let b = bound(upper.p, upper.q);
     PairVerdict {
-        refusal: problem_refusal(0, 0),
+        refusal: judging::problem_refusal(0, 0),
         lower: a,
         upper: b,
         gap: a.gap(b),
@@ -501,11 +301,11 @@ fn pair_both(
     requires { ⌜ Joins p j (now keys) × (2048 ≤ length (now high)) × (2048 ≤ length (now low)) ⌝ }
     ensures { λ r. ⌜ (r ≡ pairFirst (problemOf p) (J.judge (problemOf p) (now (first .entry))) (now (second .entry))) × (drop 2048 (now (high .exit)) ≡ drop 2048 (now (high .entry))) × (drop 2048 (now (low .exit)) ≡ drop 2048 (now (low .entry))) ⌝ }
 {
-    match judge(1, p, j, first, keys, high, low) {
+    match judging::judge(1, p, j, first, keys, high, low) {
         Judged::Refused(f) => refuse_pair(f),
         Judged::Accepted(lower) => pair_second(
             lower,
-            judge(2, p, j, second, keys, high, low),
+            judging::judge(2, p, j, second, keys, high, low),
             j.rounds,
         ),
     }
@@ -523,10 +323,10 @@ fn answer_pair(
     requires { ⌜ (2048 ≤ length (now keys)) × (2048 ≤ length (now high)) × (2048 ≤ length (now low)) ⌝ }
     ensures { λ r. ⌜ (r ≡ pairRead (readProblem (now (problem .entry))) (now (first .entry)) (now (second .entry))) × Rest (now (keys .entry)) (now (high .entry)) (now (low .entry)) (now (keys .exit)) (now (high .exit)) (now (low .exit)) ⌝ }
 {
-    let r = prepare(problem, keys);
+    let r = judging::prepare(problem, keys);
     let number = r.number;
     if 0 < number {
-        return refuse_pair(problem_refusal(number, r.place));
+        return refuse_pair(judging::problem_refusal(number, r.place));
     }
     let p = r.problem;
     let j = r.joined;
@@ -554,11 +354,11 @@ pub fn pair(
     ensures few_rounds { λ r. ⌜ FewRounds (now (problem .entry)) (r .refusal .number) (r .rounds) ⌝ }
 {
     if is_short(keys.len(), high.len(), low.len()) {
-        return refuse_pair(problem_refusal(1, 0));
+        return refuse_pair(judging::problem_refusal(1, 0));
     }
     let v = answer_pair(problem, first, second, keys, high, low);
-    clear(keys);
-    clear_signed(high);
-    clear(low);
+    judging::clear(keys);
+    judging::clear_signed(high);
+    judging::clear(low);
     v
 }

@@ -6,7 +6,7 @@ ghost use Rattle.checker.specs.Tables.{tablesShort, tableLeft};
 ghost use Rattle.checker.specs.Blocks.{blocksShort, blocksVerdict, bytesLeft};
 ghost use Rattle.checker.specs.Check.{checkVerdict};
 ghost use Rattle.checker.specs.Pair.{pairVerdict};
-use checker::Refusal;
+use judging::Refusal;
 
 // The number of a refusal, 0 where nothing is refused, as C programs get it.
 fn number_of(r: Refusal) -> u64

@@ -2,7 +2,7 @@
 use mathlib.Core.Path.{_≡_, refl}
 use lib.IntN.{pos, negsuc}
 use Rattle.fraction.specs.Fractions.{fraction}
-use Rattle.checker.specs.Refusals.{noRefusal, certificateRefusal}
+use Rattle.judging.specs.Refusals.{noRefusal, certificateRefusal}
 use Rattle.checker.specs.declared.PairVerdict.{PairVerdict}
 use Rattle.checker.specs.Pair.{refusedPair}
 use Rattle.report.specs.Lines.{ascii, decimal, signedDecimal, ratio, refusalLine, pairLines}

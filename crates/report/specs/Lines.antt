@@ -9,7 +9,7 @@ use lib.IntN.{ℤ, pos, natAbs}
 use lib.Signed.{ltZ}
 use Rattle.io.specs.Digits.{glyph}
 use Rattle.fraction.specs.declared.Fraction.{Fraction}
-use Rattle.checker.specs.declared.Refusal.{Refusal}
+use Rattle.judging.specs.declared.Refusal.{Refusal}
 use Rattle.checker.specs.declared.BlocksVerdict.{BlocksVerdict}
 use Rattle.checker.specs.declared.CheckVerdict.{CheckVerdict}
 use Rattle.checker.specs.declared.PairVerdict.{PairVerdict}

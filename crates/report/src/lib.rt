@@ -10,8 +10,8 @@ ghost use Rattle.report.specs.Appending.{textOf, Appended};
 use checker::BlocksVerdict;
 use checker::CheckVerdict;
 use checker::PairVerdict;
-use checker::Refusal;
 use fraction::Fraction;
+use judging::Refusal;
 
 // A text: the first `len` bytes. The longest, the line of the blocks, has 1,152 digits of bytes, two numbers of at most 20 digits
 // and 17 other characters.

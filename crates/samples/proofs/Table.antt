@@ -19,7 +19,7 @@ use Rattle.rounds.specs.Rounds.{singles, start, joinAll, extendAll, round, same
 use Rattle.rounds.specs.Rounds as Rounds
 use Rattle.rounds.specs.Bytes.{blockBytes}
 use Rattle.joining.specs.Joining.{startFrom, startSet, closing, tooLarge, blockTotal}
-use Rattle.checker.specs.Refusals.{noRefusal}
+use Rattle.judging.specs.Refusals.{noRefusal}
 use Rattle.checker.specs.Blocks.{refusedBlocks, blocksOf, blocksVerdict, bytesOf, bytesLeft}
 use Rattle.checker.specs.declared.BlocksVerdict.{BlocksVerdict}
 use Rattle.certificate.specs.Rules.{shapeOf, progressOf, progressVerdict, readCertificate}
@@ -29,7 +29,7 @@ use Rattle.polynomial.specs.Algebra.{coefficient}
 use Rattle.identity.specs.Identity.{multiplier, square, squares, claim, blockOf}
 use Rattle.identity.specs.Judgement.{firstOutside, rowSplit, splitPlace, firstDifference, comparedKeys, differenceKey, judgeRead, judge}
 use Rattle.fraction.specs.Fractions.{fraction}
-use Rattle.checker.specs.Refusals.{problemRefusal, certificateRefusal}
+use Rattle.judging.specs.Refusals.{problemRefusal, certificateRefusal}
 use Rattle.checker.specs.Check.{refusedCheck, checkOf, checkVerdict}
 use Rattle.checker.specs.Pair.{refusedPair, pairSides, pairOf, pairVerdict}
 use Rattle.checker.specs.declared.CheckVerdict.{CheckVerdict}

@@ -7,8 +7,9 @@ use lib.ListN.{length}
 use Rattle.problem.specs.Rules.{readProblem}
 use Rattle.problem.specs.Stored.{problemOf}
 use Rattle.identity.specs.Judgement.{judge}
-use Rattle.checker.specs.Steps.{Joins}
-use Rattle.checker.proofs.Steps.{prepared-refused, prepared-given, check-refused, check-given, check-judged}
+use Rattle.judging.specs.Steps.{Joins}
+use Rattle.judging.proofs.Preparing.{prepared-refused, prepared-given}
+use Rattle.checker.proofs.Steps.{check-refused, check-given, check-judged}
 use Rattle.checker.proofs.answer_check.Statement.{statement}
 use Rattle.checker.proofs.answer_check.Tie as tie
 

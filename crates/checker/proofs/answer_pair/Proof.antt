@@ -5,8 +5,9 @@ use mathlib.Core.Path.{_≡_, refl, sym, ap, _∙_}
 use Prim.Native.Nat.{ℕ, _≤_}
 use lib.ListN.{length}
 use Rattle.problem.specs.Rules.{readProblem}
-use Rattle.checker.specs.Steps.{Joins}
-use Rattle.checker.proofs.Steps.{prepared-refused, prepared-given, pair-refused, pair-given}
+use Rattle.judging.specs.Steps.{Joins}
+use Rattle.judging.proofs.Preparing.{prepared-refused, prepared-given}
+use Rattle.checker.proofs.Steps.{pair-refused, pair-given}
 use Rattle.checker.proofs.answer_pair.Statement.{statement}
 use Rattle.checker.proofs.answer_pair.Tie as tie
 

@@ -7,11 +7,11 @@ use mir.Val.{toZ, ofZ}
 use Rattle.certificate.specs.declared.Header.{Header}
 use Rattle.fraction.specs.declared.Fraction.{Fraction}
 use Rattle.fraction.specs.Fractions.{fraction}
-use Rattle.checker.specs.declared.Refusal.{Refusal}
+use Rattle.judging.specs.declared.Refusal.{Refusal}
 use Rattle.checker.specs.declared.CheckVerdict.{CheckVerdict}
-use Rattle.checker.specs.declared.Judged.{Judged}
-use Rattle.checker.specs.declared.Judged.the-variants as Judged
-use Rattle.checker.specs.Refusals.{noRefusal}
+use Rattle.judging.specs.declared.Judged.{Judged}
+use Rattle.judging.specs.declared.Judged.the-variants as Judged
+use Rattle.judging.specs.Refusals.{noRefusal}
 use Rattle.checker.specs.Check.{refusedCheck}
 use Rattle.checker.specs.Steps.{checkFrom}
 use Rattle.checker.proofs.check_one.Statement.{statement}

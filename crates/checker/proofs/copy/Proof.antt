@@ -1,5 +1,5 @@
 -- `copy`: after i turns the first i bytes are the labels.
-use Rattle.checker.proofs.Fills.{copy-more}
+use Rattle.checker.proofs.Copies.{copy-more}
 use lib.Seq.{take-all}
 use native.Mathlib.Omega.{arith}
 use mathlib.Core.Path.{_≡_, refl, sym, ap, _∙_}

@@ -9,9 +9,9 @@ use borrow.Author.Tests.{eq-eqb, ne-eqb}
 use Rattle.certificate.specs.declared.Header.{Header}
 use Rattle.fraction.specs.declared.Fraction.{Fraction}
 use Rattle.fraction.specs.Fractions.{fraction, gapOf}
-use Rattle.checker.specs.declared.Refusal.{Refusal}
+use Rattle.judging.specs.declared.Refusal.{Refusal}
 use Rattle.checker.specs.declared.PairVerdict.{PairVerdict}
-use Rattle.checker.specs.Refusals.{noRefusal, certificateRefusal}
+use Rattle.judging.specs.Refusals.{noRefusal, certificateRefusal}
 use Rattle.checker.specs.Pair.{refusedPair}
 use Rattle.checker.specs.Steps.{sidesFrom}
 use Rattle.checker.proofs.pair_sides.Statement.{statement}

@@ -1,20 +1,12 @@
--- Laws of a table that is cleared, and of one that is copied into, from the front.
+-- Laws of bytes that are copied into from the front.
 use mathlib.Core.Path.{_≡_, refl, ap}
 use mathlib.Core.List.{List, [], _∷_, _++_}
 use Prim.Native.Nat.{ℕ, zero, suc, _+_, _<_}
 use native.Mathlib.Nat.{not-suc-le-zero, le-of-suc-le-suc}
 use native.Mathlib.Numerals.{add-one}
-use lib.ListN.{length, set, take, drop, getD, replicate}
+use lib.ListN.{length, set, take, drop, getD}
 
 module _ {A : Type 0} (v : A) where
-  fill-suc : (n : ℕ) (d : List A) → n < length d → set (replicate n v ++ drop n d) n v ≡ replicate (suc n) v ++ drop (suc n) d
-  fill-suc n [] l = absurd (not-suc-le-zero l)
-  fill-suc zero (x ∷ d) l = refl
-  fill-suc (suc n) (x ∷ d) l = ap (λ (t : List A). v ∷ t) (fill-suc n d (le-of-suc-le-suc l))
-
-  pub fill-more : (n : ℕ) (d : List A) → n < length d → set (replicate n v ++ drop n d) n v ≡ replicate (n + 1) v ++ drop (n + 1) d
-  fill-more n d l = rw (add-one n) (fill-suc n d l)
-
   copy-suc : (n : ℕ) (l d : List A) → n < length l → n < length d → set (take n l ++ drop n d) n (getD l n v) ≡ take (suc n) l ++ drop (suc n) d
   copy-suc n [] d h k = absurd (not-suc-le-zero h)
   copy-suc n (y ∷ l) [] h k = absurd (not-suc-le-zero k)

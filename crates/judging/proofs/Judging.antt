@@ -33,10 +33,10 @@ use Rattle.keeping.specs.declared.Place.the-variants as Place
 use Rattle.comparison.specs.Compare.{differenceOf}
 use Rattle.comparison.specs.declared.Difference.{Difference}
 use Rattle.comparison.specs.declared.Difference.the-variants as Difference
-use Rattle.checker.specs.declared.Judged.{Judged}
-use Rattle.checker.specs.declared.Judged.the-variants as Judged
-use Rattle.checker.specs.Refusals.{certificateRefusal}
-use Rattle.checker.specs.Steps.{Joins, Compares, Stands, judgedOf, judgedFrom}
+use Rattle.judging.specs.declared.Judged.{Judged}
+use Rattle.judging.specs.declared.Judged.the-variants as Judged
+use Rattle.judging.specs.Refusals.{certificateRefusal}
+use Rattle.judging.specs.Steps.{Joins, Compares, Stands, judgedOf, judgedFrom}
 
 -- ---- what a certificate is read against
 module _ (p : StoredProblem) (kept : Kept p) where

@@ -1,6 +1,6 @@
 -- Refusals: "number, stream (0 problem, 1 first certificate, 2 second), place and key".
 use Prim.Native.Nat.{ℕ}
-use Rattle.checker.specs.declared.Refusal.{Refusal}
+use Rattle.judging.specs.declared.Refusal.{Refusal}
 
 abbrev pub noRefusal : Refusal
 noRefusal = record { number = 0; stream = 0; place = 0; key = 0 }

@@ -7,9 +7,9 @@ use lib.IntN.{pos}
 use lib.ListN.{length}
 use Rattle.problem.specs.Stored.{problemOf}
 use Rattle.problem.specs.Bases.{Flat, FlatCoefficients}
-use Rattle.checker.proofs.Comparing.{cleared-untouched, zeroed, same-constraints, comparable, compared}
-use Rattle.checker.proofs.difference.Statement.{statement}
-use Rattle.checker.proofs.difference.Tie as tie
+use Rattle.judging.proofs.Comparing.{cleared-untouched, zeroed, same-constraints, comparable, compared}
+use Rattle.judging.proofs.difference.Statement.{statement}
+use Rattle.judging.proofs.difference.Tie as tie
 
 abbrev start : tie.After-multipliers-of → tie.Start
 start c = c .before .before .before .before .before .before .before .before .before .before .before .before

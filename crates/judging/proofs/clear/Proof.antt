@@ -1,5 +1,5 @@
--- `clear_signed`: after i turns the first i numbers are zero.
-use Rattle.checker.proofs.Fills.{fill-more}
+-- `clear`: after i turns the first i numbers are zero.
+use Rattle.judging.proofs.Fills.{fill-more}
 use native.Mathlib.Omega.{arith}
 use mathlib.Core.Path.{_≡_, refl, sym, ap, _∙_}
 use mathlib.Core.Bool.{Bool, true, false}
@@ -8,11 +8,11 @@ use Prim.Native.Nat.{ℕ, zero, suc, _+_, _-_, _*_, _≤_, _<_}
 use lib.ListN.{length, getD, take, drop, set, length-set, replicate}
 use lib.IntN.{ℤ, pos}
 use borrow.Author.Needs.{needs}
-use Rattle.checker.proofs.clear_signed.Statement.{statement}
-use Rattle.checker.proofs.clear_signed.Tie as tie
+use Rattle.judging.proofs.clear.Statement.{statement}
+use Rattle.judging.proofs.clear.Tie as tie
 
 abbrev Inv-loop : tie.InvT-loop
-Inv-loop t₀ i₀ t i = (i ≤ 2048) × (length t ≡ length t₀) × (t ≡ replicate i (pos 0) ++ drop i t₀)
+Inv-loop t₀ i₀ t i = (i ≤ 2048) × (length t ≡ length t₀) × (t ≡ replicate i 0 ++ drop i t₀)
 
 abbrev μ-loop : tie.MeasureT-loop
 μ-loop t₀ i₀ t i = 2048 - i
@@ -23,8 +23,8 @@ loop-holds c = (omega arith, refl, refl)
 mul-t : tie.Need-mul-t Inv-loop μ-loop
 mul-t c = search needs
 
-slice-set-of-t : tie.Need-slice-set-of-t Inv-loop μ-loop
-slice-set-of-t c = search needs
+slice-write-t : tie.Need-slice-write-t Inv-loop μ-loop
+slice-write-t c = search needs
 
 add-i : tie.Need-add-i Inv-loop μ-loop
 add-i c = search needs
@@ -33,23 +33,23 @@ loop-less : tie.Need-loop-less Inv-loop μ-loop
 loop-less c = search needs
 
 loop-again : tie.Need-loop-again Inv-loop μ-loop
-loop-again c = let v = c .before .loop .inv in (omega arith, simp length-set (v .1), ap (λ (l : List ℤ). set l (c .before .loop .i) (pos 0)) (v .2) ∙ fill-more (pos 0) (c .before .loop .i) (c .before .before .args .t .now) (omega (arith, c .before .before .pre)))
+loop-again c = let v = c .before .loop .inv in (omega arith, simp length-set (v .1), ap (λ (l : List ℕ). set l (c .before .loop .i) 0) (v .2) ∙ fill-more 0 (c .before .loop .i) (c .before .before .args .t .now) (omega (arith, c .before .before .pre)))
 
 same-length : tie.Need-same-length Inv-loop μ-loop
 same-length c = c .before .loop .inv .1
 
 returns : tie.Need-returns Inv-loop μ-loop
-returns c = let v = c .before .loop .inv in let e : c .before .loop .i ≡ 2048 = omega arith in v .2 ∙ ap (λ (i : ℕ). replicate i (pos 0) ++ drop i (c .before .before .args .t .now)) e
+returns c = let v = c .before .loop .inv in let e : c .before .loop .i ≡ 2048 = omega arith in v .2 ∙ ap (λ (i : ℕ). replicate i 0 ++ drop i (c .before .before .args .t .now)) e
 
-pub clear-signed-spec : {M : Type 1} → statement M
-clear-signed-spec =
+pub clear-spec : {M : Type 1} → statement M
+clear-spec =
     tie.close
     (tie.spec
     Inv-loop
     μ-loop
     loop-holds
     mul-t
-    slice-set-of-t
+    slice-write-t
     add-i
     loop-less
     loop-again

@@ -18,8 +18,8 @@ use Rattle.joining.proofs.Laid.{arrays}
 use Rattle.certificate.specs.Rules.{Certificate, shapeOf, readCertificate}
 use Rattle.certificate.specs.declared.Header.{Header}
 use Rattle.comparison.specs.Compare.{Zeroed, Comparable, Given, Untouched}
-use Rattle.checker.specs.Steps.{Compares, Stands}
-use Rattle.checker.proofs.Judging.{sizes-are, rows-of}
+use Rattle.judging.specs.Steps.{Compares, Stands}
+use Rattle.judging.proofs.Judging.{sizes-are, rows-of}
 
 -- ---- a cleared table
 module _ {A : Type 0} (z : A) (t t′ : List A) (cleared : t′ ≡ replicate 2048 z ++ drop 2048 t) where

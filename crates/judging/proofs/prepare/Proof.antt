@@ -8,11 +8,10 @@ use Rattle.stream.specs.Commands.{given}
 use Rattle.problem.specs.Rules.{readProblem}
 use Rattle.problem.specs.Stored.{problemOf}
 use Rattle.problem.proofs.Limits.{read-limits}
-use Rattle.checker.specs.Steps.{limited}
-use Rattle.checker.proofs.Verdicts.{reading-refused, reading-given, full-is}
-use Rattle.checker.proofs.Steps.{prepared-refused, prepared-given, limited-full, limited-given}
-use Rattle.checker.proofs.prepare.Statement.{statement}
-use Rattle.checker.proofs.prepare.Tie as tie
+use Rattle.judging.specs.Steps.{limited}
+use Rattle.judging.proofs.Preparing.{reading-refused, reading-given, full-is, prepared-refused, prepared-given, limited-full, limited-given}
+use Rattle.judging.proofs.prepare.Statement.{statement}
+use Rattle.judging.proofs.prepare.Tie as tie
 
 -- the problem that the stream gives
 is-given : (c : tie.Else1) → readProblem (c .before .before .before .before .before .args .problem .now) ≡ given (problemOf (c .before .before .read .result .problem))

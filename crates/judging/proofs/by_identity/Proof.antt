@@ -5,12 +5,12 @@ use Prim.Native.Nat.{ℕ}
 use Rattle.certificate.specs.declared.Header.{Header}
 use Rattle.comparison.specs.declared.Difference.{Difference}
 use Rattle.comparison.specs.declared.Difference.the-variants as Difference
-use Rattle.checker.specs.declared.Judged.{Judged}
-use Rattle.checker.specs.declared.Judged.the-variants as Judged
-use Rattle.checker.specs.Refusals.{certificateRefusal}
-use Rattle.checker.specs.Steps.{judgedFrom}
-use Rattle.checker.proofs.by_identity.Statement.{statement}
-use Rattle.checker.proofs.by_identity.Tie as tie
+use Rattle.judging.specs.declared.Judged.{Judged}
+use Rattle.judging.specs.declared.Judged.the-variants as Judged
+use Rattle.judging.specs.Refusals.{certificateRefusal}
+use Rattle.judging.specs.Steps.{judgedFrom}
+use Rattle.judging.proofs.by_identity.Statement.{statement}
+use Rattle.judging.proofs.by_identity.Tie as tie
 
 module _ (stream : ℕ) (t : Header) (d : Difference) where
   differs : (k : ℕ) (j : Judged) → d ≡ Difference.Differs k → j ≡ Judged.Refused (certificateRefusal stream 9 0 k) → j ≡ judgedFrom stream t d

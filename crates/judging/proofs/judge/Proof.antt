@@ -10,10 +10,10 @@ use Rattle.rounds.proofs.Flat.{bytes-long}
 use Rattle.certificate.specs.Rules.{shapeOf, readCertificate}
 use Rattle.certificate.specs.Kept.{headerOutcome, outcomeOf}
 use Rattle.certificate.specs.declared.Shape.{Shape}
-use Rattle.checker.specs.Steps.{Stands}
-use Rattle.checker.proofs.Judging.{shape-is, joins-compare, certificate-refused, certificate-given, walkable, judge-refused, judge-split, judge-compared}
-use Rattle.checker.proofs.judge.Statement.{statement}
-use Rattle.checker.proofs.judge.Tie as tie
+use Rattle.judging.specs.Steps.{Stands}
+use Rattle.judging.proofs.Judging.{shape-is, joins-compare, certificate-refused, certificate-given, walkable, judge-refused, judge-split, judge-compared}
+use Rattle.judging.proofs.judge.Statement.{statement}
+use Rattle.judging.proofs.judge.Tie as tie
 
 -- the problem
 abbrev P : tie.Start → Problem

@@ -1,0 +1,4 @@
+pub mod Fills
+pub mod Preparing
+pub mod Judging
+pub mod Comparing

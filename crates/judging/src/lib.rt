@@ -1,0 +1,214 @@
+// What the public calls share: a problem that is read and joined, one certificate that is judged against it, and the work tables
+// that are cleared.
+ghost use mathlib.Core.Path.{_≡_};
+ghost use mathlib.Core.Bool.{true};
+ghost use mathlib.Core.List.{_++_};
+ghost use Prim.Native.Nat.{ℕ, _≤_};
+ghost use lib.ListN.{length, drop, replicate};
+ghost use lib.IntN.{pos};
+ghost use Rattle.problem.specs.Rules.{readProblem};
+ghost use Rattle.problem.specs.Stored.{problemOf, Kept};
+ghost use Rattle.stream.specs.Commands.{given};
+ghost use Rattle.certificate.specs.Rules.{Certificate, shapeOf, readCertificate};
+ghost use Rattle.identity.specs.Judgement as J;
+ghost use Rattle.comparison.specs.Compare.{differenceOf, Untouched};
+ghost use Rattle.judging.specs.declared.Judged.the-variants as Judged;
+ghost use Rattle.judging.specs.Refusals.{problemRefusal, certificateRefusal};
+ghost use Rattle.judging.specs.Steps.{Prepares, Joins, Compares, Stands, judgedOf, judgedFrom};
+use certificate::Header;
+use certificate::Shape;
+use comparison::Difference;
+use comparison::Lengths;
+use joining::Joined;
+use keeping::Place;
+use problem::StoredProblem;
+
+// A refusal, as document 01's table numbers them: number is 0 where nothing is refused, and then the other fields are 0.
+pub struct Refusal {
+    pub number: u8,
+    pub stream: u8,
+    pub place: usize,
+    pub key: u64,
+}
+
+// What becomes of a problem: number is 0 where it is read and within the limit of refusal 7, and then `joined` is what the joining
+// rule gives; else number and place are the refusal's.
+pub struct Prepared {
+    pub number: u8,
+    pub place: usize,
+    pub problem: StoredProblem,
+    pub joined: Joined,
+}
+
+// What becomes of one certificate: a refusal, or it is accepted, and what its first command states.
+pub enum Judged {
+    Refused(Refusal),
+    Accepted(Header),
+}
+
+// A work table's first 2,048 numbers set to zero.
+pub fn clear(t: &mut [u64])
+    requires { ⌜ 2048 ≤ length (now t) ⌝ }
+    ensures { λ _. ⌜ now (t .exit) ≡ replicate 2048 0 ++ drop 2048 (now (t .entry)) ⌝ }
+{
+    let mut i = 0;
+    while i < 2048 {
+        t[i] = 0;
+        i += 1;
+    }
+}
+
+// The same of the table of signed numbers.
+pub fn clear_signed(t: &mut [i64])
+    requires { ⌜ 2048 ≤ length (now t) ⌝ }
+    ensures { λ _. ⌜ now (t .exit) ≡ replicate 2048 (pos 0) ++ drop 2048 (now (t .entry)) ⌝ }
+{
+    let mut i = 0;
+    while i < 2048 {
+        t[i] = 0;
+        i += 1;
+    }
+}
+
+// What stands in the place of a joining where the problem is refused.
+fn not_joined() -> Joined
+    ensures { λ r. ⌜ r .full ≡ true ⌝ }
+{
+    Joined {
+        full: true,
+        labels: [0; 576],
+        rounds: 0,
+        blocks: 0,
+        len: 0,
+    }
+}
+
+// Reads a problem and joins its blocks. The table then holds the compared keys.
+pub fn prepare(problem: &[u8], table: &mut [u64]) -> Prepared
+    requires { ⌜ 2048 ≤ length (now table) ⌝ }
+    ensures { λ r. ⌜ Prepares (readProblem (now (problem .entry))) (now (table .entry)) r (now (table .exit)) ⌝ }
+{
+    let r = problem::read(problem);
+    let number = r.number;
+    let p = r.problem;
+    if 0 < number {
+        return Prepared {
+            number,
+            place: r.place,
+            problem: p,
+            joined: not_joined(),
+        };
+    }
+    let j = joining::join(p, table);
+    let full = j.full;
+    Prepared {
+        number: if full { 7 } else { 0 },
+        place: 0,
+        problem: p,
+        joined: j,
+    }
+}
+
+// Whether the identity of a certificate that was read holds; if not, at which key it first differs. The compared keys are the first
+// n numbers of `table`; the sums at them are kept in the other tables, before place 2,048 only.
+fn difference(
+    p: StoredProblem,
+    n: usize,
+    header: Header,
+    s: &[u8],
+    table: &[u64],
+    high: &mut [i64],
+    low: &mut [u64],
+) -> Difference
+    requires { ⌜ Kept p × Compares (problemOf p) n (now table) × Stands (problemOf p) (now s) header × (2048 ≤ length (now high)) × (2048 ≤ length (now low)) ⌝ }
+    ensures { λ r. ⌜ ((c : Certificate) → readCertificate (shapeOf (problemOf p)) (now (s .entry)) ≡ given c → r ≡ differenceOf (J.differenceKey (problemOf p) c)) × Untouched (now (high .entry)) (now (high .exit)) × Untouched (now (low .entry)) (now (low .exit)) ⌝ }
+{
+    clear_signed(high);
+    clear(low);
+    let constraints = p.constraints;
+    let m = problem::multipliers_of(constraints, p.count);
+    let coefficients = problem::coefficients_of(constraints, p.count);
+    let bases = p.keys;
+    let exponents = m.keys;
+    let sizes = p.sizes;
+    let counts = m.counts;
+    let lengths = Lengths { sizes, counts };
+    let objective = p.objective;
+    comparison::compare(
+        s,
+        header,
+        &bases,
+        &exponents,
+        &coefficients,
+        lengths,
+        objective,
+        table,
+        n,
+        high,
+        low,
+    )
+}
+
+// A refusal of a certificate.
+fn refuse(stream: u8, number: u8, place: usize, key: u64) -> Judged
+    ensures { λ r. ⌜ r ≡ Judged.Refused (certificateRefusal stream number place key) ⌝ }
+{
+    Judged::Refused(Refusal {
+        number,
+        stream,
+        place,
+        key,
+    })
+}
+
+// A certificate whose rows keep to the blocks, by its identity.
+fn by_identity(stream: u8, header: Header, found: Difference) -> Judged
+    ensures { λ r. ⌜ r ≡ judgedFrom stream header found ⌝ }
+{
+    match found {
+        Difference::Differs(key) => refuse(stream, 9, 0, key),
+        Difference::Same => Judged::Accepted(header),
+    }
+}
+
+// One certificate against a problem with its blocks: it by commands, 8 by rows, 9.
+pub fn judge(
+    stream: u8,
+    p: StoredProblem,
+    j: Joined,
+    s: &[u8],
+    keys: &[u64],
+    high: &mut [i64],
+    low: &mut [u64],
+) -> Judged
+    requires { ⌜ Joins p j (now keys) × (2048 ≤ length (now high)) × (2048 ≤ length (now low)) ⌝ }
+    ensures { λ r. ⌜ (r ≡ judgedOf stream (J.judge (problemOf p) (now (s .entry)))) × (drop 2048 (now (high .exit)) ≡ drop 2048 (now (high .entry))) × (drop 2048 (now (low .exit)) ≡ drop 2048 (now (low .entry))) ⌝ }
+{
+    let sizes = p.sizes;
+    let shape = Shape {
+        constraints: p.count,
+        sizes,
+    };
+    let r = certificate::validate(shape, s);
+    let number = r.number;
+    if 0 < number {
+        return refuse(stream, number, r.place, 0);
+    }
+    let labels = j.labels;
+    let t = r.header;
+    match keeping::split_place(s, &labels) {
+        Place::At(place) => refuse(stream, 8, place, 0),
+        Place::Nowhere => by_identity(stream, t, difference(p, j.len, t, s, keys, high, low)),
+    }
+}
+
+pub fn problem_refusal(number: u8, place: usize) -> Refusal
+    ensures { λ r. ⌜ r ≡ problemRefusal number place ⌝ }
+{
+    Refusal {
+        number,
+        stream: 0,
+        place,
+        key: 0,
+    }
+}
