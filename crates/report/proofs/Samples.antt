@@ -5,17 +5,17 @@ use Rattle.fraction.specs.Fractions.{fraction}
 use Rattle.judging.specs.Refusals.{noRefusal, certificateRefusal}
 use Rattle.checker.specs.declared.PairVerdict.{PairVerdict}
 use Rattle.checker.specs.Pair.{refusedPair}
-use Rattle.report.specs.Lines.{ascii, decimal, signedDecimal, ratio, refusalLine, pairLines}
+use Rattle.report.specs.Lines.{ascii, decimal, signedDecimal, ratio, refusalLine, pairWords, pairLines}
 
 abbrev pub caseF : PairVerdict
 caseF = record { refusal = noRefusal; lower = fraction (negsuc 0) 1; upper = fraction (pos 1) 1; gap = fraction (pos 2) 1; rounds = 2 }
 
 pub lines-of-F : pairLines caseF ≡ ascii "lower -1/1\nupper 1/1\ngap 2/1\nrounds 2\n"
-unfolding pairLines ratio signedDecimal decimal refusalLine
+unfolding pairWords ratio signedDecimal decimal refusalLine
 lines-of-F = refl
 
 pub lines-of-B : pairLines (refusedPair (certificateRefusal 1 9 0 0)) ≡ ascii "refused 9 1 0 0\n"
-unfolding pairLines ratio signedDecimal decimal refusalLine
+unfolding pairWords ratio signedDecimal decimal refusalLine
 lines-of-B = refl
 
 pub least : signedDecimal (negsuc 9223372036854775807) ≡ ascii "-9223372036854775808"

@@ -62,18 +62,19 @@ refusalLine r =
 abbrev pub unlessRefused : Refusal → List ℕ → List ℕ
 unlessRefused r lines = cond (ltb 0 (r .number)) (refusalLine r) lines
 
--- ---- gapcheck: "The lines give p/q, P/Q, the gap and the rounds"; "each line ends in byte 0A"
-abbrev pub ratioLine : String → Fraction → List ℕ
-ratioLine word f = withRatio word f ++ ascii "\n"
-
-unfoldable pub pairLines : PairVerdict → List ℕ
-pairLines v =
+-- the bounds, the gap and the rounds of the pair, with the words that stand before each
+unfoldable pub pairWords : List ℕ → List ℕ → List ℕ → List ℕ → PairVerdict → List ℕ
+pairWords lower upper gap rounds v =
     unlessRefused (v .refusal)
-    (ratioLine "lower " (v .lower)
-    ++ ratioLine "upper " (v .upper)
-    ++ ratioLine "gap " (v .gap)
-    ++ withNumber "rounds " (v .rounds)
+    ((lower ++ ratio (v .lower))
+    ++ (upper ++ ratio (v .upper))
+    ++ (gap ++ ratio (v .gap))
+    ++ (rounds ++ decimal (v .rounds))
     ++ ascii "\n")
+
+-- ---- gapcheck: "The lines give p/q, P/Q, the gap and the rounds"; "each line ends in byte 0A"
+abbrev pub pairLines : PairVerdict → List ℕ
+pairLines v = pairWords (ascii "lower ") (ascii "\nupper ") (ascii "\ngap ") (ascii "\nrounds ") v
 
 -- ---- replay: one line for each record
 unfoldable pub blocksLine : BlocksVerdict → List ℕ → List ℕ
@@ -93,11 +94,5 @@ checkLine v =
     ++ withNumber " rounds " (v .rounds)
     ++ ascii "\n")
 
-unfoldable pub pairLine : PairVerdict → List ℕ
-pairLine v =
-    unlessRefused (v .refusal)
-    (withRatio "pair " (v .lower)
-    ++ withRatio " " (v .upper)
-    ++ withRatio " gap " (v .gap)
-    ++ withNumber " rounds " (v .rounds)
-    ++ ascii "\n")
+abbrev pub pairLine : PairVerdict → List ℕ
+pairLine v = pairWords (ascii "pair ") (ascii " ") (ascii " gap ") (ascii " rounds ") v

@@ -5,7 +5,7 @@ ghost use Prim.Native.Nat.{_+_, _*_, _≤_, _<_};
 ghost use lib.IntN.{natAbs};
 ghost use lib.ListN.{length, take};
 ghost use Rattle.io.specs.Digits.{glyph};
-ghost use Rattle.report.specs.Lines.{ascii, decimal, signedDecimal, ratio, hexadecimal, refusalLine, pairLines, blocksLine, checkLine, pairLine};
+ghost use Rattle.report.specs.Lines.{ascii, decimal, signedDecimal, ratio, hexadecimal, refusalLine, pairWords, pairLines, blocksLine, checkLine, pairLine};
 ghost use Rattle.report.specs.Appending.{textOf, Appended};
 use checker::BlocksVerdict;
 use checker::CheckVerdict;
@@ -93,15 +93,6 @@ fn append_with_ratio(out: &mut [u8], at: usize, word: &[u8], f: Fraction) -> usi
     append_ratio(out, a, f)
 }
 
-// The same as a line.
-fn append_ratio_line(out: &mut [u8], at: usize, word: &[u8], f: Fraction) -> usize
-    requires { ⌜ at + length (now word) + 43 ≤ length (now out) ⌝ }
-    ensures { λ r. ⌜ Appended (now (out .entry)) at (now (word .entry) ++ ratio f ++ ascii "\n") (now (out .exit)) r × (r ≤ at + length (now (word .entry)) + 43) ⌝ }
-{
-    let a = append_with_ratio(out, at, word, f);
-    append(out, a, b"\n")
-}
-
 // The hexadecimal digit of a number below 16.
 fn digit(n: u8) -> u8
     requires { ⌜ n < 16 ⌝ }
@@ -140,21 +131,29 @@ fn refusal_line(r: Refusal) -> Text
     Text { bytes: out, len }
 }
 
-// What gapcheck writes: the bounds, the gap and the rounds, a line each, or the line of the refusal.
-pub fn pair_lines(v: PairVerdict) -> Text
-    ensures { λ t. ⌜ textOf t ≡ pairLines v ⌝ }
+// A verdict of the pair: the bounds, the gap and the rounds, with the word that stands before each; or the line of the refusal.
+fn pair_words(v: PairVerdict, lower: &[u8], upper: &[u8], gap: &[u8], rounds: &[u8]) -> Text
+    requires { ⌜ length (now lower) + length (now upper) + length (now gap) + length (now rounds) ≤ 256 ⌝ }
+    ensures { λ t. ⌜ textOf t ≡ pairWords (now (lower .entry)) (now (upper .entry)) (now (gap .entry)) (now (rounds .entry)) v ⌝ }
 {
     let r = v.refusal;
     if 0 < r.number {
         return refusal_line(r);
     }
     let mut out = [0u8; 1280];
-    let a = append_ratio_line(&mut out, 0, b"lower ", v.lower);
-    let b = append_ratio_line(&mut out, a, b"upper ", v.upper);
-    let c = append_ratio_line(&mut out, b, b"gap ", v.gap);
-    let d = append_with_number(&mut out, c, b"rounds ", v.rounds as u64);
+    let a = append_with_ratio(&mut out, 0, lower, v.lower);
+    let b = append_with_ratio(&mut out, a, upper, v.upper);
+    let c = append_with_ratio(&mut out, b, gap, v.gap);
+    let d = append_with_number(&mut out, c, rounds, v.rounds as u64);
     let len = append(&mut out, d, b"\n");
     Text { bytes: out, len }
+}
+
+// What gapcheck writes: the bounds, the gap and the rounds, a line each, or the line of the refusal.
+pub fn pair_lines(v: PairVerdict) -> Text
+    ensures { λ t. ⌜ textOf t ≡ pairLines v ⌝ }
+{
+    pair_words(v, b"lower ", b"\nupper ", b"\ngap ", b"\nrounds ")
 }
 
 // The line of the blocks call, with the 576 bytes that it left, or that of the refusal.
@@ -194,17 +193,7 @@ pub fn check_line(v: CheckVerdict) -> Text
 pub fn pair_line(v: PairVerdict) -> Text
     ensures { λ t. ⌜ textOf t ≡ pairLine v ⌝ }
 {
-    let r = v.refusal;
-    if 0 < r.number {
-        return refusal_line(r);
-    }
-    let mut out = [0u8; 1280];
-    let a = append_with_ratio(&mut out, 0, b"pair ", v.lower);
-    let b = append_with_ratio(&mut out, a, b" ", v.upper);
-    let c = append_with_ratio(&mut out, b, b" gap ", v.gap);
-    let d = append_with_number(&mut out, c, b" rounds ", v.rounds as u64);
-    let len = append(&mut out, d, b"\n");
-    Text { bytes: out, len }
+    pair_words(v, b"pair ", b" ", b" gap ", b" rounds ")
 }
 
 // The first n bytes, or all.
