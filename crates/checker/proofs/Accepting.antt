@@ -115,7 +115,7 @@ record Paired (short : Bool) (s low high : List ℕ) (p : Problem) : Type 0 wher
   second-judged : judge p high ≡ J.accepted second
   lower : first .header .side ≡ 0
   upper : second .header .side ≡ 1
-  verdict : pairVerdict short s low high ≡ acceptedPair p first second
+  verdict : pairVerdict short s low high ≡ acceptedPair (first .header) (second .header) (closing p .rounds)
 
 module _ (short : Bool) (s low high : List ℕ) where
   module _ (p : Problem) (read : readProblem s ≡ given p) where
@@ -139,8 +139,8 @@ module _ (short : Bool) (s low high : List ℕ) where
     paired h = go short (tooLarge p) (judge p low) refl (judge p high) refl (open-verdict short (tooLarge p) (judge p low) (judge p high) refl refl refl) (ap (λ (v : PairVerdict). v .refusal .number) (sym (open-verdict short (tooLarge p) (judge p low) (judge p high) refl refl refl)) ∙ h)
       where
         sides : (c d : Certificate) (x y : Bool) → eqb (c .header .side) 0 ≡ x → eqb (d .header .side) 1 ≡ y → judge p low ≡ J.accepted c → judge p high ≡ J.accepted d
-            → pairVerdict short s low high ≡ cond x (cond y (acceptedPair p c d) (refusedPair (certificateRefusal 2 10 0 0))) (refusedPair (certificateRefusal 1 10 0 0))
-            → cond x (cond y (acceptedPair p c d) (refusedPair (certificateRefusal 2 10 0 0))) (refusedPair (certificateRefusal 1 10 0 0)) .refusal .number ≡ 0 → Paired short s low high p
+            → pairVerdict short s low high ≡ cond x (cond y (acceptedPair (c .header) (d .header) (closing p .rounds)) (refusedPair (certificateRefusal 2 10 0 0))) (refusedPair (certificateRefusal 1 10 0 0))
+            → cond x (cond y (acceptedPair (c .header) (d .header) (closing p .rounds)) (refusedPair (certificateRefusal 2 10 0 0))) (refusedPair (certificateRefusal 1 10 0 0)) .refusal .number ≡ 0 → Paired short s low high p
         sides c d true true e f g h v n = record { first = c; second = d; first-judged = g; second-judged = h; lower = eqb-true _ _ e; upper = eqb-true _ _ f; verdict = v }
         sides c d true false e f g h v n = zero-not 10 (omega arith) n
         sides c d false y e f g h v n = zero-not 10 (omega arith) n

@@ -23,7 +23,7 @@ use Rattle.checker.specs.declared.CheckVerdict.{CheckVerdict}
 use Rattle.checker.specs.declared.PairVerdict.{PairVerdict}
 use Rattle.checker.specs.Blocks.{refusedBlocks, blocksOf, blocksRead, bytesOf, bytesRead}
 use Rattle.checker.specs.Check.{refusedCheck, checkJudged, checkOf, checkRead}
-use Rattle.checker.specs.Pair.{refusedPair, pairSides, pairSecond, pairFirst, pairOf, pairRead}
+use Rattle.checker.specs.Pair.{refusedPair, pairSecond, pairFirst, pairOf, pairRead}
 use Rattle.checker.specs.Steps.{checkFrom, pairFrom}
 
 -- ---- a problem by commands, then refusal 7: f of a refusal and g of a problem within its limits are F of the reading
@@ -76,23 +76,16 @@ module _ (o : Outcome Problem) where
 
 -- ---- the check
 module _ (t : List ℕ) where
-  abbrev checking : Outcome Problem → CheckVerdict
-  checking = onOutcome (λ n at. refusedCheck (problemRefusal n at)) (λ p. checkJudged p (judge p t))
-
-  check-steps : (o : Outcome Problem) → checking (limited o) ≡ checkRead o t
-  unfolding checkOf
-  check-steps (refused n at) = refl
-  check-steps (given p) = go (tooLarge p)
-    where
-      go : (b : Bool) → checking (cond b (refused 7 0) (given p)) ≡ cond b (refusedCheck (problemRefusal 7 0)) (checkJudged p (judge p t))
-      go true = refl
-      go false = refl
+  abbrev judgedCheck : Problem → CheckVerdict
+  judgedCheck p = checkJudged p (judge p t)
 
   pub check-refused : (o : Outcome Problem) (n at : ℕ) → refused n at ≡ limited o → refusedCheck (problemRefusal n at) ≡ checkRead o t
-  check-refused o n at e = ap checking e ∙ check-steps o
+  unfolding checkOf
+  check-refused = from-refused (λ n at. refusedCheck (problemRefusal n at)) judgedCheck (λ o. checkRead o t) (λ n at. refl) (λ p. refl)
 
-  pub check-given : (o : Outcome Problem) (p : Problem) → given p ≡ limited o → checkJudged p (judge p t) ≡ checkRead o t
-  check-given o p e = ap checking e ∙ check-steps o
+  pub check-given : (o : Outcome Problem) (p : Problem) → given p ≡ limited o → judgedCheck p ≡ checkRead o t
+  unfolding checkOf
+  check-given = from-given (λ n at. refusedCheck (problemRefusal n at)) judgedCheck (λ o. checkRead o t) (λ n at. refl) (λ p. refl)
 
 pub check-judged : (p : Problem) (j : Judgement) (d : Judged) (rounds : ℕ) → d ≡ judgedOf 1 j → rounds ≡ closing p .rounds → checkFrom d rounds ≡ checkJudged p j
 check-judged p (J.refused n at k) d rounds e f = rw e refl
@@ -100,23 +93,16 @@ check-judged p (J.accepted c) d rounds e f = rw (e, f) refl
 
 -- ---- the pair
 module _ (low high : List ℕ) where
-  abbrev pairing : Outcome Problem → PairVerdict
-  pairing = onOutcome (λ n at. refusedPair (problemRefusal n at)) (λ p. pairFirst p (judge p low) high)
-
-  pair-steps : (o : Outcome Problem) → pairing (limited o) ≡ pairRead o low high
-  unfolding pairOf
-  pair-steps (refused n at) = refl
-  pair-steps (given p) = go (tooLarge p)
-    where
-      go : (b : Bool) → pairing (cond b (refused 7 0) (given p)) ≡ cond b (refusedPair (problemRefusal 7 0)) (pairFirst p (judge p low) high)
-      go true = refl
-      go false = refl
+  abbrev judgedPair : Problem → PairVerdict
+  judgedPair p = pairFirst p (judge p low) high
 
   pub pair-refused : (o : Outcome Problem) (n at : ℕ) → refused n at ≡ limited o → refusedPair (problemRefusal n at) ≡ pairRead o low high
-  pair-refused o n at e = ap pairing e ∙ pair-steps o
+  unfolding pairOf
+  pair-refused = from-refused (λ n at. refusedPair (problemRefusal n at)) judgedPair (λ o. pairRead o low high) (λ n at. refl) (λ p. refl)
 
-  pub pair-given : (o : Outcome Problem) (p : Problem) → given p ≡ limited o → pairFirst p (judge p low) high ≡ pairRead o low high
-  pair-given o p e = ap pairing e ∙ pair-steps o
+  pub pair-given : (o : Outcome Problem) (p : Problem) → given p ≡ limited o → judgedPair p ≡ pairRead o low high
+  unfolding pairOf
+  pair-given = from-given (λ n at. refusedPair (problemRefusal n at)) judgedPair (λ o. pairRead o low high) (λ n at. refl) (λ p. refl)
 
 -- both judgements, by what is kept of them
 abbrev pairWith : Judged → Judged → ℕ → PairVerdict
@@ -125,7 +111,6 @@ pairWith (Judged.Accepted t) e rounds = pairFrom t e rounds
 
 module _ (p : Problem) (high : List ℕ) where
   pair-from : (c : Certificate) (k : Judgement) → pairFrom (c .header) (judgedOf 2 k) (closing p .rounds) ≡ pairSecond p c k
-  unfolding pairSides
   pair-from c (J.refused n at k) = refl
   pair-from c (J.accepted d) = refl
 

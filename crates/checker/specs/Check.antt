@@ -7,7 +7,7 @@ use Rattle.problem.specs.Rules.{Problem, readProblem}
 use Rattle.joining.specs.Joining.{closing, tooLarge}
 use Rattle.fraction.specs.Fractions.{fraction, none}
 use Rattle.fraction.specs.declared.Fraction.{Fraction}
-use Rattle.certificate.specs.Rules.{Certificate}
+use Rattle.certificate.specs.declared.Header.{Header}
 use Rattle.identity.specs.Judgement.{Judgement, judge}
 use Rattle.identity.specs.Judgement as J
 use Rattle.judging.specs.declared.Refusal.{Refusal}
@@ -19,13 +19,16 @@ abbrev pub refusedCheck : Refusal → CheckVerdict
 refusedCheck r = record { refusal = r; side = 0; bound = none; rounds = 0 }
 
 -- the bound that a certificate states, p/q
-abbrev pub boundOf : Certificate → Fraction
-boundOf c = fraction (c .header .p) (c .header .q)
+abbrev pub boundOf : Header → Fraction
+boundOf t = fraction (t .p) (t .q)
 
 -- "Check (problem, certificate): side, p, q, rounds"
+abbrev pub acceptedCheck : Header → ℕ → CheckVerdict
+acceptedCheck t rounds = record { refusal = noRefusal; side = t .side; bound = boundOf t; rounds = rounds }
+
 abbrev pub checkJudged : Problem → Judgement → CheckVerdict
 checkJudged p (J.refused number place key) = refusedCheck (certificateRefusal 1 number place key)
-checkJudged p (J.accepted c) = record { refusal = noRefusal; side = c .header .side; bound = boundOf c; rounds = closing p .rounds }
+checkJudged p (J.accepted c) = acceptedCheck (c .header) (closing p .rounds)
 
 -- "7; the first certificate by commands likewise; 8 by rows; 9"
 unfoldable pub checkOf : Problem → List ℕ → CheckVerdict

@@ -8,6 +8,7 @@ use Rattle.problem.specs.Rules.{Problem, readProblem}
 use Rattle.joining.specs.Joining.{closing, tooLarge}
 use Rattle.fraction.specs.Fractions.{none, gapOf}
 use Rattle.certificate.specs.Rules.{Certificate}
+use Rattle.certificate.specs.declared.Header.{Header}
 use Rattle.identity.specs.Judgement.{Judgement, judge}
 use Rattle.identity.specs.Judgement as J
 use Rattle.judging.specs.declared.Refusal.{Refusal}
@@ -19,20 +20,20 @@ abbrev pub refusedPair : Refusal → PairVerdict
 refusedPair r = record { refusal = r; lower = none; upper = none; gap = none; rounds = 0 }
 
 -- "Pair: both bounds, gap, rounds"
-abbrev pub acceptedPair : Problem → Certificate → Certificate → PairVerdict
-acceptedPair p c d = record { refusal = noRefusal; lower = boundOf c; upper = boundOf d; gap = gapOf (boundOf c) (boundOf d); rounds = closing p .rounds }
+abbrev pub acceptedPair : Header → Header → ℕ → PairVerdict
+acceptedPair t u rounds = record { refusal = noRefusal; lower = boundOf t; upper = boundOf u; gap = gapOf (boundOf t) (boundOf u); rounds = rounds }
 
 -- refusal 10: "first side not 0 or second not 1"; "the first wrong stream"
-unfoldable pub pairSides : Problem → Certificate → Certificate → PairVerdict
-pairSides p c d =
-    cond (eqb (c .header .side) 0)
-    (cond (eqb (d .header .side) 1) (acceptedPair p c d) (refusedPair (certificateRefusal 2 10 0 0)))
+unfoldable pub pairSides : Header → Header → ℕ → PairVerdict
+pairSides t u rounds =
+    cond (eqb (t .side) 0)
+    (cond (eqb (u .side) 1) (acceptedPair t u rounds) (refusedPair (certificateRefusal 2 10 0 0)))
     (refusedPair (certificateRefusal 1 10 0 0))
 
 -- "the second certificate the same; 10"
 abbrev pub pairSecond : Problem → Certificate → Judgement → PairVerdict
 pairSecond p c (J.refused number place key) = refusedPair (certificateRefusal 2 number place key)
-pairSecond p c (J.accepted d) = pairSides p c d
+pairSecond p c (J.accepted d) = pairSides (c .header) (d .header) (closing p .rounds)
 
 -- "the first certificate by commands likewise; 8 by rows; 9"
 abbrev pub pairFirst : Problem → Judgement → List ℕ → PairVerdict

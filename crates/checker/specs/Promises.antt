@@ -75,9 +75,9 @@ pub record Stated (s low high : List ℕ) (v : PairVerdict) : Type 0 where
   pub first : Certificate
   pub second : Certificate
   pub hold : BothHold problem low high first second
-  pub lower : v .lower ≡ boundOf first
-  pub upper : v .upper ≡ boundOf second
-  pub gap : v .gap ≡ gapOf (boundOf first) (boundOf second)
+  pub lower : v .lower ≡ boundOf (first .header)
+  pub upper : v .upper ≡ boundOf (second .header)
+  pub gap : v .gap ≡ gapOf (boundOf (first .header)) (boundOf (second .header))
 
 -- the pair accepts only what states its bounds, and "for a problem within its limits and full-length work tables it accepts exactly
 -- when both certificates are accepted, the first with side 0 and the second with side 1"

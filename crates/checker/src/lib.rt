@@ -15,8 +15,8 @@ ghost use Rattle.fraction.specs.Fractions.{Bound, fraction};
 ghost use Rattle.judging.specs.Refusals.{certificateRefusal};
 ghost use Rattle.judging.specs.Steps.{Joins};
 ghost use Rattle.checker.specs.Check.{refusedCheck, checkRead, checkVerdict};
-ghost use Rattle.checker.specs.Pair.{refusedPair, pairFirst, pairRead, pairVerdict};
-ghost use Rattle.checker.specs.Steps.{Rest, checkFrom, sidesFrom, pairFrom};
+ghost use Rattle.checker.specs.Pair.{refusedPair, pairSides, pairFirst, pairRead, pairVerdict};
+ghost use Rattle.checker.specs.Steps.{Rest, checkFrom, pairFrom};
 ghost use Rattle.checker.specs.Promises.{BlocksClosed, BlocksLeast, BlocksLowest, RoundsTaken, FewRounds, SevenExactly, AcceptedExactly, PairExactly, HoldsBelow, HoldsAbove, HoldsGap};
 use certificate::Header;
 use fraction::Fraction;
@@ -259,7 +259,7 @@ fn refuse_side(stream: u8) -> PairVerdict
 
 // The verdict on two certificates that are accepted.
 fn pair_sides(lower: Header, upper: Header, rounds: usize) -> PairVerdict
-    ensures { λ r. ⌜ r ≡ sidesFrom lower upper rounds ⌝ }
+    ensures { λ r. ⌜ r ≡ pairSides lower upper rounds ⌝ }
 {
     if lower.side != 0 {
         return refuse_side(1);

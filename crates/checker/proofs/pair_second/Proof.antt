@@ -7,8 +7,8 @@ use Rattle.judging.specs.declared.Refusal.{Refusal}
 use Rattle.checker.specs.declared.PairVerdict.{PairVerdict}
 use Rattle.judging.specs.declared.Judged.{Judged}
 use Rattle.judging.specs.declared.Judged.the-variants as Judged
-use Rattle.checker.specs.Pair.{refusedPair}
-use Rattle.checker.specs.Steps.{sidesFrom, pairFrom}
+use Rattle.checker.specs.Pair.{refusedPair, pairSides}
+use Rattle.checker.specs.Steps.{pairFrom}
 use Rattle.checker.proofs.pair_second.Statement.{statement}
 use Rattle.checker.proofs.pair_second.Tie as tie
 
@@ -16,7 +16,7 @@ module _ (t : Header) (d : Judged) (rounds : ℕ) (v : PairVerdict) where
   is-refused : (f : Refusal) → d ≡ Judged.Refused f → v ≡ refusedPair f → v ≡ pairFrom t d rounds
   is-refused f e g = rw e g
 
-  is-accepted : (u : Header) → d ≡ Judged.Accepted u → v ≡ sidesFrom t u rounds → v ≡ pairFrom t d rounds
+  is-accepted : (u : Header) → d ≡ Judged.Accepted u → v ≡ pairSides t u rounds → v ≡ pairFrom t d rounds
   is-accepted u e g = rw e g
 
 enum-known-judged : tie.Need-enum-known-judged

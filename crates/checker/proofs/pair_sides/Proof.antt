@@ -12,20 +12,22 @@ use Rattle.fraction.specs.Fractions.{fraction, gapOf}
 use Rattle.judging.specs.declared.Refusal.{Refusal}
 use Rattle.checker.specs.declared.PairVerdict.{PairVerdict}
 use Rattle.judging.specs.Refusals.{noRefusal, certificateRefusal}
-use Rattle.checker.specs.Pair.{refusedPair}
-use Rattle.checker.specs.Steps.{sidesFrom}
+use Rattle.checker.specs.Pair.{refusedPair, pairSides}
 use Rattle.checker.proofs.pair_sides.Statement.{statement}
 use Rattle.checker.proofs.pair_sides.Tie as tie
 
 module _ (t u : Header) (rounds : ℕ) where
-  first-wrong : (t .side ≡ 0 → ⊥) → refusedPair (certificateRefusal 1 10 0 0) ≡ sidesFrom t u rounds
+  first-wrong : (t .side ≡ 0 → ⊥) → refusedPair (certificateRefusal 1 10 0 0) ≡ pairSides t u rounds
+  unfolding pairSides
   first-wrong h = rw (ne-eqb (t .side) 0 h) refl
 
   module _ (z : t .side ≡ 0) where
-    second-wrong : (u .side ≡ 1 → ⊥) → refusedPair (certificateRefusal 2 10 0 0) ≡ sidesFrom t u rounds
+    second-wrong : (u .side ≡ 1 → ⊥) → refusedPair (certificateRefusal 2 10 0 0) ≡ pairSides t u rounds
+    unfolding pairSides
     second-wrong h = rw (eq-eqb (t .side) 0 z, ne-eqb (u .side) 1 h) refl
 
-    both-right : (r : Refusal) (a b g : Fraction) → u .side ≡ 1 → r ≡ noRefusal → a ≡ fraction (t .p) (t .q) → b ≡ fraction (u .p) (u .q) → g ≡ gapOf a b → record { refusal = r; lower = a; upper = b; gap = g; rounds = rounds } ≡ sidesFrom t u rounds
+    both-right : (r : Refusal) (a b g : Fraction) → u .side ≡ 1 → r ≡ noRefusal → a ≡ fraction (t .p) (t .q) → b ≡ fraction (u .p) (u .q) → g ≡ gapOf a b → record { refusal = r; lower = a; upper = b; gap = g; rounds = rounds } ≡ pairSides t u rounds
+    unfolding pairSides
     both-right r a b g o e f h k = rw (eq-eqb (t .side) 0 z, eq-eqb (u .side) 1 o, k, e, f, h) refl
 
 lower-kept : (c : tie.After-struct-told) → let p = c .before .before .before .before .before .args .lower .p in toZ w32 (ofZ w32 p) ≡ p
