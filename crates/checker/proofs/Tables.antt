@@ -5,11 +5,12 @@ use mathlib.Core.List.{List, _++_}
 use Prim.Native.Nat.{ℕ, _≤_, _<_}
 use native.Mathlib.Omega.{arith}
 use lib.Dec.{ltb}
-use lib.IntN.{ℤ}
+use lib.IntN.{ℤ, pos}
 use lib.ListN.{length, drop, replicate}
 use borrow.Author.Tests.{lt-ltb, le-ltb, ltb-false}
-use Rattle.checker.specs.Tables.{tablesShort, tableLeft}
+use Rattle.checker.specs.Tables.{tablesShort, Long, Cleared, tableLeft}
 use Rattle.checker.specs.Blocks.{blocksShort}
+use Rattle.checker.specs.Steps.{Rest}
 
 or-left : (a b : Bool) → (a || b) ≡ false → a ≡ false
 or-left true b h = h
@@ -18,12 +19,6 @@ or-left false b h = refl
 or-right : (a b : Bool) → (a || b) ≡ false → b ≡ false
 or-right true b h = absurd (let z : _≡_ {A = ℕ} 0 1 = cc in omega arith)
 or-right false b h = h
-
--- every work table is long enough
-pub record Long (k : List ℕ) (h : List ℤ) (l : List ℕ) : Type 0 where
-  pub keys : 2048 ≤ length k
-  pub high : 2048 ≤ length h
-  pub low : 2048 ≤ length l
 
 module _ (keys : List ℕ) (high : List ℤ) (low : List ℕ) where
   pub tables-long : tablesShort keys high low ≡ false → Long keys high low
@@ -45,9 +40,13 @@ module _ (keys : List ℕ) (high : List ℤ) (low : List ℕ) where
     out-long b h e = rw (le-ltb (length out) 576 h) e
 
 -- a table that was changed before place 2,048 only, and then cleared
-pub table-cleared : {A : Type 0} (zero : A) (t t₁ t₂ : List A) → drop 2048 t₁ ≡ drop 2048 t → t₂ ≡ replicate 2048 zero ++ drop 2048 t₁ → t₂ ≡ tableLeft false zero t
+table-cleared : {A : Type 0} (zero : A) (t t₁ t₂ : List A) → drop 2048 t₁ ≡ drop 2048 t → t₂ ≡ replicate 2048 zero ++ drop 2048 t₁ → t₂ ≡ tableLeft false zero t
 unfolding tableLeft
 table-cleared zero t t₁ t₂ e f = f ∙ ap (λ (l : List _). replicate 2048 zero ++ l) e
+
+pub tables-cleared : {k k₁ k₂ l l₁ l₂ : List ℕ} {h h₁ h₂ : List ℤ} → Rest k h l k₁ h₁ l₁ → Cleared k₁ h₁ l₁ k₂ h₂ l₂
+    → (k₂ ≡ tableLeft false 0 k) × (h₂ ≡ tableLeft false (pos 0) h) × (l₂ ≡ tableLeft false 0 l)
+tables-cleared {k} {k₁} {k₂} {l} {l₁} {l₂} {h} {h₁} {h₂} r c = (table-cleared 0 k k₁ k₂ (r .keys) (c .keys), table-cleared (pos 0) h h₁ h₂ (r .high) (c .high), table-cleared 0 l l₁ l₂ (r .low) (c .low))
 
 -- refusal 1 writes nothing
 pub table-kept : {A : Type 0} (zero : A) (t : List A) → t ≡ tableLeft true zero t

@@ -9,7 +9,7 @@ ghost use lib.IntN.{pos};
 ghost use Rattle.problem.specs.Rules.{readProblem};
 ghost use Rattle.problem.specs.Stored.{problemOf};
 ghost use Rattle.identity.specs.Judgement as J;
-ghost use Rattle.checker.specs.Tables.{tablesShort, tableLeft};
+ghost use Rattle.checker.specs.Tables.{tablesShort, Long, Cleared, tableLeft};
 ghost use Rattle.checker.specs.Blocks.{blocksShort, refusedBlocks, blocksRead, bytesRead, blocksVerdict, bytesLeft};
 ghost use Rattle.fraction.specs.Fractions.{Bound, fraction};
 ghost use Rattle.judging.specs.Refusals.{certificateRefusal};
@@ -74,6 +74,16 @@ fn is_short(keys: usize, high: usize, low: usize) -> bool
         return true;
     }
     low < 2048
+}
+
+// The work tables as every call leaves them that has used them.
+fn clear_tables(keys: &mut [u64], high: &mut [i64], low: &mut [u64])
+    requires { ⌜ Long (now keys) (now high) (now low) ⌝ }
+    ensures { λ _. ⌜ Cleared (now (keys .entry)) (now (high .entry)) (now (low .entry)) (now (keys .exit)) (now (high .exit)) (now (low .exit)) ⌝ }
+{
+    judging::clear(keys);
+    judging::clear_signed(high);
+    judging::clear(low);
 }
 
 // A refusal of the blocks call: it is always the problem's, and has no key.
@@ -144,9 +154,7 @@ pub fn blocks(
         return refuse_blocks(1, 0);
     }
     let v = answer_blocks(problem, out, keys);
-    judging::clear(keys);
-    judging::clear_signed(high);
-    judging::clear(low);
+    clear_tables(keys, high, low);
     v
 }
 
@@ -228,9 +236,7 @@ pub fn check(
         return refuse_check(judging::problem_refusal(1, 0));
     }
     let v = answer_check(problem, certificate, keys, high, low);
-    judging::clear(keys);
-    judging::clear_signed(high);
-    judging::clear(low);
+    clear_tables(keys, high, low);
     v
 }
 
@@ -357,8 +363,6 @@ pub fn pair(
         return refuse_pair(judging::problem_refusal(1, 0));
     }
     let v = answer_pair(problem, first, second, keys, high, low);
-    judging::clear(keys);
-    judging::clear_signed(high);
-    judging::clear(low);
+    clear_tables(keys, high, low);
     v
 }

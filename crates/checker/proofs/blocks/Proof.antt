@@ -7,9 +7,9 @@ use mathlib.Core.List.{List}
 use Prim.Native.Nat.{ℕ, _≤_, _<_}
 use lib.ListN.{length, drop}
 use lib.IntN.{pos}
-use Rattle.checker.specs.Tables.{tablesShort}
+use Rattle.checker.specs.Tables.{tablesShort, Long}
 use Rattle.checker.specs.Blocks.{blocksShort, blocksVerdict, bytesLeft}
-use Rattle.checker.proofs.Tables.{Long, tables-long, out-short, out-long, table-cleared, table-kept}
+use Rattle.checker.proofs.Tables.{tables-long, out-short, out-long, tables-cleared, table-kept}
 use Rattle.checker.proofs.Promised.{clauses}
 use Rattle.checker.proofs.blocks.Statement.{statement}
 use Rattle.checker.proofs.blocks.Tie as tie
@@ -54,16 +54,11 @@ long c = tables-long _ _ _ (fine c)
 answer-blocks-requires : tie.Need-answer-blocks-requires
 answer-blocks-requires c κs = let e = c .before .before in (e .before .before .if1 .left, long e .keys)
 
-clear-requires : tie.Need-clear-requires
-clear-requires c κs =
-    let a = c .before .before .before .before .before in
-    omega (arith, long (a .before .before .before) .keys, a .answer-blocks .kept .1 .1 .0)
-
-clear-signed-requires : tie.Need-clear-signed-requires
-clear-signed-requires c κs = long (c .before .before .before .before .before .before .before .before .before .before .before .before) .high
-
-clear-requires-2 : tie.Need-clear-requires-2
-clear-requires-2 c κs = long (c .before .before .before .before .before .before .before .before .before .before .before .before .before .before .before) .low
+clear-tables-requires : tie.Need-clear-tables-requires
+clear-tables-requires c κs =
+    let a = c .before .before .before .before .before .before .before in
+    let l = long (a .before .before .before) in
+    record { keys = omega (arith, l .keys, a .answer-blocks .kept .1 .1 .0); high = l .high; low = l .low }
 
 same-length : tie.Need-same-length
 same-length c = search needs
@@ -80,17 +75,15 @@ same-length-4 c = search needs
 returns-3 : tie.Need-returns-3
 unfolding blocksVerdict bytesLeft
 returns-3 c =
-    let l = c .before .before in
-    let h = l .before .before .before in
-    let k = h .before .before .before .before in
-    let a = k .before .before .before .before .before .before in
+    let k = c .before .before .before .before .before in
+    let a = k .before .before .before .before .before .before .before .before in
     let b = a .before .before .before in
     let s = b .before .before .before .before .before .before .before in
     let e : short s ≡ false = out-long (s .args .keys .now) (s .args .high .now) (s .args .low .now) (s .args .out .now) false (b .before .before .if1 .left) (fine b) in
     let v = a .answer-blocks .ensures .0 in
     let o = a .answer-blocks .ensures .1 in
-    rw e
-    (v, (o, (table-cleared 0 (s .args .keys .now) (a .answer-blocks .last .1 .1 .0) _ (a .answer-blocks .ensures .2) (k .clear .ensures), (table-cleared (pos 0) (s .args .high .now) (s .args .high .now) _ refl (h .clear-signed .ensures), (table-cleared 0 (s .args .low .now) (s .args .low .now) _ refl (l .clear2 .ensures), clauses false (s .args .problem .now) (s .args .out .now) _ _ v o)))))
+    let t = tables-cleared (record { keys = a .answer-blocks .ensures .2; high = refl; low = refl }) (k .clear-tables .ensures) in
+    rw e (v, (o, (t .0, (t .1, (t .2, clauses false (s .args .problem .now) (s .args .out .now) _ _ v o)))))
 
 pub blocks-spec : {M : Type 1} → statement M
 blocks-spec =
@@ -102,9 +95,7 @@ blocks-spec =
     refuse-blocks-requires-2
     returns-2
     answer-blocks-requires
-    clear-requires
-    clear-signed-requires
-    clear-requires-2
+    clear-tables-requires
     same-length
     same-length-2
     same-length-3
