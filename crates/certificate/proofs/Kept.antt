@@ -9,10 +9,10 @@ use lib.Dec.{leb, ltb}
 use lib.ListN.{length, getD, set, length-append, length-set}
 use lib.Seq.{getD-at, getD-set-same}
 use borrow.Author.Tests.{leb-true, leb-false, ltb-true}
+use Rattle.counting.proofs.Cases.{clash, and-left, and-right}
 use Rattle.stream.specs.Commands.{refused, given}
 use Rattle.stream.specs.Operands.{number}
 use Rattle.stream.proofs.Run.{Passes, passes, Left, left-start, left-end, left-refused, left-extra, left-given, left-next}
-use Rattle.problem.proofs.Limits.{and-left, and-right}
 use Rattle.certificate.specs.declared.Command.{Command}
 use Rattle.certificate.specs.declared.Command.the-variants as C
 use Rattle.certificate.specs.declared.Shape.{Shape}
@@ -52,7 +52,7 @@ placed-size g at C.Header h = omega arith
 placed-size g at C.Row h = omega arith
 placed-size g at C.Entry h = omega arith
 placed-size g at C.End h = omega arith
-placed-size g at C.Unknown h = absurd (let z : _≡_ {A = ℕ} 0 1 = cc in omega arith)
+placed-size g at C.Unknown h = clash (cc)
 
 module _ (h : Shape) (g : Progress) (s : List ℕ) (at : ℕ) (v : progressVerdict h g s at ≡ 0) where
   pub taken-size : 1 ≤ size (commandAt s at)

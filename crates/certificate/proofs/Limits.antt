@@ -7,6 +7,7 @@ use native.Mathlib.Omega.{arith}
 use lib.Dec.{leb, ltb}
 use lib.ListN.{length, getD, length-append, length-set, List·getD-eq-default}
 use borrow.Author.Tests.{leb-true, leb-false, ltb-true, ltb-false, eqb-true}
+use Rattle.counting.proofs.Cases.{and-left, and-right}
 use Rattle.counting.specs.Counting.{listed}
 use Rattle.counting.proofs.Listed.{listed-length, listed-at}
 use Rattle.stream.specs.Commands.{given}
@@ -15,7 +16,7 @@ use Rattle.stream.proofs.Run.{read-induction}
 use Rattle.problem.specs.Rules.{Problem, nonzero}
 use Rattle.problem.specs.Bases.{basisOf}
 use Rattle.problem.specs.Limits.{All, Monomials, Limits as ProblemLimits}
-use Rattle.problem.proofs.Limits.{and-left, and-right, all-more, all-set, nonzero-not, all-at, monomials-none}
+use Rattle.problem.proofs.Limits.{all-more, all-set, nonzero-not, all-at, monomials-none}
 use Rattle.certificate.specs.declared.Command.{Command}
 use Rattle.certificate.specs.declared.Command.the-variants as C
 use Rattle.certificate.specs.declared.Shape.{Shape}

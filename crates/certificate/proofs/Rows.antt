@@ -7,12 +7,12 @@ use native.Mathlib.Omega.{arith}
 use lib.Dec.{eqb, leb, ltb}
 use lib.ListN.{length, getD, set, length-set}
 use borrow.Author.Tests.{le-leb, leb-true, leb-false, ltb-true, ltb-false, eq-eqb, ne-eqb, eqb-true}
+use Rattle.counting.proofs.Cases.{and-left, and-right}
 use Rattle.counting.specs.Counting.{listed}
 use Rattle.counting.proofs.Listed.{listed-same, listed-first}
 use Rattle.stream.specs.Commands.{given}
 use Rattle.stream.specs.Operands.{number, signed}
 use Rattle.stream.proofs.Run.{Taken, read-induction}
-use Rattle.problem.proofs.Limits.{and-left, and-right}
 use Rattle.certificate.specs.declared.Command.{Command}
 use Rattle.certificate.specs.declared.Command.the-variants as C
 use Rattle.certificate.specs.declared.Shape.{Shape}

@@ -13,10 +13,10 @@ use lib.Seq.{getD-set-same, getD-set-other}
 use mir.Syntax.{w16}
 use mir.Val.{SFits}
 use borrow.Author.Tests.{lt-leb, le-leb, leb-true, eqb-true, lt-ltb, ltb-true, ltb-false}
+use Rattle.counting.proofs.Cases.{and-left, and-right}
 use Rattle.counting.specs.Counting.{listed}
 use Rattle.counting.proofs.Listed.{listed-same}
 use Rattle.stream.specs.Operands.{number, signed}
-use Rattle.problem.proofs.Limits.{and-left, and-right}
 use Rattle.certificate.specs.declared.StoredRow.{StoredRow}
 use Rattle.certificate.specs.Rows.{stands, entryCount, entryAt, rowAt, afterRow, storedEntry, rowOf, Holds}
 

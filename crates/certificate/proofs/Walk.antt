@@ -5,6 +5,7 @@ use mathlib.Core.Bool.{Bool, true, false, cond}
 use Prim.Native.Nat.{ℕ, zero, suc, _+_, _*_, _≤_, _<_}
 use native.Mathlib.Omega.{arith}
 use lib.ListN.{length, getD}
+use Rattle.counting.proofs.Cases.{clash}
 use Rattle.counting.specs.Counting.{listed}
 use Rattle.counting.proofs.Listed.{listed-length, listed-at}
 use Rattle.stream.specs.Commands.{given}
@@ -50,7 +51,7 @@ pub record Onward (h : Shape) (s : List ℕ) (n at : ℕ) : Type 0 where
   pub rest : Chain h s left (afterRow s at)
 
 pub onward : {h : Shape} {s : List ℕ} {n at : ℕ} → Chain h s n at → stands 0x11 s at ≡ true → Onward h s n at
-onward (done f) t = absurd (let z : _≡_ {A = ℕ} 0 1 = cc in omega arith)
+onward (done f) t = clash (cc)
 onward (more e r c) t = record { left = _; one-less = refl; row = r; rest = c }
 
 -- a row is within the stream

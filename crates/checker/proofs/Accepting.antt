@@ -8,6 +8,7 @@ use native.Mathlib.Omega.{arith}
 use lib.Dec.{eqb}
 use lib.IntN.{ℤ, pos, _*ℤ_, _-ℤ_}
 use borrow.Author.Tests.{eqb-true, eq-eqb}
+use Rattle.counting.proofs.Cases.{clash}
 use Rattle.stream.specs.Commands.{Outcome, given}
 use Rattle.stream.specs.Commands as Stream
 use Rattle.stream.proofs.Run.{read-positive}
@@ -44,7 +45,7 @@ module _ (p : Problem) (s : List ℕ) where
     where
       by-identity : (c : Certificate) (o : Option ℕ) → byIdentity c o ≡ J.refused n place key → 0 < n
       by-identity c (some k) h = let e : n ≡ 9 = cc in omega arith
-      by-identity c none h = absurd (let z : _≡_ {A = ℕ} 0 1 = cc in omega arith)
+      by-identity c none h = clash (cc)
 
       by-blocks : (c : Certificate) (o d : Option ℕ) → byBlocks o (byIdentity c d) ≡ J.refused n place key → 0 < n
       by-blocks c (some at) d h = let e : n ≡ 8 = cc in omega arith

@@ -18,8 +18,9 @@ use Rattle.problem.proofs.Limits.{read-limits, all-at, monomials-none}
 use Rattle.problem.proofs.Counts.{count-members, count-named}
 use Rattle.support.specs.Sets.{insert, Rising}
 use Rattle.rounds.specs.Rounds.{Bases, monomials, nonempty}
-use Rattle.rounds.specs.Bytes.{blockBytes}
+use Rattle.rounds.specs.Bytes.{blockBytes, blockAt}
 use Rattle.rounds.specs.Meaning.{Pair, Closed, Other, Least, Lowest, TakesRounds}
+use Rattle.rounds.proofs.Flat.{bytes-long, byte-at}
 use Rattle.rounds.proofs.Rounds.{Shaped}
 use Rattle.rounds.proofs.Closing.{closing-shaped}
 use Rattle.rounds.proofs.Bound.{few-rounds, closing-rounds}
@@ -29,7 +30,7 @@ use Rattle.joining.proofs.Start.{start-rising}
 use Rattle.checker.specs.declared.BlocksVerdict.{BlocksVerdict}
 use Rattle.judging.specs.Refusals.{noRefusal}
 use Rattle.checker.specs.Blocks.{refusedBlocks, blocksOf, blocksRead, blocksVerdict, bytesOf, bytesRead, bytesLeft}
-use Rattle.checker.specs.Promises.{blockAt, Accepted, BlocksClosed, BlocksLeast, BlocksLowest, RoundsTaken, FewRounds, SevenExactly}
+use Rattle.checker.specs.Promises.{Accepted, BlocksClosed, BlocksLeast, BlocksLowest, RoundsTaken, FewRounds, SevenExactly}
 
 -- ---- block numbers that agree at every index of a basis mean the same
 pub record Agree (g : Bases) (label label′ : ℕ → ℕ → ℕ) : Type 0 where
@@ -63,22 +64,8 @@ module _ (g : Bases) (S₀ : List ℕ) (label label′ : ℕ → ℕ → ℕ) (a
   }
 
 -- ---- a byte is a block number
-default-any : (l : List ℕ) (i d e : ℕ) → i < length l → getD l i d ≡ getD l i e
-default-any [] i d e h = absurd (omega arith)
-default-any (x ∷ l) zero d e h = refl
-default-any (x ∷ l) (suc i) d e h = default-any l i d e (omega arith)
-
-pub byte-at : (L : List (List ℕ)) (rest : List ℕ) (j i : ℕ) → j < 9 → i < 64 → i < length (getD L j []) → getD (getD L j []) i 0 ≡ blockAt (blockBytes L ++ rest) j i
-unfolding blockBytes
-byte-at L rest j i h b x =
-    let u : 64 * j + i < 576 = omega arith in
-    let e : (64 * j + i) / 64 ≡ j = omega arith in
-    let f : (64 * j + i) % 64 ≡ i = omega arith in
-    sym (
-    List·getD-append (blockBytes L) rest 0 (64 * j + i) (rw (listed-length 576 (λ x. getD (getD L (x / 64) []) (x % 64) 255)) u)
-    ∙ listed-at 576 (λ x. getD (getD L (x / 64) []) (x % 64) 255) (64 * j + i) 0 u
-    ∙ rw (e, f) (default-any (getD L j []) i 255 0 x)
-    )
+pub byte-found : (L : List (List ℕ)) (rest : List ℕ) (j i : ℕ) → j < 9 → i < 64 → i < length (getD L j []) → getD (getD L j []) i 0 ≡ blockAt (blockBytes L ++ rest) j i
+byte-found L rest j i h b x = sym (List·getD-append (blockBytes L) rest 0 (64 * j + i) (omega (arith, bytes-long L)) ∙ byte-at L j i h b x)
 
 module _ (s : List ℕ) (p : Problem) (read : readProblem s ≡ given p) where
   limits : Limits p
@@ -98,7 +85,7 @@ module _ (s : List ℕ) (p : Problem) (read : readProblem s ≡ given p) where
     at = λ j i h b.
         let z = small j in
         let n = closing-shaped (basesOf p) (startSet p) .long j h in
-        byte-at _ rest j i h (omega arith) (omega arith);
+        byte-found _ rest j i h (omega arith) (omega arith);
   }
 
   pub promise-closed : (rest : List ℕ) → Closed (basesOf p) (startSet p) (blockAt (blockBytes (closing p .state .labels) ++ rest)) (closedSupport p)

@@ -8,6 +8,7 @@ use lib.Dec.{ltb}
 use lib.IntN.{ℤ, pos}
 use lib.ListN.{length, drop, replicate}
 use borrow.Author.Tests.{lt-ltb, le-ltb, ltb-false}
+use Rattle.counting.proofs.Cases.{clash}
 use Rattle.checker.specs.Tables.{tablesShort, Long, Cleared, tableLeft}
 use Rattle.checker.specs.Blocks.{blocksShort}
 use Rattle.checker.specs.Steps.{Rest}
@@ -17,7 +18,7 @@ or-left true b h = h
 or-left false b h = refl
 
 or-right : (a b : Bool) → (a || b) ≡ false → b ≡ false
-or-right true b h = absurd (let z : _≡_ {A = ℕ} 0 1 = cc in omega arith)
+or-right true b h = clash (cc)
 or-right false b h = h
 
 module _ (keys : List ℕ) (high : List ℤ) (low : List ℕ) where

@@ -9,6 +9,7 @@ use Rattle.stream.specs.Commands.{given}
 use Rattle.problem.specs.Rules.{Problem, readProblem}
 use Rattle.problem.specs.Limits.{memberCommands, basesNamed}
 use Rattle.support.specs.Sets.{insert}
+use Rattle.rounds.specs.Bytes.{blockAt}
 use Rattle.rounds.specs.Meaning.{Closed, Least, Lowest, TakesRounds}
 use Rattle.joining.specs.Joining.{basesOf, startSet, closedSupport, tooLarge}
 use Rattle.fraction.specs.Fractions.{gapOf}
@@ -19,10 +20,6 @@ use Rattle.identity.specs.Judgement as J
 use Rattle.identity.specs.Bounds.{BoundedBelow, BoundedAbove, WithinGap}
 use Rattle.checker.specs.Check.{boundOf}
 use Rattle.checker.specs.declared.PairVerdict.{PairVerdict}
-
--- "byte 64j + i": the block number of index i in basis j
-abbrev pub blockAt : List ℕ → ℕ → ℕ → ℕ
-blockAt bytes j i = getD bytes (64 * j + i) 0
 
 -- P holds of the problem that the stream gives, where nothing is refused
 abbrev pub Accepted : List ℕ → ℕ → (Problem → Type 0) → Type 0

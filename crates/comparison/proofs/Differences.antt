@@ -11,6 +11,7 @@ use lib.IntN.{ℤ, pos, negsuc, negℤ, natAbs, _+ℤ_, +ℤ-idl}
 use lib.ListN.{length, getD, take, drop, length-drop}
 use lib.Seq.{getD-take, getD-drop, length-take-le, ext-getD}
 use Rattle.integers.proofs.Ring.{view, diffs, ⊖-eq, ⊖-eq⁻¹}
+use Rattle.counting.proofs.Cases.{clash}
 use Rattle.counting.specs.Counting.{listed}
 use Rattle.counting.proofs.Listed.{listed-same, listed-all}
 use Rattle.polynomial.specs.Terms.{Term, term, keysOf, termsIn, objectiveTerms, Filled}
@@ -30,7 +31,7 @@ use Rattle.certificate.proofs.Limits.{shape-within}
 use Rattle.certificate.proofs.Rows.{rows-read}
 use Rattle.identity.specs.Identity.{multiplier, squares, claim}
 use Rattle.identity.specs.Judgement.{sameNumber, firstDifference, differenceKey}
-use Rattle.identity.proofs.Difference.{same-equal}
+use Rattle.identity.proofs.Difference.{same-equal, same-self}
 use Rattle.comparison.specs.declared.Difference.the-variants.{Same, Differs}
 use Rattle.comparison.specs.declared.Lengths.{Lengths}
 use Rattle.comparison.specs.Tables.{unit, Ready, Grown, claimed}
@@ -41,13 +42,6 @@ use Rattle.comparison.proofs.Growth.{grown-same}
 use Rattle.comparison.proofs.Claims.{problem-claim}
 
 -- ---- one comparison
-same-self : (a b : ℤ) → a ≡ b → sameNumber a b ≡ true
-same-self a b e = subst (λ (c : ℤ). sameNumber a c ≡ true) e (go a)
-  where
-    go : (a : ℤ) → sameNumber a a ≡ true
-    go (pos n) = eq-eqb n n refl
-    go (negsuc n) = eq-eqb n n refl
-
 same-not : (a b : ℤ) → (a ≡ b → ⊥) → sameNumber a b ≡ false
 same-not (pos a) (pos b) f = ne-eqb a b (λ e. f (ap pos e))
 same-not (pos a) (negsuc b) f = refl
@@ -61,7 +55,7 @@ module _ (P Q : List Term) where
   difference-none : (ks : List ℕ) → ((k : ℕ) → In k ks → Equal k) → firstDifference P Q ks ≡ none
   unfolding firstDifference
   difference-none [] h = refl
-  difference-none (k ∷ ks) h = rw (same-self (coefficient k P) (coefficient k Q) (h k (in-here k k ks refl))) (difference-none ks (λ j m. h j (in-there j k ks m)))
+  difference-none (k ∷ ks) h = rw (h k (in-here k k ks refl), same-self (coefficient k Q)) (difference-none ks (λ j m. h j (in-there j k ks m)))
 
   -- the smallest of rising keys that differs is the first
   difference-at : (ks : List ℕ) → Rising ks → (x : ℕ) → In x ks → (Equal x → ⊥) → ((k : ℕ) → In k ks → (Equal k → ⊥) → x ≤ k) → firstDifference P Q ks ≡ some x
@@ -72,7 +66,7 @@ module _ (P Q : List Term) where
       go : (b : Bool) → sameNumber (coefficient k P) (coefficient k Q) ≡ b → (In x ks → firstDifference P Q ks ≡ some x) → cond b (firstDifference P Q ks) (some k) ≡ some x
       go true e i = ⊎-elim (λ w. absurd (f (rw (← w) (same-equal _ _ e)))) i (in-cons x k ks m)
       go false e i =
-          let l : x ≤ k = h k (in-here k k ks refl) (λ w. let t = same-self (coefficient k P) (coefficient k Q) w in let z : _≡_ {A = ℕ} 0 1 = cc in omega arith) in
+          let l : x ≤ k = h k (in-here k k ks refl) (λ w. let t : sameNumber (coefficient k P) (coefficient k Q) ≡ true = rw w (same-self (coefficient k Q)) in clash (cc)) in
           ⊎-elim (λ w. ap some w) (λ n. let u = above-in k x ks (r .0) n in absurd (omega arith)) (in-cons x k ks m)
 
 -- ---- a sum is 0 where the two sides are equal

@@ -30,7 +30,7 @@ use Rattle.certificate.proofs.Walk.{Onward, onward, holds-entries, holds-weight
 use Rattle.identity.specs.Gram.{factors, rekeyed, outer, gram, upper, rowsOn}
 use Rattle.identity.proofs.Reach.{all-both}
 use Rattle.identity.proofs.Halves.{sum-alike, sum-zeros}
-use Rattle.identity.proofs.Gram.{all-map, sum-same, factors-small, gram-more, outer-coefficient, rows-on, rows-all}
+use Rattle.identity.proofs.Gram.{all-map, sum-same, keys-rekeyed, factors-small, gram-more, outer-coefficient, rows-on, rows-all}
 use Rattle.keeping.specs.Places.{Walkable}
 use Rattle.gram.specs.Outer.{rowUnit, Entries, Below, Raised, above, inRow, outerAt}
 use Rattle.gram.specs.Gather.{Shaped, Gathered}
@@ -169,10 +169,6 @@ module _ (m : ℕ) where
   unfolding All
   factors-low [] h = tt
   factors-low (e ∷ es) h = (h .0, factors-low es (h .1))
-
-  keys-rekeyed : (A : ℕ → Type 0) (f : ℕ → ℕ) (P : List Term) → Keys (λ k. A (f k)) P → Keys A (rekeyed f P)
-  keys-rekeyed A f [] h = tt
-  keys-rekeyed A f (t ∷ P) h = (h .0, keys-rekeyed A f P (h .1))
 
   module _ (few : m ≤ 64) where
     outer-framed : (r : Row) → Low r → Keys Framing (outer r)

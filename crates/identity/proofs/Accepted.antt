@@ -4,6 +4,7 @@ use mathlib.Core.List.{List}
 use mathlib.Core.Option.{Option, none, some}
 use Prim.Native.Nat.{ℕ}
 use native.Mathlib.Omega.{arith}
+use Rattle.counting.proofs.Cases.{clash}
 use Rattle.stream.specs.Commands.{Outcome}
 use Rattle.stream.specs.Commands as Stream
 use Rattle.problem.specs.Rules.{Problem}
@@ -17,7 +18,7 @@ use Rattle.identity.proofs.Fits.{read-fits}
 
 -- a refusal is not an acceptance
 not-refused : {X : Type 0} (n place key : ℕ) (c : Certificate) → refused n place key ≡ accepted c → X
-not-refused n place key c e = absurd (let z : _≡_ {A = ℕ} 0 1 = cc in omega arith)
+not-refused n place key c e = clash (cc)
 
 -- neither 8 nor 9 is given
 record Passed (split difference : Option ℕ) (d c : Certificate) : Type 0 where

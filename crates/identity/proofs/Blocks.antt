@@ -7,15 +7,16 @@ use Prim.Native.Nat.{ℕ}
 use native.Mathlib.Omega.{arith}
 use lib.Dec.{eqb}
 use borrow.Author.Tests.{eqb-true, eq-eqb}
+use Rattle.counting.proofs.Cases.{clash}
 use Rattle.problem.specs.Rules.{Problem}
 use Rattle.problem.specs.Limits.{All}
 use Rattle.certificate.specs.Rules.{Entry, Row}
 use Rattle.identity.specs.Identity.{blockOf, KeepsBlocks}
-use Rattle.identity.specs.Judgement.{firstOutside, rowSplit, orElse, splitPlace}
+use Rattle.identity.specs.Judgement.{firstOutside, rowSplit, orElse, splitBy, splitPlace}
 
 -- none is not some
 never : {X : Type 0} (n : ℕ) → _≡_ {A = Option ℕ} (some n) none → X
-never n e = absurd (let z : _≡_ {A = ℕ} 0 1 = cc in omega arith)
+never n e = clash (cc)
 
 module _ (b : ℕ → ℕ) (l : ℕ) where
   outside-none : (es : List Entry) → firstOutside b l es ≡ none → All (λ (e : Entry). b (e .index) ≡ l) es
@@ -62,7 +63,7 @@ row-kept b l (e ∷ es) h = rw (h .0) (outside-kept b l es (h .1))
 module _ (p : Problem) where
   -- where refusal 8 finds no place, every row is in one block
   pub split-none : (rs : List Row) → splitPlace p rs ≡ none → KeepsBlocks p rs
-  unfolding splitPlace All
+  unfolding splitBy All
   split-none [] h = tt
   split-none (r ∷ rs) h =
       let c = row-none (blockOf p (r .basis)) (r .entries) (first-none _ (splitPlace p rs) h) in
@@ -70,6 +71,6 @@ module _ (p : Problem) where
 
   -- and where every row is, it finds none
   pub split-kept : (rs : List Row) → KeepsBlocks p rs → splitPlace p rs ≡ none
-  unfolding splitPlace All
+  unfolding splitBy All
   split-kept [] h = refl
   split-kept (r ∷ rs) h = rw (row-kept (blockOf p (r .basis)) (h .0 .block) (r .entries) (h .0 .entries)) (split-kept rs (h .1))

@@ -8,6 +8,7 @@ use Prim.Native.Nat.{ℕ, _<_}
 use native.Mathlib.Omega.{arith}
 use lib.IntN.{ℤ, pos, negsuc}
 use borrow.Author.Tests.{eqb-true, eq-eqb}
+use Rattle.counting.proofs.Cases.{clash}
 use Rattle.polynomial.specs.Terms.{Term}
 use Rattle.polynomial.specs.Algebra.{coefficient}
 use Rattle.problem.specs.Rules.{Problem}
@@ -22,11 +23,11 @@ use Rattle.identity.proofs.Reach.{compared-rising, claim-outside, squar
 -- ---- one comparison
 pub same-equal : (a b : ℤ) → sameNumber a b ≡ true → a ≡ b
 same-equal (pos a) (pos b) e = ap pos (eqb-true a b e)
-same-equal (pos a) (negsuc b) e = absurd (let z : _≡_ {A = ℕ} 0 1 = cc in omega arith)
-same-equal (negsuc a) (pos b) e = absurd (let z : _≡_ {A = ℕ} 0 1 = cc in omega arith)
+same-equal (pos a) (negsuc b) e = clash (cc)
+same-equal (negsuc a) (pos b) e = clash (cc)
 same-equal (negsuc a) (negsuc b) e = ap negsuc (eqb-true a b e)
 
-same-self : (a : ℤ) → sameNumber a a ≡ true
+pub same-self : (a : ℤ) → sameNumber a a ≡ true
 same-self (pos a) = eq-eqb a a refl
 same-self (negsuc a) = eq-eqb a a refl
 
@@ -52,7 +53,7 @@ module _ (P Q : List Term) where
       go : (b : Bool) → sameNumber (coefficient k P) (coefficient k Q) ≡ b → (o : Option ℕ) → Found ks o → Found (k ∷ ks) (cond b o (some k))
       go true e o f = more o (same-equal _ _ e) f
       go false e o f = (
-        λ q. let t : sameNumber (coefficient k P) (coefficient k Q) ≡ true = rw q (same-self (coefficient k Q)) in let z : _≡_ {A = ℕ} 0 1 = cc in omega arith,
+        λ q. let t : sameNumber (coefficient k P) (coefficient k Q) ≡ true = rw q (same-self (coefficient k Q)) in clash (cc),
         λ j m l. ⊎-elim (λ d. absurd (omega arith)) (λ n. let u = above-in k j ks (r .0) n in absurd (omega arith)) (in-cons j k ks m),
       )
 
@@ -71,7 +72,7 @@ module _ (P Q : List Term) where
       where
         go : (b : Bool) → member k ks ≡ b → Same k
         go true m = f m
-        go false m = away k (λ n. let z : _≡_ {A = ℕ} 0 1 = cc in omega arith)
+        go false m = away k (λ n. clash (cc))
 
     none-same : firstDifference P Q ks ≡ none → (k : ℕ) → Same k
     unfolding Found

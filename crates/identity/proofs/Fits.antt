@@ -7,6 +7,7 @@ use native.Mathlib.Omega.{arith}
 use lib.Dec.{leb}
 use lib.ListN.{length, getD}
 use borrow.Author.Tests.{leb-true, ltb-true}
+use Rattle.counting.proofs.Cases.{and-left}
 use Rattle.counting.specs.Counting.{listed}
 use Rattle.counting.proofs.Listed.{listed-at}
 use Rattle.stream.specs.Commands.{given}
@@ -14,7 +15,7 @@ use Rattle.stream.proofs.Run.{passes, read-induction}
 use Rattle.problem.specs.Rules.{Problem, nonzero}
 use Rattle.problem.specs.Bases.{basisOf}
 use Rattle.problem.specs.Limits.{All, Limits}
-use Rattle.problem.proofs.Limits.{and-left, all-more, all-set, all-at}
+use Rattle.problem.proofs.Limits.{all-more, all-set, all-at}
 use Rattle.certificate.specs.Rules.{Entry, Row, Certificate, nothing, shapeOf, noRow, lastRow, withEntry, progressOf, allowed, applied, instructionAt, progressVerdict, verdict, next, language, readCertificate}
 use Rattle.certificate.specs.declared.Shape.{Shape}
 use Rattle.certificate.specs.declared.Instruction.{Instruction}

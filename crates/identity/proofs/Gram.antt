@@ -46,7 +46,7 @@ unfolding All
 factors-small [] h = tt
 factors-small (e ∷ es) h = (h .0, factors-small es (h .1))
 
-keys-rekeyed : (A : ℕ → Type 0) (f : ℕ → ℕ) (P : List Term) → Keys (λ k. A (f k)) P → Keys A (rekeyed f P)
+pub keys-rekeyed : (A : ℕ → Type 0) (f : ℕ → ℕ) (P : List Term) → Keys (λ k. A (f k)) P → Keys A (rekeyed f P)
 keys-rekeyed A f [] h = tt
 keys-rekeyed A f (t ∷ P) h = (h .0, keys-rekeyed A f P (h .1))
 

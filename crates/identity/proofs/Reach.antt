@@ -17,6 +17,7 @@ use Rattle.problem.specs.Bases.{basisOf, multiplierOf}
 use Rattle.problem.specs.Limits.{All, Limits}
 use Rattle.support.specs.Sets.{In, Rising, insert, insertAll}
 use Rattle.support.proofs.Elements.{in-here, in-there, in-cons, not-nil, insert-in, insert-keeps, insert-rising}
+use Rattle.support.proofs.Keys.{insertAll-in}
 use Rattle.blocks.proofs.Growth.{fromTo-extends}
 use Rattle.blocks.proofs.Full.{full-any}
 use Rattle.rounds.proofs.Closing.{closing-full, closing-starts, closing-rising}
@@ -84,12 +85,6 @@ module _ (p : Problem) where
         keys-append _ (square p r) (squares p rs) (row-reach r (let c = limits .constraints in let b = f .0 .basis in omega arith) (f .0) (o .0)) (squares-reach rs (f .1) (o .1))
 
   -- ---- the claim
-  insertAll-in : (k : ℕ) (ks S : List ℕ) → In k ks → In k (insertAll ks S)
-  unfolding insertAll
-  insertAll-in k [] S m = not-nil k m
-  insertAll-in k (x ∷ ks) S m =
-      ⊎-elim (λ e. insertAll-extends ks (insert x S) .keeps k (subst (λ y. In k (insert y S)) (sym e) (insert-in k S))) (λ i. insertAll-in k ks (insert x S) i) (in-cons k x ks m)
-
   -- "S starts as all exponents of the objective ..", and never loses one
   objective-in : (k : ℕ) → In k (keysOf (p .objective)) → In k (closedSupport p)
   unfolding closing startSet startFrom

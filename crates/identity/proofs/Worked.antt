@@ -6,6 +6,7 @@ use native.Mathlib.Omega.{arith}
 use lib.Dec.{lit≤}
 use lib.ListN.{getD, replicate}
 use lib.IntN.{ℤ, pos, negsuc, pow, one}
+use Rattle.counting.proofs.Cases.{clash}
 use Rattle.polynomial.specs.Monomial.{degreeOf, degree, within, among}
 use Rattle.polynomial.specs.Terms.{Term, term, keysOf}
 use Rattle.polynomial.specs.Algebra.{coefficient}
@@ -98,7 +99,7 @@ limitsF = record {
     one-not e = let z : _≡_ {A = ℕ} 1 0 = cc in omega arith
 
     minus-not : negsuc 0 ≡ pos 0 → ⊥
-    minus-not e = let z : _≡_ {A = ℕ} 0 1 = cc in omega arith
+    minus-not e = clash (cc)
 
     begun : (j : ℕ) → 1 < j → getD (problemF .bases) j [] ≡ []
     begun zero h = absurd (omega arith)

@@ -30,10 +30,13 @@ abbrev pub orElse : Option ℕ → Option ℕ → Option ℕ
 orElse (some x) y = some x
 orElse none y = y
 
--- "8 by rows"
-unfoldable pub splitPlace : Problem → List Row → Option ℕ
-splitPlace p [] = none
-splitPlace p (r ∷ rs) = orElse (rowSplit (blockOf p (r .basis)) (r .entries)) (splitPlace p rs)
+-- "8 by rows", where b j is the block number of an index of basis j
+unfoldable pub splitBy : (ℕ → ℕ → ℕ) → List Row → Option ℕ
+splitBy b [] = none
+splitBy b (r ∷ rs) = orElse (rowSplit (b (r .basis)) (r .entries)) (splitBy b rs)
+
+abbrev pub splitPlace : Problem → List Row → Option ℕ
+splitPlace p rs = splitBy (blockOf p) rs
 
 -- ---- refusal 9: "identity false", and the smallest key that differs
 abbrev pub sameNumber : ℤ → ℤ → Bool

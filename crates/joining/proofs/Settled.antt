@@ -7,6 +7,7 @@ use native.Mathlib.Omega.{arith}
 use lib.Dec.{ltb}
 use lib.ListN.{length, getD, take, drop}
 use borrow.Author.Tests.{lt-ltb, le-ltb}
+use Rattle.counting.proofs.Cases.{clash}
 use Rattle.support.specs.Sets.{insert}
 use Rattle.support.specs.Table.{keysIn, Grown, Stored}
 use Rattle.support.proofs.Elements.{insert-grows}
@@ -73,4 +74,4 @@ module _ (keys sizes exponents counts : List ℕ) (a : Arrays keys sizes exponen
 
 -- a test that holds does not fail
 pub never : {b : Bool} {P : Type 0} → b ≡ true → b ≡ false → P
-never p q = absurd (let z : _≡_ {A = ℕ} 0 1 = cc in omega arith)
+never p q = clash (cc)

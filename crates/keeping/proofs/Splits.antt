@@ -8,13 +8,15 @@ use native.Mathlib.Omega.{arith}
 use borrow.Author.Tests.{eq-eqb, ne-eqb}
 use lib.ListN.{length, getD, drop}
 use lib.Seq.{drop-cons, drop-length}
+use Rattle.counting.proofs.Cases.{clash}
 use Rattle.counting.specs.Counting.{listed}
 use Rattle.counting.proofs.Listed.{listed-at, listed-length}
 use Rattle.stream.specs.Commands.{given}
 use Rattle.problem.specs.Rules.{Problem}
 use Rattle.problem.specs.Bases.{basisOf}
 use Rattle.problem.specs.Limits.{All, Limits}
-use Rattle.rounds.specs.Bytes.{blockBytes}
+use Rattle.rounds.specs.Bytes.{blockBytes, blockAt}
+use Rattle.rounds.proofs.Flat.{byte-at}
 use Rattle.rounds.proofs.Closing.{closing-shaped}
 use Rattle.joining.specs.Joining.{basesOf, startSet, closing}
 use Rattle.certificate.specs.Kept.{Within}
@@ -26,11 +28,11 @@ use Rattle.certificate.proofs.Limits.{shape-within}
 use Rattle.certificate.proofs.Rows.{no-row, one-row, rows-read}
 use Rattle.certificate.proofs.Walk.{onward, holds-sound, sound-basis, sound-index}
 use Rattle.identity.specs.Identity.{blockOf, RowsFit}
-use Rattle.identity.specs.Judgement.{firstOutside, rowSplit, orElse, splitPlace}
+use Rattle.identity.specs.Judgement.{firstOutside, rowSplit, orElse, splitBy, splitPlace}
 use Rattle.identity.proofs.Gram.{all-map}
 use Rattle.identity.proofs.Fits.{read-fits}
 use Rattle.keeping.specs.declared.Place.the-variants.{At, Nowhere}
-use Rattle.keeping.specs.Places.{placeOf, byteAt, splitIn, Walkable, Indexed}
+use Rattle.keeping.specs.Places.{placeOf, Walkable, Indexed}
 
 -- ---- the entries of a row
 module _ (b : ℕ → ℕ) where
@@ -58,10 +60,10 @@ module _ (b : ℕ → ℕ) where
 -- the same of a row in arrays
 module _ (r : StoredRow) (labels : List ℕ) (at : ℕ) where
   abbrev block : ℕ → ℕ
-  block = byteAt labels (r .basis)
+  block = blockAt labels (r .basis)
 
-  abbrev blockAt : ℕ → ℕ
-  blockAt k = getD labels (64 * r .basis + getD (r .indices) k 0) 0
+  abbrev entryBlock : ℕ → ℕ
+  entryBlock k = getD labels (64 * r .basis + getD (r .indices) k 0) 0
 
   entries : rowOf r at .entries ≡ listed (r .count) (storedEntry r at)
   unfolding rowOf
@@ -75,38 +77,38 @@ module _ (r : StoredRow) (labels : List ℕ) (at : ℕ) where
   row-none e = rw e
 
   -- the entries before k are in the row's first block
-  module _ (k : ℕ) (within : 1 ≤ k) (few : k ≤ r .count) (same : (i : ℕ) → i < k → blockAt i ≡ blockAt 0) where
-    first-passed : rowSplit block (rowOf r at .entries) ≡ firstOutside block (blockAt 0) (drop k (listed (r .count) (storedEntry r at)))
+  module _ (k : ℕ) (within : 1 ≤ k) (few : k ≤ r .count) (same : (i : ℕ) → i < k → entryBlock i ≡ entryBlock 0) where
+    first-passed : rowSplit block (rowOf r at .entries) ≡ firstOutside block (entryBlock 0) (drop k (listed (r .count) (storedEntry r at)))
     first-passed = rw entries (go (listed (r .count) (storedEntry r at)) refl)
       where
-        go : (es : List Entry) → es ≡ listed (r .count) (storedEntry r at) → rowSplit block es ≡ firstOutside block (blockAt 0) (drop k es)
+        go : (es : List Entry) → es ≡ listed (r .count) (storedEntry r at) → rowSplit block es ≡ firstOutside block (entryBlock 0) (drop k es)
         go [] e = let n = ap length e ∙ listed-length (r .count) (storedEntry r at) in absurd (omega arith)
         go (x ∷ es) e =
             let n : length (x ∷ es) ≡ r .count = ap length e ∙ listed-length (r .count) (storedEntry r at) in
             let f : x ≡ storedEntry r at 0 = ap (λ (l : List Entry). getD l 0 (storedEntry r at 0)) e ∙ entry-at 0 (omega arith) in
             from-first block x es
             ∙ rw (ap (λ (y : Entry). block (y .index)) f)
-            (passed block (blockAt 0) (x ∷ es) (storedEntry r at 0) k (omega arith) (λ i q. rw (e, entry-at i (omega arith)) (same i q)))
+            (passed block (entryBlock 0) (x ∷ es) (storedEntry r at 0) k (omega arith) (λ i q. rw (e, entry-at i (omega arith)) (same i q)))
 
-    pub row-first : k < r .count → (blockAt k ≡ blockAt 0 → ⊥) → rowSplit block (rowOf r at .entries) ≡ some (at + 4 * k)
+    pub row-first : k < r .count → (entryBlock k ≡ entryBlock 0 → ⊥) → rowSplit block (rowOf r at .entries) ≡ some (at + 4 * k)
     row-first h f =
         let n = listed-length (r .count) (storedEntry r at) in
         first-passed
-        ∙ stopped block (blockAt 0) (listed (r .count) (storedEntry r at)) (storedEntry r at 0) k (omega arith) (rw (entry-at k h) f)
+        ∙ stopped block (entryBlock 0) (listed (r .count) (storedEntry r at)) (storedEntry r at 0) k (omega arith) (rw (entry-at k h) f)
         ∙ ap (λ (y : Entry). some (y .place)) (entry-at k h)
 
     pub row-all : r .count ≤ k → rowSplit block (rowOf r at .entries) ≡ none
     row-all h =
         let n = listed-length (r .count) (storedEntry r at) in
         let e : k ≡ length (listed (r .count) (storedEntry r at)) = omega arith in
-        first-passed ∙ rw e (ended block (blockAt 0) (listed (r .count) (storedEntry r at)) (storedEntry r at 0))
+        first-passed ∙ rw e (ended block (entryBlock 0) (listed (r .count) (storedEntry r at)) (storedEntry r at 0))
 
 pub place-some : (o : Option ℕ) (x : ℕ) → placeOf o ≡ At x → o ≡ some x
 place-some (some y) x e = cc
-place-some none x e = absurd (let z : _≡_ {A = ℕ} 0 1 = cc in omega arith)
+place-some none x e = clash (cc)
 
 pub place-none : (o : Option ℕ) → placeOf o ≡ Nowhere → o ≡ none
-place-none (some y) e = absurd (let z : _≡_ {A = ℕ} 0 1 = cc in omega arith)
+place-none (some y) e = clash (cc)
 place-none none e = refl
 
 -- ---- the walk over the rows: those from here on give the answer
@@ -115,7 +117,7 @@ pub record Splitting (s labels : List ℕ) (at : ℕ) : Type 0 where
   pub within : Within shape
   pub left : ℕ
   pub chain : Chain shape s left at
-  pub same : splitIn labels (rowsFrom left s at) ≡ splitIn labels (rowsOf s)
+  pub same : splitBy (blockAt labels) (rowsFrom left s at) ≡ splitBy (blockAt labels) (rowsOf s)
 
 module _ (s labels : List ℕ) where
   pub splitting-start : Walkable s → Splitting s labels 10
@@ -123,9 +125,9 @@ module _ (s labels : List ℕ) where
   splitting-start w = record { shape = w .shape; within = w .rows .within; left = 128; chain = w .rows .chain; same = refl }
 
   module _ (at : ℕ) (k : Splitting s labels at) where
-    pub splitting-end : stands 0x11 s at ≡ false → splitIn labels (rowsOf s) ≡ none
-    unfolding splitIn
-    splitting-end f = sym (k .same) ∙ ap (splitIn labels) (no-row s at (k .left) f)
+    pub splitting-end : stands 0x11 s at ≡ false → splitBy (blockAt labels) (rowsOf s) ≡ none
+    unfolding splitBy
+    splitting-end f = sym (k .same) ∙ ap (splitBy (blockAt labels)) (no-row s at (k .left) f)
 
     module _ (t : stands 0x11 s at ≡ true) (r : StoredRow) (q : Holds s at r) where
       pub splitting-indexed : length labels ≡ 576 → Indexed r labels
@@ -142,13 +144,13 @@ module _ (s labels : List ℕ) where
           }
 
       abbrev here : Option ℕ
-      here = rowSplit (byteAt labels (r .basis)) (rowOf r (at + 4) .entries)
+      here = rowSplit (blockAt labels (r .basis)) (rowOf r (at + 4) .entries)
 
-      next : (n : ℕ) → k .left ≡ suc n → orElse here (splitIn labels (rowsFrom n s (afterRow s at))) ≡ splitIn labels (rowsOf s)
-      unfolding splitIn rowOf
+      next : (n : ℕ) → k .left ≡ suc n → orElse here (splitBy (blockAt labels) (rowsFrom n s (afterRow s at))) ≡ splitBy (blockAt labels) (rowsOf s)
+      unfolding splitBy rowOf
       next n e = rw (← k .same, e, one-row s at n t, ← q .row)
 
-      pub splitting-found : (x : ℕ) → here ≡ some x → splitIn labels (rowsOf s) ≡ some x
+      pub splitting-found : (x : ℕ) → here ≡ some x → splitBy (blockAt labels) (rowsOf s) ≡ some x
       splitting-found x e = let o = onward (k .chain) t in sym (rw e at (next (o .left) (o .one-less)))
 
       pub splitting-more : here ≡ none → Splitting s labels (r .next)
@@ -167,39 +169,27 @@ row-same b b′ (e ∷ es) h = rw (h .0) (others es (h .1))
     others [] k = refl
     others (x ∷ es) k = rw (k .0, others es (k .1))
 
-default-any : (l : List ℕ) (i d e : ℕ) → i < length l → getD l i d ≡ getD l i e
-default-any [] i d e h = absurd (omega arith)
-default-any (x ∷ l) zero d e h = refl
-default-any (x ∷ l) (suc i) d e h = default-any l i d e (omega arith)
-
-byte-at : (L : List (List ℕ)) (j i : ℕ) → j < 9 → i < 64 → i < length (getD L j []) → byteAt (blockBytes L) j i ≡ getD (getD L j []) i 0
-unfolding blockBytes
-byte-at L j i h b x =
-    let q : (64 * j + i) / 64 ≡ j = omega arith in
-    let r : (64 * j + i) % 64 ≡ i = omega arith in
-    listed-at 576 (λ x. getD (getD L (x / 64) []) (x % 64) 255) (64 * j + i) 0 (omega arith) ∙ rw (q, r) (default-any (getD L j []) i 255 0 x)
-
 module _ (p : Problem) (limits : Limits p) where
   shape : Within (shapeOf p)
   shape = shape-within p limits
 
-  block-is : (j i : ℕ) → j < 9 → i < length (basisOf p j) → byteAt (blockBytes (closing p .state .labels)) j i ≡ blockOf p j i
+  block-is : (j i : ℕ) → j < 9 → i < length (basisOf p j) → blockAt (blockBytes (closing p .state .labels)) j i ≡ blockOf p j i
   unfolding blockOf closing shapeOf
   block-is j i h b =
       let n = closing-shaped (basesOf p) (startSet p) .long j h in
       let z : length (basisOf p j) ≤ 64 = rw (← listed-at 9 (λ j. length (basisOf p j)) j 0 h) (shape .sizes j) in
       byte-at (closing p .state .labels) j i h (omega arith) (omega arith)
 
-  rows-same : (rs : List Row) → RowsFit p rs → splitIn (blockBytes (closing p .state .labels)) rs ≡ splitPlace p rs
-  unfolding splitIn splitPlace All
+  rows-same : (rs : List Row) → RowsFit p rs → splitBy (blockAt (blockBytes (closing p .state .labels))) rs ≡ splitPlace p rs
+  unfolding splitBy All
   rows-same [] f = refl
   rows-same (r ∷ rs) f =
       let c = limits .constraints in
       let b = f .0 .basis in
-      let e : rowSplit (byteAt (blockBytes (closing p .state .labels)) (r .basis)) (r .entries) ≡ rowSplit (blockOf p (r .basis)) (r .entries) =
+      let e : rowSplit (blockAt (blockBytes (closing p .state .labels)) (r .basis)) (r .entries) ≡ rowSplit (blockOf p (r .basis)) (r .entries) =
       row-same _ _ (r .entries) (all-map _ _ (λ (e : Entry) l. block-is (r .basis) (e .index) (omega arith) l) (r .entries) (f .0 .indices)) in
       rw (e, rows-same rs (f .1))
 
   -- what the walk decides by the bytes is refusal 8
-  pub split-is : (s labels : List ℕ) (c : Certificate) → readCertificate (shapeOf p) s ≡ given c → labels ≡ blockBytes (closing p .state .labels) → splitIn labels (rowsOf s) ≡ splitPlace p (c .rows)
+  pub split-is : (s labels : List ℕ) (c : Certificate) → readCertificate (shapeOf p) s ≡ given c → labels ≡ blockBytes (closing p .state .labels) → splitBy (blockAt labels) (rowsOf s) ≡ splitPlace p (c .rows)
   split-is s labels c e q = rw (q, rows-read (shapeOf p) shape s c e) (rows-same (c .rows) (read-fits p limits s c e))

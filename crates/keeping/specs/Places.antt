@@ -18,14 +18,6 @@ abbrev pub placeOf : Option ℕ → Place
 placeOf (some x) = At x
 placeOf none = Nowhere
 
--- "byte 64j + i gets the block number of index i in basis j"
-abbrev pub byteAt : List ℕ → ℕ → ℕ → ℕ
-byteAt labels j i = getD labels (64 * j + i) 0
-
-unfoldable pub splitIn : List ℕ → List Row → Option ℕ
-splitIn labels [] = none
-splitIn labels (r ∷ rs) = orElse (rowSplit (byteAt labels (r .basis)) (r .entries)) (splitIn labels rs)
-
 -- ---- what a walk over the rows of a stream needs: there are at most 128, each within the limits of the shape
 pub record Rows (h : Shape) (s : List ℕ) : Type 0 where
   pub within : Within h

@@ -6,12 +6,12 @@ ghost use lib.ListN.{length};
 ghost use Rattle.stream.specs.Commands.{given};
 ghost use Rattle.problem.specs.Rules.{Problem};
 ghost use Rattle.problem.specs.Limits.{Limits};
-ghost use Rattle.rounds.specs.Bytes.{blockBytes};
+ghost use Rattle.rounds.specs.Bytes.{blockBytes, blockAt};
 ghost use Rattle.joining.specs.Joining.{closing};
 ghost use Rattle.certificate.specs.Rules.{Certificate, shapeOf, readCertificate};
 ghost use Rattle.certificate.specs.Rows.{rowOf};
 ghost use Rattle.identity.specs.Judgement.{rowSplit, splitPlace};
-ghost use Rattle.keeping.specs.Places.{placeOf, byteAt, Walkable, Indexed};
+ghost use Rattle.keeping.specs.Places.{placeOf, Walkable, Indexed};
 
 // Where a row leaves its block.
 pub enum Place {
@@ -22,7 +22,7 @@ pub enum Place {
 // The place of the first entry outside the row's first block, for a row whose entries begin at an offset.
 fn row_split(row: certificate::StoredRow, labels: &[u8], at: usize) -> Place
     requires { ⌜ Indexed row (now labels) × (at + 256 < 2 ^ 64) ⌝ }
-    ensures { λ r. ⌜ r ≡ placeOf (rowSplit (byteAt (now (labels .entry)) (row .basis)) (rowOf row at .entries)) ⌝ }
+    ensures { λ r. ⌜ r ≡ placeOf (rowSplit (blockAt (now (labels .entry)) (row .basis)) (rowOf row at .entries)) ⌝ }
 {
     let indices = row.indices;
     let count = row.count;

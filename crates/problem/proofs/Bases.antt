@@ -3,7 +3,6 @@ use mathlib.Core.Path.{_≡_, refl, sym, _∙_, subst}
 use mathlib.Core.List.{List, [], _∷_, _++_, map}
 use mathlib.Core.Logic.{_⊎_, inl, inr, ⊎-elim}
 use Prim.Native.Nat.{ℕ, zero, suc, _+_, _-_, _*_, _≤_, _<_, zero-le}
-use native.Mathlib.Decide.{decLt}
 use native.Mathlib.Nat.{eq-or-lt-of-le}
 use native.Mathlib.Numerals.{add-one}
 use native.Mathlib.Omega.{arith}
@@ -11,6 +10,7 @@ use lib.IntN.{ℤ, pos}
 use lib.ListN.{length, take, drop, set, getD, replicate, length-append, length-drop, length-set, length-replicate, take-append-drop, List·getD-eq-default}
 use lib.Seq.{length-take-le, take-append-le, drop-append-le, drop-at, getD-drop, getD-set-same, getD-set-other}
 use Rattle.counting.specs.Counting.{listed}
+use Rattle.counting.proofs.Cases.{lt-or-le}
 use Rattle.counting.proofs.Listed.{listed-at, listed-take}
 use Rattle.polynomial.specs.Terms.{Term, term, keysOf, termsIn, terms, Low, Filled}
 use Rattle.polynomial.specs.declared.Polynomial.{Polynomial}
@@ -20,13 +20,6 @@ use Rattle.problem.specs.Rules.{Problem}
 use Rattle.problem.specs.Stored.{noTerms, constraintsOf, basesOf, problemOf, KeptConstraints, Kept}
 use Rattle.problem.specs.Bases.{basisOf, multiplierOf, Flat, coefficientsOf, FlatCoefficients}
 use Rattle.problem.proofs.Stored.{constraints-count, bases-count, basis-stored}
-
-below-or-not : (i n : ℕ) → (i < n) ⊎ (n ≤ i)
-below-or-not i n = go (decLt i n)
-  where
-    go : Dec (i < n) → (i < n) ⊎ (n ≤ i)
-    go (yes h) = inl h
-    go (no h) = inr (omega arith)
 
 -- the constraints of a stored problem, from which its multipliers are made
 pub stored-constraints : (p : StoredProblem) → problemOf p .constraints ≡ constraintsOf (p .count) (p .constraints)
@@ -42,7 +35,7 @@ basis-part p k j =
     (λ h.
     let l = bases-count (p .sizes) (p .keys) in
     rw (List·getD-eq-default (basesOf (p .sizes) (p .keys)) [] {n = j} (omega arith), List·getD-eq-default (p .sizes) 0 {n = j} (omega arith)))
-    (below-or-not j 9)
+    (lt-or-le j 9)
 
 -- ---- low keys of a list that is put together
 low-take : (d n : ℕ) (l : List ℕ) → Low d l → Low d (take n l)
@@ -183,7 +176,7 @@ module _ (qs : List Polynomial) where
           (λ l.
           let c = constraints-count n qs in
           rw (f .none (suc i) (omega arith), e, List·getD-eq-default (constraintsOf n qs) [] {n = i} (omega arith)))
-          (below-or-not i n)
+          (lt-or-le i n)
 
 -- ---- the coefficients up to number j stand in the same parts
 unfoldable pub factors : List Polynomial → ℕ → List ℤ
@@ -292,4 +285,4 @@ module _ (qs : List Polynomial) where
           (λ l.
           let c = constraints-count n qs in
           rw (e, List·getD-eq-default (constraintsOf n qs) [] {n = i} (omega arith)))
-          (below-or-not i n)
+          (lt-or-le i n)

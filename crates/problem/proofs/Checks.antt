@@ -10,6 +10,7 @@ use lib.IntN.{ℤ, pos, negsuc}
 use mir.Syntax.{w32}
 use mir.Val.{ofZ, SFits}
 use borrow.Author.Tests.{lt-ltb, le-leb, lt-leb, ne-eqb, eqb-true, leb-true}
+use Rattle.counting.proofs.Cases.{clash}
 use Rattle.stream.specs.Commands.{firstRefusal}
 use Rattle.problem.specs.declared.Command.{Command}
 use Rattle.problem.specs.declared.Command.the-variants as C
@@ -24,10 +25,6 @@ pub nonzero-bits : (c : ℤ) → SFits w32 c → not (eqb (ofZ w32 c) 0) ≡ non
 nonzero-bits (pos zero) h = refl
 nonzero-bits (pos (suc n)) h = rw (ne-eqb (suc n) 0 (λ e. omega arith), lt-ltb 0 (suc n) (omega arith))
 nonzero-bits (negsuc n) h = let k = h .sfits in rw (ne-eqb (2 ^ 32 - suc n) 0 (λ e. omega arith))
-
--- two constructors are never equal
-pub clash : {X : Type 0} → _≡_ {A = ℕ} 0 1 → X
-clash z = absurd (omega arith)
 
 -- ---- the first three checks, one by one
 module _ (p : Problem) (s : List ℕ) (at : ℕ) where
@@ -101,7 +98,7 @@ module _ (p : Problem) (s : List ℕ) (at : ℕ) where
       }
 
 -- a command that stands somewhere has a byte, and 06 is the one that ends
-placed-size : (p : Problem) (at : ℕ) (k : Command) → placed p at k ≡ true → 1 ≤ size k
+pub placed-size : (p : Problem) (at : ℕ) (k : Command) → placed p at k ≡ true → 1 ≤ size k
 placed-size p at C.Variables h = omega arith
 placed-size p at C.Objective h = omega arith
 placed-size p at C.Constraint h = omega arith

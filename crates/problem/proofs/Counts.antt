@@ -9,6 +9,7 @@ use lib.ListN.{length, getD, set, length-append}
 use lib.Seq.{getD-set-same, getD-set-other}
 use lib.Dec.{eqb, leb, ltb}
 use borrow.Author.Tests.{leb-true, ltb-true, eqb-true, eqb-false, eq-eqb, ne-eqb, lt-ltb}
+use Rattle.counting.proofs.Cases.{clash, and-left}
 use Rattle.counting.specs.Counting.{sumTo}
 use Rattle.counting.proofs.Listed.{same-or-not}
 use Rattle.counting.proofs.Sums.{sumTo-same, sumTo-add, sumTo-none, sumTo-one}
@@ -20,7 +21,7 @@ use Rattle.problem.specs.declared.Command.the-variants as C
 use Rattle.problem.specs.Layout.{commandOf, size, decode}
 use Rattle.problem.specs.Rules.{Problem, nothing, appendAt, placed, fitting, allowed, repeated, full, applied, commandAt, instructionAt, verdict, next, language, readProblem}
 use Rattle.problem.specs.Limits.{countIf, anyOf, isMember, names, memberCommands, basesNamed}
-use Rattle.problem.proofs.Limits.{Kept, kept-next, kept-start, nothing-basis, and-left}
+use Rattle.problem.proofs.Limits.{Kept, kept-next, kept-start, nothing-basis}
 
 -- the length of basis j
 abbrev size-of : Problem → ℕ → ℕ
@@ -86,7 +87,7 @@ module _ (p : Problem) (s : List ℕ) (at : ℕ) (kept : Kept p at) where
   same-step : (k : Command) → applied p (decode k s at) .bases ≡ p .bases → isMemberCommand k ≡ false → Step k
   same-step k e m = record {
     grows = λ j. rw (e, m) (omega arith);
-    named = λ h. absurd (let z : _≡_ {A = ℕ} 0 1 = cc in omega arith);
+    named = λ h. clash (cc);
   }
 
   step : (k : Command) (w : Bool) → Passes (placed p at k) w (allowed p (decode k s at)) (repeated p (decode k s at)) (full p (decode k s at)) → Step k

@@ -10,6 +10,7 @@ use lib.Seq.{getD-set-same, getD-set-other}
 use lib.Dec.{eqb, leb, ltb}
 use lib.IntN.{ℤ, pos, negsuc}
 use borrow.Author.Tests.{leb-true, leb-false, ltb-true, eqb-true, eqb-false, eq-eqb, ne-eqb}
+use Rattle.counting.proofs.Cases.{clash, and-left, and-right}
 use Rattle.counting.proofs.Listed.{same-or-not}
 use Rattle.stream.specs.Commands.{given}
 use Rattle.stream.specs.Operands.{number, signed}
@@ -23,16 +24,9 @@ use Rattle.problem.specs.declared.Instruction.the-variants as I
 use Rattle.problem.specs.Layout.{commandOf, size, decode}
 use Rattle.problem.specs.Rules.{Problem, nothing, appendAt, lastOf, placed, nonzero, fitting, allowed, repeated, full, applied, commandAt, instructionAt, verdict, next, language, readProblem}
 use Rattle.problem.specs.Limits.{Distinct, All, Monomials, Terms, Limits}
+use Rattle.problem.proofs.Checks.{placed-size}
 
 -- ---- tests
-pub and-left : (a b : Bool) → (a && b) ≡ true → a ≡ true
-and-left true b h = refl
-and-left false b h = absurd (let z : _≡_ {A = ℕ} 0 1 = cc in omega arith)
-
-pub and-right : (a b : Bool) → (a && b) ≡ true → b ≡ true
-and-right true b h = h
-and-right false b h = absurd (let z : _≡_ {A = ℕ} 0 1 = cc in omega arith)
-
 -- ---- lists: one more at the end, one replaced
 module _ {A : Type 0} (P : A → Type 0) where
   pub all-more : (l : List A) (a : A) → All P l → P a → All P (l ++ (a ∷ []))
@@ -72,7 +66,7 @@ distinct-more [] x h e = (refl, tt)
 distinct-more (y ∷ ks) x h e = go (distinct-more ks x (h .1)) (eqb y x) refl e
   where
     go : (among x ks ≡ false → Distinct (ks ++ (x ∷ []))) → (b : Bool) → eqb y x ≡ b → cond b true (among x ks) ≡ false → (among y (ks ++ (x ∷ [])) ≡ false) × Distinct (ks ++ (x ∷ []))
-    go f true q e = absurd (let z : _≡_ {A = ℕ} 0 1 = cc in omega arith)
+    go f true q e = clash (cc)
     go f false q e = (among-more y x ks (h .0) (λ r. eqb-false y x q (sym r)), f e)
 
 -- ---- monomials and terms: one more
@@ -100,7 +94,7 @@ keys-more (t ∷ ts) k c = ap (λ (l : List ℕ). t .key ∷ l) (keys-more ts k 
 
 pub nonzero-not : (c : ℤ) → nonzero c ≡ true → c ≡ pos 0 → ⊥
 nonzero-not (pos n) h e = let z : n ≡ 0 = cc in let k = ltb-true 0 n h in omega arith
-nonzero-not (negsuc n) h e = let z : _≡_ {A = ℕ} 0 1 = cc in omega arith
+nonzero-not (negsuc n) h e = clash (cc)
 
 terms-none : (n d most : ℕ) → Terms n d most []
 unfolding All keysOf
@@ -216,15 +210,6 @@ module _ (p : Problem) (s : List ℕ) (at : ℕ) (kept : Kept p at) where
   next-limits h = applied-limits _ (commandAt s at) (passes _ _ _ _ _ h)
 
 -- a command that stands somewhere has a byte
-placed-size : (p : Problem) (at : ℕ) (k : Command) → placed p at k ≡ true → 1 ≤ size k
-placed-size p at C.Variables h = omega arith
-placed-size p at C.Objective h = omega arith
-placed-size p at C.Constraint h = omega arith
-placed-size p at C.Term h = omega arith
-placed-size p at C.Member h = omega arith
-placed-size p at C.End h = omega arith
-placed-size p at C.Unknown h = absurd (let z : _≡_ {A = ℕ} 0 1 = cc in omega arith)
-
 pub taken-size : (p : Problem) (s : List ℕ) (at : ℕ) → verdict p s at ≡ 0 → 1 ≤ size (commandAt s at)
 unfolding verdict
 taken-size p s at h = placed-size p at (commandAt s at) (passes _ _ _ _ _ h .placed)

@@ -10,6 +10,7 @@ use lib.IntN.{ℤ}
 use lib.ListN.{length, take, drop, set, getD, replicate, length-drop, length-replicate, getD-replicate}
 use lib.Seq.{length-take-le}
 use borrow.Author.Tests.{ne-eqb, le-leb, lt-leb, leb-true, leb-false, ltb-true}
+use Rattle.counting.proofs.Cases.{clash, and-left, and-right}
 use Rattle.stream.specs.Commands.{firstRefusal}
 use Rattle.stream.proofs.Run.{Left, left-start, left-end, left-refused, left-extra, left-given, left-next}
 use Rattle.counting.specs.Counting.{listed}
@@ -29,7 +30,7 @@ use Rattle.problem.specs.Layout.{commandOf, decode}
 use Rattle.problem.specs.Rules.{Problem, placed, fitting, nonzero, full, applied, commandAt, verdict, next, language, nothing, readProblem}
 use Rattle.problem.specs.Checks.{early, late, lateIn}
 use Rattle.problem.specs.Stored.{noTerms, constraintsOf, basesOf, problemOf, outcomeOf, Kept}
-use Rattle.problem.proofs.Checks.{clash, Passes, passes-size, passes-end, passes-on}
+use Rattle.problem.proofs.Checks.{Passes, passes-size, passes-end, passes-on}
 use Rattle.problem.proofs.Stored.{terms-room, constraints-count, last-stored, constraint-begun, term-added, constraints-kept, basis-stored, member-added, bases-kept}
 
 abbrev pub stored : ℕ → Objective → List Polynomial → ℕ → List ℕ → List ℕ → StoredProblem
@@ -114,14 +115,6 @@ starting s o q f e =
     }
 
 -- ---- what each command stores
-and-left : (a b : Bool) → (a && b) ≡ true → a ≡ true
-and-left true b h = refl
-and-left false b h = clash (cc)
-
-and-right : (a b : Bool) → (a && b) ≡ true → b ≡ true
-and-right true b h = h
-and-right false b h = clash (cc)
-
 -- no check fails, so the list is not full
 not-full : (a f : Bool) → firstRefusal true true true a f ≡ 0 → f ≡ false
 unfolding firstRefusal

@@ -10,16 +10,10 @@ use borrow.Author.Tests.{ltb-true, ltb-false, lt-ltb, le-ltb}
 use lib.ListN.{length, getD, take, drop, set, replicate, length-replicate, getD-replicate, length-append, length-take, length-drop, List·getD-append, List·getD-eq-default}
 use lib.Seq.{length-take-le, getD-take, getD-drop, getD-append-add, getD-set-same, getD-set-other, ext-getD}
 use Rattle.counting.specs.Counting.{listed}
+use Rattle.counting.proofs.Cases.{lt-or-le, default-any}
 use Rattle.counting.proofs.Listed.{same-or-not, listed-length, listed-same, listed-at, listed-all, listed-set}
-use Rattle.rounds.specs.Bytes.{blockBytes, part, labelsIn}
+use Rattle.rounds.specs.Bytes.{blockBytes, blockAt, part, labelsIn}
 use Rattle.rounds.specs.Arrays.{Sizes, Labelled}
-
-lt-or-le : (a b : ℕ) → (a < b) ⊎ (b ≤ a)
-lt-or-le a b = go (ltb a b) refl
-  where
-    go : (d : Bool) → ltb a b ≡ d → (a < b) ⊎ (b ≤ a)
-    go true e = inl (ltb-true a b e)
-    go false e = inr (ltb-false a b e)
 
 -- ---- nine that are replaced one by one: those before i are f's, the others h's
 
@@ -89,6 +83,10 @@ bytes-from L j i h b =
     let q : (64 * j + i) / 64 ≡ j = omega arith in
     let r : (64 * j + i) % 64 ≡ i = omega arith in
     bytes-at L (64 * j + i) (omega arith) ∙ rw (q, r)
+
+-- a byte is a block number
+pub byte-at : (L : List (List ℕ)) (j i : ℕ) → j < 9 → i < 64 → i < length (getD L j []) → blockAt (blockBytes L) j i ≡ getD (getD L j []) i 0
+byte-at L j i h b x = default-any (blockBytes L) (64 * j + i) 0 255 (omega (arith, bytes-long L)) ∙ bytes-from L j i h b ∙ default-any (getD L j []) i 255 0 x
 
 -- empty lists leave 255 everywhere
 pub bytes-none : (L : List (List ℕ)) → ((j : ℕ) → j < 9 → getD L j [] ≡ []) → blockBytes L ≡ replicate 576 255

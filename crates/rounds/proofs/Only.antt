@@ -9,17 +9,13 @@ use lib.ListN.{length, getD}
 use lib.Dec.{eqb}
 use borrow.Author.Tests.{eqb-true, eq-eqb}
 use Rattle.support.specs.Sets.{Above, Rising, In, member}
-use Rattle.support.proofs.Elements.{not-nil, in-cons, in-here, in-there}
+use Rattle.support.proofs.Elements.{above-in, not-nil, in-cons, in-here, in-there}
 use Rattle.rounds.specs.Rounds.{Bases, closing}
 use Rattle.rounds.specs.Meaning.{Closed, Other, Least, Lowest}
 use Rattle.rounds.proofs.Closing.{closing-rising}
 use Rattle.rounds.proofs.Meaning.{labelOf, closing-closed, closing-least, closing-lowest}
 
 -- ---- rising lists with the same elements are the same
-
-above-in : (x y : ℕ) (l : List ℕ) → Above x l → In y l → x < y
-above-in x y [] a m = not-nil y m
-above-in x y (z ∷ zs) a m = ⊎-elim (λ e. omega (arith, a .0)) (above-in x y zs (a .1)) (in-cons y z zs m)
 
 -- the first of a rising list is at most each element
 first-least : (x y : ℕ) (l : List ℕ) → Above x l → In y (x ∷ l) → x ≤ y

@@ -1,6 +1,6 @@
 -- The 576 bytes of block numbers, and the flat arrays that hold nine bases and nine multipliers.
 use mathlib.Core.List.{List, []}
-use Prim.Native.Nat.{ℕ, _*_, _/_, _%_}
+use Prim.Native.Nat.{ℕ, _+_, _*_, _/_, _%_}
 use lib.ListN.{getD, take, drop}
 use Rattle.counting.specs.Counting.{listed}
 use Rattle.rounds.specs.Rounds.{Bases}
@@ -8,6 +8,10 @@ use Rattle.rounds.specs.Rounds.{Bases}
 -- "byte 64j + i gets the block number of index i in basis j, all others 255"
 unfoldable pub blockBytes : List (List ℕ) → List ℕ
 blockBytes L = listed 576 (λ x. getD (getD L (x / 64) []) (x % 64) 255)
+
+-- the block number of index i in basis j that the bytes tell
+abbrev pub blockAt : List ℕ → ℕ → ℕ → ℕ
+blockAt bytes j i = getD bytes (64 * j + i) 0
 
 -- part j of a flat array: the count of places that counts names, from place w × j on
 abbrev pub part : ℕ → List ℕ → List ℕ → ℕ → List ℕ

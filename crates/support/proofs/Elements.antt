@@ -10,6 +10,7 @@ use native.Mathlib.Omega.{arith}
 use lib.Dec.{eqb, ltb}
 use lib.ListN.{length, getD}
 use borrow.Author.Tests.{eqb-true, eqb-false, eq-eqb, ne-eqb, ltb-true, ltb-false}
+use Rattle.counting.proofs.Cases.{clash}
 use Rattle.support.specs.Sets.{Above, Rising, In, member, insert, insertAll}
 
 pub either : (b : Bool) → cond b true true ≡ true
@@ -156,7 +157,7 @@ length-insert-new k [] m = refl
 length-insert-new k (x ∷ xs) m = go (length-insert-new k xs) (ltb x k) (eqb x k) m
   where
     go : (member k xs ≡ false → length (insert k xs) ≡ length xs + 1) → (b d : Bool) → cond d true (member k xs) ≡ false → length (cond b (x ∷ insert k xs) (cond d (x ∷ xs) (k ∷ x ∷ xs))) ≡ length (x ∷ xs) + 1
-    go h b true m = absurd (let z : _≡_ {A = ℕ} 0 1 = cc in omega arith)
+    go h b true m = clash (cc)
     go h true false m = omega (arith, h m)
     go h false false m = omega arith
 

@@ -8,6 +8,7 @@ use native.Mathlib.Numerals.{add-one}
 use native.Mathlib.Omega.{arith}
 use lib.ListN.{length, getD, take, drop, set, length-set}
 use lib.Seq.{length-take-le, getD-take, take-suc, take-suc-set, take-set-le, drop-set-lt}
+use Rattle.counting.proofs.Cases.{clash}
 use Rattle.support.specs.Sets.{Rising, In, member, insert, insertAll}
 use Rattle.support.specs.Table.{keysIn, Holds, Finds, Indexed, Grown, Stored}
 use Rattle.support.specs.declared.Found.{Found}
@@ -33,7 +34,7 @@ unfolding insertAll
 insertAll-keeps x [] S m = m
 insertAll-keeps x (k ∷ ks) S m = insertAll-keeps x ks (insert k S) (insert-keeps x k S m)
 
-insertAll-in : (x : ℕ) (ks S : List ℕ) → In x ks → In x (insertAll ks S)
+pub insertAll-in : (x : ℕ) (ks S : List ℕ) → In x ks → In x (insertAll ks S)
 unfolding insertAll
 insertAll-in x [] S m = not-nil x m
 insertAll-in x (k ∷ ks) S m = ⊎-elim (λ e. insertAll-keeps x ks (insert k S) (rw e (insert-in x S))) (λ w. insertAll-in x ks (insert k S) w) (in-cons x k ks m)
@@ -63,8 +64,8 @@ module _ (n : ℕ) (t : List ℕ) where
     where
       go : (b : Bool) → member x (keysIn n t) ≡ b → (d : Bool) → member x (take n t) ≡ d → b ≡ d
       go true p true q = refl
-      go true p false q = let m = keys-from x p in absurd (let z : _≡_ {A = ℕ} 0 1 = cc in omega arith)
-      go false p true q = let m = keys-in x q in absurd (let z : _≡_ {A = ℕ} 0 1 = cc in omega arith)
+      go true p false q = let m = keys-from x p in clash (cc)
+      go false p true q = let m = keys-in x q in clash (cc)
       go false p false q = refl
 
 pub keys-first : (n : ℕ) (t t′ : List ℕ) → take n t ≡ take n t′ → keysIn n t ≡ keysIn n t′
