@@ -8,5 +8,3 @@ pub mod Joined
 pub mod Full
 pub mod Lowest
 pub mod Sums
-pub mod Joins
-pub mod Fresh

@@ -13,7 +13,7 @@ use Rattle.counting.specs.Counting.{listed}
 use Rattle.counting.proofs.Listed.{listed-length, listed-at}
 use Rattle.blocks.specs.Join.{linked, renamed, merged, joinPair, join}
 use Rattle.blocks.specs.Extend.{lowestFrom, blockCount}
-use Rattle.blocks.specs.Fresh.{Numbered}
+use Rattle.blocks.specs.Numbered.{Numbered}
 use Rattle.blocks.proofs.Laws.{merged-same}
 use Rattle.blocks.proofs.Pairs.{pairs-keep}
 use Rattle.blocks.proofs.Labels.{inOne, InOne, merged-long, merged-at, two-low, other-same, in-one, pair-long}

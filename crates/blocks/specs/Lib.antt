@@ -3,4 +3,4 @@ pub mod Extend
 pub mod Limits
 pub mod Filled
 pub mod Sums
-pub mod Fresh
+pub mod Numbered

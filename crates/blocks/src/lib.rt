@@ -2,14 +2,13 @@
 // block number of each index. The first `len` numbers of `table` are the support, and `index` is its index.
 ghost use mathlib.Core.Path.{_≡_};
 ghost use mathlib.Core.Bool.{true, false};
-ghost use mathlib.Core.List.{[], _∷_, map};
+ghost use mathlib.Core.List.{map};
 ghost use Prim.Native.Nat.{_%_, _≤_, _<_};
-ghost use lib.ListN.{length, replicate};
+ghost use lib.ListN.{length};
 ghost use Rattle.support.specs.Table.{keysIn, Stored};
 ghost use Rattle.blocks.specs.Limits.{ForSums, Joining};
 ghost use Rattle.blocks.specs.Filled.{Extending};
 ghost use Rattle.blocks.specs.Sums.{Apart, Seen, Added};
-ghost use Rattle.blocks.specs.Fresh.{Numbered, Joins, Two, WithKey, WithSum, Through, Blocks, Placed};
 ghost use Rattle.blocks.specs.Join.{linked, renamed, merged, joinPair, joinRow, join};
 ghost use Rattle.blocks.specs.Extend.{addTerms, addPair, addRow, extend, blockCount};
 
@@ -31,7 +30,7 @@ fn relabel(labels: &mut [u8], from: u8, to: u8)
 }
 
 // Two blocks made one, under the lower number.
-fn merge(labels: &mut [u8], a: u8, b: u8)
+pub fn merge(labels: &mut [u8], a: u8, b: u8)
     ensures { λ _. ⌜ now (labels .exit) ≡ merged a b (now (labels .entry)) ⌝ }
 {
     if a < b {
@@ -41,7 +40,7 @@ fn merge(labels: &mut [u8], a: u8, b: u8)
     }
 }
 
-// The place of a key of a basis, or of a sum of two.
+// The place of a sum of two keys.
 fn place(key: u64) -> usize
     ensures { λ r. ⌜ r ≡ key % 1021 ⌝ }
 {
@@ -402,112 +401,4 @@ pub fn count_blocks(labels: &[u8]) -> usize
         i += 1;
     }
     n
-}
-
-// Where the keys of a basis stand: place key % 1021 has 0 where no key has that place, one more than the index of the one that
-// has it, and 255 where several have.
-fn note_keys(places: &mut [u8], basis: &[u64])
-    requires { ⌜ (length (now basis) ≤ 64) × (now places ≡ replicate 1024 0) ⌝ }
-    ensures { λ _. ⌜ Placed (now (basis .entry)) (length (now (basis .entry))) (now (places .exit)) ⌝ }
-{
-    let mut i = 0;
-    while i < basis.len() {
-        let p = place(basis[i]);
-        if places[p] == 0 {
-            places[p] = (i + 1) as u8;
-        } else {
-            places[p] = 255;
-        }
-        i += 1;
-    }
-}
-
-// The blocks of two indices made one.
-fn join_two(labels: &mut [u8], i: usize, k: usize)
-    requires { ⌜ Numbered (now labels) × (i < length (now labels)) × (k < length (now labels)) ⌝ }
-    ensures { λ _. ⌜ Joins (Two i k) (length (now (labels .entry))) (now (labels .entry)) (now (labels .exit)) ⌝ }
-{
-    let a = labels[i];
-    let b = labels[k];
-    if a != b {
-        merge(labels, a, b);
-    }
-}
-
-// The block of i made one with that of each index with this key.
-fn join_each(labels: &mut [u8], basis: &[u64], i: usize, key: u64)
-    requires { ⌜ Blocks (now basis) (now labels) × (i < length (now basis)) ⌝ }
-    ensures { λ _. ⌜ Joins (WithKey (now (basis .entry)) i key) (length (now (basis .entry))) (now (labels .entry)) (now (labels .exit)) ⌝ }
-{
-    let mut k = 0;
-    while k < basis.len() {
-        if basis[k] == key {
-            join_two(labels, i, k);
-        }
-        k += 1;
-    }
-}
-
-// The same, by the places of the keys.
-fn join_key(labels: &mut [u8], basis: &[u64], places: &[u8], i: usize, key: u64)
-    requires { ⌜ Blocks (now basis) (now labels) × Placed (now basis) (length (now basis)) (now places) × (i < length (now basis)) ⌝ }
-    ensures { λ _. ⌜ Joins (WithKey (now (basis .entry)) i key) (length (now (basis .entry))) (now (labels .entry)) (now (labels .exit)) ⌝ }
-{
-    let p = place(key);
-    let v = places[p];
-    if v == 0 {
-        return;
-    }
-    if v == 255 {
-        join_each(labels, basis, i, key);
-        return;
-    }
-    let k = (v - 1) as usize;
-    if k < basis.len() {
-        if basis[k] == key {
-            join_two(labels, i, k);
-        }
-    }
-}
-
-// The blocks of every two indices with the sum s made one.
-fn join_sum(labels: &mut [u8], basis: &[u64], places: &[u8], s: u64)
-    requires { ⌜ Blocks (now basis) (now labels) × Placed (now basis) (length (now basis)) (now places) ⌝ }
-    ensures { λ _. ⌜ Joins (WithSum (now (basis .entry)) s) (length (now (basis .entry))) (now (labels .entry)) (now (labels .exit)) ⌝ }
-{
-    let mut i = 0;
-    while i < basis.len() {
-        if basis[i] <= s {
-            join_key(labels, basis, places, i, s - basis[i]);
-        }
-        i += 1;
-    }
-}
-
-// The blocks of every two indices that a member x of the support links made one.
-fn join_member(labels: &mut [u8], basis: &[u64], exponents: &[u64], places: &[u8], x: u64)
-    requires { ⌜ Blocks (now basis) (now labels) × Placed (now basis) (length (now basis)) (now places) ⌝ }
-    ensures { λ _. ⌜ Joins (Through (now (exponents .entry)) (now (basis .entry)) (x ∷ [])) (length (now (basis .entry))) (now (labels .entry)) (now (labels .exit)) ⌝ }
-{
-    let mut j = 0;
-    while j < exponents.len() {
-        if exponents[j] <= x {
-            join_sum(labels, basis, places, x - exponents[j]);
-        }
-        j += 1;
-    }
-}
-
-// The joining of a basis by the members `fresh` of the support, where all that the others link is joined already.
-pub fn join_fresh(labels: &mut [u8], basis: &[u64], exponents: &[u64], fresh: &[u64])
-    requires { ⌜ Blocks (now basis) (now labels) × (length (now basis) ≤ 64) ⌝ }
-    ensures { λ _. ⌜ Joins (Through (now (exponents .entry)) (now (basis .entry)) (now (fresh .entry))) (length (now (basis .entry))) (now (labels .entry)) (now (labels .exit)) ⌝ }
-{
-    let mut places = [0u8; 1024];
-    note_keys(&mut places, basis);
-    let mut m = 0;
-    while m < fresh.len() {
-        join_member(labels, basis, exponents, &places, fresh[m]);
-        m += 1;
-    }
 }

@@ -15,6 +15,10 @@ use Rattle.counting.proofs.Listed.{same-or-not, listed-length, listed-same, lis
 use Rattle.rounds.specs.Bytes.{blockBytes, blockAt, part, labelsIn}
 use Rattle.rounds.specs.Arrays.{Sizes, Labelled}
 
+-- another number is below i + 1 where it is below i
+pub same-test : (i k : ℕ) → (k ≡ i → ⊥) → ltb k (i + 1) ≡ ltb k i
+same-test i k d = ⊎-elim (λ b. lt-ltb k (i + 1) (omega arith) ∙ sym (lt-ltb k i b)) (λ b. le-ltb k (i + 1) (omega arith) ∙ sym (le-ltb k i b)) (lt-or-le k i)
+
 -- ---- nine that are replaced one by one: those before i are f's, the others h's
 
 unfoldable pub turned : {A : Type 0} → (ℕ → A) → (ℕ → A) → ℕ → List A
@@ -38,10 +42,7 @@ module _ {A : Type 0} (f h : ℕ → A) where
 
   pub turned-more : (i : ℕ) → set (turned f h i) i (f i) ≡ turned f h (i + 1)
   unfolding turned
-  turned-more i = sym (listed-set 9 (turn i) (turn (i + 1)) i (f i) (λ k _ d. rw (same-test k d)) (λ _. rw (lt-ltb i (i + 1) (omega arith))))
-    where
-      same-test : (k : ℕ) → (k ≡ i → ⊥) → ltb k (i + 1) ≡ ltb k i
-      same-test k d = ⊎-elim (λ b. lt-ltb k (i + 1) (omega arith) ∙ sym (lt-ltb k i b)) (λ b. le-ltb k (i + 1) (omega arith) ∙ sym (le-ltb k i b)) (lt-or-le k i)
+  turned-more i = sym (listed-set 9 (turn i) (turn (i + 1)) i (f i) (λ k _ d. rw (same-test i k d)) (λ _. rw (lt-ltb i (i + 1) (omega arith))))
 
   pub turned-all : turned f h 9 ≡ listed 9 f
   unfolding turned
@@ -67,6 +68,35 @@ module _ (l m : List ℕ) (a n : ℕ) (e : length m ≡ n) (fits : a + n ≤ len
 
   replaced-after : (z : ℕ) → getD (take a l ++ (m ++ drop n (drop a l))) (a + (n + z)) d ≡ getD l (a + (n + z)) d
   replaced-after z = replaced-from (n + z) ∙ ap (λ (k : ℕ). getD (m ++ drop n (drop a l)) (k + z) d) (sym e) ∙ getD-append-add m (drop n (drop a l)) z d ∙ getD-drop n (drop a l) z d ∙ getD-drop a l (n + z) d
+
+-- the part that was replaced is m, and one as long that has no place of it is as it was
+module _ (l m : List ℕ) (a n : ℕ) (e : length m ≡ n) (fits : a + n ≤ length l) where
+  abbrev new : List ℕ
+  new = take a l ++ (m ++ drop n (drop a l))
+
+  pub new-long : length new ≡ length l
+  new-long = replaced-long l m a n e fits 0
+
+  part-length : (b : ℕ) → b + n ≤ length l → (k : List ℕ) → length k ≡ length l → length (take n (drop b k)) ≡ n
+  part-length b h k q = length-take-le n (drop b k) (simp length-drop (omega arith))
+
+  pub new-part : take n (drop a new) ≡ m
+  new-part =
+      let k = part-length a fits new new-long in
+      ext-getD 0 _ _ (k ∙ sym e) (λ y b. getD-take n (drop a new) y 0 (omega arith) ∙ getD-drop a new y 0 ∙ replaced-in l m a n e fits 0 y (omega arith))
+
+  pub new-other : (b : ℕ) → b + n ≤ length l → (b + n ≤ a) ⊎ (a + n ≤ b) → take n (drop b new) ≡ take n (drop b l)
+  new-other b h w =
+      let k = part-length b h new new-long in
+      ext-getD 0 _ _ (k ∙ sym (part-length b h l refl))
+      (λ y u.
+      getD-take n (drop b new) y 0 (omega arith) ∙ getD-drop b new y 0 ∙ same y (omega arith) w ∙ sym (getD-take n (drop b l) y 0 (omega arith) ∙ getD-drop b l y 0))
+    where
+      same : (y : ℕ) → y < n → (b + n ≤ a) ⊎ (a + n ≤ b) → getD new (b + y) 0 ≡ getD l (b + y) 0
+      same y u (inl v) = replaced-before l m a n e fits 0 (b + y) (omega arith)
+      same y u (inr v) =
+          let q : b + y ≡ a + (n + (b + y - (a + n))) = omega arith in
+          ap (λ (z : ℕ). getD new z 0) q ∙ replaced-after l m a n e fits 0 (b + y - (a + n)) ∙ ap (λ (z : ℕ). getD l z 0) (sym q)
 
 -- ---- 576 bytes of block numbers
 

@@ -11,12 +11,12 @@ use Rattle.support.specs.Table.{keysIn}
 use Rattle.support.proofs.Elements.{not-nil, in-append, append-in}
 use Rattle.support.proofs.Keys.{keys-in, keys-from}
 use Rattle.blocks.specs.Join.{join}
-use Rattle.blocks.specs.Fresh.{Numbered, Blocks, Recent}
+use Rattle.pairs.specs.Fresh.{Blocks, Recent}
 use Rattle.blocks.proofs.Members.{linked-by}
 use Rattle.blocks.proofs.Labels.{join-long}
 use Rattle.blocks.proofs.Lowest.{join-falls, singles-numbered}
 use Rattle.blocks.proofs.Joined.{join-joined}
-use Rattle.blocks.proofs.Joins.{fresh-is}
+use Rattle.pairs.proofs.Joins.{fresh-is}
 use Rattle.counting.specs.Counting.{listed}
 use Rattle.counting.proofs.Listed.{listed-length, listed-at}
 use Rattle.rounds.specs.Rounds.{Bases, State, singles, round}

@@ -8,3 +8,4 @@ pub mod Flat
 pub mod Passes
 pub mod Rounding
 pub mod Latest
+pub mod Lookup

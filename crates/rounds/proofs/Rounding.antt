@@ -7,12 +7,15 @@ use native.Mathlib.Omega.{arith}
 use lib.Dec.{eqb, ltb}
 use lib.ListN.{length}
 use borrow.Author.Tests.{eqb-true, eq-eqb, ltb-true, ltb-false, le-ltb}
-use Rattle.support.specs.Table.{keysIn, Holds, Indexed}
-use Rattle.blocks.proofs.Growth.{Extends, extends-refl, extends-trans, Growing, growing-start, growing-step, growing-stop, growing-end, grown-length}
-use Rattle.rounds.specs.Rounds.{Bases, State, Closing, singles, start, joinAll, round, same, sameState, closeFrom, closing}
-use Rattle.rounds.specs.Bytes.{blockBytes, labelsIn}
-use Rattle.rounds.specs.Arrays.{Sizes, Labelled, FilledAll, latest, RecentAll, roundFrom, Rounded, Settled}
-use Rattle.rounds.proofs.Passes.{labelled-same, joined-labelled, joined-labels, all-extends, filled-next}
+use Rattle.support.specs.Table.{keysIn, Stored}
+use Rattle.blocks.proofs.Growth.{Extends, extends-refl, extends-trans, Growing, growing-step, growing-stop, growing-end, grown-length}
+use Rattle.rounds.specs.Rounds.{Bases, State, Closing, start, joinAll, round, same, sameState, closeFrom, closing}
+use Rattle.rounds.specs.Bytes.{blockBytes, basesIn, labelsIn}
+use Rattle.rounds.specs.Arrays.{Sizes, Labelled, FilledAll, RoundAsks, roundFrom, Rounded, Starting, Settled}
+use Rattle.rounds.specs.Between.{closeAfter, Between, Advanced}
+use Rattle.rounds.specs.declared.Closed.{Closed}
+use Rattle.rounds.specs.declared.Progress.{Progress}
+use Rattle.rounds.proofs.Passes.{labelled-same, singles-labelled, singles-labels, joined-labelled, joined-labels, all-extends, filled-next}
 use Rattle.rounds.proofs.Latest.{recent-start, recent-next}
 use Rattle.rounds.proofs.Same.{never, same-true, same-apart, state-same, state-differs}
 
@@ -69,107 +72,164 @@ module _ (few len : ℕ) (l l′ : List ℕ) where
   last-false : last ≡ false → len ≡ few → l ≡ l′ → ⊥
   last-false e p q = same-apart l l′ (rw (le-ltb 2048 len (last-small e), eq-eqb len few p) at e) q
 
--- ---- the loop: after c rounds, what is left of 578 gives the outcome o
+-- ---- the loop: after c rounds, what is left of 578 leads to the outcome o
 
-module _ (g : Bases) (sizes : List ℕ) where
-  pub record Rounding (t₀ : List ℕ) (n₀ : ℕ) (o : Closing) (l : List ℕ) (since n : ℕ) (t idx : List ℕ) (c : ℕ) : Type 0 where
-    pub upto : c ≤ 578
-    pub labels : Labelled sizes l
-    pub growing : Growing t₀ n₀ (o .state .support) (λ S. closeFrom g (578 - c) (record { labels = labelsIn sizes l; support = S }) c .state .support) n t idx
-    pub rest : closeFrom g (578 - c) (record { labels = labelsIn sizes l; support = keysIn n t }) c ≡ o
-    pub filled : FilledAll (eqb c 0) g (labelsIn sizes l) (keysIn n t)
-    pub came : since ≤ n
-    pub recent : RecentAll g (keysIn n t) (labelsIn sizes l) (latest t since n)
+module _ (keys sizes exponents counts : List ℕ) where
+  abbrev g : Bases
+  g = basesIn keys sizes exponents counts
 
-  module _ (s : Sizes sizes) (t₀ : List ℕ) where
-    pub rounding-start : (n : ℕ) (l idx : List ℕ) → Holds t₀ n → Indexed idx t₀ n → Labelled sizes l → labelsIn sizes l ≡ singles g → Rounding t₀ n (closing g (keysIn n t₀)) l 0 n t₀ idx 0
-    unfolding closing start
-    rounding-start n l idx h x w e = record {
-      upto = omega arith;
-      labels = w;
-      growing = rw e (growing-start t₀ (λ S. closeFrom g 578 (record { labels = singles g; support = S }) 0 .state .support) n idx h x);
-      rest = rw e refl;
-      filled = record { at = λ j b. record { full = λ q. never (sym q ∙ eq-eqb 0 0 refl) } };
-      came = omega arith;
-      recent = rw e (recent-start g t₀ n);
+  -- a run begins
+  pub between-start : (l : List ℕ) (since n : ℕ) (t idx : List ℕ) (c : ℕ) → c ≤ 578 → RoundAsks (eqb c 0) t idx since n keys sizes exponents counts l l
+      → Between (closeAfter g c sizes l n t) n t keys sizes exponents counts l since n t idx c
+  between-start l since n t idx c h r = record { upto = h; asks = r; leads = refl; long = refl; rest = refl; more = omega arith; first = refl }
+
+  -- what the first round asks, where every basis is single blocks
+  pub starting-asks : (t idx : List ℕ) (n : ℕ) (l : List ℕ) → Starting t idx n keys sizes exponents counts l → RoundAsks (eqb 0 0) t idx 0 n keys sizes exponents counts l l
+  starting-asks t idx n l s =
+      let w = singles-labelled keys sizes exponents counts (s .arrays) l (s .labels) in
+      record {
+        extending = record {
+          joining = record { support = s .support; index = s .index; arrays = s .arrays; labels = w };
+          before = w;
+          filled = record { at = λ j b. record { full = λ q. never (sym q ∙ eq-eqb 0 0 refl) } };
+        };
+        upto = omega arith;
+        recent = rw (singles-labels keys sizes exponents counts (s .arrays) l (s .labels)) (recent-start g t n);
+      }
+
+  -- and what all rounds lead to from there
+  pub starting-leads : (t idx : List ℕ) (n : ℕ) (l : List ℕ) → Starting t idx n keys sizes exponents counts l → closeAfter g 0 sizes l n t ≡ closing g (keysIn n t)
+  unfolding closing start
+  starting-leads t idx n l s = rw (singles-labels keys sizes exponents counts (s .arrays) l (s .labels)) refl
+
+  module _ (t₀ : List ℕ) (n₀ : ℕ) (o : Closing) (l : List ℕ) (since n : ℕ) (t idx : List ℕ) (c : ℕ) (r : Between o n₀ t₀ keys sizes exponents counts l since n t idx c) where
+    abbrev labelled : Labelled sizes l
+    labelled = r .asks .extending .joining .labels
+
+    abbrev sized : Sizes sizes
+    sized = r .asks .extending .joining .arrays .sized
+
+    -- the rounds that are left grow the support to that of o
+    growing : Growing t₀ n₀ (o .state .support) (λ S. closeFrom g (578 - c) (record { labels = labelsIn sizes l; support = S }) c .state .support) n t idx
+    growing = record {
+      holds = r .asks .extending .joining .support;
+      index = r .asks .extending .joining .index;
+      long = r .long;
+      rest = r .rest;
+      more = r .more;
+      first = r .first;
+      todo = ap (λ (v : Closing). v .state .support) (r .leads);
     }
 
-    module _ (n₀ : ℕ) (o : Closing) (l : List ℕ) (since n : ℕ) (t idx : List ℕ) (c : ℕ) (r : Rounding t₀ n₀ o l since n t idx c) where
-      pub rounding-out : 578 ≤ c → Settled o n₀ t₀ (record { labels = l; len = n; rounds = c }) t idx
-      unfolding closeFrom
-      rounding-out h =
-          let z : 578 - c ≡ 0 = omega arith in
-          let e : record { state = record { labels = labelsIn sizes l; support = keysIn n t }; rounds = c } ≡ o = rw z at (r .rest) in
+    -- what another run from here leaves
+    pub between-then : (x : Closed) (t′ idx′ : List ℕ) → Settled (closeAfter g c sizes l n t) n t x t′ idx′ → Settled o n₀ t₀ x t′ idx′
+    between-then x t′ idx′ w =
+        let u : Settled o n t x t′ idx′ = rw (r .leads) at w in
+        record { stored = go u (ltb 2048 (x .len)) refl; rounds = u .rounds; labels = u .labels }
+      where
+        go : Settled o n t x t′ idx′ → (b : Bool) → ltb 2048 (x .len) ≡ b → Stored n₀ (o .state .support) t₀ (x .len) t′ idx′
+        go u true q = growing-stop t₀ n₀ (o .state .support) _ n t idx growing (o .state .support) (x .len) t′ idx′ (u .stored) (λ X. X) (growing .todo) (ltb-true 2048 (x .len) q) (extends-refl _)
+        go u false q =
+            let b = ltb-false 2048 (x .len) q in
+            growing-end t₀ n₀ (o .state .support) (λ X. X) (x .len) t′ idx′
+            (growing-step t₀ n₀ (o .state .support) _ n t idx growing (o .state .support) (x .len) t′ idx′ (u .stored) (λ X. X) (growing .todo) b (rw (r .leads) at (close-extends g (578 - c) (record { labels = labelsIn sizes l; support = keysIn n t }) c)))
+            refl
+
+    -- all 578 rounds are made
+    between-out : 578 ≤ c → Settled o n₀ t₀ (record { labels = l; len = n; rounds = c }) t idx
+    unfolding closeFrom
+    between-out h =
+        let z : 578 - c ≡ 0 = omega (arith, r .upto) in
+        let e : record { state = record { labels = labelsIn sizes l; support = keysIn n t }; rounds = c } ≡ o = rw z at (r .leads) in
+        record {
+          stored = growing-end t₀ n₀ (o .state .support) _ n t idx growing (rw z refl);
+          rounds = λ _. ap (λ (v : Closing). v .rounds) e;
+          labels = λ _. labelled .bytes ∙ ap (λ (v : Closing). blockBytes (v .state .labels)) e;
+        }
+
+    abbrev old : State
+    old = record { labels = labelsIn sizes l; support = keysIn n t }
+
+    module _ (h : c < 578) (n′ : ℕ) (t′ idx′ l′ : List ℕ) (k : Rounded (roundFrom g (labelsIn sizes l) (keysIn n t)) n t n′ t′ idx′ l′) where
+      next-labelled : Labelled sizes l′
+      unfolding round
+      next-labelled = joined-labelled g (keysIn n t) (labelsIn sizes l) sizes l sized labelled refl l′ (k .labels)
+
+      next-labels : labelsIn sizes l′ ≡ round g old .labels
+      unfolding round
+      next-labels = joined-labels g (keysIn n t) (labelsIn sizes l) sizes l sized labelled refl l′ (k .labels)
+
+      step : closeFrom g (578 - c) old c ≡ cond (sameState old (round g old)) (record { state = round g old; rounds = c + 1 }) (closeFrom g (578 - (c + 1)) (round g old) (c + 1))
+      step = let z : 578 - c ≡ suc (578 - (c + 1)) = omega arith in rw z (close-next g _ old c)
+
+      full : 2048 < n′ → Settled o n₀ t₀ (record { labels = l′; len = n′; rounds = c + 1 }) t′ idx′
+      full b = record {
+        stored = growing-stop t₀ n₀ (o .state .support) _ n t idx growing _ n′ t′ idx′ (k .support) after (ap (λ (v : Closing). v .state .support) step) b (more (sameState old (round g old)));
+        rounds = λ q. absurd (omega arith);
+        labels = λ q. absurd (omega arith);
+      }
+        where
+          after : List ℕ → List ℕ
+          after X = cond (sameState old (round g old)) (record { state = record { labels = round g old .labels; support = X }; rounds = c + 1 }) (closeFrom g (578 - (c + 1)) (record { labels = round g old .labels; support = X }) (c + 1)) .state .support
+
+          more : (d : Bool) → Extends (round g old .support) (cond d (record { state = round g old; rounds = c + 1 }) (closeFrom g (578 - (c + 1)) (round g old) (c + 1)) .state .support)
+          more true = extends-refl _
+          more false = close-extends g (578 - (c + 1)) (round g old) (c + 1)
+
+      size : length (keysIn n t) ≡ n
+      size = growing .holds .apart
+
+      done : n′ ≤ 2048 → n′ ≡ n → l ≡ l′ → Settled o n₀ t₀ (record { labels = l′; len = n′; rounds = c + 1 }) t′ idx′
+      done b e f =
+          let x = round-extends g old in
+          let p : round g old .support ≡ keysIn n t = x .same (grown-length _ t n′ t′ (k .support .grown) b ∙ e ∙ sym size) in
+          let u : sameState old (round g old) ≡ true = state-same old (round g old) (sym next-labels ∙ ap (labelsIn sizes) (sym f)) p in
+          let v : record { state = round g old; rounds = c + 1 } ≡ o = rw u at (sym step ∙ r .leads) in
           record {
-            stored = growing-end t₀ n₀ (o .state .support) _ n t idx (r .growing) (rw z refl);
-            rounds = λ _. ap (λ (v : Closing). v .rounds) e;
-            labels = λ _. r .labels .bytes ∙ ap (λ (v : Closing). blockBytes (v .state .labels)) e;
+            stored =
+                growing-end t₀ n₀ (o .state .support) (λ X. X) n′ t′ idx′
+                (growing-step t₀ n₀ (o .state .support) _ n t idx growing _ n′ t′ idx′ (k .support) (λ X. X) (growing .todo ∙ ap (λ (y : Closing). y .state .support) (sym v)) b x)
+                refl;
+            rounds = λ _. ap (λ (y : Closing). y .rounds) v;
+            labels = λ _. k .labels ∙ ap (λ (y : Closing). blockBytes (y .state .labels)) v;
           }
 
-      abbrev old : State
-      old = record { labels = labelsIn sizes l; support = keysIn n t }
+      pub between-last : cond (ltb 2048 n′) true (cond (eqb n′ n) (same l l′) false) ≡ true → Settled o n₀ t₀ (record { labels = l′; len = n′; rounds = c + 1 }) t′ idx′
+      between-last = last-true n n′ l l′ full done
 
-      module _ (h : c < 578) (n′ : ℕ) (t′ idx′ l′ : List ℕ) (k : Rounded (roundFrom g (labelsIn sizes l) (keysIn n t)) n t n′ t′ idx′ l′) where
-        next-labelled : Labelled sizes l′
-        unfolding round
-        next-labelled = joined-labelled g (keysIn n t) (labelsIn sizes l) sizes l s (r .labels) refl l′ (k .labels)
+      pub between-more : cond (ltb 2048 n′) true (cond (eqb n′ n) (same l l′) false) ≡ false → Between o n₀ t₀ keys sizes exponents counts l′ n n′ t′ idx′ (c + 1)
+      between-more e =
+          let b : n′ ≤ 2048 = last-small n n′ l l′ e in
+          let q : keysIn n′ t′ ≡ round g old .support = k .support .grown .keys b in
+          let u : sameState old (round g old) ≡ false =
+          state-differs old (round g old)
+          (λ x y. last-false n n′ l l′ e (sym (grown-length _ t n′ t′ (k .support .grown) b) ∙ ap length y ∙ size) (labelled-same labelled next-labelled (sym (next-labels ∙ x)))) in
+          let v : closeFrom g (578 - (c + 1)) (round g old) (c + 1) ≡ o = rw u at (sym step ∙ r .leads) in
+          let w = growing-step t₀ n₀ (o .state .support) _ n t idx growing _ n′ t′ idx′ (k .support) (λ X. closeFrom g (578 - (c + 1)) (record { labels = round g old .labels; support = X }) (c + 1) .state .support) (growing .todo ∙ ap (λ (y : Closing). y .state .support) (sym v)) b (round-extends g old) in
+          let m : n ≤ n′ = omega (arith, size, round-extends g old .more, grown-length _ t n′ t′ (k .support .grown) b) in
+          record {
+            upto = omega arith;
+            asks = record {
+              extending = record {
+                joining = record { support = w .holds; index = w .index; arrays = r .asks .extending .joining .arrays; labels = next-labelled };
+                before = next-labelled;
+                filled = rw (next-labels, q) (round-fills g (eqb (c + 1) 0) old);
+              };
+              upto = m;
+              recent = rw (next-labels, q) (recent-next g old t n refl _ (r .asks .recent) t′ n′ q m (k .support .first b));
+            };
+            leads = rw (next-labels, q) v;
+            long = w .long;
+            rest = w .rest;
+            more = w .more;
+            first = w .first;
+          }
 
-        next-labels : labelsIn sizes l′ ≡ round g old .labels
-        unfolding round
-        next-labels = joined-labels g (keysIn n t) (labelsIn sizes l) sizes l s (r .labels) refl l′ (k .labels)
-
-        step : closeFrom g (578 - c) old c ≡ cond (sameState old (round g old)) (record { state = round g old; rounds = c + 1 }) (closeFrom g (578 - (c + 1)) (round g old) (c + 1))
-        step = let z : 578 - c ≡ suc (578 - (c + 1)) = omega arith in rw z (close-next g _ old c)
-
-        full : 2048 < n′ → Settled o n₀ t₀ (record { labels = l′; len = n′; rounds = c + 1 }) t′ idx′
-        full b = record {
-          stored = growing-stop t₀ n₀ (o .state .support) _ n t idx (r .growing) _ n′ t′ idx′ (k .support) after (ap (λ (v : Closing). v .state .support) step) b (more (sameState old (round g old)));
-          rounds = λ q. absurd (omega arith);
-          labels = λ q. absurd (omega arith);
-        }
-          where
-            after : List ℕ → List ℕ
-            after X = cond (sameState old (round g old)) (record { state = record { labels = round g old .labels; support = X }; rounds = c + 1 }) (closeFrom g (578 - (c + 1)) (record { labels = round g old .labels; support = X }) (c + 1)) .state .support
-
-            more : (d : Bool) → Extends (round g old .support) (cond d (record { state = round g old; rounds = c + 1 }) (closeFrom g (578 - (c + 1)) (round g old) (c + 1)) .state .support)
-            more true = extends-refl _
-            more false = close-extends g (578 - (c + 1)) (round g old) (c + 1)
-
-        size : length (keysIn n t) ≡ n
-        size = r .growing .holds .apart
-
-        done : n′ ≤ 2048 → n′ ≡ n → l ≡ l′ → Settled o n₀ t₀ (record { labels = l′; len = n′; rounds = c + 1 }) t′ idx′
-        done b e f =
-            let x = round-extends g old in
-            let p : round g old .support ≡ keysIn n t = x .same (grown-length _ t n′ t′ (k .support .grown) b ∙ e ∙ sym size) in
-            let u : sameState old (round g old) ≡ true = state-same old (round g old) (sym next-labels ∙ ap (labelsIn sizes) (sym f)) p in
-            let v : record { state = round g old; rounds = c + 1 } ≡ o = rw u at (sym step ∙ r .rest) in
-            record {
-              stored =
-                  growing-end t₀ n₀ (o .state .support) (λ X. X) n′ t′ idx′
-                  (growing-step t₀ n₀ (o .state .support) _ n t idx (r .growing) _ n′ t′ idx′ (k .support) (λ X. X) (r .growing .todo ∙ ap (λ (y : Closing). y .state .support) (sym v)) b x)
-                  refl;
-              rounds = λ _. ap (λ (y : Closing). y .rounds) v;
-              labels = λ _. k .labels ∙ ap (λ (y : Closing). blockBytes (y .state .labels)) v;
-            }
-
-        pub rounding-last : cond (ltb 2048 n′) true (cond (eqb n′ n) (same l l′) false) ≡ true → Settled o n₀ t₀ (record { labels = l′; len = n′; rounds = c + 1 }) t′ idx′
-        rounding-last = last-true n n′ l l′ full done
-
-        pub rounding-more : cond (ltb 2048 n′) true (cond (eqb n′ n) (same l l′) false) ≡ false → Rounding t₀ n₀ o l′ n n′ t′ idx′ (c + 1)
-        rounding-more e =
-            let b : n′ ≤ 2048 = last-small n n′ l l′ e in
-            let q : keysIn n′ t′ ≡ round g old .support = k .support .grown .keys b in
-            let u : sameState old (round g old) ≡ false =
-            state-differs old (round g old)
-            (λ x y. last-false n n′ l l′ e (sym (grown-length _ t n′ t′ (k .support .grown) b) ∙ ap length y ∙ size) (labelled-same (r .labels) next-labelled (sym (next-labels ∙ x)))) in
-            let v : closeFrom g (578 - (c + 1)) (round g old) (c + 1) ≡ o = rw u at (sym step ∙ r .rest) in
-            record {
-              upto = omega arith;
-              labels = next-labelled;
-              growing = rw next-labels (growing-step t₀ n₀ (o .state .support) _ n t idx (r .growing) _ n′ t′ idx′ (k .support) (λ X. closeFrom g (578 - (c + 1)) (record { labels = round g old .labels; support = X }) (c + 1) .state .support) (r .growing .todo ∙ ap (λ (y : Closing). y .state .support) (sym v)) b (round-extends g old));
-              rest = rw (next-labels, q) v;
-              filled = rw (next-labels, q) (round-fills g (eqb (c + 1) 0) old);
-              came = omega (arith, size, round-extends g old .more, grown-length _ t n′ t′ (k .support .grown) b);
-              recent = rw (next-labels, q) (recent-next g old t n refl _ (r .recent) t′ n′ q (omega (arith, size, round-extends g old .more, grown-length _ t n′ t′ (k .support .grown) b)) (k .support .first b));
-            }
+  -- a run to the last round
+  pub advanced-out : (o : Closing) (n₀ : ℕ) (t₀ : List ℕ) (r : Progress) (t idx : List ℕ) → Advanced o n₀ t₀ keys sizes exponents counts 578 r t idx
+      → Settled o n₀ t₀ (record { labels = r .labels; len = r .len; rounds = r .rounds }) t idx
+  advanced-out o n₀ t₀ r t idx a = go (r .ended) refl
+    where
+      go : (b : Bool) → r .ended ≡ b → Settled o n₀ t₀ (record { labels = r .labels; len = r .len; rounds = r .rounds }) t idx
+      go true e = a .done e
+      go false e = between-out t₀ n₀ o (r .labels) (r .since) (r .len) t idx (r .rounds) (a .left e) (a .most e)

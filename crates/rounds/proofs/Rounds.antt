@@ -18,7 +18,7 @@ use Rattle.blocks.specs.Join.{join}
 use Rattle.blocks.specs.Extend.{blockCount}
 use Rattle.blocks.proofs.Growth.{Extends, extends-refl, extends-trans, fromTo-extends, extend-extends}
 use Rattle.blocks.proofs.Labels.{join-long}
-use Rattle.blocks.specs.Fresh.{Numbered}
+use Rattle.blocks.specs.Numbered.{Numbered}
 use Rattle.blocks.proofs.Lowest.{Falls, join-falls, blockCount-some, singles-numbered, singles-count}
 use Rattle.blocks.proofs.Joined.{Joined, join-joined}
 use Rattle.blocks.specs.Filled.{Full}

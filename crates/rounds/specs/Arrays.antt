@@ -7,7 +7,7 @@ use lib.ListN.{length, getD, take, drop, set}
 use Rattle.support.specs.Table.{keysIn, Holds, Indexed, Stored}
 use Rattle.blocks.specs.Join.{join}
 use Rattle.blocks.specs.Extend.{extend}
-use Rattle.blocks.specs.Fresh.{Joins, Through, Blocks, Recent}
+use Rattle.pairs.specs.Fresh.{Joins, Through, Blocks, Recent}
 use Rattle.blocks.specs.Limits.{Bounded}
 use Rattle.blocks.specs.Filled.{Filled}
 use Rattle.rounds.specs.Rounds.{Bases, State, Closing, singles, round}

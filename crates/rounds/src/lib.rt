@@ -9,8 +9,10 @@ ghost use mathlib.Core.Bool.{true, false, cond};
 ghost use Rattle.counting.specs.Counting.{listed};
 ghost use Rattle.support.specs.Table.{keysIn, Stored};
 ghost use Rattle.rounds.specs.Rounds.{joinAll, extendAll, same, closing, blocksIn};
-ghost use Rattle.rounds.specs.Bytes.{blockBytes, basesIn, labelsIn};
+ghost use Rattle.rounds.specs.Bytes.{blockBytes, part, basesIn, labelsIn};
 ghost use Rattle.rounds.specs.Arrays.{Sizes, joinAt, extendAt, JoiningAll, JoiningFresh, JoiningAt, JoiningSince, FreshAt, roundFrom, ExtendingAll, RoundAsks, Rounded, Starting, Settled};
+ghost use Rattle.rounds.specs.Lookup.{Keys, PairedTo, Lookup};
+ghost use Rattle.rounds.specs.Between.{closeAfter, Running, Advanced};
 
 // Each index of a basis is a block of its own.
 fn number(part: &mut [u8])
@@ -69,47 +71,72 @@ fn join_pairs_at(
     );
 }
 
-// Basis j joins by the members `fresh` of the support.
+// Basis j joins by the members `fresh` of the support, with the index of its pairs.
 fn join_fresh_at(
     labels: &mut [u8],
     keys: &[u64],
     sizes: &[usize],
     exponents: &[u64],
     counts: &[usize],
+    heads: &[u16],
+    next: &[u16],
     fresh: &[u64],
     j: usize,
 )
-    requires { ⌜ JoiningFresh (now keys) (now sizes) (now exponents) (now counts) (now labels) j ⌝ }
+    requires { ⌜ JoiningFresh (now keys) (now sizes) (now exponents) (now counts) (now labels) j × PairedTo (part 64 (now sizes) (now keys)) 9 (now heads) (now next) ⌝ }
     ensures { λ _. ⌜ FreshAt (basesIn (now (keys .entry)) (now (sizes .entry)) (now (exponents .entry)) (now (counts .entry))) (labelsIn (now (sizes .entry)) (now (labels .entry))) j (now (fresh .entry)) (now (labels .exit)) ⌝ }
 {
     let a = 64 * j;
     let e = a + sizes[j];
     let b = 32 * j;
     let f = b + counts[j];
-    blocks::join_fresh(&mut labels[a..e], &keys[a..e], &exponents[b..f], fresh);
+    let h = 2048 * j;
+    let o = h + 2048;
+    let n = 4096 * j;
+    let p = n + 4096;
+    pairs::join_fresh(
+        &mut labels[a..e],
+        &keys[a..e],
+        &exponents[b..f],
+        &heads[h..o],
+        &next[n..p],
+        fresh,
+    );
 }
 
-// Basis j joins. The members after the first `since` came in the last round: where they are few, only they are looked at.
+// Basis j joins. The members after the first `since` came in the last round: with the index of the pairs, only they are looked at.
 fn join_at(
     labels: &mut [u8],
     keys: &[u64],
     sizes: &[usize],
     exponents: &[u64],
     counts: &[usize],
+    heads: &[u16],
+    next: &[u16],
     table: &[u64],
     index: &[u16],
     since: usize,
     len: usize,
     j: usize,
 )
-    requires { ⌜ JoiningAt (now table) (now index) since len (now keys) (now sizes) (now exponents) (now counts) (now labels) j ⌝ }
+    requires { ⌜ JoiningAt (now table) (now index) since len (now keys) (now sizes) (now exponents) (now counts) (now labels) j × Lookup (part 64 (now sizes) (now keys)) (now heads) (now next) ⌝ }
     ensures { λ _. ⌜ now (labels .exit) ≡ blockBytes (joinAt (basesIn (now (keys .entry)) (now (sizes .entry)) (now (exponents .entry)) (now (counts .entry))) (keysIn len (now (table .entry))) j (labelsIn (now (sizes .entry)) (now (labels .entry)))) ⌝ }
 {
-    if 2 * (len - since) < sizes[j] {
-        let fresh = &table[since..len];
-        join_fresh_at(labels, keys, sizes, exponents, counts, fresh, j);
-    } else {
+    if heads.len() < 18432 {
         join_pairs_at(labels, keys, sizes, exponents, counts, table, index, len, j);
+    } else {
+        let fresh = &table[since..len];
+        join_fresh_at(
+            labels,
+            keys,
+            sizes,
+            exponents,
+            counts,
+            heads,
+            next,
+            fresh,
+            j,
+        );
     }
 }
 
@@ -120,12 +147,14 @@ fn join_all(
     sizes: &[usize],
     exponents: &[u64],
     counts: &[usize],
+    heads: &[u16],
+    next: &[u16],
     table: &[u64],
     index: &[u16],
     since: usize,
     len: usize,
 )
-    requires { ⌜ JoiningSince (now table) (now index) since len (now keys) (now sizes) (now exponents) (now counts) (now labels) ⌝ }
+    requires { ⌜ JoiningSince (now table) (now index) since len (now keys) (now sizes) (now exponents) (now counts) (now labels) × Lookup (part 64 (now sizes) (now keys)) (now heads) (now next) ⌝ }
     ensures { λ _. ⌜ now (labels .exit) ≡ blockBytes (joinAll (basesIn (now (keys .entry)) (now (sizes .entry)) (now (exponents .entry)) (now (counts .entry))) (keysIn len (now (table .entry))) (labelsIn (now (sizes .entry)) (now (labels .entry)))) ⌝ }
 {
     let mut j = 0;
@@ -136,6 +165,8 @@ fn join_all(
             sizes,
             exponents,
             counts,
+            heads,
+            next,
             table,
             index,
             since,
@@ -229,12 +260,14 @@ fn round(
     sizes: &[usize],
     exponents: &[u64],
     counts: &[usize],
+    heads: &[u16],
+    next: &[u16],
     table: &mut [u64],
     index: &mut [u16],
     since: usize,
     len: usize,
 ) -> usize
-    requires { ⌜ RoundAsks first (now table) (now index) since len (now keys) (now sizes) (now exponents) (now counts) (now labels) (now old) ⌝ }
+    requires { ⌜ RoundAsks first (now table) (now index) since len (now keys) (now sizes) (now exponents) (now counts) (now labels) (now old) × Lookup (part 64 (now sizes) (now keys)) (now heads) (now next) ⌝ }
     ensures { λ r. ⌜ Rounded (roundFrom (basesIn (now (keys .entry)) (now (sizes .entry)) (now (exponents .entry)) (now (counts .entry))) (labelsIn (now (sizes .entry)) (now (labels .entry))) (keysIn len (now (table .entry)))) len (now (table .entry)) r (now (table .exit)) (now (index .exit)) (now (labels .exit)) ⌝ }
 {
     join_all(
@@ -243,6 +276,8 @@ fn round(
         sizes,
         exponents,
         counts,
+        heads,
+        next,
         table,
         index,
         since,
@@ -299,7 +334,162 @@ pub struct Closed {
     pub rounds: usize,
 }
 
-// Rounds until one changes neither a block nor the support, or the support has too many keys.
+// What some of the rounds leave: `ended`, where one of them was the last; else the members after the first `since` came in the
+// last of them.
+struct Progress {
+    labels: [u8; 576],
+    since: usize,
+    len: usize,
+    rounds: usize,
+    ended: bool,
+}
+
+// Rounds after the first `done`, until one is the last, or `most` were made. `heads` and `next` have the pairs of all bases, or
+// are short.
+fn run(
+    start: [u8; 576],
+    keys: &[u64],
+    sizes: &[usize],
+    exponents: &[u64],
+    counts: &[usize],
+    heads: &[u16],
+    next: &[u16],
+    table: &mut [u64],
+    index: &mut [u16],
+    came: usize,
+    len: usize,
+    done: usize,
+    most: usize,
+) -> Progress
+    requires { ⌜ Running (now keys) (now sizes) (now exponents) (now counts) start came len (now table) (now index) done most × Lookup (part 64 (now sizes) (now keys)) (now heads) (now next) ⌝ }
+    ensures { λ r. ⌜ Advanced (closeAfter (basesIn (now (keys .entry)) (now (sizes .entry)) (now (exponents .entry)) (now (counts .entry))) done (now (sizes .entry)) start len (now (table .entry))) len (now (table .entry)) (now (keys .entry)) (now (sizes .entry)) (now (exponents .entry)) (now (counts .entry)) most r (now (table .exit)) (now (index .exit)) ⌝ }
+{
+    let mut labels = start;
+    let mut n = len;
+    let mut since = came;
+    let mut rounds = done;
+    while rounds < most {
+        let old = labels;
+        let few = n;
+        n = round(
+            &mut labels,
+            &old,
+            rounds == 0,
+            keys,
+            sizes,
+            exponents,
+            counts,
+            heads,
+            next,
+            table,
+            index,
+            since,
+            n,
+        );
+        since = few;
+        rounds += 1;
+        if is_last(few, n, &old, &labels) {
+            return Progress {
+                labels,
+                since,
+                len: n,
+                rounds,
+                ended: true,
+            };
+        }
+    }
+    Progress {
+        labels,
+        since,
+        len: n,
+        rounds,
+        ended: false,
+    }
+}
+
+// The pairs of basis j, put into the index.
+fn note_at(heads: &mut [u16], next: &mut [u16], keys: &[u64], sizes: &[usize], j: usize)
+    requires { ⌜ Keys (now keys) (now sizes) × PairedTo (part 64 (now sizes) (now keys)) j (now heads) (now next) × (j < 9) ⌝ }
+    ensures { λ _. ⌜ PairedTo (part 64 (now (sizes .entry)) (now (keys .entry))) (j + 1) (now (heads .exit)) (now (next .exit)) ⌝ }
+{
+    let a = 64 * j;
+    let e = a + sizes[j];
+    let h = 2048 * j;
+    let o = h + 2048;
+    let n = 4096 * j;
+    let p = n + 4096;
+    pairs::note_pairs(&mut heads[h..o], &mut next[n..p], &keys[a..e]);
+}
+
+// Those of every basis.
+fn note_all(heads: &mut [u16], next: &mut [u16], keys: &[u64], sizes: &[usize])
+    requires { ⌜ Keys (now keys) (now sizes) × PairedTo (part 64 (now sizes) (now keys)) 0 (now heads) (now next) ⌝ }
+    ensures { λ _. ⌜ PairedTo (part 64 (now (sizes .entry)) (now (keys .entry))) 9 (now (heads .exit)) (now (next .exit)) ⌝ }
+{
+    let mut j = 0;
+    while j < 9 {
+        note_at(heads, next, keys, sizes, j);
+        j += 1;
+    }
+}
+
+// How many rounds go by pairs before the index of the pairs pays.
+fn patience(sizes: &[usize]) -> usize
+    requires { ⌜ Sizes (now sizes) ⌝ }
+    ensures { λ r. ⌜ r ≤ 578 ⌝ }
+{
+    let mut n = 0;
+    let mut j = 0;
+    while j < 9 {
+        n += sizes[j];
+        j += 1;
+    }
+    if 128 < n { 2 } else { 8 }
+}
+
+// The rounds after the first `done`, to the end, with the index of the pairs.
+fn finish(
+    start: [u8; 576],
+    keys: &[u64],
+    sizes: &[usize],
+    exponents: &[u64],
+    counts: &[usize],
+    table: &mut [u64],
+    index: &mut [u16],
+    came: usize,
+    len: usize,
+    done: usize,
+) -> Closed
+    requires { ⌜ Running (now keys) (now sizes) (now exponents) (now counts) start came len (now table) (now index) done 578 ⌝ }
+    ensures { λ r. ⌜ Settled (closeAfter (basesIn (now (keys .entry)) (now (sizes .entry)) (now (exponents .entry)) (now (counts .entry))) done (now (sizes .entry)) start len (now (table .entry))) len (now (table .entry)) r (now (table .exit)) (now (index .exit)) ⌝ }
+{
+    let mut heads = [0u16; 18432];
+    let mut next = [0u16; 36864];
+    note_all(&mut heads, &mut next, keys, sizes);
+    let p = run(
+        start,
+        keys,
+        sizes,
+        exponents,
+        counts,
+        &heads,
+        &next,
+        table,
+        index,
+        came,
+        len,
+        done,
+        578,
+    );
+    let labels = p.labels;
+    Closed {
+        labels,
+        len: p.len,
+        rounds: p.rounds,
+    }
+}
+
+// Rounds until one changes neither a block nor the support, or the support has too many keys. Few need no index of the pairs.
 pub fn close(
     start: [u8; 576],
     keys: &[u64],
@@ -313,37 +503,43 @@ pub fn close(
     requires { ⌜ Starting (now table) (now index) len (now keys) (now sizes) (now exponents) (now counts) start ⌝ }
     ensures { λ r. ⌜ Settled (closing (basesIn (now (keys .entry)) (now (sizes .entry)) (now (exponents .entry)) (now (counts .entry))) (keysIn len (now (table .entry)))) len (now (table .entry)) r (now (table .exit)) (now (index .exit)) ⌝ }
 {
-    let mut labels = start;
-    let mut n = len;
-    let mut since = 0;
-    let mut rounds = 0;
-    while rounds < 578 {
-        let old = labels;
-        let few = n;
-        n = round(
-            &mut labels,
-            &old,
-            rounds == 0,
-            keys,
-            sizes,
-            exponents,
-            counts,
-            table,
-            index,
-            since,
-            n,
-        );
-        since = few;
-        rounds += 1;
-        if is_last(few, n, &old, &labels) {
-            break;
-        }
+    let none = [0u16; 1];
+    let most = patience(sizes);
+    let p = run(
+        start,
+        keys,
+        sizes,
+        exponents,
+        counts,
+        &none,
+        &none,
+        table,
+        index,
+        0,
+        len,
+        0,
+        most,
+    );
+    let labels = p.labels;
+    if p.ended {
+        return Closed {
+            labels,
+            len: p.len,
+            rounds: p.rounds,
+        };
     }
-    Closed {
+    finish(
         labels,
-        len: n,
-        rounds,
-    }
+        keys,
+        sizes,
+        exponents,
+        counts,
+        table,
+        index,
+        p.since,
+        p.len,
+        p.rounds,
+    )
 }
 
 // The number of blocks of all bases.

@@ -9,13 +9,14 @@ use Rattle.rounds.proofs.round.Tie as tie
 
 join-all-requires : tie.Need-join-all-requires
 join-all-requires c κs =
-    let p = c .before .before .before .before .before .before .before .before .before .before .before .pre in
-    record { joining = p .extending .joining; upto = p .upto; recent = p .recent }
+    let w = c .before .before .before .before .before .before .before .before .before .before .before .before .before .pre in
+    let p = w .0 in
+    (record { joining = p .extending .joining; upto = p .upto; recent = p .recent }, w .1)
 
 extend-all-requires : tie.Need-extend-all-requires
 extend-all-requires c κs =
-    let s = c .before .before .before .before .before .before .before .before .before .before .before .before .before .before .before .before .before in
-    let p = s .pre .extending .joining in
+    let s = c .before .before .before .before .before .before .before .before .before .before .before .before .before .before .before .before .before .before .before in
+    let p = s .pre .0 .extending .joining in
     record {
       joining = record {
         support = p .support;
@@ -23,8 +24,8 @@ extend-all-requires c κs =
         arrays = p .arrays;
         labels = joined-labelled (basesIn (s .args .keys .now) (s .args .sizes .now) (s .args .exponents .now) (s .args .counts .now)) _ _ _ _ (p .arrays .sized) (p .labels) refl _ (c .before .before .before .before .before .join-all .ensures);
       };
-      before = s .pre .extending .before;
-      filled = s .pre .extending .filled;
+      before = s .pre .0 .extending .before;
+      filled = s .pre .0 .extending .filled;
     }
 
 same-length : tie.Need-same-length
@@ -39,8 +40,8 @@ same-length-3 c = search needs
 returns : tie.Need-returns
 unfolding round
 returns c =
-    let s = c .before .before .before .before .before .before .before .before .before .before .before .before .before .before .before .before .before .before .before .before .before .before in
-    let p = s .pre .extending .joining in
+    let s = c .before .before .before .before .before .before .before .before .before .before .before .before .before .before .before .before .before .before .before .before .before .before .before .before in
+    let p = s .pre .0 .extending .joining in
     let j = c .before .before .before .before .before .before .before .before .before .before .join-all .ensures in
     record {
       labels = j;

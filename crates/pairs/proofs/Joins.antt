@@ -8,14 +8,15 @@ use native.Mathlib.Omega.{arith}
 use lib.ListN.{length, getD}
 use lib.Seq.{ext-getD}
 use Rattle.support.specs.Sets.{In}
 use Rattle.blocks.specs.Join.{linked, merged, joinPair, join}
-use Rattle.blocks.specs.Fresh.{Numbered, Together, Has, Joins, Two, Through, Blocks, Recent}
+use Rattle.blocks.specs.Numbered.{Numbered}
+use Rattle.pairs.specs.Fresh.{Together, Has, Joins, Two, Through, Blocks, Recent}
 use Rattle.blocks.proofs.Pairs.{pairs-keep}
 use Rattle.blocks.proofs.Labels.{merged-long, pair-long, join-long}
 use Rattle.blocks.proofs.Lowest.{merged-falls, join-falls}
 use Rattle.blocks.proofs.Joined.{merged-equal, merged-one, pair-equal, join-joined}
 use Rattle.blocks.proofs.Least.{Equivalence, Inside, merged-inside, links-inside}
 use Rattle.blocks.proofs.Members.{linked-from, linked-by}
 
 -- blocks are an equivalence
 together : (M : List ℕ) → Equivalence (Together M)

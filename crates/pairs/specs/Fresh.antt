@@ -1,16 +1,12 @@
 -- A joining by pairs of indices, whatever tells the pairs; and the joining by those members of the support that came last.
--- S, T, B and L are as in Join.antt, and F has the members that came last.
+-- S, T, B and L are as in Join.antt of blocks, and F has the members that came last.
 use mathlib.Core.Path.{_≡_}
 use mathlib.Core.Logic.{_⊎_}
 use mathlib.Core.List.{List}
-use Prim.Native.Nat.{ℕ, _+_, _%_, _≤_, _<_}
+use Prim.Native.Nat.{ℕ, _+_, _<_}
 use lib.ListN.{length, getD}
 use Rattle.support.specs.Sets.{In}
-
--- "A block's number is its lowest index": no index is below its block's number, and the number is itself an index of the block
-pub record Numbered (L : List ℕ) : Type 0 where
-  pub lowest : (x : ℕ) → x < length L → getD L x 0 ≤ x
-  pub own : (x : ℕ) → x < length L → getD L (getD L x 0) 0 ≡ getD L x 0
+use Rattle.blocks.specs.Numbered.{Numbered}
 
 -- the indices x and y are in one block
 pub record Together (L : List ℕ) (x y : ℕ) : Type 0 where
@@ -28,14 +24,10 @@ pub record Joins (P : ℕ → ℕ → Type 0) (n : ℕ) (L L′ : List ℕ) : Ty
   pub joins : Has P n L′
   pub only : (M : List ℕ) → Has P n M → Has (Together L) n M → Has (Together L′) n M
 
--- the pairs: i and k; i and an index with a key; two with a sum; two that some exponent t links, with t + b + b' in S
+-- the pairs: i and k; two with a sum; two that some exponent t links, with t + b + b' in S
 pub record Two (i k x y : ℕ) : Type 0 where
   pub first : x ≡ i
   pub second : y ≡ k
-
-pub record WithKey (B : List ℕ) (i key x y : ℕ) : Type 0 where
-  pub first : x ≡ i
-  pub second : getD B y 0 ≡ key
 
 pub record WithSum (B : List ℕ) (s x y : ℕ) : Type 0 where
   pub sum : getD B x 0 + getD B y 0 ≡ s
@@ -54,10 +46,3 @@ pub record Blocks (B L : List ℕ) : Type 0 where
 pub record Recent (S T B L F : List ℕ) : Type 0 where
   pub members : (x : ℕ) → In x F → In x S
   pub at : (x y t : ℕ) → x < length B → y < length B → In t T → In (t + (getD B x 0 + getD B y 0)) S → Together L x y ⊎ In (t + (getD B x 0 + getD B y 0)) F
-
--- where the first n keys of B stand: place key % 1021 has 0 where no key has that place, one more than the index of the one that
--- has it, and 255 where several have
-pub record Placed (B : List ℕ) (n : ℕ) (places : List ℕ) : Type 0 where
-  pub long : length places ≡ 1024
-  pub none : (k : ℕ) → k < n → getD places (getD B k 0 % 1021) 0 ≡ 0 → ⊥
-  pub one : (k i : ℕ) → k < n → getD places (getD B k 0 % 1021) 0 ≡ i + 1 → i < 254 → k ≡ i

@@ -1,4 +1,4 @@
--- `blocks::join_member` meets its contract: the exponents before j are done.
+-- `pairs::join_member` meets its contract: the exponents before j are done.
 use borrow.Author.Needs.{needs}
 use native.Mathlib.Omega.{arith}
 use mathlib.Core.Path.{_≡_, refl, sym, ap, _∙_}
@@ -6,19 +6,19 @@ use mathlib.Core.Logic.{⊎-elim}
 use mathlib.Core.List.{[], _∷_}
 use Prim.Native.Nat.{_-_, _≤_}
 use lib.ListN.{length, take}
-use Rattle.blocks.specs.Fresh.{Joins, Through}
-use Rattle.blocks.proofs.Fresh.{member-start, member-hit, member-miss, member-end}
-use Rattle.blocks.proofs.join_member.Statement.{statement}
-use Rattle.blocks.proofs.join_member.Tie as tie
+use Rattle.pairs.specs.Fresh.{Joins, Through}
+use Rattle.pairs.proofs.Fresh.{member-start, member-hit, member-miss, member-end}
+use Rattle.pairs.proofs.join_member.Statement.{statement}
+use Rattle.pairs.proofs.join_member.Tie as tie
 
 abbrev Inv-loop : tie.InvT-loop
-Inv-loop labels₀ basis exponents places x j₀ labels j = (j ≤ length exponents) × Joins (Through (take j exponents) basis (x ∷ [])) (length basis) labels₀ labels
+Inv-loop labels₀ basis exponents heads next x j₀ labels j = (j ≤ length exponents) × Joins (Through (take j exponents) basis (x ∷ [])) (length basis) labels₀ labels
 
 abbrev μ-loop : tie.MeasureT-loop
-μ-loop labels₀ basis exponents places x j₀ labels j = length exponents - j
+μ-loop labels₀ basis exponents heads next x j₀ labels j = length exponents - j
 
 loop-holds : tie.Need-loop-holds Inv-loop μ-loop
-loop-holds c = (omega arith, member-start (c .before .before .before .before .args .exponents .now) _ _ _ (c .before .before .before .before .pre .0 .numbered))
+loop-holds c = (omega arith, member-start (c .before .before .before .before .before .args .exponents .now) _ _ _ (c .before .before .before .before .before .pre .0 .numbered))
 
 mul-if1 : tie.Need-mul-if1 Inv-loop μ-loop
 mul-if1 c = search needs
@@ -36,7 +36,7 @@ sub-join-sum : tie.Need-sub-join-sum Inv-loop μ-loop
 sub-join-sum c = search needs
 
 join-sum-requires : tie.Need-join-sum-requires Inv-loop μ-loop
-join-sum-requires c κs = let p = c .before .before .before .before .before .before .before .before .before .before .pre in let j = c .before .before .before .before .before .loop .inv .1 in (record { long = j .long ∙ p .0 .long; numbered = j .numbered }, p .1)
+join-sum-requires c κs = let p = c .before .before .before .before .before .before .before .before .before .before .before .pre in let j = c .before .before .before .before .before .loop .inv .1 in (record { long = j .long ∙ p .0 .long; numbered = j .numbered }, p .1)
 
 add-j : tie.Need-add-j Inv-loop μ-loop
 add-j c = search needs
@@ -47,7 +47,7 @@ loop-less c = search needs
 loop-again : tie.Need-loop-again Inv-loop μ-loop
 loop-again c =
     let l = c .before .before .before in
-    let T = c .before .before .before .before .before .before .before .before .args .exponents .now in (
+    let T = c .before .before .before .before .before .before .before .before .before .args .exponents .now in (
       omega arith,
       ⊎-elim
           (λ w. rw (w .6) (member-hit T _ _ _ _ (l .loop .j) (omega arith) (l .loop .inv .1) (w .0 .taken) _ (w .3 .ensures)))
@@ -59,7 +59,7 @@ same-length : tie.Need-same-length Inv-loop μ-loop
 same-length c = c .before .loop .inv .1 .long
 
 returns : tie.Need-returns Inv-loop μ-loop
-returns c = member-end (c .before .before .before .before .before .before .args .exponents .now) _ _ _ _ (c .before .loop .j) (omega arith) (c .before .loop .inv .1)
+returns c = member-end (c .before .before .before .before .before .before .before .args .exponents .now) _ _ _ _ (c .before .loop .j) (omega arith) (c .before .loop .inv .1)
 
 pub join-member-spec : {M : Type 1} → statement M
 join-member-spec =

@@ -1,9 +1,9 @@
--- `blocks::join_two` meets its contract.
+-- `pairs::join_two` meets its contract.
 use borrow.Author.Needs.{needs}
 use native.Mathlib.Omega.{arith}
-use Rattle.blocks.proofs.Joins.{joins-two, joins-same}
-use Rattle.blocks.proofs.join_two.Statement.{statement}
-use Rattle.blocks.proofs.join_two.Tie as tie
+use Rattle.pairs.proofs.Joins.{joins-two, joins-same}
+use Rattle.pairs.proofs.join_two.Statement.{statement}
+use Rattle.pairs.proofs.join_two.Tie as tie
 
 slice-read-a : tie.Need-slice-read-a
 slice-read-a c = search needs

@@ -1,0 +1,4 @@
+pub mod Joins
+pub mod Index
+pub mod Walk
+pub mod Fresh
