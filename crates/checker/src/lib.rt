@@ -144,9 +144,9 @@ pub fn blocks(
         return refuse_blocks(1, 0);
     }
     let v = answer_blocks(problem, out, keys);
-    judging::clear(keys);
-    judging::clear_signed(high);
-    judging::clear(low);
+    judging::clear(keys, 2048);
+    judging::clear_signed(high, 2048);
+    judging::clear(low, 2048);
     v
 }
 
@@ -228,9 +228,9 @@ pub fn check(
         return refuse_check(judging::problem_refusal(1, 0));
     }
     let v = answer_check(problem, certificate, keys, high, low);
-    judging::clear(keys);
-    judging::clear_signed(high);
-    judging::clear(low);
+    judging::clear(keys, 2048);
+    judging::clear_signed(high, 2048);
+    judging::clear(low, 2048);
     v
 }
 
@@ -357,8 +357,8 @@ pub fn pair(
         return refuse_pair(judging::problem_refusal(1, 0));
     }
     let v = answer_pair(problem, first, second, keys, high, low);
-    judging::clear(keys);
-    judging::clear_signed(high);
-    judging::clear(low);
+    judging::clear(keys, 2048);
+    judging::clear_signed(high, 2048);
+    judging::clear(low, 2048);
     v
 }
