@@ -2,22 +2,25 @@
 use mathlib.Core.Path.{_≡_, refl, sym, ap, _∙_}
 use mathlib.Core.Bool.{Bool, true, false, cond}
 use mathlib.Core.List.{List, [], _∷_}
+use mathlib.Core.Logic.{⊎-elim, _≢_}
 use Prim.Native.Nat.{ℕ, _+_, _≤_, _<_}
 use native.Mathlib.Nat.{le-refl, le-trans}
 use native.Mathlib.Omega.{arith}
 use native.Mathlib.Numerals.{add-one}
-use lib.ListN.{length, getD, take, drop, drop-of-length-le}
-use lib.Seq.{drop-cons, take-take}
+use lib.ListN.{length, getD, set, take, drop, length-set, drop-of-length-le}
+use lib.Seq.{drop-cons, take-take, getD-set-same, getD-set-other}
 use lib.Dec.{eqb}
+use borrow.Author.Count.{below-more}
 use borrow.Author.Tests.{eq-eqb, ne-eqb}
 use Rattle.support.specs.Sets.{insert, Rising, In}
 use Rattle.support.specs.Table.{keysIn, Holds, Indexed, Grown, Stored}
 use Rattle.support.proofs.Elements.{insert-keeps, insert-rising, insert-grows, insert-same}
 use Rattle.support.proofs.Keys.{grown-holds}
 use Rattle.counting.specs.Counting.{fromTo}
-use Rattle.counting.proofs.Steps.{fromTo-keeps}
+use Rattle.counting.proofs.Listed.{same-or-not}
+use Rattle.counting.proofs.Steps.{fromTo-keeps, fromTo-fixed}
 use Rattle.blocks.specs.Extend.{addTerms, addPair, addRow, extend}
-use Rattle.blocks.specs.Filled.{Filled, Full}
+use Rattle.blocks.specs.Filled.{Filled, Full, Marked}
 use Rattle.blocks.proofs.Full.{pair-done, extend-done}
 
 -- ---- the set never shrinks, and stays in order
@@ -144,6 +147,25 @@ module _ (T B L : List ℕ) (i k : ℕ) (S : List ℕ) where
   unfolding addPair
   one-apart e = rw (ne-eqb _ _ e)
 
+-- ---- the blocks that grew
+
+module _ (first : Bool) (L L₀ : List ℕ) where
+  pub marked-none : (marks : List ℕ) → length marks ≡ 256 → Marked first L L₀ 0 marks
+  marked-none marks e = record { long = e; at = λ k h. absurd (omega arith) }
+
+  module _ (n : ℕ) (marks : List ℕ) (m : Marked first L L₀ n marks) where
+    pub marked-same : (first ≡ false) × (getD L₀ n 0 ≡ getD L n 0) → Marked first L L₀ (n + 1) marks
+    marked-same v = record { long = m .long; at = below-more _ n (m .at) (λ _. v) }
+
+    pub marked-more : getD L n 0 < 256 → Marked first L L₀ (n + 1) (set marks (getD L n 0) 1)
+    marked-more b = record {
+      long = length-set marks (getD L n 0) 1 ∙ m .long;
+      at = λ k h z.
+          ⊎-elim (λ e. absurd (omega (arith, sym (getD-set-same marks (getD L n 0) 1 0 (omega (arith, m .long))) ∙ (rw e at z))))
+          (λ d. m .at k (let v : k ≢ n = λ e. d (ap (λ (i : ℕ). getD L i 0) e) in omega arith) (sym (getD-set-other marks (getD L n 0) (getD L k 0) 1 0 d) ∙ z))
+          (same-or-not (getD L k 0) (getD L n 0));
+    }
+
 -- ---- a set that the round before has filled
 
 pub full-keeps : (T B L S S′ : List ℕ) → Extends S S′ → Full T B L S → Full T B L S′
@@ -159,6 +181,13 @@ module _ (first : Bool) (T B L₀ : List ℕ) where
   -- a pair that was in one block then adds nothing
   pub pair-known : (L : List ℕ) (i k : ℕ) (S : List ℕ) → Filled first T B L₀ S → first ≡ false → i ≤ k → k < length B → getD L₀ i 0 ≡ getD L₀ k 0 → Rising S → S ≡ addPair T B L i k S
   pair-known L i k S f e h u q r = sym (pair-done T B L i k S r (record { at = λ _. f .full e .at i k h u .at q }))
+
+  -- and so does an index of a block that is as it was then
+  pub row-known : (L marks : List ℕ) (i : ℕ) (S : List ℕ) → Filled first T B L₀ S → Marked first L L₀ (length L) marks → length L ≡ length B → i < length B → getD marks (getD L i 0) 0 ≡ 0 → Rising S → S ≡ addRow T B L i S
+  row-known L marks i S f m e b z r =
+      sym (fromTo-fixed (addPair T B L i) (length B) i S (λ k h u. pair-done T B L i k S r (record {
+        at = λ q. let v = m .at i (omega arith) z in f .full (v .0) .at i k h u .at (v .1 ∙ q ∙ sym (m .at k (omega arith) (ap (λ (x : ℕ). getD marks x 0) (sym q) ∙ z) .1));
+      })))
 
   -- and blocks that are as they were then add nothing
   pub blocks-known : (L S : List ℕ) → Filled first T B L₀ S → (first ≡ false) × (L ≡ L₀) → Rising S → S ≡ extend T B L S

@@ -7,7 +7,7 @@ ghost use Prim.Native.Nat.{_%_, _≤_, _<_};
 ghost use lib.ListN.{length};
 ghost use Rattle.support.specs.Table.{keysIn, Stored};
 ghost use Rattle.blocks.specs.Limits.{ForSums, Joining};
-ghost use Rattle.blocks.specs.Filled.{Extending};
+ghost use Rattle.blocks.specs.Filled.{Extending, Marked};
 ghost use Rattle.blocks.specs.Sums.{Apart, Seen, Added};
 ghost use Rattle.blocks.specs.Join.{linked, renamed, merged, joinPair, joinRow, join};
 ghost use Rattle.blocks.specs.Extend.{addTerms, addPair, addRow, extend, blockCount};
@@ -285,6 +285,41 @@ fn add_row(
     n
 }
 
+// The same, where the block of i is not one of the round before: all that such a block adds is in the support already.
+fn add_grown(
+    table: &mut [u64],
+    index: &mut [u16],
+    seen: &mut [u64],
+    len: usize,
+    labels: &[u8],
+    old: &[u8],
+    grown: &[u8; 256],
+    first: bool,
+    basis: &[u64],
+    exponents: &[u64],
+    i: usize,
+) -> usize
+    requires { ⌜ Extending first (now table) (now index) len (now basis) (now exponents) (now labels) (now old) × Marked first (now labels) (now old) (length (now labels)) (now grown) × Seen (now exponents) (now seen) (keysIn len (now table)) × (i < length (now basis)) ⌝ }
+    ensures { λ r. ⌜ Added (now (exponents .entry)) (addRow (now (exponents .entry)) (now (basis .entry)) (now (labels .entry)) i (keysIn len (now (table .entry)))) len (now (table .entry)) r (now (table .exit)) (now (index .exit)) (now (seen .exit)) ⌝ }
+{
+    let a = labels[i] as usize;
+    if grown[a] == 0 {
+        return len;
+    }
+    add_row(
+        table,
+        index,
+        seen,
+        len,
+        labels,
+        old,
+        first,
+        basis,
+        exponents,
+        i,
+    )
+}
+
 // Every pair of the basis.
 fn add_rows(
     table: &mut [u64],
@@ -293,23 +328,25 @@ fn add_rows(
     len: usize,
     labels: &[u8],
     old: &[u8],
+    grown: &[u8; 256],
     first: bool,
     basis: &[u64],
     exponents: &[u64],
 ) -> usize
-    requires { ⌜ Extending first (now table) (now index) len (now basis) (now exponents) (now labels) (now old) × Seen (now exponents) (now seen) (keysIn len (now table)) ⌝ }
+    requires { ⌜ Extending first (now table) (now index) len (now basis) (now exponents) (now labels) (now old) × Marked first (now labels) (now old) (length (now labels)) (now grown) × Seen (now exponents) (now seen) (keysIn len (now table)) ⌝ }
     ensures { λ r. ⌜ Stored len (extend (now (exponents .entry)) (now (basis .entry)) (now (labels .entry)) (keysIn len (now (table .entry)))) (now (table .entry)) r (now (table .exit)) (now (index .exit)) ⌝ }
 {
     let mut n = len;
     let mut i = 0;
     while i < basis.len() {
-        n = add_row(
+        n = add_grown(
             table,
             index,
             seen,
             n,
             labels,
             old,
+            grown,
             first,
             basis,
             exponents,
@@ -341,6 +378,21 @@ fn is_settled(labels: &[u8], old: &[u8], first: bool) -> bool
     true
 }
 
+// The blocks that grew: the place of a block's number has 1 where an index of it had another number before, and in the first round.
+fn mark_grown(grown: &mut [u8; 256], labels: &[u8], old: &[u8], first: bool)
+    requires { ⌜ (length (now labels) ≡ length (now old)) × (length (now grown) ≡ 256) ⌝ }
+    ensures { λ _. ⌜ Marked first (now (labels .entry)) (now (old .entry)) (length (now (labels .entry))) (now (grown .exit)) ⌝ }
+{
+    let mut k = 0;
+    while k < labels.len() {
+        let a = labels[k];
+        if first || a != old[k] {
+            grown[a as usize] = 1;
+        }
+        k += 1;
+    }
+}
+
 // The support's extension by a basis. Blocks that are as they were add nothing. Where there are few exponents, it is not worth
 // while to keep the sums that were seen.
 pub fn extend_pass(
@@ -359,6 +411,8 @@ pub fn extend_pass(
     if is_settled(labels, old, first) {
         return len;
     }
+    let mut grown = [0u8; 256];
+    mark_grown(&mut grown, labels, old, first);
     if exponents.len() < 8 {
         let mut none = [0u64; 1];
         add_rows(
@@ -368,6 +422,7 @@ pub fn extend_pass(
             len,
             labels,
             old,
+            &grown,
             first,
             basis,
             exponents,
@@ -381,6 +436,7 @@ pub fn extend_pass(
             len,
             labels,
             old,
+            &grown,
             first,
             basis,
             exponents,

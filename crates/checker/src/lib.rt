@@ -81,9 +81,9 @@ fn clear_tables(keys: &mut [u64], high: &mut [i64], low: &mut [u64])
     requires { ⌜ Long (now keys) (now high) (now low) ⌝ }
     ensures { λ _. ⌜ Cleared (now (keys .entry)) (now (high .entry)) (now (low .entry)) (now (keys .exit)) (now (high .exit)) (now (low .exit)) ⌝ }
 {
-    judging::clear(keys);
-    judging::clear_signed(high);
-    judging::clear(low);
+    judging::clear(keys, 2048);
+    judging::clear_signed(high, 2048);
+    judging::clear(low, 2048);
 }
 
 // A refusal of the blocks call: it is always the problem's, and has no key.

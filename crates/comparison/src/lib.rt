@@ -208,6 +208,7 @@ pub struct Lengths {
 // Adds the upper half of the table of sums of basis j, and clears it.
 fn flush(
     g: &mut [i64; 4096],
+    lasts: &mut [u16; 2048],
     j: usize,
     keys: &[u64],
     exponents: &[u64],
@@ -230,7 +231,7 @@ fn flush(
     let basis = &keys[a..b];
     let es = &exponents[c..d];
     let cs = &coefficients[c..d];
-    gram::fold(g, basis);
+    gram::fold(g, basis, lasts);
     spread(g, basis, es, cs, table, n, index, hi, lo);
 }
 
@@ -238,6 +239,7 @@ fn flush(
 // a product with the multiplier is made once for all of them. An empty basis has no rows to look for.
 fn add_basis(
     g: &mut [i64; 4096],
+    lasts: &mut [u16; 2048],
     s: &[u8],
     j: usize,
     keys: &[u64],
@@ -259,6 +261,7 @@ fn add_basis(
     }
     flush(
         g,
+        lasts,
         j,
         keys,
         exponents,
@@ -275,6 +278,7 @@ fn add_basis(
 // Adds the weighted square of every row times its multiplier, basis by basis.
 fn sum_rows(
     g: &mut [i64; 4096],
+    lasts: &mut [u16; 2048],
     s: &[u8],
     keys: &[u64],
     exponents: &[u64],
@@ -294,6 +298,7 @@ fn sum_rows(
     while j < 9 {
         add_basis(
             g,
+            lasts,
             s,
             j,
             keys,
@@ -310,7 +315,7 @@ fn sum_rows(
     }
 }
 
-// The same, with the table of sums made here.
+// The same, with the table of sums and the places that folding names made here.
 fn add_rows(
     s: &[u8],
     keys: &[u64],
@@ -328,8 +333,10 @@ fn add_rows(
     ensures { λ _. ⌜ Summed (λ p. squares p (rowsOf (now (s .entry)))) (now (keys .entry)) (now (exponents .entry)) (now (coefficients .entry)) l (now (table .entry)) n 9 (now (hi .entry)) (now (lo .entry)) (now (hi .exit)) (now (lo .exit)) ⌝ }
 {
     let mut g: [i64; 4096] = [0; 4096];
+    let mut lasts: [u16; 2048] = [0; 2048];
     sum_rows(
         &mut g,
+        &mut lasts,
         s,
         keys,
         exponents,

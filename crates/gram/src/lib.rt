@@ -162,17 +162,17 @@ fn fold_entry(g: &mut [i64; 4096], basis: &[u64], lasts: &mut [u16; 2048], x: us
     g[x] = v;
 }
 
-// Sums the entries with the same product b * b', so that most products with the multiplier are made once for all of them.
-pub fn fold(g: &mut [i64; 4096], basis: &[u64])
+// Sums the entries with the same product b * b', so that most products with the multiplier are made once for all of them. `lasts` may
+// name anything.
+pub fn fold(g: &mut [i64; 4096], basis: &[u64], lasts: &mut [u16; 2048])
     requires { ⌜ (length (now basis) ≤ 64) × Bounded (8 * 2 ^ 56) (now basis) × Framed (length (now basis)) (2 ^ 53) (now g) ⌝ }
     ensures { λ _. ⌜ Framed (length (now (basis .entry))) (2 ^ 60) (now (g .exit)) × ((G : List Term) (k : ℕ) → spreadAt (now (basis .entry)) G (now (g .exit)) k ≡ halfAt (now (basis .entry)) G (now (g .entry)) k) ⌝ }
 {
-    let mut lasts: [u16; 2048] = [0; 2048];
     let size = basis.len();
     let last = 64 * size;
     let mut x = 0;
     while x < last {
-        fold_entry(g, basis, &mut lasts, x);
+        fold_entry(g, basis, lasts, x);
         x = next_place(x, size);
     }
 }

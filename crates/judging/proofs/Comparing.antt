@@ -5,7 +5,7 @@ use Prim.Native.Nat.{ℕ, _+_, _-_, _*_, _≤_, _<_}
 use native.Mathlib.Omega.{arith}
 use lib.IntN.{ℤ, pos}
 use lib.ListN.{length, getD, take, drop, replicate, length-replicate, length-append, length-drop, getD-replicate, List·getD-append}
-use lib.Seq.{drop-append-seam}
+use lib.Seq.{drop-drop, drop-at}
 use Rattle.counting.proofs.Listed.{listed-at}
 use Rattle.stream.specs.Commands.{Outcome, refused, given}
 use Rattle.polynomial.specs.Terms.{objectiveTerms}
@@ -21,27 +21,29 @@ use Rattle.comparison.specs.Compare.{Zeroed, Comparable, Given, Untouched}
 use Rattle.judging.specs.Steps.{Compares, Stands}
 use Rattle.judging.proofs.Judging.{sizes-are, rows-of}
 
--- ---- a cleared table
-module _ {A : Type 0} (z : A) (t t′ : List A) (cleared : t′ ≡ replicate 2048 z ++ drop 2048 t) where
-  pub cleared-at : (q : ℕ) → q < 2048 → getD t′ q z ≡ z
-  cleared-at q h = rw cleared (List·getD-append (replicate 2048 z) (drop 2048 t) z q (omega (arith, h, length-replicate 2048 z)) ∙ getD-replicate 2048 q z z h)
+-- ---- a table whose first n numbers are cleared
+module _ {A : Type 0} (z : A) (t t′ : List A) (n : ℕ) (cleared : t′ ≡ replicate n z ++ drop n t) where
+  pub cleared-at : (q : ℕ) → q < n → getD t′ q z ≡ z
+  cleared-at q h = rw cleared (List·getD-append (replicate n z) (drop n t) z q (omega (arith, h, length-replicate n z)) ∙ getD-replicate n q z z h)
 
-  cleared-rest : drop 2048 t′ ≡ drop 2048 t
-  cleared-rest = rw cleared (rw (length-replicate 2048 z) at (drop-append-seam (replicate 2048 z) (drop 2048 t)))
+  cleared-rest : n ≤ 2048 → drop 2048 t′ ≡ drop 2048 t
+  cleared-rest few =
+      let e : n + (2048 - n) ≡ 2048 = omega arith in
+      rw (cleared, sym e) (sym (drop-drop (2048 - n) n (replicate n z ++ drop n t)) ∙ ap (drop (2048 - n)) (drop-at (replicate n z) (drop n t) n (length-replicate n z)) ∙ drop-drop (2048 - n) n t)
 
   -- and what a comparison leaves of it
-  pub cleared-untouched : (t″ : List A) → length t′ ≡ length t → Untouched t′ t″ → Untouched t t″
-  cleared-untouched t″ l u = record { long = u .long ∙ l; rest = u .rest ∙ cleared-rest }
+  pub cleared-untouched : n ≤ 2048 → (t″ : List A) → length t′ ≡ length t → Untouched t′ t″ → Untouched t t″
+  cleared-untouched few t″ l u = record { long = u .long ∙ l; rest = u .rest ∙ cleared-rest few }
 
 -- ---- what the comparison asks
 module _ (p : StoredProblem) (kept : Kept p) (n : ℕ) (table : List ℕ) (compares : Compares (problemOf p) n table) where
-  pub zeroed : (h h′ : List ℤ) (l l′ : List ℕ) → 2048 ≤ length h′ → 2048 ≤ length l′ → h′ ≡ replicate 2048 (pos 0) ++ drop 2048 h → l′ ≡ replicate 2048 0 ++ drop 2048 l → Zeroed table n h′ l′
+  pub zeroed : (h h′ : List ℤ) (l l′ : List ℕ) → 2048 ≤ length h′ → 2048 ≤ length l′ → h′ ≡ replicate n (pos 0) ++ drop n h → l′ ≡ replicate n 0 ++ drop n l → Zeroed table n h′ l′
   zeroed h h′ l l′ a b e f = record {
     support = compares .holds;
     in-hi = a;
     in-lo = b;
-    hi-zero = λ q k. cleared-at (pos 0) h h′ e q (omega (arith, k, compares .holds .few));
-    lo-zero = λ q k. cleared-at 0 l l′ f q (omega (arith, k, compares .holds .few));
+    hi-zero = cleared-at (pos 0) h h′ n e;
+    lo-zero = cleared-at 0 l l′ n f;
   }
 
   pub same-constraints : problemOf p .constraints ≡ constraintsOf (p .count) (p .constraints)

@@ -46,25 +46,25 @@ pub enum Judged {
     Accepted(Header),
 }
 
-// A work table's first 2,048 numbers set to zero.
-pub fn clear(t: &mut [u64])
-    requires { ⌜ 2048 ≤ length (now t) ⌝ }
-    ensures { λ _. ⌜ now (t .exit) ≡ replicate 2048 0 ++ drop 2048 (now (t .entry)) ⌝ }
+// A work table's first n numbers set to zero.
+pub fn clear(t: &mut [u64], n: usize)
+    requires { ⌜ n ≤ length (now t) ⌝ }
+    ensures { λ _. ⌜ now (t .exit) ≡ replicate n 0 ++ drop n (now (t .entry)) ⌝ }
 {
     let mut i = 0;
-    while i < 2048 {
+    while i < n {
         t[i] = 0;
         i += 1;
     }
 }
 
 // The same of the table of signed numbers.
-pub fn clear_signed(t: &mut [i64])
-    requires { ⌜ 2048 ≤ length (now t) ⌝ }
-    ensures { λ _. ⌜ now (t .exit) ≡ replicate 2048 (pos 0) ++ drop 2048 (now (t .entry)) ⌝ }
+pub fn clear_signed(t: &mut [i64], n: usize)
+    requires { ⌜ n ≤ length (now t) ⌝ }
+    ensures { λ _. ⌜ now (t .exit) ≡ replicate n (pos 0) ++ drop n (now (t .entry)) ⌝ }
 {
     let mut i = 0;
-    while i < 2048 {
+    while i < n {
         t[i] = 0;
         i += 1;
     }
@@ -123,8 +123,8 @@ fn difference(
     requires { ⌜ Kept p × Compares (problemOf p) n (now table) × Stands (problemOf p) (now s) header × (2048 ≤ length (now high)) × (2048 ≤ length (now low)) ⌝ }
     ensures { λ r. ⌜ ((c : Certificate) → readCertificate (shapeOf (problemOf p)) (now (s .entry)) ≡ given c → r ≡ differenceOf (J.differenceKey (problemOf p) c)) × Untouched (now (high .entry)) (now (high .exit)) × Untouched (now (low .entry)) (now (low .exit)) ⌝ }
 {
-    clear_signed(high);
-    clear(low);
+    clear_signed(high, n);
+    clear(low, n);
     let constraints = p.constraints;
     let m = problem::multipliers_of(constraints, p.count);
     let coefficients = problem::coefficients_of(constraints, p.count);

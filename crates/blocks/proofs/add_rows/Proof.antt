@@ -16,20 +16,20 @@ use Rattle.blocks.proofs.add_rows.Statement.{statement}
 use Rattle.blocks.proofs.add_rows.Tie as tie
 
 abbrev Inv-loop : tie.InvT-loop
-Inv-loop table₀ index₀ seen₀ len labels old first basis exponents n₀ i₀ table index seen n i = (i ≤ length basis) × Growing table₀ len (extend exponents basis labels (keysIn len table₀)) (fromTo i (length basis) (addRow exponents basis labels)) n table index × Filled first exponents basis old (keysIn n table) × (length seen ≡ length seen₀) × Seen exponents seen (keysIn n table)
+Inv-loop table₀ index₀ seen₀ len labels old grown first basis exponents n₀ i₀ table index seen n i = (i ≤ length basis) × Growing table₀ len (extend exponents basis labels (keysIn len table₀)) (fromTo i (length basis) (addRow exponents basis labels)) n table index × Filled first exponents basis old (keysIn n table) × (length seen ≡ length seen₀) × Seen exponents seen (keysIn n table)
 
 abbrev μ-loop : tie.MeasureT-loop
-μ-loop table₀ index₀ seen₀ len labels old first basis exponents n₀ i₀ table index seen n i = length basis - i
+μ-loop table₀ index₀ seen₀ len labels old grown first basis exponents n₀ i₀ table index seen n i = length basis - i
 
 loop-holds : tie.Need-loop-holds Inv-loop μ-loop
 unfolding extend
 loop-holds c =
     let s = c .before .before .before .before .before .before .before in
     let p = s .pre .0 .joining in
-    (omega arith, growing-start _ _ _ _ (p .support) (p .index), s .pre .0 .filled, refl, s .pre .1)
+    (omega arith, growing-start _ _ _ _ (p .support) (p .index), s .pre .0 .filled, refl, s .pre .2)
 
-add-row-requires : tie.Need-add-row-requires Inv-loop μ-loop
-add-row-requires c κs =
+add-grown-requires : tie.Need-add-grown-requires Inv-loop μ-loop
+add-grown-requires c κs =
     let l = c .before .before .before .before in
     let s = c .before .before .before .before .before .before .before .before .before .before .before .before in
     let p = s .pre .0 in (
@@ -42,24 +42,25 @@ add-row-requires c κs =
         before = p .before;
         filled = l .loop .inv .2;
       },
+      s .pre .1,
       l .loop .inv .4,
       omega arith,
     )
 
 same-length : tie.Need-same-length Inv-loop μ-loop
-same-length c = c .before .before .before .before .before .before .before .add-row .kept .0 ∙ c .before .before .before .before .before .before .before .before .before .before .before .before .loop .inv .1 .long
+same-length c = c .before .before .before .before .before .before .before .add-grown .kept .0 ∙ c .before .before .before .before .before .before .before .before .before .before .before .before .loop .inv .1 .long
 
 same-length-2 : tie.Need-same-length-2 Inv-loop μ-loop
-same-length-2 c = c .before .before .before .before .before .before .before .add-row .kept .1 .0 ∙ c .before .before .before .before .before .before .before .before .before .before .before .before .loop .inv .1 .index .long ∙ sym (c .before .before .before .before .before .before .before .before .before .before .before .before .before .before .before .before .before .before .before .before .pre .0 .joining .index .long)
+same-length-2 c = c .before .before .before .before .before .before .before .add-grown .kept .1 .0 ∙ c .before .before .before .before .before .before .before .before .before .before .before .before .loop .inv .1 .index .long ∙ sym (c .before .before .before .before .before .before .before .before .before .before .before .before .before .before .before .before .before .before .before .before .pre .0 .joining .index .long)
 
 same-length-3 : tie.Need-same-length-3 Inv-loop μ-loop
-same-length-3 c = c .before .before .before .before .before .before .before .add-row .kept .1 .1 .0 ∙ c .before .before .before .before .before .before .before .before .before .before .before .before .loop .inv .3
+same-length-3 c = c .before .before .before .before .before .before .before .add-grown .kept .1 .1 .0 ∙ c .before .before .before .before .before .before .before .before .before .before .before .before .loop .inv .3
 
 returns : tie.Need-returns Inv-loop μ-loop
 returns c =
     let l = c .before .before .before .before .before .before .before .before .before .before .before .before in
     let s = c .before .before .before .before .before .before .before .before .before .before .before .before .before .before .before .before .before .before .before .before in
-    let m = c .before .before .before .before .before .before .before .add-row .ensures in
+    let m = c .before .before .before .before .before .before .before .add-grown .ensures in
     let x = rest-extends (s .args .exponents .now) (s .args .basis .now) (s .args .labels .now) (l .loop .i + 1) _ in
     growing-stop _ _ _ _ _ _ _ (l .loop .inv .1) _ _ _ _ (m .stored) (fromTo (l .loop .i + 1) _ _) (fromTo-more _ _ _ _ (omega (arith, c .before .before .before .before .before .before .before .before .before .before .before .loop-test .taken))) (c .if1 .taken) x
 
@@ -73,12 +74,12 @@ loop-again : tie.Need-loop-again Inv-loop μ-loop
 loop-again c =
     let l = c .before .before .before .before .before .before .before .before .before .before .before .before in
     let s = c .before .before .before .before .before .before .before .before .before .before .before .before .before .before .before .before .before .before .before .before in
-    let m = c .before .before .before .before .before .before .before .add-row .ensures in
+    let m = c .before .before .before .before .before .before .before .add-grown .ensures in
     let x = rest-of-row-extends (s .args .exponents .now) (s .args .basis .now) (s .args .labels .now) (l .loop .i) (l .loop .i) _ in (
       omega (arith, c .before .before .before .before .before .before .before .before .before .before .before .loop-test .taken),
       growing-step _ _ _ _ _ _ _ (l .loop .inv .1) _ _ _ _ (m .stored) _ (fromTo-more _ _ _ _ (omega (arith, c .before .before .before .before .before .before .before .before .before .before .before .loop-test .taken))) (c .if1 .left) x,
       filled-step _ _ _ _ _ _ _ _ _ (m .stored .grown) (c .if1 .left) x (l .loop .inv .2),
-      c .before .before .before .before .before .before .before .add-row .kept .1 .1 .0 ∙ l .loop .inv .3,
+      c .before .before .before .before .before .before .before .add-grown .kept .1 .1 .0 ∙ l .loop .inv .3,
       seen-now _ _ _ _ _ _ (m .stored .grown) (c .if1 .left) (m .seen),
     )
 
@@ -104,7 +105,7 @@ add-rows-spec =
     Inv-loop
     μ-loop
     loop-holds
-    add-row-requires
+    add-grown-requires
     same-length
     same-length-2
     same-length-3

@@ -1,7 +1,7 @@
 -- `blocks::extend_pass` meets its contract: blocks that are as they were add nothing, and no sum was seen at first.
 use borrow.Author.Needs.{needs}
 use native.Mathlib.Omega.{arith}
-use mathlib.Core.Path.{sym, _∙_}
+use mathlib.Core.Path.{refl, sym, _∙_}
 use Rattle.blocks.proofs.Growth.{blocks-known}
 use Rattle.support.proofs.Keys.{keys-rising, stored-none}
 use Rattle.blocks.proofs.Sums.{seen-none}
@@ -17,17 +17,20 @@ returns c =
     let p = s .pre .joining in
     rw (← blocks-known (s .args .first) _ _ _ _ _ (s .pre .filled) (c .before .is-settled .ensures (c .if1 .taken)) (keys-rising _ _)) (stored-none (p .support) (p .index))
 
+mark-grown-requires : tie.Need-mark-grown-requires
+mark-grown-requires c κs = let p = c .before .before .before .before .before .before .before .before .before .pre in (p .joining .basis .labels ∙ sym (p .before), refl)
+
 slice-aggregate-add-rows : tie.Need-slice-aggregate-add-rows
 slice-aggregate-add-rows c = search needs
 
 add-rows-requires : tie.Need-add-rows-requires
-add-rows-requires c κs = (c .before .before .before .before .before .before .before .before .before .before .before .before .pre, seen-none _ _ 1)
+add-rows-requires c κs = (c .before .before .before .before .before .before .before .before .before .before .before .before .before .before .before .pre, c .before .before .before .before .before .mark-grown .ensures, seen-none _ _ 1)
 
 slice-aggregate-add-rows-2 : tie.Need-slice-aggregate-add-rows-2
 slice-aggregate-add-rows-2 c = search needs
 
 add-rows-requires-2 : tie.Need-add-rows-requires-2
-add-rows-requires-2 c κs = (c .before .before .before .before .before .before .before .before .before .before .before .before .pre, seen-none _ _ 1024)
+add-rows-requires-2 c κs = (c .before .before .before .before .before .before .before .before .before .before .before .before .before .before .before .pre, c .before .before .before .before .before .mark-grown .ensures, seen-none _ _ 1024)
 
 same-length : tie.Need-same-length
 same-length c = search needs
@@ -53,6 +56,7 @@ extend-pass-spec =
     (tie.spec
     is-settled-requires
     returns
+    mark-grown-requires
     slice-aggregate-add-rows
     add-rows-requires
     slice-aggregate-add-rows-2

@@ -30,7 +30,7 @@ add-basis-rows-requires c κs = search needs
 
 flush-requires : tie.Need-flush-requires
 flush-requires c κs =
-    let d = c .before .before .before in
+    let d = c .before .before .before .before in
     let p = s d .pre in
     (p .0 .0, (p .1 .0, p .0 .2, gathered-framed (p .1 .0) (p .1 .1) (s d .args .j) (gathered d)))
 
@@ -43,7 +43,7 @@ same-length-2 c = search needs
 returns : tie.Need-returns
 returns c =
     let f = c .before .before .before in
-    let d = f .before .before .before .before in
+    let d = f .before .before .before .before .before in
     let p = s d .pre in
     (gathered-summed (p .1 .0) (p .1 .1) (s d .args .j) (gathered d) (p .0 .2) (f .flush .ensures), spread-below (f .flush .ensures))
 

@@ -7,7 +7,7 @@ use Rattle.comparison.proofs.add_rows.Tie as tie
 
 sum-rows-requires : tie.Need-sum-rows-requires
 sum-rows-requires c κs =
-    let s = c .before .before .before .before .before .before .before .before in
+    let s = c .before .before .before .before .before .before .before .before .before in
     ((s .pre .0, none-below), s .pre .1)
 
 same-length : tie.Need-same-length

@@ -22,10 +22,10 @@ module _ (c : tie.After-slice-known) where
   j = s .args .j
 
   abbrev size : ℕ
-  size = getD (s .args .t6 .sizes) j 0
+  size = getD (s .args .t7 .sizes) j 0
 
   abbrev count : ℕ
-  count = getD (s .args .t6 .counts) j 0
+  count = getD (s .args .t7 .counts) j 0
 
   keys-end : 64 * j + size ≤ length (s .args .keys .now)
   keys-end = basis-end _ _ _ _ (s .pre .1 .0) j (s .pre .1 .1)
@@ -104,13 +104,13 @@ part-cs-end c = omega (arith, factors-end (c .before .before .before .before))
 
 fold-requires : tie.Need-fold-requires
 fold-requires c κs =
-    let b = c .before .before .before .before .before .before in
+    let b = c .before .before .before .before .before .before .before in
     rw (cut-is (64 * j b) (size b) (s b .args .keys .now)) (spreadable b .basis-few, spreadable b .basis-low, framed b)
 
 -- after the folding
 module _ (c : tie.After-fold) where
   abbrev b : tie.After-slice-known
-  b = c .before .before .before .before .before .before .before
+  b = c .before .before .before .before .before .before .before .before
 
   abbrev B : List ℕ
   B = take (size b) (drop (64 * j b) (s b .args .keys .now))

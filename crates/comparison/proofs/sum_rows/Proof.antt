@@ -12,11 +12,11 @@ use Rattle.comparison.proofs.sum_rows.Statement.{statement}
 use Rattle.comparison.proofs.sum_rows.Tie as tie
 
 abbrev Inv-loop : tie.InvT-loop
-Inv-loop g₀ s keys exponents coefficients l table n places hi₀ lo₀ j₀ g hi lo j =
+Inv-loop g₀ lasts₀ s keys exponents coefficients l table n places hi₀ lo₀ j₀ g lasts hi lo j =
     (j ≤ 9) × Below 0 g × Summed (λ p. byBasis p (rowsOf s) j) keys exponents coefficients l table n j hi₀ lo₀ hi lo
 
 abbrev μ-loop : tie.MeasureT-loop
-μ-loop g₀ s keys exponents coefficients l table n places hi₀ lo₀ j₀ g hi lo j = 9 - j
+μ-loop g₀ lasts₀ s keys exponents coefficients l table n places hi₀ lo₀ j₀ g lasts hi lo j = 9 - j
 
 abbrev at-start : tie.At-loop Inv-loop μ-loop → tie.Start Inv-loop μ-loop
 at-start l = l .before .before .before .before .before .before
@@ -26,7 +26,7 @@ loop-holds c = let s = c .before .before .before .before .before in (omega arith
 
 add-basis-requires : tie.Need-add-basis-requires Inv-loop μ-loop
 add-basis-requires c κs =
-    let l = c .before .before .before .before in
+    let l = c .before .before .before .before .before in
     let p = at-start l .pre in
     let w = l .loop .inv in
     ((ready-after (p .0 .0) (w .2 .grown) (omega arith), w .1, search needs), p .1)
@@ -40,7 +40,7 @@ loop-less c = search needs
 loop-again : tie.Need-loop-again Inv-loop μ-loop
 loop-again c =
     let a = c .before .before .before in
-    let l = a .before .before .before .before .before in
+    let l = a .before .before .before .before .before .before in
     (omega arith, a .add-basis .ensures .1, walked-more (at-start l .args .s .now) (l .loop .inv .2) (a .add-basis .ensures .0))
 
 same-length : tie.Need-same-length Inv-loop μ-loop

@@ -21,10 +21,10 @@ factors : (c : tie.After-coefficients-of) → FlatCoefficients (problemOf (start
 factors c = let s = start (c .before) in c .coefficients-of .ensures (problemOf (s .args .p)) (same-constraints (s .args .p) (s .pre .0) _ _ (s .pre .1))
 
 clear-signed-requires : tie.Need-clear-signed-requires
-clear-signed-requires c κs = search needs
+clear-signed-requires c κs = let p = c .before .before .before .before .pre in omega (arith, p .1 .holds .few, p .3)
 
 clear-requires : tie.Need-clear-requires
-clear-requires c κs = search needs
+clear-requires c κs = let p = c .before .before .before .before .before .before .before .pre in omega (arith, p .1 .holds .few, p .4)
 
 multipliers-of-requires : tie.Need-multipliers-of-requires
 multipliers-of-requires c κs = search needs
@@ -69,8 +69,8 @@ returns c =
     let s = start m in
     let p = s .pre in (
       λ x e. d .compare .ensures .0 (problemOf (s .args .p)) x (compared (s .args .p) (p .0) _ _ (p .1) _ (flat m) _ (factors k) _ _ (p .2) x e),
-      cleared-untouched (pos 0) (s .args .high .now) _ (h .clear-signed .ensures) _ (omega (arith, h .clear-signed .kept)) (d .compare .ensures .1 .0),
-      cleared-untouched 0 (s .args .low .now) _ (l .clear .ensures) _ (omega (arith, l .clear .kept)) (d .compare .ensures .1 .1),
+      cleared-untouched (pos 0) (s .args .high .now) _ _ (h .clear-signed .ensures) (p .1 .holds .few) _ (omega (arith, h .clear-signed .kept)) (d .compare .ensures .1 .0),
+      cleared-untouched 0 (s .args .low .now) _ _ (l .clear .ensures) (p .1 .holds .few) _ (omega (arith, l .clear .kept)) (d .compare .ensures .1 .1),
     )
 
 pub difference-spec : {M : Type 1} → statement M
