@@ -6,13 +6,12 @@ use Prim.Native.Nat.{ℕ, zero, suc, _+_, _≤_, _<_}
 use native.Mathlib.Nat.{min-eq-left, min-eq-right, max-eq-left, max-eq-right, le-of-suc-le-suc, not-suc-le-zero}
 use native.Mathlib.Omega.{arith}
 use native.Mathlib.Numerals.{add-one}
-use lib.ListN.{length, getD, take, drop, set, length-map, drop-of-length-le}
+use lib.ListN.{length, getD, take, drop, set, drop-of-length-le}
 use lib.Seq.{drop-cons}
 use lib.Dec.{eqb}
 use borrow.Author.Tests.{eqb-true, eq-eqb, ne-eqb}
 use mathlib.Core.Bool.{cond}
 use Rattle.support.specs.Sets.{member}
-use Rattle.counting.proofs.Steps.{fromTo-keeps}
 use Rattle.blocks.specs.Join.{linked, renamed, merged, joinPair, joinRow, join}
 use Rattle.blocks.specs.Extend.{lowestFrom, blockCount}
 
@@ -113,24 +112,6 @@ module _ (S T B L : List ℕ) (i k : ℕ) where
   pub join-apart : linked S T (getD B i 0 + getD B k 0) ≡ false → L ≡ joinPair S T B i k L
   unfolding joinPair
   join-apart e = rw e
-
--- ---- joining keeps the number of indices
-
-module _ (S T B : List ℕ) where
-  pair-long : (i k : ℕ) (L : List ℕ) → length (joinPair S T B i k L) ≡ length L
-  unfolding joinPair merged
-  pair-long i k L = go (linked S T (getD B i 0 + getD B k 0))
-    where
-      go : (b : Bool) → length (cond b (merged (getD L i 0) (getD L k 0) L) L) ≡ length L
-      go true = length-map L _
-      go false = refl
-
-  row-long : (i : ℕ) (L : List ℕ) → length (joinRow S T B i L) ≡ length L
-  row-long i L = fromTo-keeps (λ (M : List ℕ). length M ≡ length L) (joinPair S T B i) (length B) (i + 1) (λ k M _ _ e. pair-long i k M ∙ e) L refl
-
-  pub join-long : (L : List ℕ) → length (join S T B L) ≡ length L
-  unfolding join
-  join-long L = fromTo-keeps (λ (M : List ℕ). length M ≡ length L) (joinRow S T B) (length B) 0 (λ i M _ _ e. row-long i M ∙ e) L refl
 
 -- ---- the number of blocks
 

@@ -18,7 +18,8 @@ use Rattle.blocks.specs.Extend.{extend, blockCount}
 use Rattle.blocks.specs.Limits.{Bounded}
 use Rattle.blocks.specs.Filled.{Full, Filled}
 use Rattle.pairs.specs.Fresh.{Joins, Through, Blocks}
-use Rattle.blocks.proofs.Laws.{join-long, blocks-few}
+use Rattle.blocks.proofs.Labels.{join-long}
+use Rattle.blocks.proofs.Laws.{blocks-few}
 use Rattle.blocks.proofs.Full.{extend-full}
 use Rattle.blocks.proofs.Growth.{Extends, fromTo-extends, extend-extends, full-keeps, filled-keeps}
 use Rattle.rounds.specs.Rounds.{Bases, singles, joinAll, extendAll}

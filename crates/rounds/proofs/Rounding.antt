@@ -15,38 +15,27 @@ use Rattle.rounds.specs.Arrays.{Sizes, Labelled, FilledAll, RoundAsks, r
 use Rattle.rounds.specs.Between.{closeAfter, Between, Advanced}
 use Rattle.rounds.specs.declared.Closed.{Closed}
 use Rattle.rounds.specs.declared.Progress.{Progress}
-use Rattle.rounds.proofs.Passes.{labelled-same, singles-labelled, singles-labels, joined-labelled, joined-labels, all-extends, filled-next}
+use Rattle.rounds.proofs.Passes.{labelled-same, singles-labelled, singles-labels, joined-labelled, joined-labels, filled-next}
+use Rattle.rounds.proofs.Rounds.{round-extends}
 use Rattle.rounds.proofs.Latest.{recent-start, recent-next}
-use Rattle.rounds.proofs.Same.{never, same-true, same-apart, state-same, state-differs}
+use Rattle.rounds.proofs.Same.{close-next, never, same-true, same-apart, state-same, state-differs}
 
 module _ (g : Bases) where
   -- ---- a round only grows the support, and so do the rounds to the end
-
-  round-extends : (s : State) → Extends (s .support) (round g s .support)
-  unfolding round
-  round-extends s = all-extends g (joinAll g (s .support) (s .labels)) (s .support)
 
   round-fills : (first : Bool) (s : State) → FilledAll first g (round g s .labels) (round g s .support)
   unfolding round
   round-fills first s = filled-next g (joinAll g (s .support) (s .labels)) first (s .support)
 
-  close-next : (m : ℕ) (s : State) (c : ℕ) → closeFrom g (suc m) s c ≡ cond (sameState s (round g s)) (record { state = round g s; rounds = c + 1 }) (closeFrom g m (round g s) (c + 1))
-  unfolding closeFrom
-  close-next m s c = go (sameState s (round g s)) _ _
-    where
-      go : (b : Bool) (x y : Closing) → elim b [ true ↦ x | false ↦ y ] ≡ cond b x y
-      go true x y = refl
-      go false x y = refl
-
   pub close-extends : (m : ℕ) (s : State) (c : ℕ) → Extends (s .support) (closeFrom g m s c .state .support)
   unfolding closeFrom
   close-extends zero s c = extends-refl (s .support)
-  close-extends (suc m) s c = rw (close-next m s c) (go (sameState s (round g s)) (close-extends m (round g s) (c + 1)))
+  close-extends (suc m) s c = rw (close-next g m s c) (go (sameState s (round g s)) (close-extends m (round g s) (c + 1)))
     where
       go : (b : Bool) → Extends (round g s .support) (closeFrom g m (round g s) (c + 1) .state .support)
           → Extends (s .support) (cond b (record { state = round g s; rounds = c + 1 }) (closeFrom g m (round g s) (c + 1)) .state .support)
-      go true h = round-extends s
-      go false h = extends-trans (s .support) (round g s .support) _ (round-extends s) h
+      go true h = round-extends g s
+      go false h = extends-trans (s .support) (round g s .support) _ (round-extends g s) h
 
 -- ---- what tells that a round is the last
 
