@@ -3,7 +3,8 @@
 ghost use mathlib.Core.Path.{_≡_};
 ghost use mathlib.Core.Bool.{true};
 ghost use Prim.Native.Nat.{_≤_, _<_};
-ghost use lib.ListN.{length};
+ghost use lib.Bits.{bitXor};
+ghost use lib.ListN.{length, getD};
 ghost use Rattle.parity.specs.Parity.{class, small, AllSmall, Classes, Noted, Keeps, Spread, SpreadAll, Possible};
 
 // The class of a key, exponent by exponent.
@@ -112,4 +113,20 @@ pub fn possible(basis: &[u64], exponents: &[u64], present: &[u8; 256]) -> [u8; 2
         }
     }
     [1u8; 256]
+}
+
+// The class of the sum of two small keys.
+fn class_of_sum(a: u8, b: u8) -> usize
+    ensures { λ r. ⌜ (r ≡ bitXor a b) × (r < 256) ⌝ }
+{
+    (a ^ b) as usize
+}
+
+// Whether the class of the sum of the keys i and k is not among those that are possible.
+pub fn is_impossible(classes: &[u8; 64], possible: &[u8; 256], i: usize, k: usize) -> bool
+    requires { ⌜ (i < 64) × (k < 64) ⌝ }
+    ensures { λ r. ⌜ (r ≡ true → getD (now (possible .entry)) (bitXor (getD (now (classes .entry)) i 0) (getD (now (classes .entry)) k 0)) 0 ≡ 0) ⌝ }
+{
+    let c = class_of_sum(classes[i], classes[k]);
+    possible[c] == 0
 }
