@@ -10,3 +10,4 @@ pub mod Lowest
 pub mod Sums
 pub mod Joins
 pub mod Fresh
+pub mod Ruled
