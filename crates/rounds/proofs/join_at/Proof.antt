@@ -1,7 +1,5 @@
 -- `rounds::join_at` meets its contract: by the members that came last, and by the pairs.
 use borrow.Author.Needs.{needs}
-use native.Mathlib.Omega.{arith}
-use mathlib.Core.Path.{_≡_}
 use Rattle.support.proofs.Keys.{inside}
 use Rattle.rounds.specs.Bytes.{basesIn}
 use Rattle.rounds.proofs.Latest.{latest-part, fresh-joined}
@@ -30,13 +28,13 @@ part-fresh-start : tie.Need-part-fresh-start
 part-fresh-start c = search needs
 
 part-fresh-end : tie.Need-part-fresh-end
-part-fresh-end c = let p = c .before .before .before .before .before .before .before .before .before .pre in inside (p .joining .support)
+part-fresh-end c = let p = c .before .before .before .before .before .before .before .before .before .pre .0 in inside (p .joining .support)
 
 join-fresh-at-requires : tie.Need-join-fresh-at-requires
-join-fresh-at-requires c κs = let p = c .before .before .before .before .before .before .before .before .before .before .before .pre in record { arrays = p .joining .arrays; labels = p .joining .labels; basis = p .basis; blocks = p .blocks }
+join-fresh-at-requires c κs = let p = c .before .before .before .before .before .before .before .before .before .before .before .pre .0 in record { arrays = p .joining .arrays; labels = p .joining .labels; basis = p .basis; blocks = p .blocks }
 
 join-pairs-at-requires : tie.Need-join-pairs-at-requires
-join-pairs-at-requires c κs = let p = c .before .before .before .before .before .before .before .before .before .before .pre in (p .joining, p .basis)
+join-pairs-at-requires c κs = let p = c .before .before .before .before .before .before .before .before .before .before .pre in (p .0 .joining, p .0 .basis, p .1)
 
 same-length : tie.Need-same-length
 same-length c = search needs
@@ -44,7 +42,7 @@ same-length c = search needs
 returns : tie.Need-returns
 returns c =
     let s = c .before .before .before .before .before .before .before .before .before .before .before .before .before .before in
-    fresh-joined (basesIn (s .args .keys .now) (s .args .sizes .now) (s .args .exponents .now) (s .args .counts .now)) _ _ _ _ _ (s .pre .blocks) (s .pre .recent) (rw (latest-part (s .args .table .now) (s .args .since) (s .args .len)) at (c .before .before .join-fresh-at .ensures))
+    fresh-joined (basesIn (s .args .keys .now) (s .args .sizes .now) (s .args .exponents .now) (s .args .counts .now)) _ _ _ _ _ (s .pre .0 .blocks) (s .pre .0 .recent) (rw (latest-part (s .args .table .now) (s .args .since) (s .args .len)) at (c .before .before .join-fresh-at .ensures))
 
 same-length-2 : tie.Need-same-length-2
 same-length-2 c = search needs
