@@ -8,3 +8,4 @@ pub mod Joined
 pub mod Full
 pub mod Lowest
 pub mod Sums
+pub mod Ruled

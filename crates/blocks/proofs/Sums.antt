@@ -14,7 +14,7 @@ use Rattle.blocks.specs.Sums.{Apart, Seen}
 use Rattle.support.specs.Table.{keysIn, Grown}
 use Rattle.blocks.proofs.Growth.{Extends}
 
-zeros-at : (n p : ℕ) → _≡_ {A = ℕ} (getD (replicate n 0) p 0) 0
+pub zeros-at : (n p : ℕ) → _≡_ {A = ℕ} (getD (replicate n 0) p 0) 0
 zeros-at zero p = refl
 zeros-at (suc n) zero = refl
 zeros-at (suc n) (suc p) = zeros-at n p

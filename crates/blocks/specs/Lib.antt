@@ -4,3 +4,4 @@ pub mod Limits
 pub mod Filled
 pub mod Sums
 pub mod Numbered
+pub mod Ruled

@@ -9,6 +9,7 @@ ghost use Rattle.support.specs.Table.{keysIn, Stored};
 ghost use Rattle.blocks.specs.Limits.{ForSums, Joining};
 ghost use Rattle.blocks.specs.Filled.{Extending, Marked};
 ghost use Rattle.blocks.specs.Sums.{Apart, Seen, Added};
+ghost use Rattle.blocks.specs.Ruled.{Present, Ruled};
 ghost use Rattle.blocks.specs.Join.{linked, renamed, merged, joinPair, joinRow, join};
 ghost use Rattle.blocks.specs.Extend.{addTerms, addPair, addRow, extend, blockCount};
 
@@ -88,7 +89,8 @@ fn is_linked_sum(
     false
 }
 
-// The blocks of the indices i and k made one, where the pair is linked. A pair in one block needs no look at the support.
+// The blocks of the indices i and k made one, where the pair is linked. A pair in one block needs no look at the support,
+// and so one that its class rules out.
 fn join_pair(
     labels: &mut [u8],
     apart: &mut [u64],
@@ -97,15 +99,20 @@ fn join_pair(
     table: &[u64],
     index: &[u16],
     len: usize,
+    classes: &[u8; 64],
+    possible: &[u8; 256],
     i: usize,
     k: usize,
 )
-    requires { ⌜ Joining (now table) (now index) len (now basis) (now exponents) (now labels) × Apart (now exponents) (now apart) (keysIn len (now table)) × (i < length (now basis)) × (k < length (now basis)) ⌝ }
+    requires { ⌜ Joining (now table) (now index) len (now basis) (now exponents) (now labels) × Apart (now exponents) (now apart) (keysIn len (now table)) × Ruled (keysIn len (now table)) (now exponents) (now basis) (now classes) (now possible) × (i < length (now basis)) × (k < length (now basis)) ⌝ }
     ensures { λ _. ⌜ (now (labels .exit) ≡ joinPair (keysIn len (now (table .entry))) (now (exponents .entry)) (now (basis .entry)) i k (now (labels .entry))) × Apart (now (exponents .entry)) (now (apart .exit)) (keysIn len (now (table .entry))) ⌝ }
 {
     let a = labels[i];
     let b = labels[k];
     if a == b {
+        return;
+    }
+    if parity::is_impossible(classes, possible, i, k) {
         return;
     }
     if is_linked_sum(table, index, apart, len, exponents, basis[i] + basis[k]) {
@@ -122,14 +129,28 @@ fn join_row(
     table: &[u64],
     index: &[u16],
     len: usize,
+    classes: &[u8; 64],
+    possible: &[u8; 256],
     i: usize,
 )
-    requires { ⌜ Joining (now table) (now index) len (now basis) (now exponents) (now labels) × Apart (now exponents) (now apart) (keysIn len (now table)) × (i < length (now basis)) ⌝ }
+    requires { ⌜ Joining (now table) (now index) len (now basis) (now exponents) (now labels) × Apart (now exponents) (now apart) (keysIn len (now table)) × Ruled (keysIn len (now table)) (now exponents) (now basis) (now classes) (now possible) × (i < length (now basis)) ⌝ }
     ensures { λ _. ⌜ (now (labels .exit) ≡ joinRow (keysIn len (now (table .entry))) (now (exponents .entry)) (now (basis .entry)) i (now (labels .entry))) × Apart (now (exponents .entry)) (now (apart .exit)) (keysIn len (now (table .entry))) ⌝ }
 {
     let mut k = i + 1;
     while k < basis.len() {
-        join_pair(labels, apart, basis, exponents, table, index, len, i, k);
+        join_pair(
+            labels,
+            apart,
+            basis,
+            exponents,
+            table,
+            index,
+            len,
+            classes,
+            possible,
+            i,
+            k,
+        );
         k += 1;
     }
 }
@@ -143,18 +164,32 @@ fn join_rows(
     table: &[u64],
     index: &[u16],
     len: usize,
+    classes: &[u8; 64],
+    possible: &[u8; 256],
 )
-    requires { ⌜ Joining (now table) (now index) len (now basis) (now exponents) (now labels) × Apart (now exponents) (now apart) (keysIn len (now table)) ⌝ }
+    requires { ⌜ Joining (now table) (now index) len (now basis) (now exponents) (now labels) × Apart (now exponents) (now apart) (keysIn len (now table)) × Ruled (keysIn len (now table)) (now exponents) (now basis) (now classes) (now possible) ⌝ }
     ensures { λ _. ⌜ now (labels .exit) ≡ join (keysIn len (now (table .entry))) (now (exponents .entry)) (now (basis .entry)) (now (labels .entry)) ⌝ }
 {
     let mut i = 0;
     while i < basis.len() {
-        join_row(labels, apart, basis, exponents, table, index, len, i);
+        join_row(
+            labels,
+            apart,
+            basis,
+            exponents,
+            table,
+            index,
+            len,
+            classes,
+            possible,
+            i,
+        );
         i += 1;
     }
 }
 
-// The joining of a basis by its pairs. Where there are few exponents, it is not worth while to keep the sums that were seen.
+// The joining of a basis by its pairs. `present` has 1 for the class of each member of the support. Where there are few exponents,
+// it is not worth while to rule sums out by their classes, nor to keep those that were seen.
 pub fn join_pass(
     labels: &mut [u8],
     basis: &[u64],
@@ -162,16 +197,41 @@ pub fn join_pass(
     table: &[u64],
     index: &[u16],
     len: usize,
+    present: &[u8; 256],
 )
-    requires { ⌜ Joining (now table) (now index) len (now basis) (now exponents) (now labels) ⌝ }
+    requires { ⌜ Joining (now table) (now index) len (now basis) (now exponents) (now labels) × (length (now basis) ≤ 64) × Present (keysIn len (now table)) (now present) ⌝ }
     ensures { λ _. ⌜ now (labels .exit) ≡ join (keysIn len (now (table .entry))) (now (exponents .entry)) (now (basis .entry)) (now (labels .entry)) ⌝ }
 {
     if exponents.len() < 8 {
         let mut none = [0u64; 1];
-        join_rows(labels, &mut none, basis, exponents, table, index, len);
+        let classes = [0u8; 64];
+        let all = [1u8; 256];
+        join_rows(
+            labels,
+            &mut none,
+            basis,
+            exponents,
+            table,
+            index,
+            len,
+            &classes,
+            &all,
+        );
     } else {
         let mut apart = [0u64; 1024];
-        join_rows(labels, &mut apart, basis, exponents, table, index, len);
+        let classes = parity::classes(basis);
+        let possible = parity::possible(basis, exponents, present);
+        join_rows(
+            labels,
+            &mut apart,
+            basis,
+            exponents,
+            table,
+            index,
+            len,
+            &classes,
+            &possible,
+        );
     }
 }
 

@@ -7,7 +7,8 @@ ghost use lib.ListN.{length, getD};
 ghost use lib.Dec.{ltb, eqb};
 ghost use mathlib.Core.Bool.{true, false, cond};
 ghost use Rattle.counting.specs.Counting.{listed};
-ghost use Rattle.support.specs.Table.{keysIn, Stored};
+ghost use Rattle.support.specs.Table.{keysIn, Holds, Stored};
+ghost use Rattle.blocks.specs.Ruled.{Present};
 ghost use Rattle.rounds.specs.Rounds.{joinAll, extendAll, same, closing, blocksIn};
 ghost use Rattle.rounds.specs.Bytes.{blockBytes, part, basesIn, labelsIn};
 ghost use Rattle.rounds.specs.Arrays.{Sizes, joinAt, extendAt, JoiningAll, JoiningFresh, JoiningAt, JoiningSince, FreshAt, roundFrom, ExtendingAll, RoundAsks, Rounded, Starting, Settled};
@@ -42,6 +43,36 @@ pub fn start_labels(sizes: &[usize]) -> [u8; 576]
     labels
 }
 
+// Whether some basis has 8 exponents or more and joins by its pairs: else the classes of the support's members are of no use.
+fn is_worth_while(counts: &[usize], by_pairs: bool) -> bool
+    requires { ⌜ length (now counts) ≡ 9 ⌝ }
+{
+    if !by_pairs {
+        return false;
+    }
+    let mut j = 0;
+    while j < 9 {
+        if 8 <= counts[j] {
+            return true;
+        }
+        j += 1;
+    }
+    false
+}
+
+// The classes of the support's members; where they are of no use, all classes.
+fn note_members(table: &[u64], len: usize, counts: &[usize], by_pairs: bool) -> [u8; 256]
+    requires { ⌜ Holds (now table) len × (length (now counts) ≡ 9) ⌝ }
+    ensures { λ r. ⌜ Present (keysIn len (now (table .entry))) r ⌝ }
+{
+    if is_worth_while(counts, by_pairs) {
+        let members = &table[..len];
+        parity::note(members)
+    } else {
+        [1u8; 256]
+    }
+}
+
 // Basis j joins by its pairs.
 fn join_pairs_at(
     labels: &mut [u8],
@@ -52,9 +83,10 @@ fn join_pairs_at(
     table: &[u64],
     index: &[u16],
     len: usize,
+    present: &[u8; 256],
     j: usize,
 )
-    requires { ⌜ JoiningAll (now table) (now index) len (now keys) (now sizes) (now exponents) (now counts) (now labels) × (j < 9) ⌝ }
+    requires { ⌜ JoiningAll (now table) (now index) len (now keys) (now sizes) (now exponents) (now counts) (now labels) × (j < 9) × Present (keysIn len (now table)) (now present) ⌝ }
     ensures { λ _. ⌜ now (labels .exit) ≡ blockBytes (joinAt (basesIn (now (keys .entry)) (now (sizes .entry)) (now (exponents .entry)) (now (counts .entry))) (keysIn len (now (table .entry))) j (labelsIn (now (sizes .entry)) (now (labels .entry)))) ⌝ }
 {
     let a = 64 * j;
@@ -68,6 +100,7 @@ fn join_pairs_at(
         table,
         index,
         len,
+        present,
     );
 }
 
@@ -117,13 +150,25 @@ fn join_at(
     index: &[u16],
     since: usize,
     len: usize,
+    present: &[u8; 256],
     j: usize,
 )
-    requires { ⌜ JoiningAt (now table) (now index) since len (now keys) (now sizes) (now exponents) (now counts) (now labels) j × Lookup (part 64 (now sizes) (now keys)) (now heads) (now next) ⌝ }
+    requires { ⌜ JoiningAt (now table) (now index) since len (now keys) (now sizes) (now exponents) (now counts) (now labels) j × Lookup (part 64 (now sizes) (now keys)) (now heads) (now next) × Present (keysIn len (now table)) (now present) ⌝ }
     ensures { λ _. ⌜ now (labels .exit) ≡ blockBytes (joinAt (basesIn (now (keys .entry)) (now (sizes .entry)) (now (exponents .entry)) (now (counts .entry))) (keysIn len (now (table .entry))) j (labelsIn (now (sizes .entry)) (now (labels .entry)))) ⌝ }
 {
     if heads.len() < 18432 {
-        join_pairs_at(labels, keys, sizes, exponents, counts, table, index, len, j);
+        join_pairs_at(
+            labels,
+            keys,
+            sizes,
+            exponents,
+            counts,
+            table,
+            index,
+            len,
+            present,
+            j,
+        );
     } else {
         let fresh = &table[since..len];
         join_fresh_at(
@@ -157,6 +202,7 @@ fn join_all(
     requires { ⌜ JoiningSince (now table) (now index) since len (now keys) (now sizes) (now exponents) (now counts) (now labels) × Lookup (part 64 (now sizes) (now keys)) (now heads) (now next) ⌝ }
     ensures { λ _. ⌜ now (labels .exit) ≡ blockBytes (joinAll (basesIn (now (keys .entry)) (now (sizes .entry)) (now (exponents .entry)) (now (counts .entry))) (keysIn len (now (table .entry))) (labelsIn (now (sizes .entry)) (now (labels .entry)))) ⌝ }
 {
+    let present = note_members(table, len, counts, heads.len() < 18432);
     let mut j = 0;
     while j < 9 {
         join_at(
@@ -171,6 +217,7 @@ fn join_all(
             index,
             since,
             len,
+            &present,
             j,
         );
         j += 1;

@@ -1,7 +1,7 @@
--- `blocks::join_pass` meets its contract: no sum is known to be apart at first.
+-- `blocks::join_pass` meets its contract: no sum is known to be apart at first, and a class rules out what it may.
 use borrow.Author.Needs.{needs}
-use native.Mathlib.Omega.{arith}
 use Rattle.blocks.proofs.Sums.{apart-none}
+use Rattle.blocks.proofs.Ruled.{ruled-by, ruled-none}
 use Rattle.blocks.proofs.join_pass.Statement.{statement}
 use Rattle.blocks.proofs.join_pass.Tie as tie
 
@@ -9,13 +9,22 @@ slice-aggregate-join-rows : tie.Need-slice-aggregate-join-rows
 slice-aggregate-join-rows c = search needs
 
 join-rows-requires : tie.Need-join-rows-requires
-join-rows-requires c κs = (c .before .before .before .before .before .before .before .before .pre, apart-none _ _ 1)
+join-rows-requires c κs = let s = c .before .before .before .before .before .before .before .before .before .before in (s .pre .0, apart-none _ _ 1, ruled-none _ _ _ (s .pre .1) 64 255)
+
+classes-requires : tie.Need-classes-requires
+classes-requires c κs = search needs
+
+possible-requires : tie.Need-possible-requires
+possible-requires c κs = search needs
 
 slice-aggregate-join-rows-2 : tie.Need-slice-aggregate-join-rows-2
 slice-aggregate-join-rows-2 c = search needs
 
 join-rows-requires-2 : tie.Need-join-rows-requires-2
-join-rows-requires-2 c κs = (c .before .before .before .before .before .before .before .before .pre, apart-none _ _ 1024)
+join-rows-requires-2 c κs =
+    let q = c .before .before .before .before in
+    let s = q .before .before .before .before .before .before .before .before in
+    (s .pre .0, apart-none _ _ 1024, ruled-by _ _ _ (s .pre .1) _ _ _ (s .pre .2) (q .before .classes2 .ensures) (q .possible .ensures))
 
 same-length : tie.Need-same-length
 same-length c = search needs
@@ -35,6 +44,8 @@ join-pass-spec =
     (tie.spec
     slice-aggregate-join-rows
     join-rows-requires
+    classes-requires
+    possible-requires
     slice-aggregate-join-rows-2
     join-rows-requires-2
     same-length

@@ -13,10 +13,10 @@ use Rattle.blocks.proofs.join_row.Statement.{statement}
 use Rattle.blocks.proofs.join_row.Tie as tie
 
 abbrev Inv-loop : tie.InvT-loop
-Inv-loop labels₀ apart₀ basis exponents table index len i k₀ labels apart k = (k ≤ length basis) × (length labels ≡ length labels₀) × (length apart ≡ length apart₀) × (fromTo k (length basis) (joinPair (keysIn len table) exponents basis i) labels ≡ joinRow (keysIn len table) exponents basis i labels₀) × Apart exponents apart (keysIn len table)
+Inv-loop labels₀ apart₀ basis exponents table index len classes possible i k₀ labels apart k = (k ≤ length basis) × (length labels ≡ length labels₀) × (length apart ≡ length apart₀) × (fromTo k (length basis) (joinPair (keysIn len table) exponents basis i) labels ≡ joinRow (keysIn len table) exponents basis i labels₀) × Apart exponents apart (keysIn len table)
 
 abbrev μ-loop : tie.MeasureT-loop
-μ-loop labels₀ apart₀ basis exponents table index len i k₀ labels apart k = length basis - k
+μ-loop labels₀ apart₀ basis exponents table index len classes possible i k₀ labels apart k = length basis - k
 
 add-k : tie.Need-add-k Inv-loop μ-loop
 add-k c = search needs
@@ -36,6 +36,7 @@ join-pair-requires c κs =
       },
       l .loop .inv .4,
       s .pre .2,
+      s .pre .3,
       omega arith,
     )
 

@@ -13,10 +13,10 @@ use Rattle.blocks.proofs.join_rows.Statement.{statement}
 use Rattle.blocks.proofs.join_rows.Tie as tie
 
 abbrev Inv-loop : tie.InvT-loop
-Inv-loop labels₀ apart₀ basis exponents table index len i₀ labels apart i = (i ≤ length basis) × (length labels ≡ length labels₀) × (length apart ≡ length apart₀) × (fromTo i (length basis) (joinRow (keysIn len table) exponents basis) labels ≡ join (keysIn len table) exponents basis labels₀) × Apart exponents apart (keysIn len table)
+Inv-loop labels₀ apart₀ basis exponents table index len classes possible i₀ labels apart i = (i ≤ length basis) × (length labels ≡ length labels₀) × (length apart ≡ length apart₀) × (fromTo i (length basis) (joinRow (keysIn len table) exponents basis) labels ≡ join (keysIn len table) exponents basis labels₀) × Apart exponents apart (keysIn len table)
 
 abbrev μ-loop : tie.MeasureT-loop
-μ-loop labels₀ apart₀ basis exponents table index len i₀ labels apart i = length basis - i
+μ-loop labels₀ apart₀ basis exponents table index len classes possible i₀ labels apart i = length basis - i
 
 loop-holds : tie.Need-loop-holds Inv-loop μ-loop
 unfolding join
@@ -33,6 +33,7 @@ join-row-requires c κs =
         basis = record { keys = p .basis .keys; exponents = p .basis .exponents; labels = l .loop .inv .1 ∙ p .basis .labels };
       },
       l .loop .inv .4,
+      s .pre .2,
       omega arith,
     )
 

@@ -12,22 +12,25 @@ use Rattle.rounds.proofs.join_all.Statement.{statement}
 use Rattle.rounds.proofs.join_all.Tie as tie
 
 abbrev Inv-loop : tie.InvT-loop
-Inv-loop labels₀ keys sizes exponents counts heads next table index since len j₀ labels j = (j ≤ 9) × (length labels ≡ length labels₀) × (labels ≡ blockBytes (joinedTo (basesIn keys sizes exponents counts) (keysIn len table) (labelsIn sizes labels₀) j))
+Inv-loop labels₀ keys sizes exponents counts heads next table index since len present j₀ labels j = (j ≤ 9) × (length labels ≡ length labels₀) × (labels ≡ blockBytes (joinedTo (basesIn keys sizes exponents counts) (keysIn len table) (labelsIn sizes labels₀) j))
 
 abbrev μ-loop : tie.MeasureT-loop
-μ-loop labels₀ keys sizes exponents counts heads next table index since len j₀ labels j = 9 - j
+μ-loop labels₀ keys sizes exponents counts heads next table index since len present j₀ labels j = 9 - j
+
+note-members-requires : tie.Need-note-members-requires Inv-loop μ-loop
+note-members-requires c κs = let p = c .before .before .before .before .before .before .before .before .before .pre .0 .joining in (p .support, p .arrays .counts-nine)
 
 loop-holds : tie.Need-loop-holds Inv-loop μ-loop
-loop-holds c = let p = c .before .before .before .before .before .before .before .before .before .pre .0 .joining in (omega arith, refl, joining-start _ _ _ _ _ (p .arrays .sized) (p .labels) refl)
+loop-holds c = let p = c .before .before .before .before .before .before .before .before .before .before .pre .0 .joining in (omega arith, refl, joining-start _ _ _ _ _ (p .arrays .sized) (p .labels) refl)
 
 join-at-requires : tie.Need-join-at-requires Inv-loop μ-loop
 join-at-requires c κs =
-    let l = c .before .before in
-    let w = c .before .before .before .before .before .before .before .before .before .before .before .before .pre in
+    let l = c .before .before .before in
+    let w = c .before .before .before .before .before .before .before .before .before .before .before .before .before .before .pre in
     let p = w .0 in
     let z = p .joining .arrays .sized in
     let d = labels-shaped _ z _ (labelled-long (p .joining .labels)) in
-    let b = c .before .loop-test .taken in
+    let b = c .before .before .loop-test .taken in
     let e = joining-here _ _ _ _ z d (l .loop .j) _ (l .loop .inv .2) b in (
       record {
         joining = record {
@@ -42,6 +45,7 @@ join-at-requires c κs =
         recent = rw e (p .recent .at (l .loop .j) b);
       },
       w .1,
+      l .before .note-members .ensures,
     )
 
 add-j : tie.Need-add-j Inv-loop μ-loop
@@ -52,8 +56,8 @@ loop-less c = search needs
 
 loop-again : tie.Need-loop-again Inv-loop μ-loop
 loop-again c =
-    let l = c .before .before .before .before .before in
-    let p = c .before .before .before .before .before .before .before .before .before .before .before .before .before .before .before .pre .0 .joining in
+    let l = c .before .before .before .before .before .before in
+    let p = c .before .before .before .before .before .before .before .before .before .before .before .before .before .before .before .before .before .pre .0 .joining in
     let z = p .arrays .sized in
     let m = c .before .before .join-at in
     (omega arith, m .kept .0 ∙ l .loop .inv .1, joining-turn _ _ _ _ z (labels-shaped _ z _ (labelled-long (p .labels))) (l .loop .j) _ (l .loop .inv .2) _ (omega arith) (m .ensures))
@@ -64,7 +68,7 @@ same-length c = c .before .loop .inv .1
 returns : tie.Need-returns Inv-loop μ-loop
 returns c =
     let l = c .before in
-    let p = c .before .before .before .before .before .before .before .before .before .before .before .pre .0 .joining in
+    let p = c .before .before .before .before .before .before .before .before .before .before .before .before .pre .0 .joining in
     let z = p .arrays .sized in
     joining-end _ _ _ _ z (labels-shaped _ z _ (labelled-long (p .labels))) (l .loop .j) _ (l .loop .inv .2) (omega arith)
 
@@ -74,6 +78,7 @@ join-all-spec =
     (tie.spec
     Inv-loop
     μ-loop
+    note-members-requires
     loop-holds
     join-at-requires
     add-j

@@ -8,7 +8,7 @@ use Rattle.rounds.proofs.join_at.Statement.{statement}
 use Rattle.rounds.proofs.join_at.Tie as tie
 
 join-pairs-at-requires : tie.Need-join-pairs-at-requires
-join-pairs-at-requires c κs = let p = c .before .before .before .before .before .before .before .before .before .before .before .pre .0 in (p .joining, p .basis)
+join-pairs-at-requires c κs = let p = c .before .before .before .before .before .before .before .before .before .before .before .pre in (p .0 .joining, p .0 .basis, p .2)
 
 mul-fresh : tie.Need-mul-fresh
 mul-fresh c = search needs

@@ -74,15 +74,19 @@ join-pass-requires c κs =
     let n = getD (s .args .sizes .now) (s .args .j) 0 in
     let b = 32 * s .args .j in
     let m = getD (s .args .counts .now) (s .args .j) 0 in
-    record {
-      support = s .pre .0 .support;
-      index = s .pre .0 .index;
-      basis = record {
-        keys = taken-bounded _ a (a + n - a) (s .args .keys .now) (p .keys-low);
-        exponents = taken-bounded _ b (b + m - b) (s .args .exponents .now) (p .exponents-low);
-        labels = taken-long a n (s .args .labels .now) (omega (arith, labelled-long (s .pre .0 .labels))) ∙ sym (taken-long a n (s .args .keys .now) (omega (arith, p .keys-long)));
-      };
-    }
+    let k = taken-long a n (s .args .keys .now) (omega (arith, p .keys-long)) in (
+      record {
+        support = s .pre .0 .support;
+        index = s .pre .0 .index;
+        basis = record {
+          keys = taken-bounded _ a (a + n - a) (s .args .keys .now) (p .keys-low);
+          exponents = taken-bounded _ b (b + m - b) (s .args .exponents .now) (p .exponents-low);
+          labels = taken-long a n (s .args .labels .now) (omega (arith, labelled-long (s .pre .0 .labels))) ∙ sym k;
+        };
+      },
+      omega arith,
+      s .pre .2,
+    )
 
 same-length : tie.Need-same-length
 same-length c = search needs

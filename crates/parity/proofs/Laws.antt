@@ -1,0 +1,115 @@
+-- Laws of the classes of keys: of three small keys t, b and b', those of t and t + b + b' differ where those of b and b' do.
+use mathlib.Core.Path.{_≡_, refl, sym, ap, ap₂, _∙_}
+use mathlib.Core.Bool.{true}
+use Prim.Native.Nat.{ℕ, zero, suc, _+_, _-_, _*_, _/_, _%_, _^_, _≤_, _<_}
+use native.Mathlib.Nat.{pow-suc}
+use native.Mathlib.Omega.{arith}
+use lib.Arith.{digits-div, digits-mod}
+use lib.Bits.{bitAnd, bitXor, differ, xor-step, xor-lt, and-shr, and-mod, and-mask}
+use lib.Dec.{lit<}
+use lib.Pow.{pow-mono}
+use borrow.Author.Tests.{eqb-true}
+use Rattle.parity.specs.Parity.{parityFrom, class, small}
+
+-- ---- small keys
+
+-- the two high bits of each of the first k exponents
+abbrev mask : ℕ → ℕ
+mask zero = 0
+mask (suc k) = mask k * 256 + 192
+
+module _ (k n : ℕ) (z : bitAnd n (mask (suc k)) ≡ 0) where
+  small-rest : bitAnd (n / 256) (mask k) ≡ 0
+  small-rest = ap (bitAnd (n / 256)) (sym (digits-div (mask k) (lit< tt))) ∙ sym (and-shr n (mask (suc k)) 8) ∙ ap (λ (x : ℕ). x / 256) z
+
+  small-first : n % 256 < 64
+  small-first =
+      let f : bitAnd (n % 256) 192 ≡ 0 = ap (bitAnd (n % 256)) (sym (digits-mod (mask k) (lit< tt))) ∙ sym (and-mod n (mask (suc k)) 8) ∙ ap (λ (x : ℕ). x % 256) z in
+      let g : n % 256 / 64 % 4 ≡ 0 = sym (and-mask (n % 256 / 64) 2) ∙ sym (and-shr (n % 256) 192 6) ∙ ap (λ (x : ℕ). x / 64) f in
+      omega arith
+
+-- ---- one more parity
+
+xor-more : (c d x y : ℕ) → x < 2 → y < 2 → bitXor (c * 2 + x) (d * 2 + y) ≡ bitXor c d * 2 + differ x y
+xor-more c d x y h i =
+    xor-step (c * 2 + x) (d * 2 + y)
+    ∙ ap₂ (λ (u v : ℕ). u * 2 + v) (ap₂ bitXor (digits-div c h) (digits-div d i)) (ap₂ differ (digits-mod c h) (digits-mod d i))
+
+by-bit : (P : ℕ → Type 0) (x : ℕ) → x < 2 → P 0 → P 1 → P x
+by-bit P zero h p q = p
+by-bit P (suc zero) h p q = q
+by-bit P (suc (suc x)) h p q = absurd (omega arith)
+
+low : (n : ℕ) → n % 2 < 2
+low n = omega arith
+
+sum-mod : (a b : ℕ) → (a + b) % 2 ≡ (a % 2 + b % 2) % 2
+sum-mod a b = omega arith
+
+-- the parity of a sum tells where two parities differ
+differ-both : (x y : ℕ) → x < 2 → y < 2 → (x + y) % 2 ≡ differ x y
+differ-both x y h i =
+    by-bit (λ x. (x + y) % 2 ≡ differ x y) x h
+    (by-bit (λ y. (0 + y) % 2 ≡ differ 0 y) y i refl refl)
+    (by-bit (λ y. (1 + y) % 2 ≡ differ 1 y) y i refl refl)
+
+differ-twice : (x y : ℕ) → x < 2 → y < 2 → differ x ((x + y) % 2) ≡ y
+differ-twice x y h i =
+    by-bit (λ x. differ x ((x + y) % 2) ≡ y) x h
+    (by-bit (λ y. differ 0 ((0 + y) % 2) ≡ y) y i refl refl)
+    (by-bit (λ y. differ 1 ((1 + y) % 2) ≡ y) y i refl refl)
+
+sum-low : (t b b′ : ℕ) → differ (t % 2) ((t + (b + b′)) % 2) ≡ differ (b % 2) (b′ % 2)
+sum-low t b b′ =
+    ap (differ (t % 2)) (sum-mod t (b + b′)) ∙ differ-twice (t % 2) ((b + b′) % 2) (low t) (low (b + b′))
+    ∙ sum-mod b b′ ∙ differ-both (b % 2) (b′ % 2) (low b) (low b′)
+
+from-sum : (k t b b′ c d e f : ℕ) → bitAnd t (mask k) ≡ 0 → bitAnd b (mask k) ≡ 0 → bitAnd b′ (mask k) ≡ 0 → bitXor c d ≡ bitXor e f
+    → bitXor (parityFrom k c t) (parityFrom k d (t + (b + b′))) ≡ bitXor (parityFrom k e b) (parityFrom k f b′)
+unfolding parityFrom
+from-sum zero t b b′ c d e f st sb sb′ h = h
+from-sum (suc k) t b b′ c d e f st sb sb′ h =
+    let lt = small-first k t st in
+    let lb = small-first k b sb in
+    let lb′ = small-first k b′ sb′ in
+    let q : (t + (b + b′)) / 256 ≡ t / 256 + (b / 256 + b′ / 256) = omega arith in
+    let s = t + (b + b′) in
+    rw q
+    (from-sum k (t / 256) (b / 256) (b′ / 256) (c * 2 + t % 2) (d * 2 + s % 2) (e * 2 + b % 2) (f * 2 + b′ % 2)
+    (small-rest k t st) (small-rest k b sb) (small-rest k b′ sb′)
+    (xor-more c d (t % 2) (s % 2) (low t) (low s)
+    ∙ ap₂ (λ (u v : ℕ). u * 2 + v) h (sum-low t b b′)
+    ∙ sym (xor-more e f (b % 2) (b′ % 2) (low b) (low b′))))
+
+small-mask : (n : ℕ) → small n ≡ true → bitAnd n (mask 8) ≡ 0
+unfolding small
+small-mask n h = eqb-true _ _ h
+
+pub class-sum : (t b b′ : ℕ) → small t ≡ true → small b ≡ true → small b′ ≡ true → bitXor (class t) (class (t + (b + b′))) ≡ bitXor (class b) (class b′)
+unfolding class
+class-sum t b b′ st sb sb′ = from-sum 8 t b b′ 0 0 0 0 (small-mask t st) (small-mask b sb) (small-mask b′ sb′) refl
+
+-- ---- a class is below 256
+
+from-low : (k i c n : ℕ) → c < 2 ^ i → parityFrom k c n < 2 ^ (k + i)
+unfolding parityFrom
+from-low zero i c n h = let e : 0 + i ≡ i = omega arith in rw e h
+from-low (suc k) i c n h =
+    let e : suc k + i ≡ k + suc i = omega arith in
+    rw e (from-low k (suc i) (c * 2 + n % 2) (n / 256) (omega (arith, pow-suc 2 i)))
+
+pub class-low : (n : ℕ) → class n < 256
+unfolding class
+class-low n = from-low 8 0 0 n (lit< tt)
+
+pub differ-low : (a b : ℕ) → a < 256 → b < 256 → bitXor a b < 256
+differ-low a b = xor-lt 8 a b
+
+-- ---- the loop of class_of
+
+pub class-more : (i c n : ℕ) → i < 8 → parityFrom (8 - i) c n ≡ parityFrom (8 - (i + 1)) (c * 2 + n % 2) (n / 256)
+unfolding parityFrom
+class-more i c n h = let e : 8 - i ≡ suc (8 - (i + 1)) = omega arith in rw e refl
+
+pub pow-few : (i : ℕ) → i < 8 → 2 ^ i ≤ 128
+pow-few i h = pow-mono {i = i} {j = 7} (omega arith)
