@@ -1,5 +1,7 @@
 //! The proved calls as C functions, the records that they answer, and what is lent to them.
 
+use std::io::Read;
+
 extern "C" {
     fn zamiachisel_blocks(
         problem: *const u8,
@@ -70,10 +72,14 @@ impl Lent {
     }
 }
 
-/// The records of a byte run.
-pub fn records(bytes: &[u8]) -> Vec<Record> {
+/// The records of the standard input.
+pub fn records() -> Vec<Record> {
+    let mut bytes = Vec::new();
+    std::io::stdin()
+        .read_to_end(&mut bytes)
+        .expect("the standard input is read");
     let mut found = Vec::new();
-    let mut rest = bytes;
+    let mut rest = bytes.as_slice();
     while rest.len() >= 13 {
         let kind = rest[0];
         let lengths: Vec<usize> = (0..3)
@@ -90,55 +96,21 @@ pub fn records(bytes: &[u8]) -> Vec<Record> {
     found
 }
 
+/// Calls a C function with slices that are read and with slices that are lent.
+macro_rules! call {
+    ($function:ident, $($read:expr),+; $($lent:expr),+) => {
+        // The slices are whole and do not overlap, which is all that a call asks.
+        unsafe { $function($($read.as_ptr(), $read.len(),)+ $($lent.as_mut_ptr(), $lent.len()),+) }
+    };
+}
+
 /// Answers a record: the number of the refusal, or 0.
 pub fn answer(record: &Record, lent: &mut Lent) -> u64 {
     let [problem, first, second] = &record.runs;
     match record.kind {
-        // The slices are whole and do not overlap, which is all that a call asks.
-        b'b' => unsafe {
-            zamiachisel_blocks(
-                problem.as_ptr(),
-                problem.len(),
-                lent.out.as_mut_ptr(),
-                lent.out.len(),
-                lent.keys.as_mut_ptr(),
-                lent.keys.len(),
-                lent.high.as_mut_ptr(),
-                lent.high.len(),
-                lent.low.as_mut_ptr(),
-                lent.low.len(),
-            )
-        },
-        b'c' => unsafe {
-            zamiachisel_check(
-                problem.as_ptr(),
-                problem.len(),
-                first.as_ptr(),
-                first.len(),
-                lent.keys.as_mut_ptr(),
-                lent.keys.len(),
-                lent.high.as_mut_ptr(),
-                lent.high.len(),
-                lent.low.as_mut_ptr(),
-                lent.low.len(),
-            )
-        },
-        b'p' => unsafe {
-            zamiachisel_pair(
-                problem.as_ptr(),
-                problem.len(),
-                first.as_ptr(),
-                first.len(),
-                second.as_ptr(),
-                second.len(),
-                lent.keys.as_mut_ptr(),
-                lent.keys.len(),
-                lent.high.as_mut_ptr(),
-                lent.high.len(),
-                lent.low.as_mut_ptr(),
-                lent.low.len(),
-            )
-        },
+        b'b' => call!(zamiachisel_blocks, problem; lent.out, lent.keys, lent.high, lent.low),
+        b'c' => call!(zamiachisel_check, problem, first; lent.keys, lent.high, lent.low),
+        b'p' => call!(zamiachisel_pair, problem, first, second; lent.keys, lent.high, lent.low),
         _ => 0,
     }
 }

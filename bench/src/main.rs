@@ -1,8 +1,6 @@
 //! Runs the proved calls from outside: `bench numbers`, `bench time` and `bench stack` on the records of the standard input,
 //! `bench short` with tables that are too short.
 
-use std::io::Read;
-
 mod calls;
 mod short;
 mod stack;
@@ -25,9 +23,7 @@ fn main() {
 /// Prints the number of each record's refusal, or 0. What is lent is allocated anew for each, no longer than asked, so that a
 /// memory checker sees any step outside.
 fn numbers() {
-    let mut bytes = Vec::new();
-    std::io::stdin().read_to_end(&mut bytes).expect("the standard input is read");
-    for record in calls::records(&bytes) {
+    for record in calls::records() {
         println!("{}", calls::answer(&record, &mut calls::Lent::new()));
     }
 }

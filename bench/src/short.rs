@@ -24,7 +24,11 @@ const ROWS: [&[u8]; 6] = [
 ];
 
 fn case_f(kind: u8) -> Record {
-    let low = [&[0x10, 0, 2, 0, 255, 255, 255, 255, 1, 0], &ROWS.concat()[..]].concat();
+    let low = [
+        &[0x10, 0, 2, 0, 255, 255, 255, 255, 1, 0],
+        &ROWS.concat()[..],
+    ]
+    .concat();
     let mut high = [&[0x10, 1, 2, 0, 1, 0, 0, 0, 1, 0], &ROWS.concat()[..]].concat();
     high[20..22].copy_from_slice(&[255, 255]);
     Record {
@@ -47,12 +51,22 @@ fn filled() -> Lent {
 fn full(kind: u8) {
     let (before, mut lent) = (filled(), filled());
     assert_eq!(answer(&case_f(kind), &mut lent), 0);
-    assert!(lent.keys[..2_048].iter().all(|&key| key == 0) && lent.keys[2_048..] == before.keys[2_048..]);
-    assert!(lent.high[..2_048].iter().all(|&high| high == 0) && lent.high[2_048..] == before.high[2_048..]);
-    assert!(lent.low[..2_048].iter().all(|&low| low == 0) && lent.low[2_048..] == before.low[2_048..]);
+    assert!(
+        lent.keys[..2_048].iter().all(|&key| key == 0)
+            && lent.keys[2_048..] == before.keys[2_048..]
+    );
+    assert!(
+        lent.high[..2_048].iter().all(|&high| high == 0)
+            && lent.high[2_048..] == before.high[2_048..]
+    );
+    assert!(
+        lent.low[..2_048].iter().all(|&low| low == 0) && lent.low[2_048..] == before.low[2_048..]
+    );
     let written = if kind == b'b' { 576 } else { 0 };
     assert_eq!(lent.out[written..], before.out[written..]);
-    assert!(lent.out[..written].iter().all(|&block| [0, 255].contains(&block)));
+    assert!(lent.out[..written]
+        .iter()
+        .all(|&block| [0, 255].contains(&block)));
 }
 
 /// One table shortened: refusal 1, and nothing that was lent is written.

@@ -1,7 +1,5 @@
 //! How much stack a call uses: the stack of a thread is painted before each call, and the deepest byte that lost its paint tells.
 
-use std::io::Read;
-
 use crate::calls::{answer, records, Lent, Record};
 
 const PAINT: u8 = 0xA5;
@@ -49,9 +47,8 @@ fn run_all(records: &[Record]) {
 
 /// Answers the records of the standard input, each with a painted stack, and prints the most bytes that a call of each kind used.
 pub fn run() {
-    let mut bytes = Vec::new();
-    std::io::stdin().read_to_end(&mut bytes).expect("the standard input is read");
+    let records = records();
     let thread = std::thread::Builder::new().stack_size(2 * DEPTH);
-    let thread = thread.spawn(move || run_all(&records(&bytes)));
+    let thread = thread.spawn(move || run_all(&records));
     thread.expect("a thread begins").join().expect("it ends");
 }

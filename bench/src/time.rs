@@ -1,6 +1,5 @@
 //! The time for one record: the work tables are lent once and come back cleared from every call.
 
-use std::io::Read;
 use std::time::{Duration, Instant};
 
 use crate::calls::{answer, records, Lent};
@@ -8,9 +7,7 @@ use crate::calls::{answer, records, Lent};
 /// Answers the records of the standard input repeatedly for about a second and prints the nanoseconds for one record, by the
 /// fastest turn.
 pub fn run() {
-    let mut bytes = Vec::new();
-    std::io::stdin().read_to_end(&mut bytes).expect("the standard input is read");
-    let records = records(&bytes);
+    let records = records();
     let mut lent = Lent::new();
     let mut best = f64::INFINITY;
     let mut refused = 0;

@@ -1,19 +1,14 @@
 //! Refusals 2 to 6 and 8 of a certificate, as the first and as the second one.
 
-use super::{bytes, calls, case_f, written, Case, Line};
+use super::{bytes, case, case_f, written, Case, Line, BEFORE, NEVER, ONLY, THREE, TWO};
 use crate::generate::draft::{bound, certificate_end, row};
 use crate::refusal::{Refusal, FIRST, SECOND};
 
-const TWO: &str = "stream ends in a command or without its end, or goes on after it";
-const THREE: &str = "command unknown in this stream or misplaced";
-const ONLY: &str = "First, and only first.";
-const BEFORE: &str = "A 04 before any 03, and a 12 before any row, is misplaced.";
 const ORDER: &str = "each checked 3, 2, 4, 5, 6; .. the first certificate by commands likewise; .. the second certificate the same";
 const BOUND: &str = "side 0 lower, 1 upper; D and q at least 1";
 const ROW: &str = "begins a row on basis j, 0 or a constraint of the problem, with weight w at least 1; at most 128 rows";
 const ENTRY: &str = "factor l on basis index i, less than the basis's length";
 const RISE: &str = "Indices rise within a row.";
-const NEVER: &str = "Coefficients and factors are never 0.";
 const EIGHT: &str = "All entries of a row are in one block.";
 const PLACE: &str = "first entry outside the row's first block";
 
@@ -111,15 +106,7 @@ fn full_rows(stream: u8) -> Vec<Case> {
     let made = |number, name, what, words, last: &[Vec<u8>]| {
         let mut runs = case_f();
         runs[usize::from(stream)] = [full.concat(), last.concat()].concat();
-        Case {
-            name,
-            what,
-            words,
-            text: None,
-            runs,
-            calls: calls(stream),
-            expected: Refusal::new(number, stream, place),
-        }
+        case(Refusal::new(number, stream, place), name, what, words, runs)
     };
     let (light, far, cut) = (row(0, 0), row(2, 1), vec![0x11, 0]);
     let end = certificate_end;

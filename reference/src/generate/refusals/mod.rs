@@ -14,6 +14,13 @@ use crate::records::{Record, BLOCKS, CHECK};
 use crate::refusal::Refusal;
 pub use table::print;
 
+/// Words of document 01 on both kinds of stream.
+const TWO: &str = "stream ends in a command or without its end, or goes on after it";
+const THREE: &str = "command unknown in this stream or misplaced";
+const ONLY: &str = "First, and only first.";
+const BEFORE: &str = "A 04 before any 03, and a 12 before any row, is misplaced.";
+const NEVER: &str = "Coefficients and factors are never 0.";
+
 /// One way to be refused.
 #[derive(Clone)]
 pub struct Case {
@@ -94,18 +101,33 @@ fn case_f() -> [Vec<u8>; 3] {
     [samples::f().bytes(), lower, upper]
 }
 
-/// A case for a line with the stream written out, put in the place `stream` of these runs.
-fn written(line: &Line, stream: u8, mut runs: [Vec<u8>; 3]) -> Case {
-    let &(number, place, name, what, words, text) = line;
-    runs[usize::from(stream)] = bytes(text);
+/// A case with these streams, which every call meets that reads the refused one.
+fn case(
+    expected: Refusal,
+    name: &'static str,
+    what: &'static str,
+    words: &'static str,
+    runs: [Vec<u8>; 3],
+) -> Case {
     Case {
         name,
         what,
         words,
-        text: Some(text),
+        text: None,
         runs,
-        calls: calls(stream),
-        expected: Refusal::new(number, stream, place),
+        calls: calls(expected.stream),
+        expected,
+    }
+}
+
+/// A case for a line with the stream written out, put in the place `stream` of these runs.
+fn written(line: &Line, stream: u8, mut runs: [Vec<u8>; 3]) -> Case {
+    let &(number, place, name, what, words, text) = line;
+    runs[usize::from(stream)] = bytes(text);
+    let expected = Refusal::new(number, stream, place);
+    Case {
+        text: Some(text),
+        ..case(expected, name, what, words, runs)
     }
 }
 

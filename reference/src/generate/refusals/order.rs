@@ -1,6 +1,6 @@
 //! Refusal 10, and which refusal comes first where several streams or rules are at fault.
 
-use super::{bytes, calls, case_f, Case};
+use super::{bytes, case, case_f, Case};
 use crate::generate::samples;
 use crate::records::PAIR;
 use crate::refusal::{Refusal, SIDES};
@@ -38,44 +38,36 @@ pub fn cases() -> Vec<Case> {
     let false_upper = bytes(FALSE_UPPER);
     #[rustfmt::skip]
     let all = vec![
-        case((2, 0, 0), "all empty", "three empty streams", ORDER, [none(), none(), none()]),
-        case((7, 0, 0), "7 before a certificate", "case H with x1, and empty certificates", ORDER, [h, none(), none()]),
-        case((2, 1, 0), "both certificates empty", "case F with two empty certificates", ORDER, [f.clone(), none(), none()]),
-        case((5, 1, 30), "5 before 8", "a row over two blocks, and a later row that repeats an index", ORDER, [zero.clone(), repeated.clone(), none()]),
-        case((5, 2, 30), "5 before 8", "the same in the second certificate", ORDER, [zero.clone(), upper.clone(), repeated]),
-        case((8, 1, 18), "8 before 9", "a row over two blocks, and p = 1 for a zero objective", ORDER, [zero.clone(), false_too.clone(), none()]),
-        case((8, 2, 18), "8 before 9", "the same in the second certificate", ORDER, [zero.clone(), upper.clone(), false_too]),
-        case((8, 1, 18), "8 before the second", "a row over two blocks, and an empty second certificate", ORDER, [zero.clone(), split.clone(), none()]),
-        case((9, 1, 0), "9 before the second", "case B, and an empty second certificate", ORDER, [a, b, none()]),
-        case((2, 2, 0), "2 before 10", "the upper certificate of case F first, and an empty second one", ORDER, [f.clone(), high.clone(), none()]),
-        case((8, 2, 18), "8 before 10", "an upper certificate first, and a second one with a row over two blocks", ORDER, [zero, upper, split]),
-        case((9, 2, 0), "9 before 10", "the upper certificate of case F first, and a second one that is false", ORDER, [f.clone(), high.clone(), false_upper]),
-        case((10, 1, 0), "two upper ones", "the upper certificate of case F twice", TEN, [f.clone(), high.clone(), high.clone()]),
-        case((10, 2, 0), "two lower ones", "the lower certificate of case F twice", TEN, [f.clone(), low.clone(), low.clone()]),
-        case((10, 1, 0), "exchanged", "the certificates of case F exchanged", WRONG, [f, high, low]),
+        met((2, 0, 0), "all empty", "three empty streams", ORDER, [none(), none(), none()]),
+        met((7, 0, 0), "7 before a certificate", "case H with x1, and empty certificates", ORDER, [h, none(), none()]),
+        met((2, 1, 0), "both certificates empty", "case F with two empty certificates", ORDER, [f.clone(), none(), none()]),
+        met((5, 1, 30), "5 before 8", "a row over two blocks, and a later row that repeats an index", ORDER, [zero.clone(), repeated.clone(), none()]),
+        met((5, 2, 30), "5 before 8", "the same in the second certificate", ORDER, [zero.clone(), upper.clone(), repeated]),
+        met((8, 1, 18), "8 before 9", "a row over two blocks, and p = 1 for a zero objective", ORDER, [zero.clone(), false_too.clone(), none()]),
+        met((8, 2, 18), "8 before 9", "the same in the second certificate", ORDER, [zero.clone(), upper.clone(), false_too]),
+        met((8, 1, 18), "8 before the second", "a row over two blocks, and an empty second certificate", ORDER, [zero.clone(), split.clone(), none()]),
+        met((9, 1, 0), "9 before the second", "case B, and an empty second certificate", ORDER, [a, b, none()]),
+        met((2, 2, 0), "2 before 10", "the upper certificate of case F first, and an empty second one", ORDER, [f.clone(), high.clone(), none()]),
+        met((8, 2, 18), "8 before 10", "an upper certificate first, and a second one with a row over two blocks", ORDER, [zero, upper, split]),
+        met((9, 2, 0), "9 before 10", "the upper certificate of case F first, and a second one that is false", ORDER, [f.clone(), high.clone(), false_upper]),
+        met((10, 1, 0), "two upper ones", "the upper certificate of case F twice", TEN, [f.clone(), high.clone(), high.clone()]),
+        met((10, 2, 0), "two lower ones", "the lower certificate of case F twice", TEN, [f.clone(), low.clone(), low.clone()]),
+        met((10, 1, 0), "exchanged", "the certificates of case F exchanged", WRONG, [f, high, low]),
     ];
     all
 }
 
-fn case(
+/// Refusal 10 is the pair's alone.
+fn met(
     (number, stream, place): (u8, u8, usize),
     name: &'static str,
     what: &'static str,
     words: &'static str,
     runs: [Vec<u8>; 3],
 ) -> Case {
-    let calls: &'static [u8] = if number == SIDES {
-        &[PAIR]
-    } else {
-        calls(stream)
-    };
-    Case {
-        name,
-        what,
-        words,
-        text: None,
-        runs,
-        calls,
-        expected: Refusal::new(number, stream, place),
+    let mut made = case(Refusal::new(number, stream, place), name, what, words, runs);
+    if number == SIDES {
+        made.calls = &[PAIR];
     }
+    made
 }

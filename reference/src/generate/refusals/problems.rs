@@ -1,6 +1,6 @@
 //! Refusals of the problem: 2 to 7.
 
-use super::{calls, case_f, written, Case, Line};
+use super::{case, case_f, written, Case, Line, BEFORE, NEVER, ONLY, THREE, TWO};
 use crate::generate::draft::*;
 use crate::generate::rng::Rng;
 use crate::generate::samples;
@@ -8,10 +8,6 @@ use crate::generate::support::like_h;
 use crate::joining::SUPPORT_MEMBERS;
 use crate::refusal::{Refusal, PROBLEM};
 
-const TWO: &str = "stream ends in a command or without its end, or goes on after it";
-const THREE: &str = "command unknown in this stream or misplaced";
-const FIRST: &str = "First, and only first.";
-const BEFORE: &str = "A 04 before any 03, and a 12 before any row, is misplaced.";
 const ORDER: &str = "each checked 3, 2, 4, 5, 6";
 const VARIABLES: &str = "number of variables, 1 to 8";
 const OBJECTIVE: &str = "objective term, total degree at most 32, at most 256";
@@ -19,7 +15,6 @@ const CONSTRAINT: &str = "begins the next constraint, at most 8";
 const TERM: &str = "term of the constraint begun last, degree at most 16, at most 32 each";
 const MEMBER: &str = "next monomial of basis j, degree at most 8, at most 64 each";
 const BEGUN: &str = "j is 0 or a constraint already begun";
-const NEVER: &str = "Coefficients and factors are never 0.";
 const ABOVE: &str = "Exponents of variables above n are 0.";
 const TWICE: &str = "A polynomial or a basis has no monomial twice.";
 const SEVEN: &str = "The closed S with the zero exponent added may have at most 2,048 members.";
@@ -42,12 +37,12 @@ const LINES: &[Line] = &[
     (3, 2, "unknown later", "00, which is no command, after 01", THREE, "01 01 | 00 | 06"),
     (3, 2, "unknown, 255", "FF as the last byte", THREE, "01 01 | FF"),
     (3, 2, "of a certificate", "10, a command of certificates", THREE, "01 01 | 10 00 01 00 00 00 00 00 01 00 | 06"),
-    (3, 0, "02 first", "02 as the first command", FIRST, "02 0⁸ 01 00 00 00 | 06"),
-    (3, 0, "03 first", "03 as the first command", FIRST, "03 | 06"),
-    (3, 0, "04 first", "04 as the first command", FIRST, "04 0⁸ 01 00 | 06"),
-    (3, 0, "05 first", "05 as the first command", FIRST, "05 00 0⁸ | 06"),
-    (3, 0, "06 first", "06 as the first command", FIRST, "06"),
-    (3, 2, "second 01", "01 again", FIRST, "01 01 | 01 01 | 06"),
+    (3, 0, "02 first", "02 as the first command", ONLY, "02 0⁸ 01 00 00 00 | 06"),
+    (3, 0, "03 first", "03 as the first command", ONLY, "03 | 06"),
+    (3, 0, "04 first", "04 as the first command", ONLY, "04 0⁸ 01 00 | 06"),
+    (3, 0, "05 first", "05 as the first command", ONLY, "05 00 0⁸ | 06"),
+    (3, 0, "06 first", "06 as the first command", ONLY, "06"),
+    (3, 2, "second 01", "01 again", ONLY, "01 01 | 01 01 | 06"),
     (3, 2, "04 before 03", "a constraint term before any constraint", BEFORE, "01 01 | 04 0⁸ 01 00 | 06"),
     (3, 2, "3 before 2, 01", "a second 01 that is cut", ORDER, "01 01 | 01"),
     (3, 2, "3 before 2, 04", "a cut 04 before any 03", ORDER, "01 01 | 04"),
@@ -104,15 +99,13 @@ fn made(
 ) -> Case {
     let mut runs = case_f();
     runs[0] = commands.concat();
-    Case {
+    case(
+        Refusal::new(number, PROBLEM, place),
         name,
         what,
         words,
-        text: None,
         runs,
-        calls: calls(PROBLEM),
-        expected: Refusal::new(number, PROBLEM, place),
-    }
+    )
 }
 
 /// After 01, two bytes, and 256 objective terms of 13 bytes each, x1^i x2^k with i below 16.

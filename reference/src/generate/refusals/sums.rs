@@ -1,6 +1,6 @@
 //! Refusal 9: identities that are false, with the smallest key at which the two sides differ.
 
-use super::{bytes, calls, Case};
+use super::{bytes, case, Case};
 use crate::refusal::{Refusal, FIRST, IDENTITY, SECOND};
 
 const EXACT: &str = "Equality is per monomial, on exact whole numbers.";
@@ -110,24 +110,20 @@ const SIXTEEN: &str = concat!(
 
 /// Refusal 9 of the first and of the second certificate.
 pub fn cases() -> Vec<Case> {
-    let of_stream = |stream| LINES.iter().map(move |line| case(line, stream));
+    let of_stream = |stream| LINES.iter().map(move |line| different(line, stream));
     [FIRST, SECOND].into_iter().flat_map(of_stream).collect()
 }
 
-fn case(line: &Line, stream: u8) -> Case {
+fn different(line: &Line, stream: u8) -> Case {
     let &(name, what, words, (problem, holds), text, key) = line;
     let mut runs = [problem, holds, holds].map(bytes);
     runs[usize::from(stream)] = bytes(text);
+    let expected = Refusal {
+        key,
+        ..Refusal::new(IDENTITY, stream, 0)
+    };
     Case {
-        name,
-        what,
-        words,
         text: Some(text),
-        runs,
-        calls: calls(stream),
-        expected: Refusal {
-            key,
-            ..Refusal::new(IDENTITY, stream, 0)
-        },
+        ..case(expected, name, what, words, runs)
     }
 }
