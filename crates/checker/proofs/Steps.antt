@@ -62,7 +62,7 @@ module _ (o : Outcome Problem) where
   unfolding bytesOf
   bytes-refused out = from-refused (λ n at. out) (foundBytes out) (λ o. bytesRead o out) (λ n at. refl) (λ p. refl) o
 
-  module _ (p : StoredProblem) (j : Joined) (keys : List ℕ) (joins : Joins p j keys) (e : given (problemOf p) ≡ limited o) where
+  module _ (p : StoredProblem) (j : Joined) (keys idx : List ℕ) (joins : Joins p j keys idx) (e : given (problemOf p) ≡ limited o) where
     pub blocks-found : record { refusal = noRefusal; blocks = j .blocks; rounds = j .rounds } ≡ blocksRead o
     unfolding blocksOf blockTotal
     blocks-found = rw (joins .joining .blocks (joins .few), joins .joining .rounds (joins .few)) (from-given refusedBlocks foundBlocks blocksRead (λ n at. refl) (λ p. refl) o (problemOf p) e)

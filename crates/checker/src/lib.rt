@@ -13,6 +13,7 @@ ghost use Rattle.checker.specs.Tables.{tablesShort, Long, Cleared, table
 ghost use Rattle.checker.specs.Blocks.{blocksShort, refusedBlocks, blocksRead, bytesRead, blocksVerdict, bytesLeft};
 ghost use Rattle.fraction.specs.Fractions.{Bound, fraction};
 ghost use Rattle.judging.specs.Refusals.{certificateRefusal};
+ghost use Rattle.gram.specs.Outer.{Below};
 ghost use Rattle.judging.specs.Steps.{Joins};
 ghost use Rattle.checker.specs.Check.{refusedCheck, checkRead, checkVerdict};
 ghost use Rattle.checker.specs.Pair.{refusedPair, pairSides, pairFirst, pairRead, pairVerdict};
@@ -107,7 +108,8 @@ fn answer_blocks(problem: &[u8], out: &mut [u8], table: &mut [u64]) -> BlocksVer
     requires { ⌜ (576 ≤ length (now out)) × (2048 ≤ length (now table)) ⌝ }
     ensures { λ r. ⌜ (r ≡ blocksRead (readProblem (now (problem .entry)))) × (now (out .exit) ≡ bytesRead (readProblem (now (problem .entry))) (now (out .entry))) × (drop 2048 (now (table .exit)) ≡ drop 2048 (now (table .entry))) ⌝ }
 {
-    let r = judging::prepare(problem, table);
+    let mut index = [0u16; 6144];
+    let r = judging::prepare(problem, table, &mut index);
     let number = r.number;
     if 0 < number {
         return refuse_blocks(number, r.place);
@@ -205,14 +207,28 @@ fn answer_check(
     requires { ⌜ (2048 ≤ length (now keys)) × (2048 ≤ length (now high)) × (2048 ≤ length (now low)) ⌝ }
     ensures { λ r. ⌜ (r ≡ checkRead (readProblem (now (problem .entry))) (now (certificate .entry))) × Rest (now (keys .entry)) (now (high .entry)) (now (low .entry)) (now (keys .exit)) (now (high .exit)) (now (low .exit)) ⌝ }
 {
-    let r = judging::prepare(problem, keys);
+    let mut index = [0u16; 6144];
+    let r = judging::prepare(problem, keys, &mut index);
     let number = r.number;
     if 0 < number {
         return refuse_check(judging::problem_refusal(number, r.place));
     }
     let p = r.problem;
     let j = r.joined;
-    let judged = judging::judge(1, p, j, certificate, keys, high, low);
+    let mut g = [0i64; 4096];
+    let mut lasts = [0u16; 2048];
+    let judged = judging::judge(
+        1,
+        p,
+        j,
+        certificate,
+        keys,
+        &index,
+        &mut g,
+        &mut lasts,
+        high,
+        low,
+    );
     check_one(judged, j.rounds)
 }
 
@@ -301,17 +317,20 @@ fn pair_both(
     first: &[u8],
     second: &[u8],
     keys: &[u64],
+    index: &[u16; 6144],
+    g: &mut [i64; 4096],
+    lasts: &mut [u16; 2048],
     high: &mut [i64],
     low: &mut [u64],
 ) -> PairVerdict
-    requires { ⌜ Joins p j (now keys) × (2048 ≤ length (now high)) × (2048 ≤ length (now low)) ⌝ }
+    requires { ⌜ Joins p j (now keys) (now index) × Below 0 (now g) × (2048 ≤ length (now high)) × (2048 ≤ length (now low)) ⌝ }
     ensures { λ r. ⌜ (r ≡ pairFirst (problemOf p) (J.judge (problemOf p) (now (first .entry))) (now (second .entry))) × (drop 2048 (now (high .exit)) ≡ drop 2048 (now (high .entry))) × (drop 2048 (now (low .exit)) ≡ drop 2048 (now (low .entry))) ⌝ }
 {
-    match judging::judge(1, p, j, first, keys, high, low) {
+    match judging::judge(1, p, j, first, keys, index, g, lasts, high, low) {
         Judged::Refused(f) => refuse_pair(f),
         Judged::Accepted(lower) => pair_second(
             lower,
-            judging::judge(2, p, j, second, keys, high, low),
+            judging::judge(2, p, j, second, keys, index, g, lasts, high, low),
             j.rounds,
         ),
     }
@@ -329,14 +348,28 @@ fn answer_pair(
     requires { ⌜ (2048 ≤ length (now keys)) × (2048 ≤ length (now high)) × (2048 ≤ length (now low)) ⌝ }
     ensures { λ r. ⌜ (r ≡ pairRead (readProblem (now (problem .entry))) (now (first .entry)) (now (second .entry))) × Rest (now (keys .entry)) (now (high .entry)) (now (low .entry)) (now (keys .exit)) (now (high .exit)) (now (low .exit)) ⌝ }
 {
-    let r = judging::prepare(problem, keys);
+    let mut index = [0u16; 6144];
+    let r = judging::prepare(problem, keys, &mut index);
     let number = r.number;
     if 0 < number {
         return refuse_pair(judging::problem_refusal(number, r.place));
     }
     let p = r.problem;
     let j = r.joined;
-    pair_both(p, j, first, second, keys, high, low)
+    let mut g = [0i64; 4096];
+    let mut lasts = [0u16; 2048];
+    pair_both(
+        p,
+        j,
+        first,
+        second,
+        keys,
+        &index,
+        &mut g,
+        &mut lasts,
+        high,
+        low,
+    )
 }
 
 // Whether two certificates hold for a problem: `first` of a lower bound and `second` of an upper one.

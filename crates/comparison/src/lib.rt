@@ -275,7 +275,7 @@ fn add_basis(
     );
 }
 
-// Adds the weighted square of every row times its multiplier, basis by basis.
+// Adds the weighted square of every row times its multiplier, basis by basis. The table of sums is empty before and after.
 fn sum_rows(
     g: &mut [i64; 4096],
     lasts: &mut [u16; 2048],
@@ -292,7 +292,7 @@ fn sum_rows(
 )
     requires { ⌜ Ready (now table) (now index) n (now hi) (now lo) (9 * tableUnit) × Below 0 (now g) ⌝ }
     requires { ⌜ Flattened (now keys) (now exponents) (now coefficients) l × Shaped (l .sizes) (now s) ⌝ }
-    ensures { λ _. ⌜ Summed (λ p. squares p (rowsOf (now (s .entry)))) (now (keys .entry)) (now (exponents .entry)) (now (coefficients .entry)) l (now (table .entry)) n 9 (now (hi .entry)) (now (lo .entry)) (now (hi .exit)) (now (lo .exit)) ⌝ }
+    ensures { λ _. ⌜ Summed (λ p. squares p (rowsOf (now (s .entry)))) (now (keys .entry)) (now (exponents .entry)) (now (coefficients .entry)) l (now (table .entry)) n 9 (now (hi .entry)) (now (lo .entry)) (now (hi .exit)) (now (lo .exit)) × Below 0 (now (g .exit)) ⌝ }
 {
     let mut j: usize = 0;
     while j < 9 {
@@ -313,41 +313,6 @@ fn sum_rows(
         );
         j += 1;
     }
-}
-
-// The same, with the table of sums and the places that folding names made here.
-fn add_rows(
-    s: &[u8],
-    keys: &[u64],
-    exponents: &[u64],
-    coefficients: &[i32],
-    l: Lengths,
-    table: &[u64],
-    n: usize,
-    index: &[u16; 6144],
-    hi: &mut [i64],
-    lo: &mut [u64],
-)
-    requires { ⌜ Ready (now table) (now index) n (now hi) (now lo) (9 * tableUnit) ⌝ }
-    requires { ⌜ Flattened (now keys) (now exponents) (now coefficients) l × Shaped (l .sizes) (now s) ⌝ }
-    ensures { λ _. ⌜ Summed (λ p. squares p (rowsOf (now (s .entry)))) (now (keys .entry)) (now (exponents .entry)) (now (coefficients .entry)) l (now (table .entry)) n 9 (now (hi .entry)) (now (lo .entry)) (now (hi .exit)) (now (lo .exit)) ⌝ }
-{
-    let mut g: [i64; 4096] = [0; 4096];
-    let mut lasts: [u16; 2048] = [0; 2048];
-    sum_rows(
-        &mut g,
-        &mut lasts,
-        s,
-        keys,
-        exponents,
-        coefficients,
-        l,
-        table,
-        n,
-        index,
-        hi,
-        lo,
-    );
 }
 
 // Of two places the one with the smaller key. The first may be n, which is no place.
@@ -387,7 +352,7 @@ pub enum Difference {
 
 // Compares the claim with the weighted squares, at the first n numbers of `table`: minus the claim and all squares are added up at
 // each key, and a sum that is not 0 is a difference. Basis j stands from place 64j on in `keys`, and the multiplier g_j from place
-// 32j on in `exponents` and `coefficients`.
+// 32j on in `exponents` and `coefficients`. `index` is the keys' index, and `g` the table of sums, which is empty before and after.
 pub fn compare(
     s: &[u8],
     header: certificate::Header,
@@ -398,20 +363,23 @@ pub fn compare(
     objective: Objective,
     table: &[u64],
     n: usize,
+    index: &[u16; 6144],
+    g: &mut [i64; 4096],
+    lasts: &mut [u16; 2048],
     hi: &mut [i64],
     lo: &mut [u64],
 ) -> Difference
-    requires { ⌜ Zeroed (now table) n (now hi) (now lo) × Comparable (now s) (now keys) (now exponents) (now coefficients) l objective ⌝ }
+    requires { ⌜ Zeroed (now table) n (now hi) (now lo) × Support.Indexed (now index) (now table) n × Below 0 (now g) × Comparable (now s) (now keys) (now exponents) (now coefficients) l objective ⌝ }
     ensures difference { λ r. ⌜ ((p : Problem) (c : Certificate) → Given p c (now (s .entry)) header (now (keys .entry)) (now (exponents .entry)) (now (coefficients .entry)) l objective (now (table .entry)) n → r ≡ differenceOf (differenceKey p c)) ⌝ }
-    ensures tables { λ _. ⌜ Untouched (now (hi .entry)) (now (hi .exit)) × Untouched (now (lo .entry)) (now (lo .exit)) ⌝ }
+    ensures tables { λ _. ⌜ Untouched (now (hi .entry)) (now (hi .exit)) × Untouched (now (lo .entry)) (now (lo .exit)) × Below 0 (now (g .exit)) ⌝ }
 {
-    let mut index: [u16; 6144] = [0; 6144];
-    support::mark(&mut index, table, n);
     let es = objective.keys;
     let cs = objective.coefficients;
     let m = objective.count;
-    add_claim(table, n, &index, hi, lo, &es[..m], &cs[..m], header);
-    add_rows(
+    add_claim(table, n, index, hi, lo, &es[..m], &cs[..m], header);
+    sum_rows(
+        g,
+        lasts,
         s,
         keys,
         exponents,
@@ -419,7 +387,7 @@ pub fn compare(
         l,
         table,
         n,
-        &index,
+        index,
         hi,
         lo,
     );

@@ -6,7 +6,7 @@ use Prim.Native.Nat.{ℕ, _*_, _^_}
 use lib.Dec.{ltb}
 use lib.ListN.{length, drop}
 use Rattle.support.specs.Sets.{insert}
-use Rattle.support.specs.Table.{keysIn}
+use Rattle.support.specs.Table.{keysIn, Indexed}
 use Rattle.rounds.specs.Rounds.{Closing, blocksIn}
 use Rattle.rounds.specs.Bytes.{blockBytes}
 use Rattle.joining.specs.declared.Joined.{Joined}
@@ -19,14 +19,15 @@ pub record Multipliers (exponents counts : List ℕ) : Type 0 where
   pub exponents-long : length exponents ≡ 288
   pub exponents-low : Bounded (16 * 2 ^ 56) exponents
 
--- what is left where the rounds end in o: the table t′ holds the closed S with the zero exponent, unless it has more than 2,048
--- members
-pub record Joining (o : Closing) (t : List ℕ) (r : Joined) (t′ : List ℕ) : Type 0 where
+-- what is left where the rounds end in o: the table t′ holds the closed S with the zero exponent, and idx′ is its index, unless it has
+-- more than 2,048 members
+pub record Joining (o : Closing) (t : List ℕ) (r : Joined) (t′ idx′ : List ℕ) : Type 0 where
   pub full : r .full ≡ ltb 2048 (length (insert 0 (o .state .support)))
   pub labels : r .full ≡ false → r .labels ≡ blockBytes (o .state .labels)
   pub rounds : r .full ≡ false → r .rounds ≡ o .rounds
   pub blocks : r .full ≡ false → r .blocks ≡ blocksIn (o .state .labels)
   pub len : r .full ≡ false → r .len ≡ length (insert 0 (o .state .support))
   pub keys : r .full ≡ false → keysIn (r .len) t′ ≡ insert 0 (o .state .support)
+  pub index : r .full ≡ false → Indexed idx′ t′ (r .len)
   pub long : length t′ ≡ length t
   pub rest : drop 2048 t′ ≡ drop 2048 t

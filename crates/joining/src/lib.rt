@@ -136,7 +136,8 @@ fn too_many(labels: [u8; 576]) -> Joined
     }
 }
 
-// The joining rule from its start to its end. The table's first numbers are then the closed support with the zero exponent.
+// The joining rule from its start to its end, with an index that holds nothing. The table's first numbers are then the closed support
+// with the zero exponent, and the index is theirs.
 pub fn settle(
     q: Objective,
     keys: &[u64],
@@ -144,23 +145,23 @@ pub fn settle(
     exponents: &[u64],
     counts: &[usize],
     table: &mut [u64],
+    index: &mut [u16],
 ) -> Joined
-    requires { ⌜ (2048 ≤ length (now table)) × (q .count ≤ 256) × Bounded (32 * 2 ^ 56) (q .keys) × Arrays (now keys) (now sizes) (now exponents) (now counts) ⌝ }
-    ensures { λ r. ⌜ Joining (closing (basesIn (now (keys .entry)) (now (sizes .entry)) (now (exponents .entry)) (now (counts .entry))) (startFrom (keysOf (objectiveTerms q)) (basesIn (now (keys .entry)) (now (sizes .entry)) (now (exponents .entry)) (now (counts .entry))))) (now (table .entry)) r (now (table .exit)) ⌝ }
+    requires { ⌜ (2048 ≤ length (now table)) × Indexed (now index) (now table) 0 × (q .count ≤ 256) × Bounded (32 * 2 ^ 56) (q .keys) × Arrays (now keys) (now sizes) (now exponents) (now counts) ⌝ }
+    ensures { λ r. ⌜ Joining (closing (basesIn (now (keys .entry)) (now (sizes .entry)) (now (exponents .entry)) (now (counts .entry))) (startFrom (keysOf (objectiveTerms q)) (basesIn (now (keys .entry)) (now (sizes .entry)) (now (exponents .entry)) (now (counts .entry))))) (now (table .entry)) r (now (table .exit)) (now (index .exit)) ⌝ }
 {
     let start = rounds::start_labels(sizes);
-    let mut index = [0u16; 6144];
-    let n = seed(q, keys, sizes, exponents, counts, table, &mut index);
+    let n = seed(q, keys, sizes, exponents, counts, table, index);
     if 2048 < n {
         return too_many(start);
     }
-    let c = rounds::close(start, keys, sizes, exponents, counts, table, &mut index, n);
+    let c = rounds::close(start, keys, sizes, exponents, counts, table, index, n);
     let labels = c.labels;
     let m = c.len;
     if 2048 < m {
         return too_many(labels);
     }
-    let len = support::put(table, &mut index, m, 0);
+    let len = support::put(table, index, m, 0);
     if 2048 < len {
         return too_many(labels);
     }
@@ -174,9 +175,9 @@ pub fn settle(
 }
 
 // The joining rule of a stored problem.
-pub fn join(p: StoredProblem, table: &mut [u64]) -> Joined
-    requires { ⌜ (2048 ≤ length (now table)) × Kept p ⌝ }
-    ensures { λ r. ⌜ Joining (J.closing (problemOf p)) (now (table .entry)) r (now (table .exit)) ⌝ }
+pub fn join(p: StoredProblem, table: &mut [u64], index: &mut [u16]) -> Joined
+    requires { ⌜ (2048 ≤ length (now table)) × Indexed (now index) (now table) 0 × Kept p ⌝ }
+    ensures { λ r. ⌜ Joining (J.closing (problemOf p)) (now (table .entry)) r (now (table .exit)) (now (index .exit)) ⌝ }
 {
     let constraints = p.constraints;
     let m = problem::multipliers_of(constraints, p.count);
@@ -185,5 +186,5 @@ pub fn join(p: StoredProblem, table: &mut [u64]) -> Joined
     let sizes = p.sizes;
     let exponents = m.keys;
     let counts = m.counts;
-    settle(q, &keys, &sizes, &exponents, &counts, table)
+    settle(q, &keys, &sizes, &exponents, &counts, table, index)
 }

@@ -36,7 +36,7 @@ module _ {A : Type 0} (z : A) (t t′ : List A) (n : ℕ) (cleared : t′ ≡ re
   cleared-untouched few t″ l u = record { long = u .long ∙ l; rest = u .rest ∙ cleared-rest few }
 
 -- ---- what the comparison asks
-module _ (p : StoredProblem) (kept : Kept p) (n : ℕ) (table : List ℕ) (compares : Compares (problemOf p) n table) where
+module _ (p : StoredProblem) (kept : Kept p) (n : ℕ) (table idx : List ℕ) (compares : Compares (problemOf p) n table idx) where
   pub zeroed : (h h′ : List ℤ) (l l′ : List ℕ) → 2048 ≤ length h′ → 2048 ≤ length l′ → h′ ≡ replicate n (pos 0) ++ drop n h → l′ ≡ replicate n 0 ++ drop n l → Zeroed table n h′ l′
   zeroed h h′ l l′ a b e f = record {
     support = compares .holds;

@@ -63,9 +63,9 @@ module _ (p : StoredProblem) (kept : Kept p) where
       both h e f = rw (sym e, sym f) refl
 
 -- ---- the compared keys in the table
-pub joins-compare : (p : StoredProblem) (j : Joined) (keys : List ℕ) → Joins p j keys → Compares (problemOf p) (j .len) keys
+pub joins-compare : (p : StoredProblem) (j : Joined) (keys idx : List ℕ) → Joins p j keys idx → Compares (problemOf p) (j .len) keys idx
 unfolding comparedKeys
-joins-compare p j keys h =
+joins-compare p j keys idx h =
     let S = comparedKeys (problemOf p) in
     let n : j .len ≡ length S = h .joining .len (h .few) in
     let e : keysIn (j .len) keys ≡ S = h .joining .keys (h .few) in
@@ -73,6 +73,7 @@ joins-compare p j keys h =
       limits = h .limits;
       holds = record { few = rw n (ltb-false 2048 (length S) (sym (h .joining .full) ∙ h .few)); room = h .long; apart = ap length e ∙ sym n };
       keys = e;
+      index = h .joining .index (h .few);
     }
 
 -- ---- the reading

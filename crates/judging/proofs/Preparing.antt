@@ -26,9 +26,9 @@ module _ (r : Reading) (o : Outcome Problem) (e : outcomeOf r ≡ o) where
   reading-given h = sym e ∙ rw (eq-eqb (r .number) 0 h)
 
 -- a joining that is full is refusal 7
-pub full-is : (p : Problem) (t : List ℕ) (j : Joined) (t′ : List ℕ) → Joining (closing p) t j t′ → j .full ≡ tooLarge p
+pub full-is : (p : Problem) (t : List ℕ) (j : Joined) (t′ idx′ : List ℕ) → Joining (closing p) t j t′ idx′ → j .full ≡ tooLarge p
 unfolding tooLarge
-full-is p t j t′ joined = joined .full
+full-is p t j t′ idx′ joined = joined .full
 
 -- ---- what is prepared
 module _ (r : Prepared) where

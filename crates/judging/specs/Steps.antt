@@ -13,7 +13,7 @@ use Rattle.problem.specs.declared.StoredProblem.{StoredProblem}
 use Rattle.joining.specs.Joining.{closing, tooLarge}
 use Rattle.joining.specs.Tables.{Joining}
 use Rattle.joining.specs.declared.Joined.{Joined}
-use Rattle.support.specs.Table.{keysIn, Holds}
+use Rattle.support.specs.Table.{keysIn, Holds, Indexed}
 use Rattle.certificate.specs.Rules.{Certificate, shapeOf, readCertificate}
 use Rattle.certificate.specs.declared.Header.{Header}
 use Rattle.identity.specs.Judgement.{Judgement, comparedKeys}
@@ -33,25 +33,26 @@ limited (given p) = cond (tooLarge p) (refused 7 0) (given p)
 unfoldable pub preparedOf : Prepared → Outcome Problem
 preparedOf r = cond (eqb (r .number) 0) (given (problemOf (r .problem))) (refused (r .number) (r .place))
 
--- a problem within its limits, what the joining rule gives of it, and the compared keys in the table
-pub record Joins (p : StoredProblem) (j : Joined) (keys : List ℕ) : Type 0 where
+-- a problem within its limits, what the joining rule gives of it, and the compared keys in the table, with their index
+pub record Joins (p : StoredProblem) (j : Joined) (keys idx : List ℕ) : Type 0 where
   pub kept : Kept p
   pub limits : Limits (problemOf p)
   pub few : j .full ≡ false
   pub long : 2048 ≤ length keys
   pub before : List ℕ
-  pub joining : Joining (closing (problemOf p)) before j keys
+  pub joining : Joining (closing (problemOf p)) before j keys idx
 
-pub record Prepares (o : Outcome Problem) (t : List ℕ) (r : Prepared) (t′ : List ℕ) : Type 0 where
+pub record Prepares (o : Outcome Problem) (t : List ℕ) (r : Prepared) (t′ idx′ : List ℕ) : Type 0 where
   pub outcome : preparedOf r ≡ limited o
-  pub joins : r .number ≡ 0 → Joins (r .problem) (r .joined) t′
+  pub joins : r .number ≡ 0 → Joins (r .problem) (r .joined) t′ idx′
   pub rest : drop 2048 t′ ≡ drop 2048 t
 
--- the compared keys are the first n numbers of a table, in some order
-pub record Compares (p : Problem) (n : ℕ) (table : List ℕ) : Type 0 where
+-- the compared keys are the first n numbers of a table, in some order, with their index
+pub record Compares (p : Problem) (n : ℕ) (table idx : List ℕ) : Type 0 where
   pub limits : Limits p
   pub holds : Holds table n
   pub keys : keysIn n table ≡ comparedKeys p
+  pub index : Indexed idx table n
 
 -- the stream gives a certificate with this header
 pub record Stands (p : Problem) (s : List ℕ) (header : Header) : Type 0 where

@@ -11,6 +11,8 @@ ghost use Rattle.problem.specs.Stored.{problemOf, Kept};
 ghost use Rattle.stream.specs.Commands.{given};
 ghost use Rattle.certificate.specs.Rules.{Certificate, shapeOf, readCertificate};
 ghost use Rattle.identity.specs.Judgement as J;
+ghost use Rattle.support.specs.Table.{Indexed};
+ghost use Rattle.gram.specs.Outer.{Below};
 ghost use Rattle.comparison.specs.Compare.{differenceOf, Untouched};
 ghost use Rattle.judging.specs.declared.Judged.the-variants as Judged;
 ghost use Rattle.judging.specs.Refusals.{problemRefusal, certificateRefusal};
@@ -83,10 +85,11 @@ fn not_joined() -> Joined
     }
 }
 
-// Reads a problem and joins its blocks. The table then holds the compared keys.
-pub fn prepare(problem: &[u8], table: &mut [u64]) -> Prepared
-    requires { ⌜ 2048 ≤ length (now table) ⌝ }
-    ensures { λ r. ⌜ Prepares (readProblem (now (problem .entry))) (now (table .entry)) r (now (table .exit)) ⌝ }
+// Reads a problem and joins its blocks, with an index that holds nothing. The table then holds the compared keys, and the index is
+// theirs.
+pub fn prepare(problem: &[u8], table: &mut [u64], index: &mut [u16]) -> Prepared
+    requires { ⌜ (2048 ≤ length (now table)) × Indexed (now index) (now table) 0 ⌝ }
+    ensures { λ r. ⌜ Prepares (readProblem (now (problem .entry))) (now (table .entry)) r (now (table .exit)) (now (index .exit)) ⌝ }
 {
     let r = problem::read(problem);
     let number = r.number;
@@ -99,7 +102,7 @@ pub fn prepare(problem: &[u8], table: &mut [u64]) -> Prepared
             joined: not_joined(),
         };
     }
-    let j = joining::join(p, table);
+    let j = joining::join(p, table, index);
     let full = j.full;
     Prepared {
         number: if full { 7 } else { 0 },
@@ -110,18 +113,22 @@ pub fn prepare(problem: &[u8], table: &mut [u64]) -> Prepared
 }
 
 // Whether the identity of a certificate that was read holds; if not, at which key it first differs. The compared keys are the first
-// n numbers of `table`; the sums at them are kept in the other tables, before place 2,048 only.
+// n numbers of `table`, with `index`; the sums at them are kept in `high` and `low`, before place 2,048 only. `g` is the table of sums
+// by indices, empty before and after, and `lasts` may hold anything.
 fn difference(
     p: StoredProblem,
     n: usize,
     header: Header,
     s: &[u8],
     table: &[u64],
+    index: &[u16; 6144],
+    g: &mut [i64; 4096],
+    lasts: &mut [u16; 2048],
     high: &mut [i64],
     low: &mut [u64],
 ) -> Difference
-    requires { ⌜ Kept p × Compares (problemOf p) n (now table) × Stands (problemOf p) (now s) header × (2048 ≤ length (now high)) × (2048 ≤ length (now low)) ⌝ }
-    ensures { λ r. ⌜ ((c : Certificate) → readCertificate (shapeOf (problemOf p)) (now (s .entry)) ≡ given c → r ≡ differenceOf (J.differenceKey (problemOf p) c)) × Untouched (now (high .entry)) (now (high .exit)) × Untouched (now (low .entry)) (now (low .exit)) ⌝ }
+    requires { ⌜ Kept p × Compares (problemOf p) n (now table) (now index) × Below 0 (now g) × Stands (problemOf p) (now s) header × (2048 ≤ length (now high)) × (2048 ≤ length (now low)) ⌝ }
+    ensures { λ r. ⌜ ((c : Certificate) → readCertificate (shapeOf (problemOf p)) (now (s .entry)) ≡ given c → r ≡ differenceOf (J.differenceKey (problemOf p) c)) × Untouched (now (high .entry)) (now (high .exit)) × Untouched (now (low .entry)) (now (low .exit)) × Below 0 (now (g .exit)) ⌝ }
 {
     clear_signed(high, n);
     clear(low, n);
@@ -144,6 +151,9 @@ fn difference(
         objective,
         table,
         n,
+        index,
+        g,
+        lasts,
         high,
         low,
     )
@@ -171,18 +181,21 @@ fn by_identity(stream: u8, header: Header, found: Difference) -> Judged
     }
 }
 
-// One certificate against a problem with its blocks: it by commands, 8 by rows, 9.
+// One certificate against a problem with its blocks: it by commands, 8 by rows, 9. The tables are those of `difference`.
 pub fn judge(
     stream: u8,
     p: StoredProblem,
     j: Joined,
     s: &[u8],
     keys: &[u64],
+    index: &[u16; 6144],
+    g: &mut [i64; 4096],
+    lasts: &mut [u16; 2048],
     high: &mut [i64],
     low: &mut [u64],
 ) -> Judged
-    requires { ⌜ Joins p j (now keys) × (2048 ≤ length (now high)) × (2048 ≤ length (now low)) ⌝ }
-    ensures { λ r. ⌜ (r ≡ judgedOf stream (J.judge (problemOf p) (now (s .entry)))) × (drop 2048 (now (high .exit)) ≡ drop 2048 (now (high .entry))) × (drop 2048 (now (low .exit)) ≡ drop 2048 (now (low .entry))) ⌝ }
+    requires { ⌜ Joins p j (now keys) (now index) × Below 0 (now g) × (2048 ≤ length (now high)) × (2048 ≤ length (now low)) ⌝ }
+    ensures { λ r. ⌜ (r ≡ judgedOf stream (J.judge (problemOf p) (now (s .entry)))) × (drop 2048 (now (high .exit)) ≡ drop 2048 (now (high .entry))) × (drop 2048 (now (low .exit)) ≡ drop 2048 (now (low .entry))) × Below 0 (now (g .exit)) ⌝ }
 {
     let sizes = p.sizes;
     let shape = Shape {
@@ -198,7 +211,11 @@ pub fn judge(
     let t = r.header;
     match keeping::split_place(s, &labels) {
         Place::At(place) => refuse(stream, 8, place, 0),
-        Place::Nowhere => by_identity(stream, t, difference(p, j.len, t, s, keys, high, low)),
+        Place::Nowhere => by_identity(
+            stream,
+            t,
+            difference(p, j.len, t, s, keys, index, g, lasts, high, low),
+        ),
     }
 }
 

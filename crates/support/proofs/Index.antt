@@ -147,7 +147,7 @@ module _ {idx t : List ℕ} {n : ℕ} (x : Indexed idx t n) (few : n < 2048) (t�
       ∙ last-first (getD t′ p 0 % 4093) p t t′ (λ q u. same q (omega arith)))
       (eq-or-lt-of-le {n = p} {m = n} (omega arith))
 
-  pub indexed-next : Indexed (noted idx n k) t′ (n + 1)
+  indexed-next : Indexed (noted idx n k) t′ (n + 1)
   indexed-next = record {
     long = noted-long idx n k (x .long) few;
     last = λ h b. last-next h b ∙ ap (lastWith h t′) (sym (add-one n));

@@ -58,18 +58,6 @@ fn note(index: &mut [u16], len: usize, key: u64)
     index[h] = (len + 1) as u16;
 }
 
-// The index of a set, made in one that holds nothing.
-pub fn mark(index: &mut [u16], table: &[u64], len: usize)
-    requires { ⌜ Holds (now table) len × Indexed (now index) (now table) 0 ⌝ }
-    ensures { λ _. ⌜ Indexed (now (index .exit)) (now (table .entry)) len ⌝ }
-{
-    let mut i = 0;
-    while i < len {
-        note(index, i, table[i]);
-        i += 1;
-    }
-}
-
 // The set with a key put in, and the number of its keys: 2,049 where it would have more than 2,048.
 pub fn put(table: &mut [u64], index: &mut [u16], len: usize, key: u64) -> usize
     requires { ⌜ Holds (now table) len × Indexed (now index) (now table) len ⌝ }

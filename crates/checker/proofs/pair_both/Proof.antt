@@ -38,11 +38,11 @@ returns : tie.Need-returns
 returns c =
     let f = c .before .before in
     let j = f .before .before .before .before .before in
-    let s = j .before .before .before .before .before .before .before in
+    let s = j .before .before .before .before .before .before .before .before .before in
     (c .refuse-pair .ensures ∙ pair-first-refused (problemOf (s .args .p)) (s .args .second .now) (judge (problemOf (s .args .p)) (s .args .first .now)) _ (sym (j .judge .ensures .0) ∙ f .f .given .1), j .judge .ensures .1, j .judge .ensures .2)
 
 same-length-3 : tie.Need-same-length-3
-same-length-3 c = search needs
+same-length-3 c = let k = c .before .before .before .before in k .judge2 .kept .1 .1 .1 .1 .1 .1 .1 .1 .0 ∙ k .before .before .before .before .before .before .before .before .before .before .before .judge .kept .1 .1 .1 .1 .1 .1 .1 .1 .0
 
 same-length-4 : tie.Need-same-length-4
 same-length-4 c = search needs
@@ -50,9 +50,9 @@ same-length-4 c = search needs
 returns-2 : tie.Need-returns-2
 returns-2 c =
     let k = c .before .before .before .before in
-    let l = k .before .before .before .before in
+    let l = k .before .before .before .before .before .before in
     let j = l .before .before .before .before .before in
-    let s = j .before .before .before .before .before .before .before in
+    let s = j .before .before .before .before .before .before .before .before .before in
     let p = s .pre .0 in
     (c .pair-second .ensures ∙ pair-both (problemOf (s .args .p)) (s .args .second .now) (judge (problemOf (s .args .p)) (s .args .first .now)) _ _ _ (sym (j .judge .ensures .0) ∙ l .lower .given .1) (sym (k .judge2 .ensures .0)) (sym (p .joining .rounds (p .few))), k .judge2 .ensures .1 ∙ j .judge .ensures .1, k .judge2 .ensures .2 ∙ j .judge .ensures .2)
 

@@ -1,6 +1,5 @@
 -- `compare`: the sum at a key is the coefficient of the squares less that of the claim.
 use mathlib.Core.Path.{_≡_, refl, sym}
-use mathlib.Core.List.{[]}
 use Prim.Native.Nat.{_+_, _-_, _*_}
 use native.Mathlib.Omega.{arith}
 use borrow.Author.Needs.{needs}
@@ -8,7 +7,6 @@ use lib.Seq.{length-take-le}
 use lib.ListN.{length, take}
 use Rattle.polynomial.specs.declared.Objective.{Objective}
 use Rattle.support.proofs.Keys.{inside}
-use Rattle.support.proofs.Index.{indexed-start}
 use Rattle.joining.proofs.Start.{first-low}
 use Rattle.comparison.specs.Tables.{unit}
 use Rattle.comparison.specs.Spread.{tableUnit}
@@ -23,48 +21,39 @@ module _ (c : tie.Start) where
   q = c .args .objective
 
   keys-long : length (take (q .count) (q .keys)) ≡ q .count
-  keys-long = let f = c .pre .1 .objective-filled in length-take-le (q .count) (q .keys) (omega (arith, f .count-low, f .keys-length))
+  keys-long = let f = c .pre .3 .objective-filled in length-take-le (q .count) (q .keys) (omega (arith, f .count-low, f .keys-length))
 
   coefficients-long : length (take (q .count) (q .coefficients)) ≡ q .count
-  coefficients-long = let f = c .pre .1 .objective-filled in length-take-le (q .count) (q .coefficients) (omega (arith, f .count-low, f .coefficients-length))
+  coefficients-long = let f = c .pre .3 .objective-filled in length-take-le (q .count) (q .coefficients) (omega (arith, f .count-low, f .coefficients-length))
 
 abbrev at-start : tie.After-add-claim → tie.Start
-at-start c = c .before .before .before .before .before .before .before .before .before .before .before .before .before .before .before .before
+at-start c = c .before .before .before .before .before .before .before .before .before .before .before .before
 
-abbrev marked : tie.After-add-claim → tie.After-mark
-marked c = c .before .before .before .before .before .before .before .before .before
+abbrev claiming : tie.After-sum-rows → tie.After-add-claim
+claiming c = c .before .before .before .before .before .before .before .before
 
-abbrev claiming : tie.After-add-rows → tie.After-add-claim
-claiming c = c .before .before .before .before .before .before .before
-
-abbrev rows : tie.After-smallest → tie.After-add-rows
+abbrev rows : tie.After-smallest → tie.After-sum-rows
 rows c = c .before .before .before .before .before .before
-
-slice-aggregate-mark : tie.Need-slice-aggregate-mark
-slice-aggregate-mark c = sym (indexed-start [] .long)
-
-mark-requires : tie.Need-mark-requires
-mark-requires c κs = (c .before .before .before .before .before .before .pre .0 .support, indexed-start _)
 
 array-share-prefix-es : tie.Need-array-share-prefix-es
 array-share-prefix-es c = search needs
 
 slice-aggregate-add-claim : tie.Need-slice-aggregate-add-claim
-slice-aggregate-add-claim c = sym (keys-long (c .before .before .before .before .before .before .before .before .before .before .before .before .before .before))
+slice-aggregate-add-claim c = sym (keys-long (c .before .before .before .before .before .before .before .before .before .before))
 
 array-share-prefix-cs : tie.Need-array-share-prefix-cs
 array-share-prefix-cs c = search needs
 
 slice-aggregate-add-claim-2 : tie.Need-slice-aggregate-add-claim-2
-slice-aggregate-add-claim-2 c = sym (coefficients-long (c .before .before .before .before .before .before .before .before .before .before .before .before .before .before .before))
+slice-aggregate-add-claim-2 c = sym (coefficients-long (c .before .before .before .before .before .before .before .before .before .before .before))
 
 add-claim-requires : tie.Need-add-claim-requires
 add-claim-requires c κs =
-    let s = c .before .before .before .before .before .before .before .before .before .before .before .before .before .before .before in
-    let f = s .pre .1 .objective-filled in
+    let s = c .before .before .before .before .before .before .before .before .before .before .before in
+    let f = s .pre .3 .objective-filled in
     let k = keys-long s in
     let l = coefficients-long s in (
-      zeroed-ready (s .pre .0) (c .before .before .before .before .before .before .before .before .mark .ensures) _ (omega (arith, f .count-low)),
+      zeroed-ready (s .pre .0) (s .pre .1) _ (omega (arith, f .count-low)),
       record {
         paired = omega arith;
         low = first-low _ (q s .count) (q s .keys) (f .keys-low);
@@ -73,19 +62,21 @@ add-claim-requires c κs =
       },
     )
 
-add-rows-requires : tie.Need-add-rows-requires
-add-rows-requires c κs =
-    let a = c .before .before .before .before .before .before in
-    let p = at-start a .pre in
-    (ready-after (zeroed-ready (p .0) (marked a .mark .ensures) (257 * unit + 9 * tableUnit) (omega arith)) (claim-first _ _ (p .1 .objective-filled) (a .add-claim .ensures)) (omega arith), (p .1 .flat, p .1 .rows))
+sum-rows-requires : tie.Need-sum-rows-requires
+sum-rows-requires c κs =
+    let a = c .before .before .before .before .before .before .before in
+    let p = at-start a .pre in (
+      (ready-after (zeroed-ready (p .0) (p .1) (257 * unit + 9 * tableUnit) (omega arith)) (claim-first _ _ (p .3 .objective-filled) (a .add-claim .ensures)) (omega arith), p .2),
+      (p .3 .flat, p .3 .rows),
+    )
 
 smallest-requires : tie.Need-smallest-requires
 smallest-requires c κs =
     let r = c .before .before .before .before .before in
     let a = claiming r in
     let z = at-start a .pre .0 in
-    let g = claim-first _ _ (at-start a .pre .1 .objective-filled) (a .add-claim .ensures) in
-    let h = r .add-rows .ensures .grown in (
+    let g = claim-first _ _ (at-start a .pre .3 .objective-filled) (a .add-claim .ensures) in
+    let h = r .sum-rows .ensures .0 .grown in (
       inside (z .support),
       record {
         in-hi = omega (arith, z .in-hi, z .support .few, g .hi-length, h .hi-length);
@@ -112,10 +103,10 @@ returns c =
     let r = rows f in
     let a = claiming r in
     let z = at-start a .pre .0 in
-    let m = r .add-rows .ensures in
-    let g = claim-first _ _ (at-start a .pre .1 .objective-filled) (a .add-claim .ensures) in
+    let m = r .sum-rows .ensures .0 in
+    let g = claim-first _ _ (at-start a .pre .3 .objective-filled) (a .add-claim .ensures) in
     let w = grown-then {e = 257 * unit + 9 * tableUnit} g (m .grown) (λ k. refl) (omega arith) in
-    (λ p k given. found-differs p k _ _ _ _ _ _ _ _ _ given z g m (f .smallest .ensures) (c .before .if1 .taken), (grown-hi (z .support .few) w, grown-lo (z .support .few) w))
+    (λ p k given. found-differs p k _ _ _ _ _ _ _ _ _ given z g m (f .smallest .ensures) (c .before .if1 .taken), (grown-hi (z .support .few) w, grown-lo (z .support .few) w, r .sum-rows .ensures .1))
 
 same-length-3 : tie.Need-same-length-3
 same-length-3 c = search needs
@@ -129,23 +120,21 @@ returns-2 c =
     let r = rows f in
     let a = claiming r in
     let z = at-start a .pre .0 in
-    let m = r .add-rows .ensures in
-    let g = claim-first _ _ (at-start a .pre .1 .objective-filled) (a .add-claim .ensures) in
+    let m = r .sum-rows .ensures .0 in
+    let g = claim-first _ _ (at-start a .pre .3 .objective-filled) (a .add-claim .ensures) in
     let w = grown-then {e = 257 * unit + 9 * tableUnit} g (m .grown) (λ k. refl) (omega arith) in
-    (λ p k given. found-same p k _ _ _ _ _ _ _ _ _ given z g m (f .smallest .ensures) (c .if1 .left), (grown-hi (z .support .few) w, grown-lo (z .support .few) w))
+    (λ p k given. found-same p k _ _ _ _ _ _ _ _ _ given z g m (f .smallest .ensures) (c .if1 .left), (grown-hi (z .support .few) w, grown-lo (z .support .few) w, r .sum-rows .ensures .1))
 
 pub compare-spec : {M : Type 1} → statement M
 compare-spec =
     tie.close
     (tie.spec
-    slice-aggregate-mark
-    mark-requires
     array-share-prefix-es
     slice-aggregate-add-claim
     array-share-prefix-cs
     slice-aggregate-add-claim-2
     add-claim-requires
-    add-rows-requires
+    sum-rows-requires
     smallest-requires
     mul-t39
     shared-slice-read-t41

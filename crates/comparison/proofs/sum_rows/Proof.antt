@@ -52,7 +52,7 @@ same-length-2 c = search needs
 returns : tie.Need-returns Inv-loop μ-loop
 returns c =
     let l = c .before in
-    walked-end (at-start l .args .s .now) (l .loop .inv .2) (at-start l .pre .1 .1) (omega (arith, l .loop .inv .0, c .loop-test .left))
+    (walked-end (at-start l .args .s .now) (l .loop .inv .2) (at-start l .pre .1 .1) (omega (arith, l .loop .inv .0, c .loop-test .left)), l .loop .inv .1)
 
 pub sum-rows-spec : {M : Type 1} → statement M
 sum-rows-spec =

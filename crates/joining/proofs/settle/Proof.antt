@@ -7,7 +7,6 @@ use Prim.Native.Nat.{ℕ}
 use lib.ListN.{length}
 use Rattle.polynomial.specs.Terms.{keysOf, objectiveTerms}
 use Rattle.support.proofs.Keys.{grown-holds}
-use Rattle.support.proofs.Index.{indexed-start}
 use Rattle.rounds.specs.Rounds.{Bases, Closing, closing}
 use Rattle.rounds.specs.Bytes.{basesIn, blockBytes}
 use Rattle.rounds.specs.Arrays.{Settled}
@@ -31,29 +30,26 @@ module _ (s : tie.Start) where
 
 -- ---- the places
 abbrev start : tie.After-start-labels → tie.Start
-start c = c .before .before .before .before .before .before
+start c = c .before .before .before .before .before .before .before
 
 abbrev labelled : tie.After-seed → tie.After-start-labels
 labelled c = c .before .before .before
 
 abbrev seeded : tie.After-close → tie.After-seed
-seeded c = c .before .before .before .before .before .before .before
+seeded c = c .before .before .before .before .before .before .before .before
 
 abbrev closed : tie.After-put → tie.After-close
-closed c = c .before .before .before .before .before .before .before .before
+closed c = c .before .before .before .before .before .before .before .before .before
 
 -- the rounds' outcome, on the table that the start left
 settled : (c : tie.After-close) → let d = seeded c in let s = start (labelled d) in Settled (outcome s) (d .seed .result) (d .seed .last .1 .1 .1 .1 .1 .0) (c .close .result) (c .close .last .1 .1 .1 .1 .1 .0) (c .close .last .1 .1 .1 .1 .1 .1 .0)
 settled c = rw (seeded c .seed .ensures .grown .keys (c .before .before .before .if1 .left)) at (c .close .ensures)
 
 start-labels-requires : tie.Need-start-labels-requires
-start-labels-requires c κs = c .before .before .before .before .before .pre .3 .sized
-
-slice-aggregate-seed : tie.Need-slice-aggregate-seed
-slice-aggregate-seed c = sym (indexed-start [] .long)
+start-labels-requires c κs = c .before .before .before .before .before .before .pre .4 .sized
 
 seed-requires : tie.Need-seed-requires
-seed-requires c κs = let p = start (c .before .before) .pre in (p .0, indexed-start _, p .1, p .2, p .3)
+seed-requires c κs = let p = start (c .before .before) .pre in (p .0, p .1, p .2, p .3, p .4)
 
 too-many-requires : tie.Need-too-many-requires
 too-many-requires c κs = tt
@@ -61,9 +57,12 @@ too-many-requires c κs = tt
 same-length : tie.Need-same-length
 same-length c = search needs
 
+same-length-2 : tie.Need-same-length-2
+same-length-2 c = search needs
+
 returns : tie.Need-returns
 returns c =
-    let d = c .before .before .before .before .before in
+    let d = c .before .before .before .before .before .before in
     let s = start (labelled d) in
     let e = c .too-many .ensures in
     let g = d .seed .ensures .grown in
@@ -74,34 +73,35 @@ returns c =
       blocks = λ f. never e f;
       len = λ f. never e f;
       keys = λ f. never e f;
+      index = λ f. never e f;
       long = g .long;
       rest = g .rest;
     }
 
-slice-aggregate-close : tie.Need-slice-aggregate-close
-slice-aggregate-close c = sym (c .before .before .before .before .before .before .seed .ensures .index (c .before .before .if1 .left) .long)
-
 close-requires : tie.Need-close-requires
 close-requires c κs =
-    let d = c .before .before .before .before .before .before in
+    let d = c .before .before .before .before .before .before .before in
     let s = start (labelled d) in
     let few = c .before .before .if1 .left in
     record {
       support = grown-holds (d .seed .ensures .grown) (s .pre .0) few;
       index = d .seed .ensures .index few;
-      arrays = s .pre .3;
-      labels = labelled d .start-labels .ensures ∙ ap blockBytes (sym (singles-sized _ _ _ _ (s .pre .3)));
+      arrays = s .pre .4;
+      labels = labelled d .start-labels .ensures ∙ ap blockBytes (sym (singles-sized _ _ _ _ (s .pre .4)));
     }
 
 too-many-requires-2 : tie.Need-too-many-requires-2
 too-many-requires-2 c κs = tt
 
-same-length-2 : tie.Need-same-length-2
-same-length-2 c = search needs
+same-length-3 : tie.Need-same-length-3
+same-length-3 c = search needs
+
+same-length-4 : tie.Need-same-length-4
+same-length-4 c = search needs
 
 returns-2 : tie.Need-returns-2
 returns-2 c =
-    let e = c .before .before .before .before .before .before in
+    let e = c .before .before .before .before .before .before .before in
     let d = seeded e in
     let f = c .too-many2 .ensures in
     let g = settled e .stored .grown in
@@ -112,16 +112,14 @@ returns-2 c =
       blocks = λ h. never f h;
       len = λ h. never f h;
       keys = λ h. never f h;
+      index = λ h. never f h;
       long = g .long ∙ d .seed .ensures .grown .long;
       rest = g .rest ∙ d .seed .ensures .grown .rest;
     }
 
-slice-aggregate-put : tie.Need-slice-aggregate-put
-slice-aggregate-put c = sym (settled (c .before .before .before .before .before .before .before) .stored .index (c .before .before .if2 .left) .long)
-
 put-requires : tie.Need-put-requires
 put-requires c κs =
-    let e = c .before .before .before .before .before .before .before in
+    let e = c .before .before .before .before .before .before .before .before in
     let d = seeded e in
     let s = start (labelled d) in
     let few = c .before .before .if2 .left in
@@ -130,12 +128,15 @@ put-requires c κs =
 too-many-requires-3 : tie.Need-too-many-requires-3
 too-many-requires-3 c κs = tt
 
-same-length-3 : tie.Need-same-length-3
-same-length-3 c = search needs
+same-length-5 : tie.Need-same-length-5
+same-length-5 c = search needs
+
+same-length-6 : tie.Need-same-length-6
+same-length-6 c = search needs
 
 returns-3 : tie.Need-returns-3
 returns-3 c =
-    let k = c .before .before .before .before .before in
+    let k = c .before .before .before .before .before .before in
     let e = closed k in
     let d = seeded e in
     let few = k .before .before .before .if2 .left in
@@ -147,6 +148,7 @@ returns-3 c =
       blocks = λ g. never f g;
       len = λ g. never f g;
       keys = λ g. never f g;
+      index = λ g. never f g;
       long = put-long _ _ _ _ _ _ (settled e) few _ _ _ (k .put .ensures) ∙ d .seed .ensures .grown .long;
       rest = put-rest _ _ _ _ _ _ (settled e) few _ _ _ (k .put .ensures) ∙ d .seed .ensures .grown .rest;
     }
@@ -156,17 +158,20 @@ slice-aggregate-count c = search needs
 
 count-requires : tie.Need-count-requires
 count-requires c κs =
-    let k = c .before .before .before .before .before in
+    let k = c .before .before .before .before .before .before in
     let e = closed k in
     let s = start (labelled (seeded e)) in
-    (s .pre .3 .sized, ap length (settled e .labels (k .before .before .before .if2 .left)) ∙ bytes-long _)
+    (s .pre .4 .sized, ap length (settled e .labels (k .before .before .before .if2 .left)) ∙ bytes-long _)
 
-same-length-4 : tie.Need-same-length-4
-same-length-4 c = search needs
+same-length-7 : tie.Need-same-length-7
+same-length-7 c = search needs
+
+same-length-8 : tie.Need-same-length-8
+same-length-8 c = search needs
 
 returns-4 : tie.Need-returns-4
 returns-4 c =
-    let k = c .before .before .before .before .before .before in
+    let k = c .before .before .before .before .before .before .before in
     let e = closed k in
     let d = seeded e in
     let s = start (labelled d) in
@@ -177,9 +182,10 @@ returns-4 c =
       full = put-small _ _ _ _ _ _ (settled e) few _ _ _ (k .put .ensures) small;
       labels = λ _. l;
       rounds = λ _. settled e .rounds few;
-      blocks = λ _. c .count .ensures ∙ counted _ _ _ _ (s .pre .3) (first s) _ l;
+      blocks = λ _. c .count .ensures ∙ counted _ _ _ _ (s .pre .4) (first s) _ l;
       len = λ _. len-is _ _ _ _ _ _ (settled e) few _ _ _ (k .put .ensures) small;
       keys = λ _. put-keys _ _ _ _ _ _ (settled e) few _ _ _ (k .put .ensures) small;
+      index = λ _. k .put .ensures .index small;
       long = put-long _ _ _ _ _ _ (settled e) few _ _ _ (k .put .ensures) ∙ d .seed .ensures .grown .long;
       rest = put-rest _ _ _ _ _ _ (settled e) few _ _ _ (k .put .ensures) ∙ d .seed .ensures .grown .rest;
     }
@@ -189,22 +195,23 @@ settle-spec =
     tie.close
     (tie.spec
     start-labels-requires
-    slice-aggregate-seed
     seed-requires
     too-many-requires
     same-length
+    same-length-2
     returns
-    slice-aggregate-close
     close-requires
     too-many-requires-2
-    same-length-2
+    same-length-3
+    same-length-4
     returns-2
-    slice-aggregate-put
     put-requires
     too-many-requires-3
-    same-length-3
+    same-length-5
+    same-length-6
     returns-3
     slice-aggregate-count
     count-requires
-    same-length-4
+    same-length-7
+    same-length-8
     returns-4)

@@ -41,7 +41,7 @@ returns : tie.Need-returns
 returns c =
     let v = c .before .before in
     let s = v .before .before .before .before .before in
-    (c .refuse .ensures ∙ judge-refused (P s) (s .args .s .now) _ _ _ (certificate-refused _ _ (read-as v) (c .before .if1 .taken)), refl, refl)
+    (c .refuse .ensures ∙ judge-refused (P s) (s .args .s .now) _ _ _ (certificate-refused _ _ (read-as v) (c .before .if1 .taken)), refl, refl, s .pre .1)
 
 slice-aggregate-split-place : tie.Need-slice-aggregate-split-place
 slice-aggregate-split-place c = sym (labels-long (c .before .before .before .before .before .before .before .before .before))
@@ -64,9 +64,9 @@ enum-told c = search needs
 
 difference-requires : tie.Need-difference-requires
 difference-requires c κs =
-    let i = c .before .before .before .before .before .before .before .before in
+    let i = c .before .before .before .before .before .before .before .before .before .before in
     let s = i .before .before .before .before .before .before in
-    (s .pre .0 .kept, joins-compare _ _ _ (s .pre .0), stands i, s .pre .1, s .pre .2)
+    (s .pre .0 .kept, joins-compare _ _ _ _ (s .pre .0), s .pre .1, stands i, s .pre .2, s .pre .3)
 
 by-identity-requires : tie.Need-by-identity-requires
 by-identity-requires c κs = search needs
@@ -80,7 +80,7 @@ returns-2 c =
     let t = stands i in
     let h = s .pre .0 in
     let e = w .split-place .ensures (P s) (t .certificate) (h .limits) (t .read) (h .joining .labels (h .few)) in
-    (c .refuse2 .ensures ∙ judge-split (P s) (s .args .s .now) (t .certificate) (t .read) _ _ (sym (k .place .given .1) ∙ e), refl, refl)
+    (c .refuse2 .ensures ∙ judge-split (P s) (s .args .s .now) (t .certificate) (t .read) _ _ (sym (k .place .given .1) ∙ e), refl, refl, s .pre .1)
 
 same-length : tie.Need-same-length
 same-length c = search needs
@@ -91,7 +91,7 @@ same-length-2 c = search needs
 returns-3 : tie.Need-returns-3
 returns-3 c =
     let d = c .before .before .before .before in
-    let n = d .before .before .before in
+    let n = d .before .before .before .before .before in
     let w = n .before .before in
     let i = w .before .before .before .before in
     let s = i .before .before .before .before .before .before in
@@ -101,6 +101,7 @@ returns-3 c =
       c .by-identity .ensures ∙ judge-compared (P s) (s .args .s .now) (t .certificate) (t .read) _ _ _ (sym (n .enum-told .given .1) ∙ e) (t .header-is) (d .difference .ensures .0 (t .certificate) (t .read)),
       d .difference .ensures .1 .rest,
       d .difference .ensures .2 .rest,
+      d .difference .ensures .3,
     )
 
 pub judge-spec : {M : Type 1} → statement M
