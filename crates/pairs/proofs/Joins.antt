@@ -1,14 +1,12 @@
 -- Laws of a joining by pairs of indices: one after another, there is one result only, and the rule's joining is it.
-use mathlib.Core.Path.{_≡_, refl, sym, ap, _∙_}
+use mathlib.Core.Path.{_≡_, refl, sym, _∙_}
 use mathlib.Core.Logic.{_⊎_, inl, inr, ⊎-elim}
-use mathlib.Core.Bool.{Bool, true}
 use mathlib.Core.List.{List}
 use Prim.Native.Nat.{ℕ, _+_, _≤_, _<_}
 use native.Mathlib.Omega.{arith}
 use lib.ListN.{length, getD}
 use lib.Seq.{ext-getD}
-use Rattle.support.specs.Sets.{In}
-use Rattle.blocks.specs.Join.{linked, merged, joinPair, join}
+use Rattle.blocks.specs.Join.{merged, joinPair, join}
 use Rattle.blocks.specs.Numbered.{Numbered}
 use Rattle.pairs.specs.Fresh.{Together, Has, Joins, Two, Through, Blocks, Recent}
 use Rattle.blocks.proofs.Pairs.{pairs-keep}

@@ -10,7 +10,7 @@ use lib.Dec.{ltb}
 use lib.ListN.{length, getD}
 use borrow.Author.Tests.{ltb-true, ltb-false}
 use Rattle.blocks.specs.Numbered.{Numbered}
-use Rattle.pairs.specs.Index.{lastOf, pairAt, restAt, meets, Paired, AllPaired}
+use Rattle.pairs.specs.Index.{lastOf, meets, AllPaired}
 use Rattle.pairs.specs.Fresh.{Together, Joins, Two, WithSum}
 use Rattle.pairs.proofs.Joins.{joins-same, joins-then, joins-as}
 use Rattle.pairs.proofs.Index.{last-le, last-hit, last-past, PairAt, pair-is, pair-of, meets-is, meets-pair}

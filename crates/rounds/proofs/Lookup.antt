@@ -1,5 +1,5 @@
 -- Laws of the index of all pairs: it starts empty, grows by the pairs of one basis after another, and holds those of each.
-use mathlib.Core.Path.{_≡_, refl, sym, ap, _∙_}
+use mathlib.Core.Path.{_≡_, sym, _∙_}
 use mathlib.Core.Logic.{_⊎_, inl, inr, ⊎-elim}
 use mathlib.Core.Bool.{cond}
 use mathlib.Core.List.{List, _++_}

@@ -6,10 +6,9 @@ use Prim.Native.Nat.{ℕ, _-_, _≤_}
 use lib.Dec.{eqb}
 use lib.ListN.{length, take, drop}
 use Rattle.support.specs.Table.{keysIn}
-use Rattle.rounds.specs.Rounds.{Bases, State, Closing, closeFrom}
+use Rattle.rounds.specs.Rounds.{Bases, Closing, closeFrom}
 use Rattle.rounds.specs.Bytes.{basesIn, labelsIn}
 use Rattle.rounds.specs.Arrays.{RoundAsks, Settled}
-use Rattle.rounds.specs.declared.Closed.{Closed}
 use Rattle.rounds.specs.declared.Progress.{Progress}
 
 -- what the rounds after the first c lead to, of 578, from the blocks and the support that the arrays hold

@@ -1,9 +1,9 @@
 -- `pairs::join_sum` meets its contract: the pairs with the sum from place v on are joined.
 use borrow.Author.Needs.{needs}
 use native.Mathlib.Omega.{arith}
-use mathlib.Core.Path.{_≡_, sym, ap, _∙_}
+use mathlib.Core.Path.{_≡_, _∙_}
 use mathlib.Core.Logic.{⊎-elim}
-use Prim.Native.Nat.{_-_, _*_, _/_, _%_}
+use Prim.Native.Nat.{_-_, _/_, _%_}
 use lib.ListN.{length}
 use Rattle.pairs.proofs.Walk.{Walk, walk-start, walk-pair, walk-less, walk-hit, walk-miss, walk-end}
 use Rattle.pairs.proofs.join_sum.Statement.{statement}

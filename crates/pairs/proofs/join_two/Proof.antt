@@ -1,6 +1,5 @@
 -- `pairs::join_two` meets its contract.
 use borrow.Author.Needs.{needs}
-use native.Mathlib.Omega.{arith}
 use Rattle.pairs.proofs.Joins.{joins-two, joins-same}
 use Rattle.pairs.proofs.join_two.Statement.{statement}
 use Rattle.pairs.proofs.join_two.Tie as tie

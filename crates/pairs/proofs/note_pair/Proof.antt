@@ -1,8 +1,7 @@
 -- `pairs::note_pair` meets its contract.
 use borrow.Author.Needs.{needs}
 use native.Mathlib.Omega.{arith}
-use mathlib.Core.Path.{_≡_, sym, ap, _∙_}
-use Prim.Native.Nat.{_+_, _*_, _/_, _%_, _<_}
+use Prim.Native.Nat.{_/_, _%_}
 use Rattle.pairs.proofs.Index.{pair-of, pair-high, pair-out, paired-skip, paired-next}
 use Rattle.pairs.proofs.note_pair.Statement.{statement}
 use Rattle.pairs.proofs.note_pair.Tie as tie

@@ -1,6 +1,5 @@
 -- `rounds::finish` meets its contract: the run has all rounds that are left.
 use borrow.Author.Needs.{needs}
-use native.Mathlib.Omega.{arith}
 use Rattle.rounds.proofs.Lookup.{paired-none}
 use Rattle.rounds.proofs.Rounding.{advanced-out}
 use Rattle.rounds.proofs.finish.Statement.{statement}

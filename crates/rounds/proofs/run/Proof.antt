@@ -1,7 +1,7 @@
 -- `rounds::run` meets its contract: after each round, those that are left lead to the outcome.
 use borrow.Author.Needs.{needs}
 use native.Mathlib.Omega.{arith}
-use mathlib.Core.Path.{_≡_, sym, _∙_}
+use mathlib.Core.Path.{sym, _∙_}
 use Prim.Native.Nat.{_-_, _≤_}
 use Rattle.rounds.specs.Bytes.{basesIn}
 use Rattle.rounds.specs.Between.{closeAfter, Between}
