@@ -20,12 +20,16 @@ mask (suc k) = mask k * 256 + 192
 
 module _ (k n : ℕ) (z : bitAnd n (mask (suc k)) ≡ 0) where
   small-rest : bitAnd (n / 256) (mask k) ≡ 0
-  small-rest = ap (bitAnd (n / 256)) (sym (digits-div (mask k) (lit< tt))) ∙ sym (and-shr n (mask (suc k)) 8) ∙ ap (λ (x : ℕ). x / 256) z
+  small-rest =
+      ap (bitAnd (n / 256)) (sym (digits-div (mask k) (lit< tt))) ∙ sym (and-shr n (mask (suc k)) 8)
+      ∙ ap (λ (x : ℕ). x / 256) z
 
   small-first : n % 256 < 64
   small-first =
-      let f : bitAnd (n % 256) 192 ≡ 0 = ap (bitAnd (n % 256)) (sym (digits-mod (mask k) (lit< tt))) ∙ sym (and-mod n (mask (suc k)) 8) ∙ ap (λ (x : ℕ). x % 256) z in
-      let g : n % 256 / 64 % 4 ≡ 0 = sym (and-mask (n % 256 / 64) 2) ∙ sym (and-shr (n % 256) 192 6) ∙ ap (λ (x : ℕ). x / 64) f in
+      let e = sym (digits-mod (mask k) {m = 256} {r = 192} (lit< tt)) in
+      let f : bitAnd (n % 256) 192 ≡ 0 = ap (bitAnd (n % 256)) e ∙ sym (and-mod n (mask (suc k)) 8) ∙ ap (λ (x : ℕ). x % 256) z in
+      let m = sym (and-mask (n % 256 / 64) 2) in
+      let g : n % 256 / 64 % 4 ≡ 0 = m ∙ sym (and-shr (n % 256) 192 6) ∙ ap (λ (x : ℕ). x / 64) f in
       omega arith
 
 -- ---- one more parity
@@ -64,7 +68,8 @@ sum-low t b b′ =
     ap (differ (t % 2)) (sum-mod t (b + b′)) ∙ differ-twice (t % 2) ((b + b′) % 2) (low t) (low (b + b′))
     ∙ sum-mod b b′ ∙ differ-both (b % 2) (b′ % 2) (low b) (low b′)
 
-from-sum : (k t b b′ c d e f : ℕ) → bitAnd t (mask k) ≡ 0 → bitAnd b (mask k) ≡ 0 → bitAnd b′ (mask k) ≡ 0 → bitXor c d ≡ bitXor e f
+from-sum : (k t b b′ c d e f : ℕ) → bitAnd t (mask k) ≡ 0 → bitAnd b (mask k) ≡ 0 → bitAnd b′ (mask k) ≡ 0
+    → bitXor c d ≡ bitXor e f
     → bitXor (parityFrom k c t) (parityFrom k d (t + (b + b′))) ≡ bitXor (parityFrom k e b) (parityFrom k f b′)
 unfolding parityFrom
 from-sum zero t b b′ c d e f st sb sb′ h = h
@@ -85,7 +90,8 @@ small-mask : (n : ℕ) → small n ≡ true → bitAnd n (mask 8) ≡ 0
 unfolding small
 small-mask n h = eqb-true _ _ h
 
-pub class-sum : (t b b′ : ℕ) → small t ≡ true → small b ≡ true → small b′ ≡ true → bitXor (class t) (class (t + (b + b′))) ≡ bitXor (class b) (class b′)
+pub class-sum : (t b b′ : ℕ) → small t ≡ true → small b ≡ true → small b′ ≡ true
+    → bitXor (class t) (class (t + (b + b′))) ≡ bitXor (class b) (class b′)
 unfolding class
 class-sum t b b′ st sb sb′ = from-sum 8 t b b′ 0 0 0 0 (small-mask t st) (small-mask b sb) (small-mask b′ sb′) refl
 
