@@ -27,7 +27,8 @@ linked-none S (t ∷ ts) s f = go (member (t + s) S) refl (linked-none S ts s (�
     go false e h = rw e h
 
 module _ (S T B : List ℕ) (few : length B ≤ 64) where
-  pub ruled-by : (present classes possible : List ℕ) → Present S present → Classes B classes → Possible T B present possible → Ruled S T B classes possible
+  pub ruled-by : (present classes possible : List ℕ) → Present S present → Classes B classes → Possible T B present possible
+      → Ruled S T B classes possible
   ruled-by present classes possible p c q =
       record {
         few = few;
@@ -46,7 +47,8 @@ module _ (S T B : List ℕ) (few : length B ≤ 64) where
 
 -- ---- the members of the support, with a place for each class
 
-pub present-noted : {t : List ℕ} {n : ℕ} → Holds t n → (present : List ℕ) → Noted (take n t) (length (take n t)) present → Present (keysIn n t) present
+pub present-noted : {t : List ℕ} {n : ℕ} → Holds t n → (present : List ℕ) → Noted (take n t) (length (take n t)) present
+    → Present (keysIn n t) present
 present-noted {t} {n} h present f =
     record {
       at = λ x m.

@@ -17,4 +17,5 @@ pub record Present (S present : List ℕ) : Type 0 where
 -- a pair whose classes differ in one that is not possible is not linked
 pub record Ruled (S T B classes possible : List ℕ) : Type 0 where
   pub few : length B ≤ 64
-  pub at : (i k : ℕ) → i < length B → k < length B → getD possible (bitXor (getD classes i 0) (getD classes k 0)) 0 ≡ 0 → linked S T (getD B i 0 + getD B k 0) ≡ false
+  pub at : (i k : ℕ) → i < length B → k < length B → getD possible (bitXor (getD classes i 0) (getD classes k 0)) 0 ≡ 0
+      → linked S T (getD B i 0 + getD B k 0) ≡ false

@@ -89,8 +89,8 @@ fn is_linked_sum(
     false
 }
 
-// The blocks of the indices i and k made one, where the pair is linked. A pair in one block needs no look at the support,
-// and so one that its class rules out.
+// The blocks of the indices i and k made one, where the pair is linked. A pair in one block needs no look at the support, nor
+// does one that its class rules out.
 fn join_pair(
     labels: &mut [u8],
     apart: &mut [u64],

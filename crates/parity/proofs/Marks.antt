@@ -1,4 +1,5 @@
 -- Laws of the arrays that have a place for each class: 1 is put at one place after another.
+use borrow.Author.Count.{below-more}
 use mathlib.Core.Path.{_≡_, refl, _∙_}
 use mathlib.Core.Logic.{⊎-elim}
 use mathlib.Core.List.{List}
@@ -10,10 +11,6 @@ use lib.Seq.{getD-set-same, getD-set-other}
 use Rattle.counting.proofs.Listed.{same-or-not}
 use Rattle.parity.specs.Parity.{class, AllSmall, Noted, Keeps, Spread, SpreadAll, Possible}
 use Rattle.parity.proofs.Laws.{class-low, class-sum, differ-low}
-
--- what holds below i, and at i, holds below i + 1
-pub below-next : {P : ℕ → Type 0} {i : ℕ} → ((k : ℕ) → k < i → P k) → P i → (k : ℕ) → k < i + 1 → P k
-below-next {P} {i} f p k h = ⊎-elim (λ e. rw e p) (λ n. f k (omega (arith, n))) (same-or-not k i)
 
 module _ (l : List ℕ) where
   pub keeps-all : Keeps l l
@@ -32,14 +29,18 @@ module _ (l : List ℕ) where
 -- ---- classes and noted keys, one by one
 
 module _ (l : List ℕ) (i : ℕ) where
-  pub classes-more : (list : List ℕ) (v : ℕ) → i < length list → v ≡ class (getD l i 0) → ((k : ℕ) → k < i → getD list k 0 ≡ class (getD l k 0)) → (k : ℕ) → k < i + 1 → getD (set list i v) k 0 ≡ class (getD l k 0)
-  classes-more list v h e f = below-next (λ k j. getD-set-other list i k v 0 (λ w. absurd (omega arith)) ∙ f k j) (getD-set-same list i v 0 h ∙ e)
+  pub classes-more : (list : List ℕ) (v : ℕ) → i < length list → v ≡ class (getD l i 0)
+      → ((k : ℕ) → k < i → getD list k 0 ≡ class (getD l k 0))
+      → (k : ℕ) → k < i + 1 → getD (set list i v) k 0 ≡ class (getD l k 0)
+  classes-more list v h e f =
+      below-more _ _ (λ k j. getD-set-other list i k v 0 (λ w. absurd (omega arith)) ∙ f k j) (getD-set-same list i v 0 h ∙ e)
 
-  pub noted-more : (present : List ℕ) (p : ℕ) → p ≡ class (getD l i 0) → length present ≡ 256 → Noted l i present → Noted l (i + 1) (set present p 1)
+  pub noted-more : (present : List ℕ) (p : ℕ) → p ≡ class (getD l i 0) → length present ≡ 256
+      → Noted l i present → Noted l (i + 1) (set present p 1)
   noted-more present p e h f =
       let b : p < length present = omega (arith, class-low (getD l i 0)) in
       record {
-        at = below-next (λ k j. keeps-set present p b .at _ (f .at k j)) (rw (← e) (getD-set-same present p 1 0 b));
+        at = below-more _ _ (λ k j. keeps-set present p b .at _ (f .at k j)) (rw (← e) (getD-set-same present p 1 0 b));
       }
 
 -- ---- the spread of one class, and of all
@@ -47,25 +48,27 @@ module _ (l : List ℕ) (i : ℕ) where
 module _ (c d : ℕ) (present possible : List ℕ) (f : Spread c d present possible) where
   pub spread-set : c < 256 → d < 256 → length possible ≡ 256 → Spread c (d + 1) present (set possible (bitXor c d) 1)
   spread-set hc hd h =
-      let b : bitXor c d < length possible = omega (arith, differ-low c d hc hd) in
-      record {
-        at = below-next (λ k j e. keeps-set possible (bitXor c d) b .at _ (f .at k j e)) (λ e. getD-set-same possible (bitXor c d) 1 0 b);
-      }
+      let p = bitXor c d in
+      let b : p < length possible = omega (arith, differ-low c d hc hd) in
+      record { at = below-more _ _ (λ k j e. keeps-set possible p b .at _ (f .at k j e)) (λ e. getD-set-same possible p 1 0 b) }
 
   pub spread-past : (getD present d 0 ≡ 1 → ⊥) → Spread c (d + 1) present possible
-  spread-past n = record { at = below-next (f .at) (λ e. absurd (n e)) }
+  spread-past n = record { at = below-more _ _ (f .at) (λ e. absurd (n e)) }
 
 module _ (n : ℕ) (exponents present possible : List ℕ) (f : SpreadAll n exponents present possible) where
-  pub spread-more : (possible′ : List ℕ) → Keeps possible possible′ → Spread n 256 present possible′ → SpreadAll (n + 1) exponents present possible′
-  spread-more possible′ k s = record { at = below-next (λ c h e. record { at = λ d i g. k .at _ (f .at c h e .at d i g) }) (λ e. s) }
+  pub spread-more : (possible′ : List ℕ) → Keeps possible possible′ → Spread n 256 present possible′
+      → SpreadAll (n + 1) exponents present possible′
+  spread-more possible′ k s =
+      record { at = below-more _ _ (λ c h e. record { at = λ d i g. k .at _ (f .at c h e .at d i g) }) (λ e. s) }
 
   pub spread-next : (getD exponents n 0 ≡ 1 → ⊥) → SpreadAll (n + 1) exponents present possible
-  spread-next z = record { at = below-next (f .at) (λ e. absurd (z e)) }
+  spread-next z = record { at = below-more _ _ (f .at) (λ e. absurd (z e)) }
 
 -- ---- what is possible
 
 module _ (T B present : List ℕ) where
-  pub possible-spread : (noted possible : List ℕ) → AllSmall B → AllSmall T → Noted T (length T) noted → SpreadAll 256 noted present possible → Possible T B present possible
+  pub possible-spread : (noted possible : List ℕ) → AllSmall B → AllSmall T → Noted T (length T) noted
+      → SpreadAll 256 noted present possible → Possible T B present possible
   possible-spread noted possible sb st n s =
       record {
         at = λ j i k a b c e.
@@ -74,4 +77,5 @@ module _ (T B present : List ℕ) where
       }
 
   pub possible-all : Possible T B present (replicate 256 1)
-  possible-all = record { at = λ j i k a b c e. getD-replicate 256 _ 1 0 (differ-low _ _ (class-low (getD B i 0)) (class-low (getD B k 0))) }
+  possible-all =
+      record { at = λ j i k a b c e. getD-replicate 256 _ 1 0 (differ-low _ _ (class-low (getD B i 0)) (class-low (getD B k 0))) }

@@ -7,19 +7,12 @@ ghost use lib.Bits.{bitXor};
 ghost use lib.ListN.{length, getD};
 ghost use Rattle.parity.specs.Parity.{class, small, AllSmall, Classes, Noted, Keeps, Spread, SpreadAll, Possible};
 
-// The class of a key, exponent by exponent.
+// The class of a key. Of the lowest bit of each exponent, at 256^i, division by 511 leaves 2^(9 - i), as twice 256 leaves 1.
 fn class_of(key: u64) -> usize
     ensures { λ r. ⌜ (r ≡ class key) × (r < 256) ⌝ }
 {
-    let mut c: u64 = 0;
-    let mut rest = key;
-    let mut i: usize = 0;
-    while i < 8 {
-        c = c * 2 + rest % 2;
-        rest /= 256;
-        i += 1;
-    }
-    c as usize
+    let v = (key & 72340172838076673) % 511;
+    (v % 2 * 128 + v / 4) as usize
 }
 
 // Whether each exponent of a key is below 64.

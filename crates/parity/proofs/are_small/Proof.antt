@@ -1,4 +1,5 @@
 -- `parity::are_small` meets its contract: the keys before i are small.
+use borrow.Author.Count.{below-more}
 use borrow.Author.Needs.{needs}
 use native.Mathlib.Omega.{arith}
 use mathlib.Core.Path.{_≡_, sym, _∙_}
@@ -6,7 +7,6 @@ use mathlib.Core.Bool.{true}
 use Prim.Native.Nat.{ℕ, _-_, _≤_, _<_}
 use lib.ListN.{length, getD}
 use Rattle.parity.specs.Parity.{small}
-use Rattle.parity.proofs.Marks.{below-next}
 use Rattle.parity.proofs.are_small.Statement.{statement}
 use Rattle.parity.proofs.are_small.Tie as tie
 
@@ -35,7 +35,7 @@ loop-less : tie.Need-loop-less Inv-loop μ-loop
 loop-less c = search needs
 
 loop-again : tie.Need-loop-again Inv-loop μ-loop
-loop-again c = (omega arith, below-next (c .before .before .before .before .loop .inv .1) (sym (c .before .is-small .ensures) ∙ c .if1 .taken))
+loop-again c = (omega arith, below-more _ _ (c .before .before .before .before .loop .inv .1) (sym (c .before .is-small .ensures) ∙ c .if1 .taken))
 
 returns : tie.Need-returns Inv-loop μ-loop
 returns c = λ e. absurd (let z : _≡_ {A = ℕ} 0 1 = cc in omega arith)

@@ -42,7 +42,11 @@ loop-less c = search needs
 loop-again : tie.Need-loop-again Inv-loop μ-loop
 loop-again c =
     let l = c .before .before .before in
-    (omega arith, length-set (l .loop .list) (l .loop .i) (c .class-of .result) ∙ l .loop .inv .1, classes-more (l .before .before .args .keys .now) _ (l .loop .list) _ (omega arith) (c .class-of .ensures .0) (l .loop .inv .2))
+    let s = l .before .before in (
+      omega arith,
+      length-set (l .loop .list) (l .loop .i) (c .class-of .result) ∙ l .loop .inv .1,
+      classes-more (s .args .keys .now) _ (l .loop .list) _ (omega arith) (c .class-of .ensures .0) (l .loop .inv .2),
+    )
 
 returns : tie.Need-returns Inv-loop μ-loop
 returns c = record { at = λ k h. c .before .loop .inv .2 k (omega arith) }

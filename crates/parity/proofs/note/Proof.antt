@@ -39,7 +39,8 @@ loop-less c = search needs
 loop-again : tie.Need-loop-again Inv-loop μ-loop
 loop-again c =
     let l = c .before .before .before in
-    (omega arith, length-set (l .loop .present) (c .class-of .result) 1 ∙ l .loop .inv .1, noted-more _ _ _ _ (c .class-of .ensures .0) (l .loop .inv .1) (l .loop .inv .2))
+    let n = noted-more _ _ _ _ (c .class-of .ensures .0) (l .loop .inv .1) (l .loop .inv .2) in
+    (omega arith, length-set (l .loop .present) (c .class-of .result) 1 ∙ l .loop .inv .1, n)
 
 returns : tie.Need-returns Inv-loop μ-loop
 returns c = let e : c .before .loop .i ≡ length (c .before .before .before .args .keys .now) = omega arith in rw e at (c .before .loop .inv .2)

@@ -19,7 +19,9 @@ spread-all-requires c κs = search needs
 returns : tie.Need-returns
 returns c =
     let t = c .before .before .before in
-    possible-spread _ _ _ _ _ (t .before .before .before .are-small .ensures (t .before .before .if1 .taken)) (t .before .are-small2 .ensures (t .if2 .taken)) (c .before .before .note .ensures) (c .spread-all .ensures)
+    let b = t .before .before .before .are-small .ensures (t .before .before .if1 .taken) in
+    let e = t .before .are-small2 .ensures (t .if2 .taken) in
+    possible-spread _ _ _ _ _ b e (c .before .before .note .ensures) (c .spread-all .ensures)
 
 returns-2 : tie.Need-returns-2
 returns-2 c = possible-all _ _ _
