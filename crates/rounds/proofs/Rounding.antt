@@ -221,4 +221,4 @@ module _ (keys sizes exponents counts : List ℕ) where
     where
       go : (b : Bool) → r .ended ≡ b → Settled o n₀ t₀ (record { labels = r .labels; len = r .len; rounds = r .rounds }) t idx
       go true e = a .done e
-      go false e = between-out t₀ n₀ o (r .labels) (r .since) (r .len) t idx (r .rounds) (a .left e) (a .most e)
+      go false e = between-out t₀ n₀ o (r .labels) (r .since) (r .len) t idx (r .rounds) (a .left e) (omega (arith, a .most e))

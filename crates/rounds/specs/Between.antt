@@ -36,4 +36,4 @@ pub record Running (keys sizes exponents counts l : List ℕ) (since n : ℕ) (t
 pub record Advanced (o : Closing) (n₀ : ℕ) (t₀ keys sizes exponents counts : List ℕ) (m : ℕ) (r : Progress) (t idx : List ℕ) : Type 0 where
   pub done : r .ended ≡ true → Settled o n₀ t₀ (record { labels = r .labels; len = r .len; rounds = r .rounds }) t idx
   pub left : r .ended ≡ false → Between o n₀ t₀ keys sizes exponents counts (r .labels) (r .since) (r .len) t idx (r .rounds)
-  pub most : r .ended ≡ false → m ≤ r .rounds
+  pub most : r .ended ≡ false → r .rounds ≡ m

@@ -6,7 +6,7 @@ ghost use Prim.Native.Nat.{_+_, _*_, _≤_, _<_};
 ghost use lib.ListN.{length, getD};
 ghost use lib.Dec.{ltb, eqb};
 ghost use mathlib.Core.Bool.{true, false, cond};
-ghost use Rattle.counting.specs.Counting.{listed};
+ghost use Rattle.counting.specs.Counting.{listed, sumTo};
 ghost use Rattle.support.specs.Table.{keysIn, Holds, Stored};
 ghost use Rattle.blocks.specs.Ruled.{Present};
 ghost use Rattle.rounds.specs.Rounds.{joinAll, extendAll, same, closing, blocksIn};
@@ -480,10 +480,10 @@ fn note_all(heads: &mut [u16], next: &mut [u16], keys: &[u64], sizes: &[usize])
     }
 }
 
-// How many rounds go by pairs before the index of the pairs pays.
-fn patience(sizes: &[usize]) -> usize
+// Whether the bases are so large that the index of the pairs soon pays: they have more than 128 monomials in all.
+fn is_large(sizes: &[usize]) -> bool
     requires { ⌜ Sizes (now sizes) ⌝ }
-    ensures { λ r. ⌜ r ≤ 578 ⌝ }
+    ensures { λ r. ⌜ r ≡ ltb 128 (sumTo 9 (λ j. getD (now (sizes .entry)) j 0)) ⌝ }
 {
     let mut n = 0;
     let mut j = 0;
@@ -491,7 +491,7 @@ fn patience(sizes: &[usize]) -> usize
         n += sizes[j];
         j += 1;
     }
-    if 128 < n { 2 } else { 8 }
+    128 < n
 }
 
 // The rounds after the first `done`, to the end, with the index of the pairs.
@@ -536,8 +536,8 @@ fn finish(
     }
 }
 
-// Rounds until one changes neither a block nor the support, or the support has too many keys. Few need no index of the pairs.
-pub fn close(
+// The rounds after the first `done`, to the end, without the index until eight were made.
+fn go_on(
     start: [u8; 576],
     keys: &[u64],
     sizes: &[usize],
@@ -545,13 +545,14 @@ pub fn close(
     counts: &[usize],
     table: &mut [u64],
     index: &mut [u16],
+    came: usize,
     len: usize,
+    done: usize,
 ) -> Closed
-    requires { ⌜ Starting (now table) (now index) len (now keys) (now sizes) (now exponents) (now counts) start ⌝ }
-    ensures { λ r. ⌜ Settled (closing (basesIn (now (keys .entry)) (now (sizes .entry)) (now (exponents .entry)) (now (counts .entry))) (keysIn len (now (table .entry)))) len (now (table .entry)) r (now (table .exit)) (now (index .exit)) ⌝ }
+    requires { ⌜ Running (now keys) (now sizes) (now exponents) (now counts) start came len (now table) (now index) done 8 ⌝ }
+    ensures { λ r. ⌜ Settled (closeAfter (basesIn (now (keys .entry)) (now (sizes .entry)) (now (exponents .entry)) (now (counts .entry))) done (now (sizes .entry)) start len (now (table .entry))) len (now (table .entry)) r (now (table .exit)) (now (index .exit)) ⌝ }
 {
     let none = [0u16; 1];
-    let most = patience(sizes);
     let p = run(
         start,
         keys,
@@ -562,10 +563,10 @@ pub fn close(
         &none,
         table,
         index,
-        0,
+        came,
         len,
-        0,
-        most,
+        done,
+        8,
     );
     let labels = p.labels;
     if p.ended {
@@ -587,6 +588,74 @@ pub fn close(
         p.len,
         p.rounds,
     )
+}
+
+// Rounds until one changes neither a block nor the support, or the support has too many keys. The
+// index of the pairs is made only after two rounds, or eight where the bases are small: most problems end before.
+pub fn close(
+    start: [u8; 576],
+    keys: &[u64],
+    sizes: &[usize],
+    exponents: &[u64],
+    counts: &[usize],
+    table: &mut [u64],
+    index: &mut [u16],
+    len: usize,
+) -> Closed
+    requires { ⌜ Starting (now table) (now index) len (now keys) (now sizes) (now exponents) (now counts) start ⌝ }
+    ensures { λ r. ⌜ Settled (closing (basesIn (now (keys .entry)) (now (sizes .entry)) (now (exponents .entry)) (now (counts .entry))) (keysIn len (now (table .entry)))) len (now (table .entry)) r (now (table .exit)) (now (index .exit)) ⌝ }
+{
+    let none = [0u16; 1];
+    let p = run(
+        start,
+        keys,
+        sizes,
+        exponents,
+        counts,
+        &none,
+        &none,
+        table,
+        index,
+        0,
+        len,
+        0,
+        2,
+    );
+    let labels = p.labels;
+    if p.ended {
+        return Closed {
+            labels,
+            len: p.len,
+            rounds: p.rounds,
+        };
+    }
+    if is_large(sizes) {
+        finish(
+            labels,
+            keys,
+            sizes,
+            exponents,
+            counts,
+            table,
+            index,
+            p.since,
+            p.len,
+            p.rounds,
+        )
+    } else {
+        go_on(
+            labels,
+            keys,
+            sizes,
+            exponents,
+            counts,
+            table,
+            index,
+            p.since,
+            p.len,
+            p.rounds,
+        )
+    }
 }
 
 // The number of blocks of all bases.

@@ -80,7 +80,7 @@ same-length-4 : tie.Need-same-length-4 Inv-loop μ-loop
 same-length-4 c = let l = c .before in l .loop .inv .1 .asks .extending .joining .index .long ∙ sym (started l .pre .0 .asks .extending .joining .index .long)
 
 returns-2 : tie.Need-returns-2 Inv-loop μ-loop
-returns-2 c = record { done = λ e. never e; left = λ _. c .before .loop .inv .1; most = λ _. omega (arith, c .loop-test .left) }
+returns-2 c = record { done = λ e. never e; left = λ _. c .before .loop .inv .1; most = λ _. omega (arith, c .loop-test .left, c .before .loop .inv .0) }
 
 pub run-spec : {M : Type 1} → statement M
 run-spec =
