@@ -2,12 +2,9 @@
 use mathlib.Core.Path.{_≡_}
 use mathlib.Core.List.{List}
 use Prim.Native.Nat.{ℕ, _*_, _^_, _≤_}
-use lib.ListN.{length, getD}
+use lib.ListN.{length}
+use Rattle.counting.specs.Counting.{Bounded}
 use Rattle.support.specs.Table.{Holds, Indexed}
-
--- each number of a list is at most m
-abbrev pub Bounded : ℕ → List ℕ → Type 0
-Bounded m l = (i : ℕ) → getD l i 0 ≤ m
 
 -- a basis of monomials of degree at most 8, with the exponents of its multiplier, of degree at most 16, and a block number for
 -- each index: a key is at most its degree × 256^7

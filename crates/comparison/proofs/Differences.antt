@@ -18,7 +18,7 @@ use Rattle.polynomial.specs.Terms.{Term, term, keysOf, termsIn, objectiveTerms,
 use Rattle.polynomial.specs.declared.Objective.{Objective}
 use Rattle.polynomial.specs.Algebra.{coefficient}
 use Rattle.problem.specs.Rules.{Problem}
-use Rattle.problem.specs.Bases.{multiplierOf, Flat, coefficientsOf, FlatCoefficients}
+use Rattle.problem.specs.Bases.{multiplierOf, Flat, coefficientsOf, FlatCoefficients, multiplier}
 use Rattle.support.specs.Sets.{In, Above, Rising}
 use Rattle.support.specs.Table.{keysIn, Holds, Indexed}
 use Rattle.support.proofs.Elements.{not-nil, in-here, in-there, in-cons, above-in}
@@ -29,7 +29,7 @@ use Rattle.certificate.specs.Rows.{rowsOf}
 use Rattle.certificate.specs.declared.Header.{Header}
 use Rattle.certificate.proofs.Limits.{shape-within}
 use Rattle.certificate.proofs.Rows.{rows-read}
-use Rattle.identity.specs.Identity.{multiplier, squares, claim}
+use Rattle.identity.specs.Identity.{squares, claim}
 use Rattle.identity.specs.Judgement.{sameNumber, firstDifference, differenceKey}
 use Rattle.identity.proofs.Difference.{same-equal, same-self}
 use Rattle.comparison.specs.declared.Difference.the-variants.{Same, Differs}
@@ -142,75 +142,12 @@ claim-first q h f g =
     let e = length-take-le (q .count) (q .keys) w in
     grown-same g (λ k. ap (λ (P : List Term). negℤ (coefficient k (claimed P h))) (first-terms (q .count) (q .keys) (q .coefficients) w)) (omega (arith, f .count-low))
 
--- ---- a polynomial from its keys and its coefficients
-key-at : (T : List Term) (d : Term) (i : ℕ) → i < length T → getD (keysOf T) i 0 ≡ getD T i d .key
-unfolding keysOf
-key-at [] d i h = absurd (omega arith)
-key-at (t ∷ T) d zero h = refl
-key-at (t ∷ T) d (suc i) h = key-at T d i (omega arith)
-
-coefficient-at : (T : List Term) (d : Term) (i : ℕ) → i < length T → getD (map (λ (t : Term). t .coefficient) T) i (pos 0) ≡ getD T i d .coefficient
-coefficient-at [] d i h = absurd (omega arith)
-coefficient-at (t ∷ T) d zero h = refl
-coefficient-at (t ∷ T) d (suc i) h = coefficient-at T d i (omega arith)
-
-keys-length : (T : List Term) → length (keysOf T) ≡ length T
-unfolding keysOf
-keys-length [] = refl
-keys-length (t ∷ T) = ap suc (keys-length T)
-
-module _ (p : Problem) where
-  multiplier-keys : (j : ℕ) → multiplierOf p j ≡ keysOf (multiplier p j)
-  unfolding multiplierOf multiplier keysOf
-  multiplier-keys zero = refl
-  multiplier-keys (suc j) = refl
-
-  multiplier-coefficients : (j : ℕ) → coefficientsOf p j ≡ map (λ (t : Term). t .coefficient) (multiplier p j)
-  unfolding coefficientsOf multiplier
-  multiplier-coefficients zero = refl
-  multiplier-coefficients (suc j) = refl
-
-  module _ (exponents counts : List ℕ) (coefficients : List ℤ) (flat : Flat p (record { keys = exponents; counts = counts })) (factors : FlatCoefficients p coefficients) (j : ℕ) (h : j < 9) where
-    abbrev count : ℕ
-    count = getD counts j 0
-
-    abbrev G : List Term
-    G = multiplier p j
-
-    -- the place of g_j's terms has all of them
-    count-is : count ≡ length G
-    count-is =
-        sym (length-take-le count (drop (32 * j) exponents) (rw (length-drop (32 * j) exponents) (omega (arith, flat .counts-low j, flat .keys-length))))
-        ∙ ap length (flat .each j ∙ multiplier-keys j)
-        ∙ keys-length G
-
-    exponent-is : (d : Term) (i : ℕ) → i < count → getD (drop (32 * j) exponents) i 0 ≡ getD G i d .key
-    exponent-is d i b =
-        sym (getD-take count (drop (32 * j) exponents) i 0 b)
-        ∙ ap (λ (l : List ℕ). getD l i 0) (flat .each j ∙ multiplier-keys j)
-        ∙ key-at G d i (omega (arith, count-is))
-
-    factor-is : (d : Term) (i : ℕ) → i < count → getD (drop (32 * j) coefficients) i (pos 0) ≡ getD G i d .coefficient
-    factor-is d i b =
-        let n : length (multiplierOf p j) ≡ count = ap length (multiplier-keys j) ∙ keys-length G ∙ sym count-is in
-        sym (getD-take count (drop (32 * j) coefficients) i (pos 0) b)
-        ∙ ap (λ (m : ℕ). getD (take m (drop (32 * j) coefficients)) i (pos 0)) (sym n)
-        ∙ ap (λ (l : List ℤ). getD l i (pos 0)) (factors .each j ∙ multiplier-coefficients j)
-        ∙ coefficient-at G d i (omega (arith, count-is))
-
-    multiplier-in : multiplierIn exponents coefficients counts j ≡ multiplier p j
-    unfolding multiplierIn termsIn
-    multiplier-in =
-        let d = term 0 (pos 0) in
-        listed-same count _ (λ i. getD G i d) (λ i b. ap₂ term (exponent-is d i b) (factor-is d i b))
-        ∙ ap (λ (m : ℕ). listed m (λ i. getD G i d)) count-is
-        ∙ listed-all G d
-
 -- ---- the answer
 module _ (p : Problem) (c : Certificate) (s : List ℕ) (header : Header) (keys exponents : List ℕ) (coefficients : List ℤ) (l : Lengths) (objective : Objective) (table : List ℕ) (n : ℕ)
     (given : Given p c s header keys exponents coefficients l objective table n) where
   stands : Stands p keys exponents coefficients l
-  stands = record { bases = given .bases; multipliers = multiplier-in p exponents (l .counts) coefficients (given .multipliers) (given .factors) }
+  unfolding multiplierIn
+  stands = record { bases = given .bases; multipliers = λ j h. given .multipliers .each j }
 
   module _ {hi₀ hi₁ hi₂ : List ℤ} {lo₀ lo₁ lo₂ : List ℕ} {a r : ℕ} (z : Zeroed table n hi₀ lo₀)
       (g : Grown table n hi₀ lo₀ (λ k. negℤ (coefficient k (claimed (objectiveTerms objective) header))) a hi₁ lo₁)

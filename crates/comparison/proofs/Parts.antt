@@ -10,9 +10,10 @@ use lib.Dec.{ltb}
 use lib.IntN.{ℤ, pos}
 use lib.ListN.{length, getD, take, drop, length-take, length-drop, List·getD-eq-default}
 use lib.Seq.{getD-take, getD-drop}
+use Rattle.counting.proofs.Bounded.{bounded-part}
 use Rattle.counting.proofs.Listed.{listed-same}
 use Rattle.polynomial.specs.Terms.{term, termsIn}
-use Rattle.blocks.specs.Limits.{Bounded}
+use Rattle.counting.specs.Counting.{Bounded}
 use Rattle.rounds.specs.Bytes.{part}
 use Rattle.comparison.specs.declared.Lengths.{Lengths}
 use Rattle.comparison.specs.Spread.{Spreadable, Flattened, multiplierIn}
@@ -27,18 +28,6 @@ module _ {A : Type 0} (a n : ℕ) (l : List A) where
 
   part-long : a + n ≤ length l → length (take n (drop a l)) ≡ n
   part-long h = simp (length-take, length-drop) (omega arith)
-
-first-low : (m n : ℕ) (l : List ℕ) → Bounded m l → Bounded m (take n l)
-first-low m n l h i = go (ltb i n) refl
-  where
-    go : (b : Bool) → ltb i n ≡ b → getD (take n l) i 0 ≤ m
-    go true e = rw (getD-take n l i 0 (ltb-true i n e)) (h i)
-    go false e =
-        let k : length (take n l) ≤ i = simp length-take (omega (arith, ltb-false i n e)) in
-        rw (List·getD-eq-default (take n l) 0 {n = i} k) (omega arith)
-
-low-part : (m a n : ℕ) (l : List ℕ) → Bounded m l → Bounded m (take n (drop a l))
-low-part m a n l h = first-low m n (drop a l) (λ i. rw (getD-drop a l i 0) (h (a + i)))
 
 module _ (keys exponents : List ℕ) (coefficients : List ℤ) (l : Lengths) (f : Flattened keys exponents coefficients l) (j : ℕ) (h : j < 9) where
   abbrev size : ℕ
@@ -70,10 +59,10 @@ module _ (keys exponents : List ℕ) (coefficients : List ℤ) (l : Lengths) (f 
       let z = part-long (32 * j) count coefficients coefficients-end in
       record {
         basis-few = omega (arith, a .sized .small j);
-        basis-low = low-part (8 * 2 ^ 56) (64 * j) size keys (a .keys-low);
+        basis-low = bounded-part (8 * 2 ^ 56) (64 * j) size keys (a .keys-low);
         paired = omega arith;
         few = omega (arith, a .counts-small j);
-        low = low-part (16 * 2 ^ 56) (32 * j) count exponents (a .exponents-low);
+        low = bounded-part (16 * 2 ^ 56) (32 * j) count exponents (a .exponents-low);
       }
 
   pub multiplier-is : termsIn (length (take count (drop (32 * j) exponents))) (take count (drop (32 * j) exponents)) (take count (drop (32 * j) coefficients)) ≡ multiplierIn exponents coefficients (l .counts) j

@@ -11,7 +11,7 @@ use Rattle.polynomial.specs.Terms.{objectiveTerms, Filled}
 use Rattle.polynomial.specs.declared.Objective.{Objective}
 use Rattle.problem.specs.Rules.{Problem}
 use Rattle.problem.specs.Limits.{Limits}
-use Rattle.problem.specs.Bases.{basisOf, Flat, FlatCoefficients}
+use Rattle.problem.specs.Bases.{basisOf, Flat}
 use Rattle.support.specs.Table.{keysIn, Holds}
 use Rattle.sums.specs.Sums.{valueAt}
 use Rattle.rounds.specs.Bytes.{part}
@@ -61,8 +61,7 @@ pub record Given (p : Problem) (c : Certificate) (s : List ℕ) (header : Header
   pub read : readCertificate (shapeOf p) s ≡ given c
   pub header-is : header ≡ c .header
   pub bases : (j : ℕ) → j < 9 → part 64 (l .sizes) keys j ≡ basisOf p j
-  pub multipliers : Flat p (record { keys = exponents; counts = l .counts })
-  pub factors : FlatCoefficients p coefficients
+  pub multipliers : Flat p (record { keys = exponents; coefficients = coefficients; counts = l .counts })
   pub objective-is : objectiveTerms objective ≡ p .objective
   pub compared : keysIn n table ≡ comparedKeys p
 

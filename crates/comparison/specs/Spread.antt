@@ -5,7 +5,7 @@ use Prim.Native.Nat.{ℕ, _*_, _^_, _≤_, _<_}
 use lib.IntN.{ℤ, pos}
 use lib.ListN.{length, getD, drop}
 use Rattle.polynomial.specs.Terms.{Term, termsIn}
-use Rattle.blocks.specs.Limits.{Bounded}
+use Rattle.counting.specs.Counting.{Bounded}
 use Rattle.rounds.specs.Arrays.{Arrays}
 use Rattle.comparison.specs.declared.Lengths.{Lengths}
 use Rattle.comparison.specs.Tables.{unit, Grown}

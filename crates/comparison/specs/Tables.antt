@@ -8,7 +8,7 @@ use Rattle.polynomial.specs.Terms.{Term, term}
 use Rattle.polynomial.specs.Algebra.{scale}
 use Rattle.support.specs.Table.{Holds, Indexed}
 use Rattle.sums.specs.Sums.{base, valueAt}
-use Rattle.blocks.specs.Limits.{Bounded}
+use Rattle.counting.specs.Counting.{Bounded}
 use Rattle.certificate.specs.declared.Header.{Header}
 use Rattle.identity.specs.Identity.{turned}
 use Rattle.comparison.specs.declared.Negated.{Negated}

@@ -6,9 +6,8 @@ use lib.IntN.{ℤ}
 use Rattle.polynomial.specs.Terms.{Term}
 use Rattle.polynomial.specs.Algebra.{coefficient}
 use Rattle.problem.specs.Rules.{Problem}
-use Rattle.problem.specs.Bases.{basisOf}
+use Rattle.problem.specs.Bases.{basisOf, multiplier}
 use Rattle.rounds.specs.Bytes.{part}
-use Rattle.identity.specs.Identity.{multiplier}
 use Rattle.comparison.specs.declared.Lengths.{Lengths}
 use Rattle.comparison.specs.Tables.{Grown}
 use Rattle.comparison.specs.Spread.{tableUnit, multiplierIn}

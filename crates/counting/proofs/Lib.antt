@@ -1,4 +1,5 @@
 pub mod Cases
+pub mod Bounded
 pub mod Listed
 pub mod Steps
 pub mod Sums

@@ -7,7 +7,7 @@ ghost use Prim.Native.Nat.{ℕ, _+_, _*_, _^_, _≤_, _<_};
 ghost use lib.IntN.{pos, natAbs, _*ℤ_};
 ghost use lib.ListN.{length, getD};
 ghost use Rattle.polynomial.specs.Terms.{Term, termsIn};
-ghost use Rattle.blocks.specs.Limits.{Bounded};
+ghost use Rattle.counting.specs.Counting.{Bounded};
 ghost use Rattle.identity.specs.Gram.{times};
 ghost use Rattle.keeping.specs.Places.{Walkable};
 ghost use Rattle.gram.specs.Frame.{spreadAt, halfAt, Next, Framed, Entered};

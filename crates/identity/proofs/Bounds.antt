@@ -15,12 +15,12 @@ use Rattle.polynomial.specs.Point.{Point, value}
 use Rattle.polynomial.proofs.Products.{Degree, degree-⊗}
 use Rattle.polynomial.proofs.Values.{value-append, value-scale, same-values, value-constant, value-⊗}
 use Rattle.problem.specs.Rules.{Problem}
-use Rattle.problem.specs.Bases.{basisOf}
+use Rattle.problem.specs.Bases.{basisOf, multiplier}
 use Rattle.problem.specs.Limits.{All, Terms, Limits}
 use Rattle.problem.proofs.Limits.{all-at, monomials-none}
 use Rattle.certificate.specs.Rules.{Entry, Row, Certificate}
 use Rattle.certificate.specs.declared.Header.{Header}
-use Rattle.identity.specs.Identity.{multiplier, combination, square, squares, turned, claim, Identity}
+use Rattle.identity.specs.Identity.{combination, square, squares, turned, claim, Identity}
 use Rattle.identity.specs.Bounds.{Allowed, objectiveValue, objectiveScale, BoundedBelow, BoundedAbove, WithinGap}
 use Rattle.identity.proofs.Reach.{keys-all}
 

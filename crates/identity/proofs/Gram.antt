@@ -17,10 +17,10 @@ use Rattle.polynomial.specs.Algebra.{sum, match, coefficient, scale, _⊗_, Key
 use Rattle.polynomial.proofs.Sums.{sum-append, sum-scale, sum-⊗, same-sums, coefficient-append, coefficient-none}
 use Rattle.polynomial.proofs.Products.{keys-append, keys-scale, keys-⊗, keys-map}
 use Rattle.problem.specs.Rules.{Problem}
-use Rattle.problem.specs.Bases.{basisOf}
+use Rattle.problem.specs.Bases.{basisOf, multiplier}
 use Rattle.problem.specs.Limits.{All}
 use Rattle.certificate.specs.Rules.{Entry, Row}
-use Rattle.identity.specs.Identity.{multiplier, combination, square, squares}
+use Rattle.identity.specs.Identity.{combination, square, squares}
 use Rattle.identity.specs.Gram.{factors, rekeyed, outer, gram, pairKey, expanded, rowsOn, byBasis}
 
 -- ---- sums under another m

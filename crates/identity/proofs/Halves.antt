@@ -16,10 +16,10 @@ use Rattle.polynomial.specs.Terms.{Term, term}
 use Rattle.polynomial.specs.Algebra.{sum, match, coefficient, _⊗_, Keys}
 use Rattle.polynomial.proofs.Sums.{sum-append, sum-scale, sum-⊗}
 use Rattle.problem.specs.Rules.{Problem}
-use Rattle.problem.specs.Bases.{basisOf}
+use Rattle.problem.specs.Bases.{basisOf, multiplier}
 use Rattle.problem.specs.Limits.{All}
 use Rattle.certificate.specs.Rules.{Entry, Row}
-use Rattle.identity.specs.Identity.{multiplier, squares}
+use Rattle.identity.specs.Identity.{squares}
 use Rattle.identity.specs.Gram.{factors, rekeyed, outer, gram, pairKey, placed, upper, times}
 use Rattle.identity.proofs.Gram.{sum-same, sum-rekeyed, factors-small, gram-places, at, under, place-key, rows-gram}
 

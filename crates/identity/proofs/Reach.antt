@@ -13,7 +13,7 @@ use Rattle.polynomial.specs.Algebra.{coefficient, scale, _⊗_, Keys}
 use Rattle.polynomial.proofs.Sums.{coefficient-none}
 use Rattle.polynomial.proofs.Products.{keys-append, keys-scale, keys-⊗}
 use Rattle.problem.specs.Rules.{Problem}
-use Rattle.problem.specs.Bases.{basisOf, multiplierOf}
+use Rattle.problem.specs.Bases.{basisOf, multiplierOf, multiplier}
 use Rattle.problem.specs.Limits.{All, Limits}
 use Rattle.support.specs.Sets.{In, Rising, insert, insertAll}
 use Rattle.support.proofs.Elements.{in-here, in-there, in-cons, not-nil, insert-in, insert-keeps, insert-rising}
@@ -25,7 +25,7 @@ use Rattle.joining.specs.Joining.{basesOf, multiples, startFrom, startSet, clos
 use Rattle.joining.proofs.Start.{insertAll-extends, start-rising}
 use Rattle.certificate.specs.Rules.{Entry, Row}
 use Rattle.certificate.specs.declared.Header.{Header}
-use Rattle.identity.specs.Identity.{multiplier, combination, square, squares, turned, claim, blockOf, OneBlock, KeepsBlocks, RowFits, RowsFit}
+use Rattle.identity.specs.Identity.{combination, square, squares, turned, claim, blockOf, OneBlock, KeepsBlocks, RowFits, RowsFit}
 use Rattle.identity.specs.Judgement.{comparedKeys}
 
 -- ---- the monomials of a polynomial, as a list
@@ -52,9 +52,8 @@ all-both A B C f (x ∷ l) h k = (f x (h .0) (k .0), all-both A B C f l (h .1) (
 module _ (p : Problem) where
   -- the exponents of g_j are its monomials
   multiplier-keys : (A : ℕ → Type 0) (j : ℕ) → ((t : ℕ) → In t (multiplierOf p j) → A t) → Keys A (multiplier p j)
-  unfolding multiplier multiplierOf
-  multiplier-keys A zero f = (f 0 (in-here 0 0 [] refl), tt)
-  multiplier-keys A (suc j) f = keys-in A (getD (p .constraints) j []) f
+  unfolding multiplierOf
+  multiplier-keys A j f = keys-in A (multiplier p j) f
 
   -- ---- the rows
   -- b and b' of one block, and t of g_j: b + b' + t is in S

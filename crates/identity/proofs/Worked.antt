@@ -15,9 +15,9 @@ use Rattle.polynomial.proofs.Sums.{coefficient-none}
 use Rattle.problem.specs.Limits.{All, Distinct, Monomials, Limits}
 use Rattle.problem.proofs.Limits.{monomials-none, nothing-basis}
 use Rattle.problem.specs.Rules.{Problem}
-use Rattle.problem.specs.Bases.{basisOf}
+use Rattle.problem.specs.Bases.{basisOf, multiplier}
 use Rattle.certificate.specs.Rules.{Entry, Certificate}
-use Rattle.identity.specs.Identity.{multiplier, square, squares, claim, Identity}
+use Rattle.identity.specs.Identity.{square, squares, claim, Identity}
 use Rattle.identity.specs.Bounds.{BoundedBelow}
 use Rattle.identity.proofs.Bounds.{identity-below}
 

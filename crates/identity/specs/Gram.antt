@@ -10,9 +10,9 @@ use Rattle.counting.specs.Counting.{listed}
 use Rattle.polynomial.specs.Terms.{Term, term}
 use Rattle.polynomial.specs.Algebra.{scale, _⊗_}
 use Rattle.problem.specs.Rules.{Problem}
-use Rattle.problem.specs.Bases.{basisOf}
+use Rattle.problem.specs.Bases.{basisOf, multiplier}
 use Rattle.certificate.specs.Rules.{Entry, Row}
-use Rattle.identity.specs.Identity.{multiplier, squares}
+use Rattle.identity.specs.Identity.{squares}
 
 -- a row's factors, each at its index
 abbrev pub factors : List Entry → List Term

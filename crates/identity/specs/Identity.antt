@@ -7,16 +7,11 @@ use lib.ListN.{length, getD}
 use Rattle.polynomial.specs.Terms.{Term, term}
 use Rattle.polynomial.specs.Algebra.{coefficient, scale, _⊗_}
 use Rattle.problem.specs.Rules.{Problem}
-use Rattle.problem.specs.Bases.{basisOf}
+use Rattle.problem.specs.Bases.{basisOf, multiplier}
 use Rattle.problem.specs.Limits.{All}
 use Rattle.joining.specs.Joining.{closing}
 use Rattle.certificate.specs.Rules.{Entry, Row, Certificate}
 use Rattle.certificate.specs.declared.Header.{Header}
-
--- "g_0 = 1 and g_j is constraint j"
-unfoldable pub multiplier : Problem → ℕ → List Term
-multiplier p zero = term 0 (pos 1) ∷ []
-multiplier p (suc j) = getD (p .constraints) j []
 
 -- the "sum of l × b" over a row's entries, on the basis B
 abbrev pub combination : List ℕ → List Entry → List Term

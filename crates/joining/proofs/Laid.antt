@@ -2,9 +2,11 @@
 use mathlib.Core.Path.{_≡_, refl, sym, ap, _∙_}
 use mathlib.Core.List.{List, []}
 use Prim.Native.Nat.{ℕ, _*_, _<_}
-use lib.ListN.{length, getD, take, drop}
+use native.Mathlib.Omega.{arith}
+use lib.ListN.{length, getD, take, drop, length-drop}
 use Rattle.counting.proofs.Listed.{listed-at}
 use Rattle.polynomial.specs.Terms.{keysOf, objectiveTerms}
+use Rattle.polynomial.proofs.Terms.{terms-keys}
 use Rattle.problem.specs.declared.StoredProblem.{StoredProblem}
 use Rattle.problem.specs.declared.Multipliers.{Multipliers}
 use Rattle.problem.specs.Stored.{problemOf, basesOf, Kept}
@@ -38,8 +40,9 @@ module _ (p : StoredProblem) (kept : Kept p) (m : Multipliers) (flat : Flat (pro
   same-basis j h = sym (listed-at 9 (λ j. take (getD (p .sizes) j 0) (drop (64 * j) (p .keys))) j [] h)
 
   same-multiplier : (j : ℕ) → j < 9 → laid .multiplier j ≡ multiplierOf (problemOf p) j
-  unfolding basesIn
-  same-multiplier j h = flat .each j
+  unfolding basesIn multiplierOf
+  same-multiplier j h =
+      sym (terms-keys (getD (m .counts) j 0) (drop (32 * j) (m .keys)) (drop (32 * j) (m .coefficients)) (simp length-drop (omega (arith, flat .counts-low j, flat .keys-length)))) ∙ ap keysOf (flat .each j)
 
   pub laid-start : startFrom (keysOf (objectiveTerms (p .objective))) laid ≡ startSet (problemOf p)
   unfolding startSet problemOf

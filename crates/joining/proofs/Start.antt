@@ -7,11 +7,11 @@ use native.Mathlib.Numerals.{add-one}
 use native.Mathlib.Omega.{arith}
 use lib.ListN.{length, take, drop, getD, drop-of-length-le}
 use lib.Seq.{drop-cons, getD-drop}
+use Rattle.counting.proofs.Bounded.{bounded-part}
 use Rattle.support.specs.Sets.{insert, insertAll, Rising}
-use Rattle.blocks.specs.Limits.{Bounded}
 use Rattle.rounds.specs.Bytes.{part}
 use Rattle.blocks.proofs.Growth.{Extends, extends-refl, extends-trans, insert-extends, fromTo-extends}
-use Rattle.counting.specs.Counting.{listed, fromTo}
+use Rattle.counting.specs.Counting.{listed, fromTo, Bounded}
 use Rattle.counting.proofs.Listed.{listed-take}
 use Rattle.counting.proofs.Steps.{fromTo-same}
 use Rattle.polynomial.specs.Terms.{term, keysOf, termsIn}
@@ -46,14 +46,8 @@ product-fits (suc (suc zero)) k h b = omega arith
 product-fits (suc (suc (suc c))) k h b = absurd (omega arith)
 
 -- a part of a list that has no number above m has none
-pub first-low : (m n : ℕ) (l : List ℕ) → Bounded m l → Bounded m (take n l)
-first-low m zero l h i = omega arith
-first-low m (suc n) [] h i = omega arith
-first-low m (suc n) (x ∷ l) h zero = h 0
-first-low m (suc n) (x ∷ l) h (suc i) = first-low m n l (λ k. h (suc k)) i
-
 pub part-low : (m w : ℕ) (counts l : List ℕ) (j : ℕ) → Bounded m l → Bounded m (part w counts l j)
-part-low m w counts l j h i = first-low m (getD counts j 0) (drop (w * j) l) (λ k. rw (getD-drop (w * j) l k 0) (h (w * j + k))) i
+part-low m w counts l j h = bounded-part m (w * j) (getD counts j 0) l h
 
 -- ---- the objective's keys
 pub keys-listed : (n : ℕ) (keys : List ℕ) (coefficients : List ℤ) → keysOf (termsIn n keys coefficients) ≡ listed n (λ i. getD keys i 0)

@@ -10,7 +10,7 @@ use Rattle.support.specs.Table.{keysIn, Indexed}
 use Rattle.rounds.specs.Rounds.{Closing, blocksIn}
 use Rattle.rounds.specs.Bytes.{blockBytes}
 use Rattle.joining.specs.declared.Joined.{Joined}
-use Rattle.blocks.specs.Limits.{Bounded}
+use Rattle.counting.specs.Counting.{Bounded}
 
 -- nine multipliers of at most 32 terms of degree at most 16
 pub record Multipliers (exponents counts : List ℕ) : Type 0 where

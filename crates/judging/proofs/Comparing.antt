@@ -9,7 +9,7 @@ use lib.Seq.{drop-drop, drop-at}
 use Rattle.counting.proofs.Listed.{listed-at}
 use Rattle.stream.specs.Commands.{Outcome, refused, given}
 use Rattle.polynomial.specs.Terms.{objectiveTerms}
-use Rattle.problem.specs.Bases.{basisOf, Flat, FlatCoefficients}
+use Rattle.problem.specs.Bases.{basisOf, Flat}
 use Rattle.problem.specs.Stored.{problemOf, constraintsOf, basesOf, Kept}
 use Rattle.problem.specs.declared.StoredProblem.{StoredProblem}
 use Rattle.problem.specs.declared.Multipliers.{Multipliers}
@@ -58,10 +58,10 @@ module _ (p : StoredProblem) (kept : Kept p) (n : ℕ) (table idx : List ℕ) (c
   unfolding problemOf
   same-objective = refl
 
-  module _ (m : Multipliers) (flat : Flat (problemOf p) m) (cs : List ℤ) (factors : FlatCoefficients (problemOf p) cs) (s : List ℕ) (t : Header) (stands : Stands (problemOf p) s t) where
-    pub comparable : Comparable s (p .keys) (m .keys) cs (record { sizes = p .sizes; counts = m .counts }) (p .objective)
+  module _ (m : Multipliers) (flat : Flat (problemOf p) m) (s : List ℕ) (t : Header) (stands : Stands (problemOf p) s t) where
+    pub comparable : Comparable s (p .keys) (m .keys) (m .coefficients) (record { sizes = p .sizes; counts = m .counts }) (p .objective)
     comparable = record {
-      flat = record { arrays = arrays p kept m flat; coefficients-long = factors .long };
+      flat = record { arrays = arrays p kept m flat; coefficients-long = flat .coefficients-length };
       rows = record {
         shape = shapeOf (problemOf p);
         sizes-are = sizes-are p kept;
@@ -74,14 +74,13 @@ module _ (p : StoredProblem) (kept : Kept p) (n : ℕ) (table idx : List ℕ) (c
     headerIn (given c) = c .header
     headerIn (refused number place) = t
 
-    pub compared : (c : Certificate) → readCertificate (shapeOf (problemOf p)) s ≡ given c → Given (problemOf p) c s t (p .keys) (m .keys) cs (record { sizes = p .sizes; counts = m .counts }) (p .objective) table n
+    pub compared : (c : Certificate) → readCertificate (shapeOf (problemOf p)) s ≡ given c → Given (problemOf p) c s t (p .keys) (m .keys) (m .coefficients) (record { sizes = p .sizes; counts = m .counts }) (p .objective) table n
     compared c e = record {
       limits = compares .limits;
       read = e;
       header-is = stands .header-is ∙ ap headerIn (sym (stands .read) ∙ e);
       bases = same-basis;
       multipliers = flat;
-      factors = factors;
       objective-is = same-objective;
       compared = compares .keys;
     }

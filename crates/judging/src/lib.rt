@@ -134,9 +134,9 @@ fn difference(
     clear(low, n);
     let constraints = p.constraints;
     let m = problem::multipliers_of(constraints, p.count);
-    let coefficients = problem::coefficients_of(constraints, p.count);
     let bases = p.keys;
     let exponents = m.keys;
+    let coefficients = m.coefficients;
     let sizes = p.sizes;
     let counts = m.counts;
     let lengths = Lengths { sizes, counts };

@@ -6,7 +6,7 @@ use mathlib.Core.List.{List}
 use Prim.Native.Nat.{ℕ, zero, suc, _+_, _*_, _/_, _%_, _^_, _≤_, _<_}
 use lib.Dec.{ltb, eqb}
 use lib.ListN.{length, getD}
-use Rattle.blocks.specs.Limits.{Bounded}
+use Rattle.counting.specs.Counting.{Bounded}
 
 -- one more than the last number below n that passes a test, or 0
 unfoldable pub lastOf : (ℕ → Bool) → ℕ → ℕ

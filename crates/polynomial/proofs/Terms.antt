@@ -6,6 +6,7 @@ use native.Mathlib.Omega.{arith}
 use lib.IntN.{ℤ, pos}
 use lib.ListN.{length, take, set, getD, replicate, length-set, length-replicate}
 use lib.Seq.{getD-set-same, getD-set-other}
+use Rattle.counting.proofs.Bounded.{bounded-zeros}
 use Rattle.counting.specs.Counting.{listed}
 use Rattle.counting.proofs.Listed.{listed-length, listed-take, listed-more}
 use Rattle.polynomial.specs.Terms.{Term, term, keysOf, termsIn, Low, Filled}
@@ -34,11 +35,6 @@ terms-more n keys coefficients k c p q =
     (rw (getD-set-same keys n k 0 p, getD-set-same coefficients n c (pos 0) q))
 
 -- ---- the bounds are kept
-pub low-none : (d n : ℕ) → Low d (replicate n 0)
-low-none d zero i = zero-le
-low-none d (suc n) zero = zero-le
-low-none d (suc n) (suc i) = low-none d n i
-
 -- a store keeps what holds at each place
 pub set-all : {A : Type 0} (P : ℕ → A → Type 0) (l : List A) (i : ℕ) (a d : A) → ((j : ℕ) → P j (getD l j d)) → P i a → (j : ℕ) → P j (getD (set l i a) j d)
 set-all P [] i a d h p j = h j
@@ -56,7 +52,7 @@ filled-none d most =
       count-low = zero-le;
       keys-length = length-replicate most 0;
       coefficients-length = length-replicate most (pos 0);
-      keys-low = low-none d most;
+      keys-low = bounded-zeros _ most;
     }
 
 pub filled-more : (d most : ℕ) (keys : List ℕ) (coefficients : List ℤ) (n k : ℕ) (c : ℤ) → Filled d most keys coefficients n → n < most → k ≤ d * 2 ^ 56

@@ -4,7 +4,7 @@ use mathlib.Core.List.{List, map}
 use Prim.Native.Nat.{ℕ, _*_, _^_, _≤_}
 use lib.IntN.{ℤ, pos}
 use lib.ListN.{getD, length}
-use Rattle.counting.specs.Counting.{listed}
+use Rattle.counting.specs.Counting.{listed, Bounded}
 use Rattle.polynomial.specs.declared.Objective.{Objective}
 use Rattle.polynomial.specs.declared.Polynomial.{Polynomial}
 
@@ -31,7 +31,7 @@ terms q = termsIn (q .count) (q .keys) (q .coefficients)
 
 -- no number of a list is above d × 256^7, as no key of a monomial of degree at most d is
 abbrev pub Low : ℕ → List ℕ → Type 0
-Low d keys = (i : ℕ) → getD keys i 0 ≤ d * 2 ^ 56
+Low d keys = Bounded (d * 2 ^ 56) keys
 
 -- arrays of `most` places that hold `count` terms of degree at most d
 pub record Filled (d most : ℕ) (keys : List ℕ) (coefficients : List ℤ) (count : ℕ) : Type 0 where

@@ -1,6 +1,6 @@
 -- Laws of the bases and the multipliers: a basis is its part of the keys, and the multipliers are flattened one after the other.
-use mathlib.Core.Path.{_≡_, refl, sym, _∙_, subst}
-use mathlib.Core.List.{List, [], _∷_, _++_, map}
+use mathlib.Core.Path.{_≡_, refl, sym, ap, ap₂, _∙_}
+use mathlib.Core.List.{List, [], _∷_, _++_}
 use mathlib.Core.Logic.{_⊎_, inl, inr, ⊎-elim}
 use Prim.Native.Nat.{ℕ, zero, suc, _+_, _-_, _*_, _≤_, _<_, zero-le}
 use native.Mathlib.Nat.{eq-or-lt-of-le}
@@ -8,17 +8,18 @@ use native.Mathlib.Numerals.{add-one}
 use native.Mathlib.Omega.{arith}
 use lib.IntN.{ℤ, pos}
 use lib.ListN.{length, take, drop, set, getD, replicate, length-append, length-drop, length-set, length-replicate, take-append-drop, List·getD-eq-default}
-use lib.Seq.{length-take-le, take-append-le, drop-append-le, drop-at, getD-drop, getD-set-same, getD-set-other}
+use lib.Seq.{length-take-le, take-append-le, drop-append-le, drop-at, getD-take, getD-drop, getD-set-same, getD-set-other}
 use Rattle.counting.specs.Counting.{listed}
 use Rattle.counting.proofs.Cases.{lt-or-le}
-use Rattle.counting.proofs.Listed.{listed-at, listed-take}
-use Rattle.polynomial.specs.Terms.{Term, term, keysOf, termsIn, terms, Low, Filled}
+use Rattle.counting.proofs.Bounded.{bounded-zeros, bounded-take, bounded-drop, bounded-append}
+use Rattle.counting.proofs.Listed.{listed-at, listed-same}
+use Rattle.polynomial.specs.Terms.{Term, term, termsIn, terms, Low, Filled}
 use Rattle.polynomial.specs.declared.Polynomial.{Polynomial}
-use Rattle.polynomial.proofs.Terms.{terms-keys, set-all, low-none}
+use Rattle.polynomial.proofs.Terms.{set-all}
 use Rattle.problem.specs.declared.StoredProblem.{StoredProblem}
 use Rattle.problem.specs.Rules.{Problem}
 use Rattle.problem.specs.Stored.{noTerms, constraintsOf, basesOf, problemOf, KeptConstraints, Kept}
-use Rattle.problem.specs.Bases.{basisOf, multiplierOf, Flat, coefficientsOf, FlatCoefficients}
+use Rattle.problem.specs.Bases.{basisOf, multiplier, Flat}
 use Rattle.problem.proofs.Stored.{constraints-count, bases-count, basis-stored}
 
 -- the constraints of a stored problem, from which its multipliers are made
@@ -36,21 +37,6 @@ basis-part p k j =
     let l = bases-count (p .sizes) (p .keys) in
     rw (List·getD-eq-default (basesOf (p .sizes) (p .keys)) [] {n = j} (omega arith), List·getD-eq-default (p .sizes) 0 {n = j} (omega arith)))
     (lt-or-le j 9)
-
--- ---- low keys of a list that is put together
-low-take : (d n : ℕ) (l : List ℕ) → Low d l → Low d (take n l)
-low-take d zero l h i = zero-le
-low-take d (suc n) [] h i = zero-le
-low-take d (suc n) (x ∷ l) h zero = h zero
-low-take d (suc n) (x ∷ l) h (suc i) = low-take d n l (λ j. h (suc j)) i
-
-low-drop : (d n : ℕ) (l : List ℕ) → Low d l → Low d (drop n l)
-low-drop d n l h i = rw (getD-drop n l i 0) (h (n + i))
-
-low-append : (d : ℕ) (l m : List ℕ) → Low d l → Low d m → Low d (l ++ m)
-low-append d [] m h k i = k i
-low-append d (x ∷ l) m h k zero = h zero
-low-append d (x ∷ l) m h k (suc i) = low-append d l m (λ j. h (suc j)) k i
 
 -- ---- a part of a list is replaced
 module _ {A : Type 0} (l : List A) (a : ℕ) (h : a ≤ length l) where
@@ -72,40 +58,48 @@ module _ {A : Type 0} (l : List A) (a : ℕ) (h : a ≤ length l) where
   placed m y r p = rw (drop-at (take a l) (y ++ r) a front) (take-append-le m y r p)
 
 -- ---- the multipliers up to number j stand in their parts
-unfoldable pub exponents : List Polynomial → ℕ → List ℕ
-exponents qs zero = 0 ∷ []
-exponents qs (suc i) = take (getD qs i noTerms .count) (getD qs i noTerms .keys)
+-- terms are the same where the first places of the arrays are
+terms-same : (n : ℕ) (k l : List ℕ) (c d : List ℤ) → take n k ≡ take n l → take n c ≡ take n d → termsIn n k c ≡ termsIn n l d
+unfolding termsIn
+terms-same n k l c d e f =
+    listed-same n _ _ (λ i h. ap₂ term (sym (getD-take n k i 0 h) ∙ ap (λ (x : List ℕ). getD x i 0) e ∙ getD-take n l i 0 h) (sym (getD-take n c i (pos 0) h) ∙ ap (λ (x : List ℤ). getD x i (pos 0)) f ∙ getD-take n d i (pos 0) h))
 
-pub record Flattened (qs : List Polynomial) (j : ℕ) (keys counts : List ℕ) : Type 0 where
-  pub each : (i : ℕ) → i ≤ j → take (getD counts i 0) (drop (32 * i) keys) ≡ exponents qs i
+unfoldable pub held : List Polynomial → ℕ → List Term
+held qs zero = term 0 (pos 1) ∷ []
+held qs (suc i) = terms (getD qs i noTerms)
+
+pub record Flattened (qs : List Polynomial) (j : ℕ) (keys : List ℕ) (coefficients : List ℤ) (counts : List ℕ) : Type 0 where
+  pub each : (i : ℕ) → i ≤ j → termsIn (getD counts i 0) (drop (32 * i) keys) (drop (32 * i) coefficients) ≡ held qs i
   pub none : (i : ℕ) → j < i → getD counts i 0 ≡ 0
   pub counts-length : length counts ≡ 9
   pub counts-low : (i : ℕ) → getD counts i 0 ≤ 32
   pub keys-length : length keys ≡ 288
   pub keys-low : Low 16 keys
+  pub coefficients-length : length coefficients ≡ 288
 
 module _ (qs : List Polynomial) where
-  pub flat-start : Flattened qs 0 (replicate 288 0) (set (replicate 9 0) 0 1)
-  unfolding exponents
+  pub flat-start : Flattened qs 0 (replicate 288 0) (set (replicate 288 (pos 0)) 0 (pos 1)) (set (replicate 9 0) 0 1)
+  unfolding held termsIn listed
   flat-start =
       record {
         each = first;
         none = others;
         counts-length = refl;
-        counts-low = set-all (λ _ n. n ≤ 32) (replicate 9 0) 0 1 0 (λ i. let z = low-none 0 9 i in omega arith) (omega arith);
+        counts-low = set-all (λ _ n. n ≤ 32) (replicate 9 0) 0 1 0 (λ i. let z = bounded-zeros 0 9 i in omega arith) (omega arith);
         keys-length = length-replicate {A = ℕ} 288 0;
-        keys-low = low-none 16 288;
+        keys-low = bounded-zeros _ 288;
+        coefficients-length = length-set (replicate 288 (pos 0)) 0 (pos 1) ∙ length-replicate {A = ℤ} 288 (pos 0);
       }
     where
-      first : (i : ℕ) → i ≤ 0 → take (getD (set (replicate 9 0) 0 1) i 0) (drop (32 * i) (replicate 288 0)) ≡ exponents qs i
+      first : (i : ℕ) → i ≤ 0 → termsIn (getD (set (replicate 9 0) 0 1) i 0) (drop (32 * i) (replicate 288 0)) (drop (32 * i) (set (replicate 288 (pos 0)) 0 (pos 1))) ≡ held qs i
       first zero h = refl
       first (suc i) h = absurd (omega arith)
 
       others : (i : ℕ) → 0 < i → getD (set (replicate {A = ℕ} 9 0) 0 1) i 0 ≡ 0
       others zero h = absurd (omega arith)
-      others (suc i) h = let z = low-none 0 8 i in omega arith
+      others (suc i) h = let z = bounded-zeros 0 8 i in omega arith
 
-  module _ (n j : ℕ) (keys counts : List ℕ) (k : KeptConstraints n qs) (f : Flattened qs j keys counts) (h : j < n) where
+  module _ (n j : ℕ) (keys : List ℕ) (coefficients : List ℤ) (counts : List ℕ) (k : KeptConstraints n qs) (f : Flattened qs j keys coefficients counts) (h : j < n) where
     abbrev q : Polynomial
     q = getD qs j noTerms
 
@@ -115,174 +109,90 @@ module _ (qs : List Polynomial) where
     abbrev a : ℕ
     a = 32 * (j + 1)
 
-    abbrev rest : List ℕ
-    rest = drop (a + 32 - a) (drop a keys)
+    -- an array with the part from place a on replaced
+    abbrev rest : {A : Type 0} → List A → List A
+    rest l = drop (a + 32 - a) (drop a l)
 
-    abbrev longer : List ℕ
-    longer = take a keys ++ (q .keys ++ rest)
+    abbrev longer : {A : Type 0} → List A → List A → List A
+    longer l new = take a l ++ (new ++ rest l)
 
-    room : a + 32 ≤ length keys
-    room = let u = k .count-low in let l = f .keys-length in omega arith
+    room : a + 32 ≤ 288
+    room = let u = k .count-low in omega arith
 
-    each-more : (i : ℕ) → i ≤ j + 1 → take (getD (set counts (j + 1) (q .count)) i 0) (drop (32 * i) longer) ≡ exponents qs i
-    unfolding exponents
-    each-more i l =
-        let u = k .count-low in
-        let g = f .counts-length in
+    -- the part that the next multiplier takes
+    pub here-long : {A : Type 0} (l : List A) → length l ≡ 288 → length (take (a + 32 - a) (drop a l)) ≡ 32
+    here-long l e = let r = room in length-take-le (a + 32 - a) (drop a l) (rw (length-drop a l) (omega arith)) ∙ omega arith
+
+    longer-length : {A : Type 0} (l new : List A) → length l ≡ 288 → length new ≡ 32 → length (longer l new) ≡ 288
+    longer-length l new e d =
         let r = room in
-        let o = kept-one in
-        ⊎-elim
-        (λ e. rw (e, getD-set-same counts (j + 1) (q .count) 0 (omega arith)) (placed keys a (omega arith) (q .count) (q .keys) rest (omega arith) ∙ rw (add-one j)))
-        (λ d.
+        let g = length-take-le a l (omega arith) in
+        rw (length-append (take a l) (new ++ rest l), length-append new (rest l), length-drop (a + 32 - a) (drop a l), length-drop a l) (omega arith)
+
+    abbrev terms-of : ℕ → ℕ → List Term
+    terms-of m i = termsIn m (drop (32 * i) (longer keys (q .keys))) (drop (32 * i) (longer coefficients (q .coefficients)))
+
+    earlier : (i : ℕ) → i ≤ j → terms-of (getD counts i 0) i ≡ held qs i
+    earlier i l =
+        let r = room in
         let b = f .counts-low i in
-        rw (getD-set-other counts (j + 1) i (q .count) 0 (λ e. omega arith))
-        (before keys a (omega arith) (getD counts i 0) (32 * i) (q .keys ++ rest) (omega arith) ∙ f .each i (omega arith)))
-        (eq-or-lt-of-le l)
+        let u = f .keys-length in
+        let v = f .coefficients-length in
+        terms-same (getD counts i 0) _ _ _ _
+        (before keys a (omega arith) (getD counts i 0) (32 * i) (q .keys ++ rest keys) (omega arith))
+        (before coefficients a (omega arith) (getD counts i 0) (32 * i) (q .coefficients ++ rest coefficients) (omega arith))
+        ∙ f .each i l
 
-    pub flat-more : Flattened qs (j + 1) longer (set counts (j + 1) (q .count))
-    flat-more =
+    latest : terms-of (q .count) (j + 1) ≡ held qs (j + 1)
+    unfolding held
+    latest =
         let r = room in
         let o = kept-one in
-        let g = length-take-le a keys (omega arith) in
+        let u = f .keys-length in
+        let v = f .coefficients-length in
+        terms-same (q .count) _ _ _ _
+        (placed keys a (omega arith) (q .count) (q .keys) (rest keys) (omega arith))
+        (placed coefficients a (omega arith) (q .count) (q .coefficients) (rest coefficients) (omega arith))
+        ∙ rw (add-one j)
+
+    pub flat-more : Flattened qs (j + 1) (longer keys (q .keys)) (longer coefficients (q .coefficients)) (set counts (j + 1) (q .count))
+    flat-more =
+        let o = kept-one in
+        let r = room in
+        let g = f .counts-length in
         record {
-          each = each-more;
+          each = λ i l.
+              ⊎-elim
+              (λ e. rw (e, getD-set-same counts (j + 1) (q .count) 0 (omega arith)) latest)
+              (λ d. rw (getD-set-other counts (j + 1) i (q .count) 0 (λ e. omega arith)) (earlier i (omega arith)))
+              (eq-or-lt-of-le l);
           none = λ i l. getD-set-other counts (j + 1) i (q .count) 0 (λ e. omega arith) ∙ f .none i (omega arith);
           counts-length = length-set counts (j + 1) (q .count) ∙ f .counts-length;
           counts-low = set-all (λ _ m. m ≤ 32) counts (j + 1) (q .count) 0 (f .counts-low) (o .count-low);
-          keys-length = rw (length-append (take a keys) (q .keys ++ rest), length-append (q .keys) rest, length-drop (a + 32 - a) (drop a keys), length-drop a keys) (let l = f .keys-length in omega arith);
-          keys-low = low-append 16 (take a keys) (q .keys ++ rest) (low-take 16 a keys (f .keys-low)) (low-append 16 (q .keys) rest (o .keys-low) (low-drop 16 (a + 32 - a) (drop a keys) (low-drop 16 a keys (f .keys-low))));
+          keys-length = longer-length keys (q .keys) (f .keys-length) (o .keys-length);
+          keys-low = bounded-append _ (take a keys) (q .keys ++ rest keys) (bounded-take _ a keys (f .keys-low)) (bounded-append _ (q .keys) (rest keys) (o .keys-low) (bounded-drop _ (a + 32 - a) (drop a keys) (bounded-drop _ a keys (f .keys-low))));
+          coefficients-length = longer-length coefficients (q .coefficients) (f .coefficients-length) (o .coefficients-length);
         }
 
-  pub flat-done : (n : ℕ) (keys counts : List ℕ) → KeptConstraints n qs → Flattened qs n keys counts → (p : Problem) → p .constraints ≡ constraintsOf n qs → Flat p (record { keys = keys; counts = counts })
-  unfolding exponents multiplierOf constraintsOf keysOf
-  flat-done n keys counts k f p e =
+  pub flat-done : (n : ℕ) (keys : List ℕ) (coefficients : List ℤ) (counts : List ℕ) → KeptConstraints n qs → Flattened qs n keys coefficients counts
+      → (p : Problem) → p .constraints ≡ constraintsOf n qs → Flat p (record { keys = keys; coefficients = coefficients; counts = counts })
+  unfolding held multiplier constraintsOf termsIn listed
+  flat-done n keys coefficients counts k f p e =
       record {
         each = all;
         counts-length = f .counts-length;
         counts-low = f .counts-low;
         keys-length = f .keys-length;
         keys-low = f .keys-low;
+        coefficients-length = f .coefficients-length;
       }
     where
-      all : (i : ℕ) → take (getD counts i 0) (drop (32 * i) keys) ≡ multiplierOf p i
+      all : (i : ℕ) → termsIn (getD counts i 0) (drop (32 * i) keys) (drop (32 * i) coefficients) ≡ multiplier p i
       all zero = f .each 0 zero-le
       all (suc i) =
           ⊎-elim
-          (λ l.
-          let u = k .count-low in
-          let o = k .each i (omega arith) in
-          let w : getD qs i noTerms .count ≤ length (getD qs i noTerms .keys) = omega arith in
-          f .each (suc i) (omega arith) ∙ sym (rw (e, listed-at n (λ j. terms (getD qs j noTerms)) i [] l) (terms-keys (getD qs i noTerms .count) (getD qs i noTerms .keys) (getD qs i noTerms .coefficients) w)))
+          (λ l. f .each (suc i) (omega arith) ∙ sym (rw (e, listed-at n (λ j. terms (getD qs j noTerms)) i [] l)))
           (λ l.
           let c = constraints-count n qs in
           rw (f .none (suc i) (omega arith), e, List·getD-eq-default (constraintsOf n qs) [] {n = i} (omega arith)))
-          (lt-or-le i n)
-
--- ---- the coefficients up to number j stand in the same parts
-unfoldable pub factors : List Polynomial → ℕ → List ℤ
-factors qs zero = pos 1 ∷ []
-factors qs (suc i) = take (getD qs i noTerms .count) (getD qs i noTerms .coefficients)
-
-pub record Filling (qs : List Polynomial) (j : ℕ) (cs : List ℤ) : Type 0 where
-  pub each : (i : ℕ) → i ≤ j → take (length (factors qs i)) (drop (32 * i) cs) ≡ factors qs i
-  pub long : length cs ≡ 288
-
-module _ (qs : List Polynomial) where
-  pub filling-start : Filling qs 0 (set (replicate 288 (pos 0)) 0 (pos 1))
-  unfolding factors
-  filling-start = record { each = first; long = length-set (replicate 288 (pos 0)) 0 (pos 1) ∙ length-replicate {A = ℤ} 288 (pos 0) }
-    where
-      first : (i : ℕ) → i ≤ 0 → take (length (factors qs i)) (drop (32 * i) (set (replicate 288 (pos 0)) 0 (pos 1))) ≡ factors qs i
-      first zero h = refl
-      first (suc i) h = absurd (omega arith)
-
-  module _ (n j : ℕ) (cs : List ℤ) (k : KeptConstraints n qs) (f : Filling qs j cs) (h : j < n) where
-    abbrev here : Polynomial
-    here = getD qs j noTerms
-
-    pub filled-here : Filled 16 32 (here .keys) (here .coefficients) (here .count)
-    filled-here = let u = k .count-low in k .each j (omega arith)
-
-    abbrev from : ℕ
-    from = 32 * (j + 1)
-
-    abbrev after : List ℤ
-    after = drop (from + 32 - from) (drop from cs)
-
-    abbrev filled : List ℤ
-    filled = take from cs ++ (here .coefficients ++ after)
-
-    pub filling-room : from + 32 ≤ length cs
-    filling-room = let u = k .count-low in let l = f .long in omega arith
-
-    -- at most 32 of them
-    factors-few : (i : ℕ) → i ≤ j → length (factors qs i) ≤ 32
-    unfolding factors
-    factors-few zero l = omega arith
-    factors-few (suc i) l =
-        let u = k .count-low in
-        let o = k .each i (omega arith) in
-        let e = length-take-le (getD qs i noTerms .count) (getD qs i noTerms .coefficients) (omega arith) in
-        omega arith
-
-    factors-next : factors qs (j + 1) ≡ take (here .count) (here .coefficients)
-    unfolding factors
-    factors-next = rw (add-one j)
-
-    last-is : take (length (factors qs (j + 1))) (drop from filled) ≡ factors qs (j + 1)
-    last-is =
-        let r = filling-room in
-        let o = filled-here in
-        let w : here .count ≤ length (here .coefficients) = omega arith in
-        rw (factors-next, length-take-le (here .count) (here .coefficients) w) (placed cs from (omega arith) (here .count) (here .coefficients) after w)
-
-    pub filling-more : Filling qs (j + 1) filled
-    filling-more =
-        let r = filling-room in
-        let o = filled-here in
-        let g = length-take-le from cs (omega arith) in
-        record {
-          each = λ i l.
-              ⊎-elim
-              (λ e. subst (λ (m : ℕ). take (length (factors qs m)) (drop (32 * m) filled) ≡ factors qs m) (sym e) last-is)
-              (λ d. let b = factors-few i (omega arith) in before cs from (omega arith) (length (factors qs i)) (32 * i) (here .coefficients ++ after) (omega arith) ∙ f .each i (omega arith))
-              (eq-or-lt-of-le l);
-          long = rw (length-append (take from cs) (here .coefficients ++ after), length-append (here .coefficients) after, length-drop (from + 32 - from) (drop from cs), length-drop from cs) (let l = f .long in omega arith);
-        }
-
--- ---- the coefficients of the terms that two arrays hold
-map-append : (l m : List Term) → map (λ (t : Term). t .coefficient) (l ++ m) ≡ map (λ (t : Term). t .coefficient) l ++ map (λ (t : Term). t .coefficient) m
-map-append [] m = refl
-map-append (x ∷ l) m = rw (map-append l m)
-
-map-listed : (n : ℕ) (f : ℕ → Term) → map (λ (t : Term). t .coefficient) (listed n f) ≡ listed n (λ i. f i .coefficient)
-unfolding listed
-map-listed zero f = refl
-map-listed (suc n) f = rw (map-append (listed n f) (f n ∷ []), map-listed n f)
-
-terms-coefficients : (n : ℕ) (keys : List ℕ) (cs : List ℤ) → n ≤ length cs → map (λ (t : Term). t .coefficient) (termsIn n keys cs) ≡ take n cs
-unfolding termsIn
-terms-coefficients n keys cs h = map-listed n (λ i. term (getD keys i 0) (getD cs i (pos 0))) ∙ listed-take n cs (pos 0) h
-
-module _ (qs : List Polynomial) where
-  pub filling-done : (n : ℕ) (cs : List ℤ) → KeptConstraints n qs → Filling qs n cs → (p : Problem) → p .constraints ≡ constraintsOf n qs → FlatCoefficients p cs
-  unfolding factors multiplierOf coefficientsOf constraintsOf keysOf
-  filling-done n cs k f p e = record { each = all; long = f .long }
-    where
-      all : (i : ℕ) → take (length (multiplierOf p i)) (drop (32 * i) cs) ≡ coefficientsOf p i
-      all zero = f .each 0 zero-le
-      all (suc i) =
-          ⊎-elim
-          (λ l.
-          let u = k .count-low in
-          let o = k .each i (omega arith) in
-          let q = getD qs i noTerms in
-          let v : q .count ≤ length (q .keys) = omega arith in
-          let w : q .count ≤ length (q .coefficients) = omega arith in
-          let g : getD (p .constraints) i [] ≡ terms q = rw (e, listed-at n (λ j. terms (getD qs j noTerms)) i [] l) in
-          let m : length (take (q .count) (q .keys)) ≡ length (take (q .count) (q .coefficients)) = length-take-le (q .count) (q .keys) v ∙ sym (length-take-le (q .count) (q .coefficients) w) in
-          rw (g, terms-keys (q .count) (q .keys) (q .coefficients) v, m, terms-coefficients (q .count) (q .keys) (q .coefficients) w) (f .each (suc i) (omega arith)))
-          (λ l.
-          let c = constraints-count n qs in
-          rw (e, List·getD-eq-default (constraintsOf n qs) [] {n = i} (omega arith)))
           (lt-or-le i n)

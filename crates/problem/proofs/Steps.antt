@@ -11,6 +11,7 @@ use lib.ListN.{length, take, drop, set, getD, replicate, length-drop, length-rep
 use lib.Seq.{length-take-le}
 use borrow.Author.Tests.{ne-eqb, le-leb, lt-leb, leb-true, leb-false, ltb-true}
 use Rattle.counting.proofs.Cases.{clash, and-left, and-right}
+use Rattle.counting.proofs.Bounded.{bounded-zeros}
 use Rattle.stream.specs.Commands.{firstRefusal}
 use Rattle.stream.proofs.Run.{Left, left-start, left-end, left-refused, left-extra, left-given, left-next}
 use Rattle.counting.specs.Counting.{listed}
@@ -19,7 +20,7 @@ use Rattle.polynomial.specs.Terms.{Term, term, termsIn, Filled}
 use Rattle.polynomial.specs.declared.Objective.{Objective}
 use Rattle.polynomial.specs.declared.Polynomial.{Polynomial}
 use Rattle.polynomial.proofs.Monomials.{key-low}
-use Rattle.polynomial.proofs.Terms.{low-none, terms-more, filled-more}
+use Rattle.polynomial.proofs.Terms.{terms-more, filled-more}
 use Rattle.problem.specs.declared.Command.{Command}
 use Rattle.problem.specs.declared.Command.the-variants as C
 use Rattle.problem.specs.declared.Instruction.{Instruction}
@@ -109,7 +110,7 @@ starting s o q f e =
             variables-low = zero-le;
             objective = f .0;
             constraints = record { count-low = zero-le; places = refl; each = λ j h. rw (getD-replicate 8 j q noTerms h) (e .0) };
-            bases = record { sizes-length = refl; sizes-low = λ j. le-trans (low-none 0 9 j) zero-le; keys-length = length-replicate {A = ℕ} 576 0; keys-low = low-none 8 576 };
+            bases = record { sizes-length = refl; sizes-low = λ j. bounded-zeros 64 9 j; keys-length = length-replicate {A = ℕ} 576 0; keys-low = bounded-zeros _ 576 };
           };
       left = rw (f .1) (left-start language s nothing);
     }

@@ -6,7 +6,7 @@ ghost use Rattle.problem.specs.Layout.{commandOf, size, decode};
 ghost use Rattle.problem.specs.Rules.{Problem, placed, fitting, nonzero, allowed, commandAt, readProblem};
 ghost use Rattle.problem.specs.Checks.{early, lateIn};
 ghost use Rattle.problem.specs.Stored.{outcomeOf, constraintsOf, KeptConstraints, Kept};
-ghost use Rattle.problem.specs.Bases.{Flat, FlatCoefficients};
+ghost use Rattle.problem.specs.Bases.{Flat};
 use polynomial::Objective;
 use polynomial::Polynomial;
 
@@ -47,9 +47,10 @@ pub struct Reading {
     pub problem: StoredProblem,
 }
 
-// The exponents of the multipliers: g_j has counts[j], from place 32 j of keys on.
+// The multipliers: g_j has counts[j] terms, from place 32 j of keys and of coefficients on.
 pub struct Multipliers {
     pub keys: [u64; 288],
+    pub coefficients: [i32; 288],
     pub counts: [usize; 9],
 }
 
@@ -287,24 +288,6 @@ fn copy_all(to: &mut [u64], from: &[u64])
     }
 }
 
-// The multipliers of a problem's bases, so that parts of one array can be lent: each constraint is copied once.
-pub fn multipliers_of(constraints: [Polynomial; 8], count: usize) -> Multipliers
-    requires { ⌜ KeptConstraints count constraints ⌝ }
-    ensures { λ r. ⌜ ((p : Problem) → p .constraints ≡ constraintsOf count constraints → Flat p r) ⌝ }
-{
-    let mut keys: [u64; 288] = [0; 288];
-    let mut counts: [usize; 9] = [0; 9];
-    counts[0] = 1;
-    let mut j = 0;
-    while j < count {
-        let q = constraints[j];
-        j += 1;
-        counts[j] = q.count;
-        copy_all(&mut keys[32 * j..32 * j + 32], &q.keys);
-    }
-    Multipliers { keys, counts }
-}
-
 fn copy_signed(to: &mut [i32], from: &[i32])
     requires { ⌜ length (now to) ≡ length (now from) ⌝ }
     ensures { λ _. ⌜ now (to .exit) ≡ now (from .entry) ⌝ }
@@ -316,18 +299,27 @@ fn copy_signed(to: &mut [i32], from: &[i32])
     }
 }
 
-// The coefficients of the multipliers, at the places that their exponents have. g_0 is 1.
-pub fn coefficients_of(constraints: [Polynomial; 8], count: usize) -> [i32; 288]
+// The multipliers of a problem's bases, so that parts of the arrays can be lent: each constraint is copied once. g_0 is 1.
+pub fn multipliers_of(constraints: [Polynomial; 8], count: usize) -> Multipliers
     requires { ⌜ KeptConstraints count constraints ⌝ }
-    ensures { λ r. ⌜ ((p : Problem) → p .constraints ≡ constraintsOf count constraints → FlatCoefficients p r) ⌝ }
+    ensures { λ r. ⌜ ((p : Problem) → p .constraints ≡ constraintsOf count constraints → Flat p r) ⌝ }
 {
+    let mut keys: [u64; 288] = [0; 288];
     let mut coefficients: [i32; 288] = [0; 288];
+    let mut counts: [usize; 9] = [0; 9];
     coefficients[0] = 1;
+    counts[0] = 1;
     let mut j = 0;
     while j < count {
         let q = constraints[j];
         j += 1;
+        counts[j] = q.count;
+        copy_all(&mut keys[32 * j..32 * j + 32], &q.keys);
         copy_signed(&mut coefficients[32 * j..32 * j + 32], &q.coefficients);
     }
-    coefficients
+    Multipliers {
+        keys,
+        coefficients,
+        counts,
+    }
 }

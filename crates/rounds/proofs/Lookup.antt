@@ -12,11 +12,11 @@ use lib.Seq.{length-take-le, getD-take, getD-drop}
 use borrow.Author.Tests.{lt-ltb, le-ltb}
 use Rattle.counting.proofs.Listed.{same-or-not}
 use Rattle.pairs.specs.Index.{lastOf, Paired, Small, AllPaired}
+use Rattle.counting.proofs.Bounded.{bounded-part}
 use Rattle.rounds.specs.Bytes.{part}
 use Rattle.rounds.specs.Lookup.{Keys, piece, PairedTo, Lookup}
 use Rattle.counting.proofs.Cases.{lt-or-le}
 use Rattle.rounds.proofs.Flat.{same-test, part-long, new-long, new-part, new-other}
-use Rattle.rounds.proofs.Passes.{taken-bounded}
 
 -- ---- no pairs yet
 
@@ -90,7 +90,7 @@ module _ (keys sizes : List ℕ) (k : Keys keys sizes) (j : ℕ) (h : j < 9) whe
   pub small-at : Small (part 64 sizes keys j)
   small-at =
       let z = k .sized .small j in
-      record { few = omega (arith, part-long 64 sizes keys j (omega (arith, k .long))); keys = taken-bounded (8 * 2 ^ 56) (64 * j) (getD sizes j 0) keys (k .low) }
+      record { few = omega (arith, part-long 64 sizes keys j (omega (arith, k .long))); keys = bounded-part (8 * 2 ^ 56) (64 * j) (getD sizes j 0) keys (k .low) }
 
   pub small-here : Small (take (64 * j + getD sizes j 0 - 64 * j) (drop (64 * j) keys))
   small-here = rw (add-sub-cancel-left (64 * j) (getD sizes j 0)) small-at

@@ -9,13 +9,12 @@ use native.Mathlib.Numerals.{add-one}
 use lib.Dec.{ltb}
 use lib.ListN.{length, getD, take, drop, set, replicate, length-drop}
 use lib.Seq.{getD-drop, length-take-le}
-use Rattle.counting.specs.Counting.{listed, fromTo, sumTo}
+use Rattle.counting.specs.Counting.{listed, fromTo, sumTo, Bounded}
 use Rattle.counting.proofs.Listed.{listed-length, listed-same, listed-at, listed-all}
 use Rattle.counting.proofs.Steps.{fromTo-reaches}
 use Rattle.support.specs.Table.{keysIn, Grown, Stored}
 use Rattle.blocks.specs.Join.{join}
 use Rattle.blocks.specs.Extend.{extend, blockCount}
-use Rattle.blocks.specs.Limits.{Bounded}
 use Rattle.blocks.specs.Filled.{Full, Filled}
 use Rattle.pairs.specs.Fresh.{Joins, Through, Blocks}
 use Rattle.blocks.proofs.Labels.{join-long}
@@ -31,15 +30,6 @@ use Rattle.rounds.proofs.Flat.{turned, turned-long, turned-at, turned-n
 
 pub taken-long : (a n : ℕ) (l : List ℕ) → a + n ≤ length l → length (take (a + n - a) (drop a l)) ≡ n
 taken-long a n l h = rw (add-sub-cancel-left a n) (length-take-le n (drop a l) (simp length-drop (omega arith)))
-
-bounded-take : (m n : ℕ) (l : List ℕ) → Bounded m l → Bounded m (take n l)
-bounded-take m zero l b i = omega arith
-bounded-take m (suc n) [] b i = omega arith
-bounded-take m (suc n) (x ∷ xs) b zero = b zero
-bounded-take m (suc n) (x ∷ xs) b (suc i) = bounded-take m n xs (λ k. b (suc k)) i
-
-pub taken-bounded : (m a n : ℕ) (l : List ℕ) → Bounded m l → Bounded m (take n (drop a l))
-taken-bounded m a n l b = bounded-take m n (drop a l) (λ i. rw getD-drop (b (a + i)))
 
 -- ---- joining
 

@@ -8,7 +8,7 @@ use Rattle.support.specs.Table.{keysIn, Holds, Indexed, Stored}
 use Rattle.blocks.specs.Join.{join}
 use Rattle.blocks.specs.Extend.{extend}
 use Rattle.pairs.specs.Fresh.{Joins, Through, Blocks, Recent}
-use Rattle.blocks.specs.Limits.{Bounded}
+use Rattle.counting.specs.Counting.{Bounded}
 use Rattle.blocks.specs.Filled.{Filled}
 use Rattle.rounds.specs.Rounds.{Bases, State, Closing, singles, round}
 use Rattle.rounds.specs.Bytes.{blockBytes, basesIn, labelsIn}

@@ -6,7 +6,7 @@ use mathlib.Core.List.{List}
 use Prim.Native.Nat.{ℕ, _*_, _^_, _≤_, _<_}
 use lib.Dec.{ltb}
 use lib.ListN.{length, take, drop}
-use Rattle.blocks.specs.Limits.{Bounded}
+use Rattle.counting.specs.Counting.{Bounded}
 use Rattle.pairs.specs.Index.{Paired}
 use Rattle.rounds.specs.Arrays.{Sizes}
 

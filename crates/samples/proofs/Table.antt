@@ -11,7 +11,7 @@ use Rattle.polynomial.specs.Monomial.{degreeOf, degree, within, among}
 use Rattle.polynomial.specs.Terms.{keysOf}
 use Rattle.problem.specs.Layout.{commandOf}
 use Rattle.problem.specs.Rules.{appendAt, fitting, applied, verdict, next, readProblem}
-use Rattle.problem.specs.Bases.{basisOf, multiplierOf}
+use Rattle.problem.specs.Bases.{basisOf, multiplierOf, multiplier}
 use Rattle.support.specs.Sets.{member, insert, insertAll}
 use Rattle.blocks.specs.Join.{linked, merged, joinPair, join}
 use Rattle.blocks.specs.Extend.{addTerms, addPair, extend, lowestFrom}
@@ -26,7 +26,7 @@ use Rattle.certificate.specs.Rules.{shapeOf, progressOf, progressVerdict, readC
 use Rattle.certificate.specs.Rules as Certificate
 use Rattle.certificate.specs.Layout as CertificateLayout
 use Rattle.polynomial.specs.Algebra.{coefficient}
-use Rattle.identity.specs.Identity.{multiplier, square, squares, claim, blockOf}
+use Rattle.identity.specs.Identity.{square, squares, claim, blockOf}
 use Rattle.identity.specs.Judgement.{firstOutside, rowSplit, splitBy, firstDifference, comparedKeys, differenceKey, judgeRead, judge}
 use Rattle.fraction.specs.Fractions.{fraction}
 use Rattle.judging.specs.Refusals.{problemRefusal, certificateRefusal}

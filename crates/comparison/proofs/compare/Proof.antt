@@ -5,9 +5,9 @@ use native.Mathlib.Omega.{arith}
 use borrow.Author.Needs.{needs}
 use lib.Seq.{length-take-le}
 use lib.ListN.{length, take}
+use Rattle.counting.proofs.Bounded.{bounded-take}
 use Rattle.polynomial.specs.declared.Objective.{Objective}
 use Rattle.support.proofs.Keys.{inside}
-use Rattle.joining.proofs.Start.{first-low}
 use Rattle.comparison.specs.Tables.{unit}
 use Rattle.comparison.specs.Spread.{tableUnit}
 use Rattle.comparison.proofs.Growth.{ready-after, grown-then}
@@ -56,7 +56,7 @@ add-claim-requires c κs =
       zeroed-ready (s .pre .0) (s .pre .1) _ (omega (arith, f .count-low)),
       record {
         paired = omega arith;
-        low = first-low _ (q s .count) (q s .keys) (f .keys-low);
+        low = bounded-take _ (q s .count) (q s .keys) (f .keys-low);
         key-low = omega arith;
         small = omega arith;
       },

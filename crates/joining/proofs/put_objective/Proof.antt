@@ -4,8 +4,9 @@ use native.Mathlib.Omega.{arith}
 use mathlib.Core.Path.{_≡_, sym, ap}
 use lib.ListN.{length}
 use lib.Seq.{length-take-le}
+use Rattle.counting.proofs.Bounded.{bounded-take}
 use Rattle.support.proofs.Keys.{keys-none}
-use Rattle.joining.proofs.Start.{first-keys, multiples-one, first-low}
+use Rattle.joining.proofs.Start.{first-keys, multiples-one}
 use Rattle.joining.proofs.put_objective.Statement.{statement}
 use Rattle.joining.proofs.put_objective.Tie as tie
 
@@ -21,7 +22,7 @@ slice-aggregate-put-keys c =
 put-keys-requires : tie.Need-put-keys-requires
 put-keys-requires c κs =
     let s = c .before .before .before .before .before .before in
-    ((record { few = omega arith; room = s .pre .0; apart = ap length (keys-none _) }, s .pre .1), first-low _ (s .args .q .count) (s .args .q .keys) (s .pre .3), omega arith)
+    ((record { few = omega arith; room = s .pre .0; apart = ap length (keys-none _) }, s .pre .1), bounded-take _ (s .args .q .count) (s .args .q .keys) (s .pre .3), omega arith)
 
 same-length : tie.Need-same-length
 same-length c = search needs

@@ -7,6 +7,7 @@ use mathlib.Core.List.{List, []}
 use Prim.Native.Nat.{ℕ, _+_, _-_, _*_, _≤_, _<_}
 use lib.ListN.{length, getD, take}
 use lib.Seq.{length-take-le}
+use Rattle.counting.proofs.Bounded.{bounded-take}
 use Rattle.counting.specs.Counting.{fromTo}
 use Rattle.polynomial.specs.Terms.{keysOf, objectiveTerms}
 use Rattle.support.specs.Sets.{insertAll}
@@ -15,7 +16,7 @@ use Rattle.support.proofs.Keys.{grown-holds}
 use Rattle.blocks.proofs.Growth.{Extends, fromTo-extends}
 use Rattle.rounds.specs.Bytes.{part, basesIn}
 use Rattle.joining.specs.Joining.{multiples, startFrom}
-use Rattle.joining.proofs.Start.{insertAll-extends, first-low, stored-over, stored-then}
+use Rattle.joining.proofs.Start.{insertAll-extends, stored-over, stored-then}
 use Rattle.joining.proofs.seed.Statement.{statement}
 use Rattle.joining.proofs.seed.Tie as tie
 
@@ -102,7 +103,7 @@ put-keys-requires c κs =
     let s = start (objective d) in
     let few = c .before .before .before .before .if2 .left in (
       (grown-holds (two d .grown) (s .pre .0) few, two d .index few),
-      (λ i. omega (arith, first-low _ (getD (s .args .sizes .now) 0 0) (s .args .keys .now) (s .pre .4 .keys-low) i)),
+      (λ i. omega (arith, bounded-take _ (getD (s .args .sizes .now) 0 0) (s .args .keys .now) (s .pre .4 .keys-low) i)),
       omega arith,
     )
 

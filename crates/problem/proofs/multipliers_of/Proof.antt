@@ -1,19 +1,20 @@
 -- `multipliers_of`: after j turns the multipliers up to number j stand in their parts.
-use mathlib.Core.Path.{_≡_}
-use Prim.Native.Nat.{_+_, _-_, _*_, _≤_}
+use mathlib.Core.Path.{_≡_, sym, _∙_}
+use Prim.Native.Nat.{_-_, _≤_}
 use native.Mathlib.Omega.{arith}
-use lib.ListN.{length, take, drop, length-drop}
-use lib.Seq.{length-take-le}
 use borrow.Author.Needs.{needs}
-use Rattle.problem.proofs.Bases.{Flattened, flat-start, kept-one, flat-more, flat-done}
+use Rattle.problem.proofs.Bases.{Flattened, flat-start, kept-one, here-long, flat-more, flat-done}
 use Rattle.problem.proofs.multipliers_of.Statement.{statement}
 use Rattle.problem.proofs.multipliers_of.Tie as tie
 
 abbrev Inv-loop : tie.InvT-loop
-Inv-loop count constraints keys₀ counts₀ j₀ keys counts j = (j ≤ count) × Flattened constraints j keys counts
+Inv-loop count constraints keys₀ coefficients₀ counts₀ j₀ keys coefficients counts j = (j ≤ count) × Flattened constraints j keys coefficients counts
 
 abbrev μ-loop : tie.MeasureT-loop
-μ-loop count constraints keys₀ counts₀ j₀ keys counts j = count - j
+μ-loop count constraints keys₀ coefficients₀ counts₀ j₀ keys coefficients counts j = count - j
+
+array-set-of-coefficients : tie.Need-array-set-of-coefficients Inv-loop μ-loop
+array-set-of-coefficients c = search needs
 
 array-write-counts : tie.Need-array-write-counts Inv-loop μ-loop
 array-write-counts c = search needs
@@ -60,27 +61,49 @@ part-keys-end c = let k = c .before .before .before .pre in omega arith
 copy-all-requires : tie.Need-copy-all-requires Inv-loop μ-loop
 copy-all-requires c κs =
     let l = c .before .before .before .before .before .before in
-    let a = 32 * (l .loop .j + 1) in
-    let k = l .before .pre in
-    let f = l .loop .inv .1 in
-    let o = kept-one (l .before .args .t1) (l .before .args .count) (l .loop .j) (l .loop .keys) (l .loop .counts) k f (omega arith) in
-    let d = length-drop a (l .loop .keys) in
-    let e : length (take (a + 32 - a) (drop a (l .loop .keys))) ≡ a + 32 - a = length-take-le (a + 32 - a) (drop a (l .loop .keys)) (omega arith) in
-    omega arith
+    here-long (l .before .args .t1) (l .before .args .count) (l .loop .j) (l .loop .keys) (l .loop .coefficients) (l .loop .counts) (l .before .pre) (l .loop .inv .1) (omega arith) (l .loop .keys) (l .loop .inv .1 .keys-length) ∙ sym (kept-one (l .before .args .t1) (l .before .args .count) (l .loop .j) (l .loop .keys) (l .loop .coefficients) (l .loop .counts) (l .before .pre) (l .loop .inv .1) (omega arith) .keys-length)
+
+mul-coefficients : tie.Need-mul-coefficients Inv-loop μ-loop
+mul-coefficients c = let k = c .before .before .before .before .before .before .before .before .before .pre in omega arith
+
+mul-copy-signed : tie.Need-mul-copy-signed Inv-loop μ-loop
+mul-copy-signed c = let k = c .before .before .before .before .before .before .before .before .before .pre in omega arith
+
+add-copy-signed : tie.Need-add-copy-signed Inv-loop μ-loop
+add-copy-signed c = let k = c .before .before .before .before .before .before .before .before .before .pre in omega arith
+
+mul-coefficients-2 : tie.Need-mul-coefficients-2 Inv-loop μ-loop
+mul-coefficients-2 c = let k = c .before .before .before .before .before .before .before .before .before .pre in omega arith
+
+sub-copy-signed : tie.Need-sub-copy-signed Inv-loop μ-loop
+sub-copy-signed c = let k = c .before .before .before .before .before .before .before .before .before .pre in omega arith
+
+part-coefficients-start : tie.Need-part-coefficients-start Inv-loop μ-loop
+part-coefficients-start c = let k = c .before .before .before .before .before .before .before .before .before .pre in omega arith
+
+part-coefficients-end : tie.Need-part-coefficients-end Inv-loop μ-loop
+part-coefficients-end c = let k = c .before .before .before .before .before .before .before .before .before .pre in omega arith
+
+copy-signed-requires : tie.Need-copy-signed-requires Inv-loop μ-loop
+copy-signed-requires c κs =
+    let l = c .before .before .before .before .before .before .before .before .before .before .before .before in
+    here-long (l .before .args .t1) (l .before .args .count) (l .loop .j) (l .loop .keys) (l .loop .coefficients) (l .loop .counts) (l .before .pre) (l .loop .inv .1) (omega arith) (l .loop .coefficients) (l .loop .inv .1 .coefficients-length) ∙ sym (kept-one (l .before .args .t1) (l .before .args .count) (l .loop .j) (l .loop .keys) (l .loop .coefficients) (l .loop .counts) (l .before .pre) (l .loop .inv .1) (omega arith) .coefficients-length)
 
 loop-less : tie.Need-loop-less Inv-loop μ-loop
 loop-less c = omega arith
 
 loop-again : tie.Need-loop-again Inv-loop μ-loop
 loop-again c =
-    let l = c .before .before .before .before .before .before .before .before in
-    (omega arith, rw (c .before .copy-all .ensures) (flat-more (l .before .args .t1) (l .before .args .count) (l .loop .j) (l .loop .keys) (l .loop .counts) (l .before .pre) (l .loop .inv .1) (omega arith)))
+    let d = c .before in
+    let k = d .before .before .before .before .before .before in
+    let l = k .before .before .before .before .before .before .before in
+    (omega arith, rw (k .copy-all .ensures, d .copy-signed .ensures) (flat-more (l .before .args .t1) (l .before .args .count) (l .loop .j) (l .loop .keys) (l .loop .coefficients) (l .loop .counts) (l .before .pre) (l .loop .inv .1) (omega arith)))
 
 returns : tie.Need-returns Inv-loop μ-loop
 returns c =
     let l = c .before in
     let e : l .loop .j ≡ l .before .args .count = omega arith in
-    flat-done (l .before .args .t1) (l .before .args .count) (l .loop .keys) (l .loop .counts) (l .before .pre) (rw e at (l .loop .inv .1))
+    flat-done (l .before .args .t1) (l .before .args .count) (l .loop .keys) (l .loop .coefficients) (l .loop .counts) (l .before .pre) (rw e at (l .loop .inv .1))
 
 pub multipliers-of-spec : {M : Type 1} → statement M
 multipliers-of-spec =
@@ -88,6 +111,7 @@ multipliers-of-spec =
     (tie.spec
     Inv-loop
     μ-loop
+    array-set-of-coefficients
     array-write-counts
     loop-holds
     mul-q
@@ -103,6 +127,14 @@ multipliers-of-spec =
     part-keys-start
     part-keys-end
     copy-all-requires
+    mul-coefficients
+    mul-copy-signed
+    add-copy-signed
+    mul-coefficients-2
+    sub-copy-signed
+    part-coefficients-start
+    part-coefficients-end
+    copy-signed-requires
     loop-less
     loop-again
     returns)
