@@ -12,7 +12,7 @@ use lib.Dec.{eqb}
 use borrow.Author.Tests.{eqb-true, eq-eqb, ne-eqb}
 use mathlib.Core.Bool.{cond}
 use Rattle.support.specs.Sets.{member}
-use Rattle.blocks.specs.Join.{linked, renamed, merged, joinPair, joinRow, join}
+use Rattle.blocks.specs.Join.{linked, renamed, merged, joinPair}
 use Rattle.blocks.specs.Extend.{lowestFrom, blockCount}
 
 -- a test that holds does not fail

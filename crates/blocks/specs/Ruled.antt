@@ -1,7 +1,7 @@
 -- The sums b + b' of one basis that the parities of the exponents rule out. S, T and B are as in Join.antt; a class is the parities
 -- of a monomial's exponents.
 use mathlib.Core.Path.{_≡_}
-use mathlib.Core.Bool.{Bool, false}
+use mathlib.Core.Bool.{false}
 use mathlib.Core.List.{List}
 use Prim.Native.Nat.{ℕ, _+_, _≤_, _<_}
 use lib.Bits.{bitXor}

@@ -1,6 +1,6 @@
 -- The sums b + b' of one basis that need no second look. T has the exponents of its multiplier, and S is the support.
 use mathlib.Core.Path.{_≡_}
-use mathlib.Core.Bool.{Bool, false}
+use mathlib.Core.Bool.{false}
 use mathlib.Core.List.{List}
 use Prim.Native.Nat.{ℕ, _+_}
 use lib.ListN.{getD}

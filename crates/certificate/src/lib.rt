@@ -1,7 +1,7 @@
 // The certificate stream: its reader, which stores nothing, and its rows, read off the lent bytes one at a time.
 ghost use mathlib.Core.Path.{_≡_};
 ghost use mathlib.Core.Bool.{true};
-ghost use Prim.Native.Nat.{ℕ, _+_, _*_, _≤_, _<_};
+ghost use Prim.Native.Nat.{_+_, _*_, _≤_, _<_};
 ghost use lib.ListN.{length};
 ghost use Rattle.stream.specs.Operands.{number, signed};
 ghost use Rattle.certificate.specs.Layout.{commandOf, size, decode};

@@ -3,10 +3,9 @@ use mathlib.Core.Path.{_≡_, refl, sym, ap, _∙_, subst}
 use mathlib.Core.Bool.{Bool, true, false, cond}
 use mathlib.Core.List.{List}
 use mathlib.Core.Option.{Option, none, some}
-use Prim.Native.Nat.{ℕ, zero, suc, _+_, _*_, _≤_, _<_}
+use Prim.Native.Nat.{ℕ, _<_}
 use native.Mathlib.Omega.{arith}
 use lib.Dec.{eqb}
-use lib.IntN.{ℤ, pos, _*ℤ_, _-ℤ_}
 use borrow.Author.Tests.{eqb-true, eq-eqb}
 use Rattle.counting.proofs.Cases.{clash}
 use Rattle.stream.specs.Commands.{Outcome, given}
@@ -24,13 +23,11 @@ use Rattle.identity.specs.Judgement as J
 use Rattle.identity.specs.Bounds.{BoundedBelow, BoundedAbove, WithinGap}
 use Rattle.identity.proofs.Accepted.{judge-accepted, accepted-judge}
 use Rattle.identity.proofs.Bounds.{identity-below, identity-above, bounds-gap}
-use Rattle.fraction.specs.Fractions.{gapOf}
-use Rattle.judging.specs.declared.Refusal.{Refusal}
 use Rattle.checker.specs.declared.CheckVerdict.{CheckVerdict}
 use Rattle.checker.specs.declared.PairVerdict.{PairVerdict}
-use Rattle.judging.specs.Refusals.{noRefusal, problemRefusal, certificateRefusal}
-use Rattle.checker.specs.Check.{refusedCheck, boundOf, checkJudged, checkOf, checkRead, checkVerdict}
-use Rattle.checker.specs.Pair.{refusedPair, acceptedPair, pairSides, pairSecond, pairFirst, pairOf, pairRead, pairVerdict}
+use Rattle.judging.specs.Refusals.{problemRefusal, certificateRefusal}
+use Rattle.checker.specs.Check.{refusedCheck, checkJudged, checkOf, checkRead, checkVerdict}
+use Rattle.checker.specs.Pair.{refusedPair, acceptedPair, pairSides, pairSecond, pairOf, pairRead, pairVerdict}
 use Rattle.checker.specs.Promises.{RoundsTaken, FewRounds, AcceptedExactly, BothHold, Stated, PairExactly, HoldsBelow, HoldsAbove, HoldsGap}
 use Rattle.checker.proofs.Promised.{promise-rounds, promise-few}
 

@@ -1,27 +1,23 @@
 -- What the definitions of the blocks call promise, in the buyer's terms: each clause of the contract, from the equations.
-use mathlib.Core.Path.{_≡_, refl, sym, ap, _∙_}
+use mathlib.Core.Path.{_≡_, refl, sym, _∙_}
 use mathlib.Core.Bool.{Bool, true, false, cond}
-use mathlib.Core.List.{List, [], _∷_, _++_}
-use Prim.Native.Nat.{ℕ, zero, suc, _+_, _-_, _*_, _/_, _%_, _≤_, _<_}
+use mathlib.Core.List.{List, [], _++_}
+use Prim.Native.Nat.{ℕ, suc, _+_, _-_, _*_, _≤_, _<_}
 use native.Mathlib.Omega.{arith}
 use lib.Dec.{ltb}
-use lib.ListN.{length, getD, drop, List·getD-append, List·getD-eq-default}
-use borrow.Author.Tests.{ltb-true, ltb-false, lt-ltb}
-use Rattle.counting.specs.Counting.{listed, sumTo}
-use Rattle.counting.proofs.Listed.{listed-at, listed-length}
-use Rattle.counting.proofs.Sums.{sumTo-same}
-use Rattle.stream.specs.Commands.{Outcome, refused, given}
+use lib.ListN.{length, getD, drop, List·getD-append}
+use borrow.Author.Tests.{ltb-true, lt-ltb}
+use Rattle.stream.specs.Commands.{given}
 use Rattle.problem.specs.Rules.{Problem, readProblem}
-use Rattle.problem.specs.Bases.{basisOf, multiplierOf}
-use Rattle.problem.specs.Limits.{All, Limits, Monomials, memberCommands, basesNamed}
+use Rattle.problem.specs.Bases.{basisOf}
+use Rattle.problem.specs.Limits.{Limits, Monomials, memberCommands, basesNamed}
 use Rattle.problem.proofs.Limits.{read-limits, all-at, monomials-none}
 use Rattle.problem.proofs.Counts.{count-members, count-named}
 use Rattle.support.specs.Sets.{insert, Rising}
 use Rattle.rounds.specs.Rounds.{Bases, monomials, nonempty}
 use Rattle.rounds.specs.Bytes.{blockBytes, blockAt}
-use Rattle.rounds.specs.Meaning.{Pair, Closed, Other, Least, Lowest, TakesRounds}
+use Rattle.rounds.specs.Meaning.{Pair, Closed, Least, Lowest, TakesRounds}
 use Rattle.rounds.proofs.Flat.{bytes-long, byte-at}
-use Rattle.rounds.proofs.Rounds.{Shaped}
 use Rattle.rounds.proofs.Closing.{closing-shaped}
 use Rattle.rounds.proofs.Bound.{few-rounds, closing-rounds}
 use Rattle.rounds.proofs.Meaning.{labelOf, closing-closed, closing-least, closing-lowest}
@@ -29,8 +25,8 @@ use Rattle.joining.specs.Joining.{basesOf, startSet, closing, closedSupport, to
 use Rattle.joining.proofs.Start.{start-rising}
 use Rattle.checker.specs.declared.BlocksVerdict.{BlocksVerdict}
 use Rattle.judging.specs.Refusals.{noRefusal}
-use Rattle.checker.specs.Blocks.{refusedBlocks, blocksOf, blocksRead, blocksVerdict, bytesOf, bytesRead, bytesLeft}
-use Rattle.checker.specs.Promises.{Accepted, BlocksClosed, BlocksLeast, BlocksLowest, RoundsTaken, FewRounds, SevenExactly}
+use Rattle.checker.specs.Blocks.{refusedBlocks, blocksOf, blocksVerdict, bytesOf, bytesLeft}
+use Rattle.checker.specs.Promises.{BlocksClosed, BlocksLeast, BlocksLowest, RoundsTaken, FewRounds, SevenExactly}
 
 -- ---- block numbers that agree at every index of a basis mean the same
 pub record Agree (g : Bases) (label label′ : ℕ → ℕ → ℕ) : Type 0 where

@@ -1,25 +1,23 @@
 -- The smallest key whose sum is not 0 is the first at which the claim and the squares differ.
-use mathlib.Core.Path.{_≡_, refl, sym, ap, ap₂, _∙_, subst}
+use mathlib.Core.Path.{_≡_, refl, sym, ap, ap₂, _∙_}
 use mathlib.Core.Logic.{⊎-elim}
 use mathlib.Core.Bool.{Bool, true, false, cond}
-use mathlib.Core.List.{List, [], _∷_, map}
+use mathlib.Core.List.{List, [], _∷_}
 use mathlib.Core.Option.{none, some}
-use Prim.Native.Nat.{ℕ, zero, suc, _+_, _-_, _*_, _^_, _≤_, _<_}
+use Prim.Native.Nat.{ℕ, _+_, _-_, _*_, _^_, _≤_, _<_}
 use native.Mathlib.Omega.{arith}
-use borrow.Author.Tests.{eq-eqb, ne-eqb}
+use borrow.Author.Tests.{ne-eqb}
 use lib.IntN.{ℤ, pos, negsuc, negℤ, natAbs, _+ℤ_, +ℤ-idl}
-use lib.ListN.{length, getD, take, drop, length-drop}
+use lib.ListN.{length, getD, take, length-drop}
 use lib.Seq.{getD-take, getD-drop, length-take-le, ext-getD}
 use Rattle.integers.proofs.Ring.{view, diffs, ⊖-eq, ⊖-eq⁻¹}
 use Rattle.counting.proofs.Cases.{clash}
-use Rattle.counting.specs.Counting.{listed}
-use Rattle.counting.proofs.Listed.{listed-same, listed-all}
-use Rattle.polynomial.specs.Terms.{Term, term, keysOf, termsIn, objectiveTerms, Filled}
+use Rattle.counting.proofs.Listed.{listed-same}
+use Rattle.polynomial.specs.Terms.{Term, term, termsIn, objectiveTerms, Filled}
 use Rattle.polynomial.specs.declared.Objective.{Objective}
 use Rattle.polynomial.specs.Algebra.{coefficient}
 use Rattle.problem.specs.Rules.{Problem}
-use Rattle.problem.specs.Bases.{multiplierOf, Flat, coefficientsOf, FlatCoefficients, multiplier}
-use Rattle.support.specs.Sets.{In, Above, Rising}
+use Rattle.support.specs.Sets.{In, Rising}
 use Rattle.support.specs.Table.{keysIn, Holds, Indexed}
 use Rattle.support.proofs.Elements.{not-nil, in-here, in-there, in-cons, above-in}
 use Rattle.support.proofs.Keys.{keys-rising, keys-at, at-keys}

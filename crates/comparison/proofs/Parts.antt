@@ -1,19 +1,15 @@
 -- The parts of the flat arrays that belong to one basis.
-use mathlib.Core.Path.{_≡_, refl, ap, ap₂}
-use mathlib.Core.Bool.{Bool, true, false}
+use mathlib.Core.Path.{_≡_, ap, ap₂}
 use mathlib.Core.List.{List}
 use Prim.Native.Nat.{ℕ, _+_, _-_, _*_, _^_, _≤_, _<_}
 use native.Mathlib.Nat.{add-sub-cancel-left}
 use native.Mathlib.Omega.{arith}
-use borrow.Author.Tests.{ltb-true, ltb-false}
-use lib.Dec.{ltb}
 use lib.IntN.{ℤ, pos}
-use lib.ListN.{length, getD, take, drop, length-take, length-drop, List·getD-eq-default}
-use lib.Seq.{getD-take, getD-drop}
+use lib.ListN.{length, getD, take, drop, length-take, length-drop}
+use lib.Seq.{getD-take}
 use Rattle.counting.proofs.Bounded.{bounded-part}
 use Rattle.counting.proofs.Listed.{listed-same}
 use Rattle.polynomial.specs.Terms.{term, termsIn}
-use Rattle.counting.specs.Counting.{Bounded}
 use Rattle.rounds.specs.Bytes.{part}
 use Rattle.comparison.specs.declared.Lengths.{Lengths}
 use Rattle.comparison.specs.Spread.{Spreadable, Flattened, multiplierIn}

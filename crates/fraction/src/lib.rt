@@ -1,7 +1,7 @@
 // Fractions: two are compared by cross products, and the gap of two bounds.
 ghost use mathlib.Core.Path.{_≡_};
-ghost use Prim.Native.Nat.{ℕ, _*_, _^_, _<_, _≤_};
-ghost use lib.IntN.{ℤ, pos, natAbs, _*ℤ_};
+ghost use Prim.Native.Nat.{_*_, _^_, _<_, _≤_};
+ghost use lib.IntN.{pos, natAbs, _*ℤ_};
 ghost use Rattle.fraction.specs.Fractions.{Bound, isLess, gapOf, zero, none};
 
 // A numerator over a denominator, not reduced.

@@ -3,7 +3,6 @@ use mathlib.Core.Path.{_≡_, refl, ap, _∙_}
 use mathlib.Core.List.{List}
 use mathlib.Core.Option.{Option, none, some}
 use Prim.Native.Nat.{ℕ}
-use native.Mathlib.Omega.{arith}
 use Rattle.counting.proofs.Cases.{clash}
 use Rattle.stream.specs.Commands.{Outcome}
 use Rattle.stream.specs.Commands as Stream

@@ -13,7 +13,7 @@ use Rattle.polynomial.specs.Terms.{Term}
 use Rattle.polynomial.specs.Algebra.{coefficient}
 use Rattle.problem.specs.Rules.{Problem}
 use Rattle.problem.specs.Limits.{Limits}
-use Rattle.support.specs.Sets.{In, Above, Rising, member}
+use Rattle.support.specs.Sets.{In, Rising, member}
 use Rattle.support.proofs.Elements.{in-cons, not-nil, above-in}
 use Rattle.certificate.specs.Rules.{Certificate}
 use Rattle.identity.specs.Identity.{squares, claim, Identity, KeepsBlocks, RowsFit}

@@ -1,9 +1,8 @@
 -- Which monomials the two sides of the identity have: rows that keep to blocks reach only monomials of the closed S, and the claim
 -- only those and the zero exponent. So outside the compared keys both coefficients are 0.
-use mathlib.Core.Path.{_≡_, refl, sym, _∙_, subst}
-use mathlib.Core.Logic.{⊎-elim}
+use mathlib.Core.Path.{_≡_, refl, sym, _∙_}
 use mathlib.Core.List.{List, [], _∷_, _++_}
-use Prim.Native.Nat.{ℕ, zero, suc, _+_, _<_}
+use Prim.Native.Nat.{ℕ, _+_, _<_}
 use native.Mathlib.Nat.{add-comm}
 use native.Mathlib.Omega.{arith}
 use lib.IntN.{pos, negℤ}
@@ -15,8 +14,8 @@ use Rattle.polynomial.proofs.Products.{keys-append, keys-scale, keys-⊗}
 use Rattle.problem.specs.Rules.{Problem}
 use Rattle.problem.specs.Bases.{basisOf, multiplierOf, multiplier}
 use Rattle.problem.specs.Limits.{All, Limits}
-use Rattle.support.specs.Sets.{In, Rising, insert, insertAll}
-use Rattle.support.proofs.Elements.{in-here, in-there, in-cons, not-nil, insert-in, insert-keeps, insert-rising}
+use Rattle.support.specs.Sets.{In, Rising, insertAll}
+use Rattle.support.proofs.Elements.{in-here, in-there, insert-in, insert-keeps, insert-rising}
 use Rattle.support.proofs.Keys.{insertAll-in}
 use Rattle.blocks.proofs.Growth.{fromTo-extends}
 use Rattle.blocks.proofs.Full.{full-any}

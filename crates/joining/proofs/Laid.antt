@@ -1,9 +1,9 @@
 -- The arrays of a stored problem hold its bases and multipliers, so what is computed of the arrays is the problem's.
-use mathlib.Core.Path.{_≡_, refl, sym, ap, _∙_}
-use mathlib.Core.List.{List, []}
+use mathlib.Core.Path.{_≡_, sym, ap, _∙_}
+use mathlib.Core.List.{[]}
 use Prim.Native.Nat.{ℕ, _*_, _<_}
 use native.Mathlib.Omega.{arith}
-use lib.ListN.{length, getD, take, drop, length-drop}
+use lib.ListN.{getD, take, drop, length-drop}
 use Rattle.counting.proofs.Listed.{listed-at}
 use Rattle.polynomial.specs.Terms.{keysOf, objectiveTerms}
 use Rattle.polynomial.proofs.Terms.{terms-keys}

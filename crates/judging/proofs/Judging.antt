@@ -1,9 +1,8 @@
 -- Laws of the steps on one certificate: reading, refusal 8 and refusal 9 together are the judgement.
 use mathlib.Core.Path.{_≡_, refl, sym, ap, _∙_}
-use mathlib.Core.Bool.{Bool, true, false}
 use mathlib.Core.List.{List, []}
 use mathlib.Core.Option.{Option, none, some}
-use Prim.Native.Nat.{ℕ, _*_, _≤_, _<_}
+use Prim.Native.Nat.{ℕ, _*_, _<_}
 use native.Mathlib.Omega.{arith}
 use lib.ListN.{length, getD, take, drop, length-drop}
 use lib.Seq.{length-take-le}
@@ -15,8 +14,7 @@ use Rattle.problem.specs.Limits.{Limits}
 use Rattle.problem.specs.Bases.{basisOf}
 use Rattle.problem.specs.Stored.{problemOf, constraintsOf, basesOf, Kept}
 use Rattle.problem.specs.declared.StoredProblem.{StoredProblem}
-use Rattle.support.specs.Table.{keysIn, Holds}
-use Rattle.joining.specs.Joining.{closing, closedSupport}
+use Rattle.support.specs.Table.{keysIn}
 use Rattle.joining.specs.declared.Joined.{Joined}
 use Rattle.certificate.specs.Rules.{Certificate, nothing, shapeOf, readCertificate}
 use Rattle.certificate.specs.Kept.{headerOutcome, outcomeOf}

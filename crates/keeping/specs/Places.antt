@@ -1,15 +1,13 @@
 -- Refusal 8 by the bytes: the block numbers are the 576 of the blocks call, and the rows are those of the stream.
 use mathlib.Core.Path.{_≡_}
-use mathlib.Core.List.{List, [], _∷_}
+use mathlib.Core.List.{List}
 use mathlib.Core.Option.{Option, none, some}
 use Prim.Native.Nat.{ℕ, _+_, _*_, _≤_, _<_}
 use lib.ListN.{length, getD}
 use Rattle.certificate.specs.Kept.{Within}
 use Rattle.certificate.specs.Rows.{Chain}
-use Rattle.certificate.specs.Rules.{Row}
 use Rattle.certificate.specs.declared.Shape.{Shape}
 use Rattle.certificate.specs.declared.StoredRow.{StoredRow}
-use Rattle.identity.specs.Judgement.{rowSplit, orElse}
 use Rattle.keeping.specs.declared.Place.{Place}
 use Rattle.keeping.specs.declared.Place.the-variants.{At, Nowhere}
 

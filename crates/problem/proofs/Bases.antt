@@ -1,14 +1,14 @@
 -- Laws of the bases and the multipliers: a basis is its part of the keys, and the multipliers are flattened one after the other.
 use mathlib.Core.Path.{_≡_, refl, sym, ap, ap₂, _∙_}
 use mathlib.Core.List.{List, [], _∷_, _++_}
-use mathlib.Core.Logic.{_⊎_, inl, inr, ⊎-elim}
+use mathlib.Core.Logic.{_⊎_, ⊎-elim}
 use Prim.Native.Nat.{ℕ, zero, suc, _+_, _-_, _*_, _≤_, _<_, zero-le}
 use native.Mathlib.Nat.{eq-or-lt-of-le}
 use native.Mathlib.Numerals.{add-one}
 use native.Mathlib.Omega.{arith}
 use lib.IntN.{ℤ, pos}
 use lib.ListN.{length, take, drop, set, getD, replicate, length-append, length-drop, length-set, length-replicate, take-append-drop, List·getD-eq-default}
-use lib.Seq.{length-take-le, take-append-le, drop-append-le, drop-at, getD-take, getD-drop, getD-set-same, getD-set-other}
+use lib.Seq.{length-take-le, take-append-le, drop-append-le, drop-at, getD-take, getD-set-same, getD-set-other}
 use Rattle.counting.specs.Counting.{listed}
 use Rattle.counting.proofs.Cases.{lt-or-le}
 use Rattle.counting.proofs.Bounded.{bounded-zeros, bounded-take, bounded-drop, bounded-append}

@@ -1,25 +1,23 @@
 -- N and B, counted from the commands of a stream, are the number of the monomials of all bases and of the bases that have one.
-use mathlib.Core.Path.{_≡_, refl, ap, sym, _∙_, subst}
+use mathlib.Core.Path.{_≡_, refl, ap, sym, _∙_}
 use mathlib.Core.List.{List, [], _∷_, _++_}
 use mathlib.Core.Bool.{Bool, true, false, cond, _&&_, _||_}
-use mathlib.Core.Logic.{⊎-elim, _≢_}
-use Prim.Native.Nat.{ℕ, zero, suc, _+_, _-_, _≤_, _<_}
+use Prim.Native.Nat.{ℕ, _+_, _-_, _<_}
 use native.Mathlib.Omega.{arith}
 use lib.ListN.{length, getD, set, length-append}
 use lib.Seq.{getD-set-same, getD-set-other}
 use lib.Dec.{eqb, leb, ltb}
-use borrow.Author.Tests.{leb-true, ltb-true, eqb-true, eqb-false, eq-eqb, ne-eqb, lt-ltb}
+use borrow.Author.Tests.{leb-true, ltb-true, eqb-true, eqb-false, lt-ltb}
 use Rattle.counting.proofs.Cases.{clash, and-left}
 use Rattle.counting.specs.Counting.{sumTo}
-use Rattle.counting.proofs.Listed.{same-or-not}
 use Rattle.counting.proofs.Sums.{sumTo-same, sumTo-add, sumTo-none, sumTo-one}
 use Rattle.stream.specs.Commands.{given, commands}
 use Rattle.stream.specs.Operands.{number}
-use Rattle.stream.proofs.Run.{Passes, passes, Taken, read-induction}
+use Rattle.stream.proofs.Run.{Passes, passes, read-induction}
 use Rattle.problem.specs.declared.Command.{Command}
 use Rattle.problem.specs.declared.Command.the-variants as C
-use Rattle.problem.specs.Layout.{commandOf, size, decode}
-use Rattle.problem.specs.Rules.{Problem, nothing, appendAt, placed, fitting, allowed, repeated, full, applied, commandAt, instructionAt, verdict, next, language, readProblem}
+use Rattle.problem.specs.Layout.{commandOf, decode}
+use Rattle.problem.specs.Rules.{Problem, nothing, appendAt, placed, fitting, allowed, repeated, full, applied, commandAt, verdict, next, language, readProblem}
 use Rattle.problem.specs.Limits.{countIf, anyOf, isMember, names, memberCommands, basesNamed}
 use Rattle.problem.proofs.Limits.{Kept, kept-next, kept-start, nothing-basis}
 

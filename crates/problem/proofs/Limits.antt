@@ -1,28 +1,26 @@
 -- Every problem that a stream gives keeps the limits.
 use mathlib.Core.Path.{_≡_, refl, ap, sym, _∙_, subst}
-use mathlib.Core.List.{List, [], _∷_, _++_, map, map-append}
+use mathlib.Core.List.{List, [], _∷_, _++_}
 use mathlib.Core.Bool.{Bool, true, false, cond, _&&_}
-use mathlib.Core.Logic.{_⊎_, inl, inr, ⊎-elim, _≢_}
+use mathlib.Core.Logic.{_≢_}
 use Prim.Native.Nat.{ℕ, zero, suc, _+_, _-_, _≤_, _<_}
 use native.Mathlib.Omega.{arith}
 use lib.ListN.{length, getD, set, length-append, length-set, length-map, replicate}
-use lib.Seq.{getD-set-same, getD-set-other}
-use lib.Dec.{eqb, leb, ltb}
+use lib.Seq.{getD-set-other}
+use lib.Dec.{eqb, leb}
 use lib.IntN.{ℤ, pos, negsuc}
-use borrow.Author.Tests.{leb-true, leb-false, ltb-true, eqb-true, eqb-false, eq-eqb, ne-eqb}
+use borrow.Author.Tests.{leb-true, leb-false, ltb-true, eqb-true, eqb-false, ne-eqb}
 use Rattle.counting.proofs.Cases.{clash, and-left, and-right}
-use Rattle.counting.proofs.Listed.{same-or-not}
 use Rattle.stream.specs.Commands.{given}
 use Rattle.stream.specs.Operands.{number, signed}
-use Rattle.stream.proofs.Run.{Passes, passes, Taken, read-induction}
+use Rattle.stream.proofs.Run.{Passes, passes, read-induction}
 use Rattle.polynomial.specs.Monomial.{degree, within, among}
 use Rattle.polynomial.specs.Terms.{Term, term, keysOf}
 use Rattle.problem.specs.declared.Command.{Command}
 use Rattle.problem.specs.declared.Command.the-variants as C
-use Rattle.problem.specs.declared.Instruction.{Instruction}
 use Rattle.problem.specs.declared.Instruction.the-variants as I
 use Rattle.problem.specs.Layout.{commandOf, size, decode}
-use Rattle.problem.specs.Rules.{Problem, nothing, appendAt, lastOf, placed, nonzero, fitting, allowed, repeated, full, applied, commandAt, instructionAt, verdict, next, language, readProblem}
+use Rattle.problem.specs.Rules.{Problem, nothing, appendAt, lastOf, placed, nonzero, fitting, allowed, repeated, full, applied, commandAt, verdict, next, language, readProblem}
 use Rattle.problem.specs.Limits.{Distinct, All, Monomials, Terms, Limits}
 use Rattle.problem.proofs.Checks.{placed-size}
 

@@ -1,9 +1,8 @@
 -- One command of the reading loop: what it stores is what the definition says, and the loop's invariant goes on.
 use mathlib.Core.Path.{_≡_, refl, sym, _∙_}
 use mathlib.Core.List.{List}
-use mathlib.Core.Bool.{Bool, true, false, _&&_}
+use mathlib.Core.Bool.{Bool, true, false}
 use Prim.Native.Nat.{ℕ, _+_, _-_, _*_, _^_, _≤_, _<_, zero-le}
-use native.Mathlib.Nat.{le-trans}
 use native.Mathlib.Omega.{arith}
 use lib.Dec.{leb, ltb}
 use lib.IntN.{ℤ}
@@ -28,7 +27,7 @@ use Rattle.problem.specs.declared.Instruction.the-variants as I
 use Rattle.problem.specs.declared.StoredProblem.{StoredProblem}
 use Rattle.problem.specs.declared.Reading.{Reading}
 use Rattle.problem.specs.Layout.{commandOf, decode}
-use Rattle.problem.specs.Rules.{Problem, placed, fitting, nonzero, full, applied, commandAt, verdict, next, language, nothing, readProblem}
+use Rattle.problem.specs.Rules.{Problem, placed, fitting, nonzero, applied, commandAt, verdict, next, language, nothing, readProblem}
 use Rattle.problem.specs.Checks.{early, late, lateIn}
 use Rattle.problem.specs.Stored.{noTerms, constraintsOf, basesOf, problemOf, outcomeOf, Kept}
 use Rattle.problem.proofs.Checks.{Passes, passes-size, passes-end, passes-on}

@@ -3,7 +3,6 @@ use mathlib.Core.Bool.{cond}
 use mathlib.Core.List.{List}
 use Prim.Native.Nat.{ℕ, _+_}
 use lib.Dec.{eqb}
-use lib.ListN.{getD}
 use Rattle.stream.specs.Operands.{number, signed}
 use Rattle.problem.specs.declared.Command.{Command}
 use Rattle.problem.specs.declared.Command.the-variants as C

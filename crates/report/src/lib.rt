@@ -5,7 +5,7 @@ ghost use Prim.Native.Nat.{_+_, _*_, _≤_, _<_};
 ghost use lib.IntN.{natAbs};
 ghost use lib.ListN.{length, take};
 ghost use Rattle.io.specs.Digits.{glyph};
-ghost use Rattle.report.specs.Lines.{ascii, decimal, signedDecimal, ratio, hexadecimal, refusalLine, pairWords, pairLines, blocksLine, checkLine, pairLine};
+ghost use Rattle.report.specs.Lines.{decimal, signedDecimal, ratio, hexadecimal, refusalLine, pairWords, pairLines, blocksLine, checkLine, pairLine};
 ghost use Rattle.report.specs.Appending.{textOf, Appended};
 use checker::BlocksVerdict;
 use checker::CheckVerdict;

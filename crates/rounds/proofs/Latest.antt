@@ -1,8 +1,8 @@
 -- Laws of the members that came last: the table lists them, and after a round only they can link what is not in one block.
-use mathlib.Core.Path.{_≡_, refl, sym, ap, _∙_}
+use mathlib.Core.Path.{_≡_, refl, ap, _∙_}
 use mathlib.Core.Logic.{_⊎_, inl, inr, ⊎-elim}
 use mathlib.Core.List.{List, [], _++_}
-use Prim.Native.Nat.{ℕ, _+_, _-_, _≤_, _<_}
+use Prim.Native.Nat.{ℕ, _+_, _-_, _≤_}
 use native.Mathlib.Omega.{arith}
 use lib.ListN.{length, getD, take, drop, set}
 use lib.Seq.{take-add}
@@ -10,7 +10,6 @@ use Rattle.support.specs.Sets.{In}
 use Rattle.support.specs.Table.{keysIn}
 use Rattle.support.proofs.Elements.{not-nil, in-append, append-in}
 use Rattle.support.proofs.Keys.{keys-in, keys-from}
-use Rattle.blocks.specs.Join.{join}
 use Rattle.pairs.specs.Fresh.{Blocks, Recent}
 use Rattle.blocks.proofs.Members.{linked-by}
 use Rattle.blocks.proofs.Labels.{join-long}

@@ -1,15 +1,15 @@
 -- Laws of the two halves of a round, basis by basis, on the flat arrays.
 use mathlib.Core.Path.{_≡_, refl, sym, ap, _∙_}
 use mathlib.Core.Bool.{Bool, true, false, cond}
-use mathlib.Core.List.{List, [], _∷_, _++_}
-use Prim.Native.Nat.{ℕ, zero, suc, _+_, _-_, _*_, _≤_, _<_}
+use mathlib.Core.List.{List, [], _++_}
+use Prim.Native.Nat.{ℕ, _+_, _-_, _*_, _≤_, _<_}
 use native.Mathlib.Nat.{add-sub-cancel-left}
 use native.Mathlib.Omega.{arith}
 use native.Mathlib.Numerals.{add-one}
 use lib.Dec.{ltb}
 use lib.ListN.{length, getD, take, drop, set, replicate, length-drop}
-use lib.Seq.{getD-drop, length-take-le}
-use Rattle.counting.specs.Counting.{listed, fromTo, sumTo, Bounded}
+use lib.Seq.{length-take-le}
+use Rattle.counting.specs.Counting.{listed, fromTo, sumTo}
 use Rattle.counting.proofs.Listed.{listed-length, listed-same, listed-at, listed-all}
 use Rattle.counting.proofs.Steps.{fromTo-reaches}
 use Rattle.support.specs.Table.{keysIn, Grown, Stored}

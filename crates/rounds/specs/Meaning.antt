@@ -1,11 +1,11 @@
 -- What the joining rule's result means: closed, least, and the number of rounds.
 use mathlib.Core.Path.{_≡_}
 use mathlib.Core.Bool.{Bool, true}
-use mathlib.Core.List.{List, []}
+use mathlib.Core.List.{List}
 use Prim.Native.Nat.{ℕ, _+_, _-_, _≤_, _<_}
 use lib.ListN.{length, getD}
 use Rattle.support.specs.Sets.{In}
-use Rattle.rounds.specs.Rounds.{Bases, State, after, start}
+use Rattle.rounds.specs.Rounds.{Bases, after, start}
 
 -- t + b + b', for the indices i and k of basis j
 abbrev pub sumOf : Bases → ℕ → ℕ → ℕ → ℕ → ℕ

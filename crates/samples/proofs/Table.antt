@@ -1,7 +1,7 @@
 -- The starred samples, started from their byte streams, as one table: each row's outcome is what the definitions compute.
 use mathlib.Core.Path.{_≡_, refl}
-use mathlib.Core.List.{List, [], _∷_, _++_, map}
-use mathlib.Core.Bool.{Bool, true, false}
+use mathlib.Core.List.{List, [], _∷_, map}
+use mathlib.Core.Bool.{true, false}
 use Prim.Native.Nat.{ℕ}
 use lib.ListN.{take, drop}
 use Rattle.counting.specs.Counting.{listed, fromTo, sumTo}
@@ -33,7 +33,6 @@ use Rattle.judging.specs.Refusals.{problemRefusal, certificateRefusal}
 use Rattle.checker.specs.Check.{refusedCheck, checkOf, checkVerdict}
 use Rattle.checker.specs.Pair.{refusedPair, pairSides, pairOf, pairVerdict}
 use Rattle.checker.specs.declared.CheckVerdict.{CheckVerdict}
-use Rattle.checker.specs.declared.PairVerdict.{PairVerdict}
 use lib.IntN.{ℤ, pos, negsuc}
 use Rattle.samples.specs.Streams.{problemA, problemC, problemD, problemE, problemF, certificateA, certificateB, certificateD, lowF, highF, certificateI}
 
@@ -58,7 +57,7 @@ pub samples :
     ∷ found 2 2 (0 ∷ 0 ∷ 255 ∷ []) (0 ∷ [])
     ∷ record { verdict = refusedBlocks 2 0; zero = 7 ∷ 7 ∷ 7 ∷ []; one = 7 ∷ [] }
     ∷ []
-unfolding listed fromTo sumTo number signed firstRefusal run readWhole degreeOf degree within among keysOf commandOf appendAt fitting applied verdict next readProblem basisOf multiplierOf member insert linked merged joinPair join addTerms addPair extend lowestFrom singles start joinAll extendAll round same sameAll sameState closeFrom blocksIn Rounds.closing blockBytes insertAll startFrom startSet closing tooLarge blockTotal blocksOf blocksVerdict bytesOf bytesLeft
+unfolding listed fromTo sumTo number signed firstRefusal run readWhole degreeOf degree within among keysOf commandOf appendAt fitting applied verdict next readProblem basisOf multiplier multiplierOf member insert linked merged joinPair join addTerms addPair extend lowestFrom singles start joinAll extendAll round same sameAll sameState closeFrom blocksIn Rounds.closing blockBytes insertAll startFrom startSet closing tooLarge blockTotal blocksOf blocksVerdict bytesOf bytesLeft
 samples = refl
 
 -- a lower bound p/1 that is accepted
@@ -81,7 +80,7 @@ pub checks :
     ∷ refusedCheck (certificateRefusal 1 2 0 0)
     ∷ refusedCheck (problemRefusal 2 0)
     ∷ []
-unfolding listed fromTo sumTo number signed firstRefusal run readWhole degreeOf degree within among keysOf commandOf appendAt fitting applied verdict next readProblem basisOf multiplierOf member insert linked merged joinPair join addTerms addPair extend lowestFrom singles start joinAll extendAll round same sameAll sameState closeFrom blocksIn Rounds.closing insertAll startFrom startSet closing tooLarge CertificateLayout.commandOf shapeOf progressOf progressVerdict Certificate.verdict Certificate.applied Certificate.next readCertificate coefficient multiplier square squares claim blockOf firstOutside rowSplit splitBy firstDifference comparedKeys differenceKey judgeRead judge checkOf checkVerdict
+unfolding listed fromTo sumTo number signed firstRefusal run readWhole degreeOf degree within among keysOf commandOf appendAt fitting applied verdict next readProblem basisOf multiplier multiplierOf member insert linked merged joinPair join addTerms addPair extend lowestFrom singles start joinAll extendAll round same sameAll sameState closeFrom blocksIn Rounds.closing insertAll startFrom startSet closing tooLarge CertificateLayout.commandOf shapeOf progressOf progressVerdict Certificate.verdict Certificate.applied Certificate.next readCertificate coefficient square squares claim blockOf firstOutside rowSplit splitBy firstDifference comparedKeys differenceKey judgeRead judge checkOf checkVerdict
 checks = refl
 
 -- F: bounds −1 and 1, gap 2, 2 rounds; two lower ones: 10 in the second stream; the certificates turned: 10 in the first
@@ -98,5 +97,5 @@ pub pairs :
     ∷ refusedPair (certificateRefusal 2 2 0 0)
     ∷ refusedPair (problemRefusal 1 0)
     ∷ []
-unfolding listed fromTo sumTo number signed firstRefusal run readWhole degreeOf degree within among keysOf commandOf appendAt fitting applied verdict next readProblem basisOf multiplierOf member insert linked merged joinPair join addTerms addPair extend lowestFrom singles start joinAll extendAll round same sameAll sameState closeFrom blocksIn Rounds.closing insertAll startFrom startSet closing tooLarge CertificateLayout.commandOf shapeOf progressOf progressVerdict Certificate.verdict Certificate.applied Certificate.next readCertificate coefficient multiplier square squares claim blockOf firstOutside rowSplit splitBy firstDifference comparedKeys differenceKey judgeRead judge pairSides pairOf pairVerdict
+unfolding listed fromTo sumTo number signed firstRefusal run readWhole degreeOf degree within among keysOf commandOf appendAt fitting applied verdict next readProblem basisOf multiplier multiplierOf member insert linked merged joinPair join addTerms addPair extend lowestFrom singles start joinAll extendAll round same sameAll sameState closeFrom blocksIn Rounds.closing insertAll startFrom startSet closing tooLarge CertificateLayout.commandOf shapeOf progressOf progressVerdict Certificate.verdict Certificate.applied Certificate.next readCertificate coefficient square squares claim blockOf firstOutside rowSplit splitBy firstDifference comparedKeys differenceKey judgeRead judge pairSides pairOf pairVerdict
 pairs = refl

@@ -2,8 +2,7 @@
 //
 // The parts meet at 2^60 because two low parts, with a carry, then stay below 2^63, so that nothing wraps and a low part is also a signed
 // number; and two tables hold 2^120, wide enough for factors of 32 bits and sums to 2^117.
-ghost use mathlib.Core.Path.{_≡_};
-ghost use lib.IntN.{pos, _*ℤ_};
+ghost use lib.IntN.{_*ℤ_};
 ghost use Rattle.sums.specs.Sums.{base, root, value, Parted, Addend, Factors, Room, Added, Placed, ZeroAt};
 
 const BASE: i64 = 1 << 60;

@@ -3,17 +3,17 @@ use mathlib.Core.Path.{_≡_, refl, sym, ap, _∙_}
 use mathlib.Core.Logic.{⊎-elim}
 use mathlib.Core.Bool.{Bool, true, false}
 use mathlib.Core.List.{List, [], _∷_, _++_}
-use Prim.Native.Nat.{ℕ, zero, suc, _+_, _-_, _≤_, _<_, min}
+use Prim.Native.Nat.{ℕ, zero, suc, _+_, _-_, _≤_, _<_}
 use native.Mathlib.Numerals.{add-one}
 use native.Mathlib.Omega.{arith}
-use lib.ListN.{length, getD, take, drop, set, length-set}
+use lib.ListN.{length, getD, take, set, length-set}
 use lib.Seq.{length-take-le, getD-take, take-suc, take-suc-set, take-set-le, drop-set-lt}
 use Rattle.counting.proofs.Cases.{clash}
 use Rattle.support.specs.Sets.{Rising, In, member, insert, insertAll}
 use Rattle.support.specs.Table.{keysIn, Holds, Finds, Indexed, Grown, Stored}
 use Rattle.support.specs.declared.Found.{Found}
 use Rattle.support.specs.declared.Found.the-variants.{At, Nowhere}
-use Rattle.support.proofs.Elements.{not-nil, in-cons, in-here, in-there, in-append, append-in, in-insert, insert-in, insert-keeps, member-at, insert-rising, insert-member, length-insert-new, insert-small}
+use Rattle.support.proofs.Elements.{not-nil, in-cons, in-here, in-there, in-insert, insert-in, insert-keeps, member-at, insert-rising, insert-member, length-insert-new, insert-small}
 
 pub inside : {t : List ℕ} {n : ℕ} → Holds t n → n ≤ length t
 inside h = omega (arith, h .few, h .room)

@@ -2,8 +2,8 @@
 // its place key % 4093 has one more than the place of the last key with that remainder, or 0, and its place 4096 + p has the same
 // for the keys before place p, so that a search goes from the last key with a remainder to the first.
 ghost use mathlib.Core.Path.{_≡_};
-ghost use Prim.Native.Nat.{ℕ, _%_, _≤_, _<_};
-ghost use lib.ListN.{length, take, set};
+ghost use Prim.Native.Nat.{_%_, _<_};
+ghost use lib.ListN.{length, take};
 ghost use Rattle.support.specs.Sets.{member, insert};
 ghost use Rattle.support.specs.Table.{keysIn, Holds, Indexed, noted, Finds, Stored};
 

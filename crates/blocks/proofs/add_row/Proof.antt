@@ -3,14 +3,14 @@ use borrow.Author.Needs.{needs}
 use native.Mathlib.Omega.{arith}
 use mathlib.Core.Path.{_≡_, refl, sym, _∙_}
 use Prim.Native.Nat.{_+_, _-_, _≤_}
-use lib.ListN.{length, take}
+use lib.ListN.{length}
 use Rattle.support.specs.Table.{keysIn}
 use Rattle.counting.specs.Counting.{fromTo}
 use Rattle.counting.proofs.Steps.{fromTo-done, fromTo-more}
-use Rattle.blocks.specs.Extend.{addPair, addRow, extend}
+use Rattle.blocks.specs.Extend.{addPair, addRow}
 use Rattle.blocks.specs.Filled.{Filled}
 use Rattle.blocks.specs.Sums.{Seen}
-use Rattle.blocks.proofs.Growth.{Growing, growing-start, growing-step, growing-stop, growing-end, filled-step, one-extends, rest-of-row-extends, rest-extends}
+use Rattle.blocks.proofs.Growth.{Growing, growing-start, growing-step, growing-stop, growing-end, filled-step, one-extends, rest-of-row-extends}
 use Rattle.blocks.proofs.Sums.{seen-keeps, seen-now}
 use Rattle.blocks.proofs.add_row.Statement.{statement}
 use Rattle.blocks.proofs.add_row.Tie as tie

@@ -1,7 +1,6 @@
 -- `blocks::add_sum` meets its contract: no sums are kept, one that was seen, and any other.
 use borrow.Author.Needs.{needs}
 use native.Mathlib.Omega.{arith}
-use mathlib.Core.Path.{sym}
 use Rattle.blocks.proofs.Members.{add-in, add-full}
 use Rattle.blocks.proofs.Growth.{add-extends}
 use Rattle.support.proofs.Keys.{keys-rising, stored-none}

@@ -3,7 +3,7 @@ use borrow.Author.Needs.{needs}
 use native.Mathlib.Omega.{arith}
 use mathlib.Core.Path.{sym, _∙_}
 use Prim.Native.Nat.{_+_, _-_, _≤_}
-use lib.ListN.{length, take, drop}
+use lib.ListN.{length, drop}
 use Rattle.support.specs.Table.{keysIn}
 use Rattle.blocks.specs.Extend.{addTerms}
 use Rattle.blocks.proofs.Growth.{Growing, growing-start, growing-step, growing-stop, growing-end, add-next, add-done, insert-extends, add-extends}

@@ -1,6 +1,5 @@
 -- `blocks::extend_pass` meets its contract: blocks that are as they were add nothing, and no sum was seen at first.
 use borrow.Author.Needs.{needs}
-use native.Mathlib.Omega.{arith}
 use mathlib.Core.Path.{refl, sym, _∙_}
 use Rattle.blocks.proofs.Growth.{blocks-known}
 use Rattle.support.proofs.Keys.{keys-rising, stored-none}

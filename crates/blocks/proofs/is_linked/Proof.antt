@@ -3,7 +3,7 @@ use borrow.Author.Needs.{needs}
 use native.Mathlib.Omega.{arith}
 use mathlib.Core.Path.{_≡_, sym, _∙_}
 use Prim.Native.Nat.{_-_, _≤_}
-use lib.ListN.{length, take, drop}
+use lib.ListN.{length, drop}
 use Rattle.support.specs.Table.{keysIn}
 use Rattle.blocks.specs.Join.{linked}
 use Rattle.blocks.proofs.Laws.{linked-hit, linked-miss, linked-done}

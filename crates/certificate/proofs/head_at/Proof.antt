@@ -1,9 +1,8 @@
 -- `head_at`: the basis stands after the row's command, and the entries are counted.
-use mathlib.Core.Path.{_≡_, ap}
+use mathlib.Core.Path.{ap}
 use Prim.Native.Nat.{ℕ, _+_, _*_, _≤_}
 use native.Mathlib.Omega.{arith}
 use lib.ListN.{length}
-use borrow.Author.Needs.{needs}
 use Rattle.certificate.specs.Rows.{rowAt, afterRow}
 use Rattle.certificate.proofs.Stored.{stands-within}
 use Rattle.certificate.proofs.head_at.Statement.{statement}

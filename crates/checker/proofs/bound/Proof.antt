@@ -1,5 +1,4 @@
 -- `bound`: p of 32 bits is a number of 64 bits too.
-use borrow.Author.Needs.{needs}
 use native.Mathlib.Omega.{arith}
 use mathlib.Core.Path.{refl}
 use mir.Facts.{toZ-ofZ, sfits-widen}

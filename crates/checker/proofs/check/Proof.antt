@@ -1,10 +1,8 @@
 -- `check`: the equations from the callees, and the clauses from the equations.
 use borrow.Author.Needs.{needs}
 use native.Mathlib.Omega.{arith}
-use mathlib.Core.Path.{_≡_, refl, sym, ap, _∙_}
+use mathlib.Core.Path.{_≡_, sym, _∙_}
 use mathlib.Core.Bool.{Bool, true, false}
-use Prim.Native.Nat.{ℕ, _≤_}
-use lib.ListN.{length, drop}
 use lib.IntN.{pos}
 use Rattle.checker.specs.Tables.{tablesShort, Long}
 use Rattle.checker.specs.Check.{checkVerdict}

@@ -1,6 +1,4 @@
 -- `is_short`: each return by the tests that led there.
-use mathlib.Core.Path.{_≡_, refl}
-use borrow.Author.Needs.{needs}
 use borrow.Author.Tests.{lt-ltb, le-ltb}
 use Rattle.checker.proofs.is_short.Statement.{statement}
 use Rattle.checker.proofs.is_short.Tie as tie

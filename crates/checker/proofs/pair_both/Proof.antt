@@ -1,9 +1,6 @@
 -- `pair_both`: the first certificate, then the second.
 use borrow.Author.Needs.{needs}
-use native.Mathlib.Omega.{arith}
-use mathlib.Core.Path.{_≡_, refl, sym, ap, _∙_}
-use Prim.Native.Nat.{ℕ, _≤_}
-use lib.ListN.{length}
+use mathlib.Core.Path.{sym, _∙_}
 use Rattle.problem.specs.Stored.{problemOf}
 use Rattle.identity.specs.Judgement.{judge}
 use Rattle.checker.proofs.Steps.{pair-first-refused, pair-both}

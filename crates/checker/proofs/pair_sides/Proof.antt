@@ -1,7 +1,6 @@
 -- `pair_sides`: refusal 10, or the bounds and their gap.
 use borrow.Author.Needs.{needs}
-use native.Mathlib.Omega.{arith}
-use mathlib.Core.Path.{_≡_, refl, sym, ap, _∙_}
+use mathlib.Core.Path.{_≡_, refl, _∙_}
 use Prim.Native.Nat.{ℕ}
 use mir.Syntax.{w32}
 use mir.Val.{toZ, ofZ}
@@ -10,7 +9,6 @@ use Rattle.certificate.specs.declared.Header.{Header}
 use Rattle.fraction.specs.declared.Fraction.{Fraction}
 use Rattle.fraction.specs.Fractions.{fraction, gapOf}
 use Rattle.judging.specs.declared.Refusal.{Refusal}
-use Rattle.checker.specs.declared.PairVerdict.{PairVerdict}
 use Rattle.judging.specs.Refusals.{noRefusal, certificateRefusal}
 use Rattle.checker.specs.Pair.{refusedPair, pairSides}
 use Rattle.checker.proofs.pair_sides.Statement.{statement}

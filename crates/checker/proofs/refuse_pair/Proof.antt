@@ -4,7 +4,6 @@ use mathlib.Core.Path.{_≡_, refl}
 use Rattle.fraction.specs.declared.Fraction.{Fraction}
 use Rattle.fraction.specs.Fractions.{none}
 use Rattle.judging.specs.declared.Refusal.{Refusal}
-use Rattle.checker.specs.declared.PairVerdict.{PairVerdict}
 use Rattle.checker.specs.Pair.{refusedPair}
 use Rattle.checker.proofs.refuse_pair.Statement.{statement}
 use Rattle.checker.proofs.refuse_pair.Tie as tie

@@ -3,7 +3,6 @@ use native.Mathlib.Omega.{arith}
 use borrow.Author.Needs.{needs}
 use mathlib.Core.Path.{refl}
 use mathlib.Core.Logic.{inl, inr}
-use Prim.Native.Nat.{_*_, _≤_, _<_}
 use Rattle.comparison.proofs.smaller.Statement.{statement}
 use Rattle.comparison.proofs.smaller.Tie as tie
 

@@ -1,8 +1,6 @@
 -- `join`: what is computed of the arrays is the problem's.
 use borrow.Author.Needs.{needs}
-use native.Mathlib.Omega.{arith}
-use mathlib.Core.Path.{_≡_, refl}
-use Rattle.problem.specs.declared.Multipliers.{Multipliers}
+use mathlib.Core.Path.{refl}
 use Rattle.problem.specs.Stored.{problemOf}
 use Rattle.problem.specs.Bases.{Flat}
 use Rattle.joining.proofs.Laid.{arrays, laid-closing}

@@ -1,7 +1,7 @@
 -- `put_constraints`: what is left of the multipliers, put into the support so far, gives the whole set.
 use borrow.Author.Needs.{needs}
 use native.Mathlib.Omega.{arith}
-use mathlib.Core.Path.{_≡_, sym, _∙_}
+use mathlib.Core.Path.{sym, _∙_}
 use Prim.Native.Nat.{ℕ, _+_, _-_, _≤_}
 use mathlib.Core.List.{List}
 use Rattle.counting.specs.Counting.{fromTo}

@@ -1,7 +1,7 @@
 -- `put_keys`: what is left of the keys, put into the support so far, gives the whole set.
 use borrow.Author.Needs.{needs}
 use native.Mathlib.Omega.{arith}
-use mathlib.Core.Path.{_≡_, sym, _∙_}
+use mathlib.Core.Path.{sym, _∙_}
 use Prim.Native.Nat.{_+_, _-_, _≤_}
 use lib.ListN.{length, drop}
 use Rattle.support.specs.Sets.{insertAll}

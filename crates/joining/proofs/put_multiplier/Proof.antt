@@ -2,10 +2,8 @@
 use borrow.Author.Needs.{needs}
 use native.Mathlib.Omega.{arith}
 use native.Mathlib.Nat.{add-sub-cancel-left}
-use mathlib.Core.Path.{_≡_, refl, sym, ap, _∙_}
-use Prim.Native.Nat.{ℕ, _+_, _-_, _*_, _≤_, _<_}
-use lib.ListN.{length, getD, take, drop}
-use Rattle.rounds.specs.Bytes.{part}
+use Prim.Native.Nat.{_-_, _*_}
+use lib.ListN.{getD}
 use Rattle.joining.proofs.Start.{part-low, multiples-one}
 use Rattle.joining.proofs.put_multiplier.Statement.{statement}
 use Rattle.joining.proofs.put_multiplier.Tie as tie

@@ -1,12 +1,9 @@
 -- `difference`: the comparison, with the problem's arrays and cleared tables.
 use borrow.Author.Needs.{needs}
 use native.Mathlib.Omega.{arith}
-use mathlib.Core.Path.{_≡_, refl, sym, ap, _∙_}
-use Prim.Native.Nat.{ℕ, _≤_}
 use lib.IntN.{pos}
-use lib.ListN.{length}
 use Rattle.problem.specs.Stored.{problemOf}
-use Rattle.problem.specs.Bases.{Flat, FlatCoefficients}
+use Rattle.problem.specs.Bases.{Flat}
 use Rattle.judging.proofs.Comparing.{cleared-untouched, zeroed, same-constraints, comparable, compared}
 use Rattle.judging.proofs.difference.Statement.{statement}
 use Rattle.judging.proofs.difference.Tie as tie
@@ -17,9 +14,6 @@ start c = c .before .before .before .before .before .before .before .before .bef
 flat : (c : tie.After-multipliers-of) → Flat (problemOf (start c .args .p)) (c .multipliers-of .result)
 flat c = let s = start c in c .multipliers-of .ensures (problemOf (s .args .p)) (same-constraints (s .args .p) (s .pre .0) _ _ _ (s .pre .1))
 
-factors : (c : tie.After-coefficients-of) → FlatCoefficients (problemOf (start (c .before) .args .p)) (c .coefficients-of .result)
-factors c = let s = start (c .before) in c .coefficients-of .ensures (problemOf (s .args .p)) (same-constraints (s .args .p) (s .pre .0) _ _ _ (s .pre .1))
-
 clear-signed-requires : tie.Need-clear-signed-requires
 clear-signed-requires c κs = let p = c .before .before .before .before .pre in omega (arith, p .1 .holds .few, p .4)
 
@@ -28,9 +22,6 @@ clear-requires c κs = let p = c .before .before .before .before .before .before
 
 multipliers-of-requires : tie.Need-multipliers-of-requires
 multipliers-of-requires c κs = search needs
-
-coefficients-of-requires : tie.Need-coefficients-of-requires
-coefficients-of-requires c κs = search needs
 
 slice-aggregate-compare : tie.Need-slice-aggregate-compare
 slice-aggregate-compare c = search needs
@@ -43,8 +34,7 @@ slice-aggregate-compare-3 c = search needs
 
 compare-requires : tie.Need-compare-requires
 compare-requires c κs =
-    let k = c .before .before .before .before .before .before .before .before .before .before .before .before in
-    let m = k .before in
+    let m = c .before .before .before .before .before .before .before .before .before .before .before .before .before in
     let l = m .before .before .before .before in
     let h = l .before .before .before in
     let s = start m in
@@ -52,7 +42,7 @@ compare-requires c κs =
       zeroed (s .args .p) (p .0) _ _ _ (p .1) (s .args .high .now) _ (s .args .low .now) _ (omega (arith, p .4, h .clear-signed .kept)) (omega (arith, p .5, l .clear .kept)) (h .clear-signed .ensures) (l .clear .ensures),
       p .1 .index,
       p .2,
-      comparable (s .args .p) (p .0) _ _ _ (p .1) _ (flat m) _ (factors k) _ _ (p .3),
+      comparable (s .args .p) (p .0) _ _ _ (p .1) _ (flat m) _ _ (p .3),
     )
 
 same-length : tie.Need-same-length
@@ -64,13 +54,12 @@ same-length-2 c = search needs
 returns : tie.Need-returns
 returns c =
     let d = c .before .before .before in
-    let k = d .before .before .before .before .before .before .before .before .before .before .before .before .before in
-    let m = k .before in
+    let m = d .before .before .before .before .before .before .before .before .before .before .before .before .before .before in
     let l = m .before .before .before .before in
     let h = l .before .before .before in
     let s = start m in
     let p = s .pre in (
-      λ x e. d .compare .ensures .0 (problemOf (s .args .p)) x (compared (s .args .p) (p .0) _ _ _ (p .1) _ (flat m) _ (factors k) _ _ (p .3) x e),
+      λ x e. d .compare .ensures .0 (problemOf (s .args .p)) x (compared (s .args .p) (p .0) _ _ _ (p .1) _ (flat m) _ _ (p .3) x e),
       cleared-untouched (pos 0) (s .args .high .now) _ _ (h .clear-signed .ensures) (p .1 .holds .few) _ (omega (arith, h .clear-signed .kept)) (d .compare .ensures .1 .0),
       cleared-untouched 0 (s .args .low .now) _ _ (l .clear .ensures) (p .1 .holds .few) _ (omega (arith, l .clear .kept)) (d .compare .ensures .1 .1),
       d .compare .ensures .1 .2,
@@ -83,7 +72,6 @@ difference-spec =
     clear-signed-requires
     clear-requires
     multipliers-of-requires
-    coefficients-of-requires
     slice-aggregate-compare
     slice-aggregate-compare-2
     slice-aggregate-compare-3

@@ -2,8 +2,6 @@
 use borrow.Author.Needs.{needs}
 use native.Mathlib.Omega.{arith}
 use mathlib.Core.Path.{_≡_, refl, sym, ap, _∙_}
-use Prim.Native.Nat.{ℕ, _≤_, _<_}
-use lib.ListN.{length}
 use Rattle.stream.specs.Commands.{given}
 use Rattle.problem.specs.Rules.{readProblem}
 use Rattle.problem.specs.Stored.{problemOf}

@@ -1,5 +1,5 @@
 -- `sums::is_zero` meets its contract: a number whose low part is below the base is 0 only where both parts are.
-use Prim.Native.Nat.{ℕ, _*_}
+use Prim.Native.Nat.{ℕ}
 use mathlib.Core.Path.{_≡_, ap, ap₂}
 use mir.Syntax.{w64}
 use mir.Val.{ofZ}

@@ -1,9 +1,6 @@
 -- `support::contains` meets its contract.
 use borrow.Author.Needs.{needs}
-use native.Mathlib.Omega.{arith}
-use mathlib.Core.Path.{_≡_, refl, sym, ap, _∙_, subst}
-use Prim.Native.Nat.{ℕ, zero, suc, _+_, _-_, _*_, _≤_, _<_}
-use lib.ListN.{length, getD, take, drop, set, length-set}
+use Prim.Native.Nat.{_-_}
 use Rattle.support.proofs.Keys.{found-at, found-nowhere}
 use Rattle.support.proofs.contains.Statement.{statement}
 use Rattle.support.proofs.contains.Tie as tie

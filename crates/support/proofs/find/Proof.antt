@@ -1,9 +1,8 @@
 -- `support::find` meets its contract: each key with the remainder is looked at, from the last to the first.
 use borrow.Author.Needs.{needs}
 use native.Mathlib.Omega.{arith}
-use mathlib.Core.Path.{sym, ap, _∙_}
-use Prim.Native.Nat.{ℕ, _+_, _-_}
-use lib.ListN.{length, getD, take}
+use mathlib.Core.Path.{_∙_}
+use Prim.Native.Nat.{_+_, _-_}
 use lib.Seq.{getD-take, length-take-le}
 use Rattle.support.proofs.Keys.{inside}
 use Rattle.support.proofs.Index.{Chained, chained-start, chained-less, chained-step, chained-none}

@@ -1,9 +1,9 @@
 -- `support::note` meets its contract.
 use borrow.Author.Needs.{needs}
 use native.Mathlib.Omega.{arith}
-use mathlib.Core.Path.{_≡_, refl, sym, ap, _∙_, subst}
-use Prim.Native.Nat.{ℕ, zero, suc, _+_, _-_, _*_, _≤_, _<_}
-use lib.ListN.{length, getD, take, drop, set, length-set}
+use mathlib.Core.Path.{ap}
+use Prim.Native.Nat.{ℕ, _+_, _-_}
+use lib.ListN.{getD, set, length-set}
 use Rattle.support.specs.Table.{noted}
 use Rattle.support.proofs.note.Statement.{statement}
 use Rattle.support.proofs.note.Tie as tie

@@ -1,9 +1,8 @@
 -- `support::put` meets its contract: the key is there, or there is no room, or it is put at the end.
 use borrow.Author.Needs.{needs}
 use native.Mathlib.Omega.{arith}
-use mathlib.Core.Path.{_≡_, refl, sym, ap, _∙_, subst}
-use Prim.Native.Nat.{ℕ, zero, suc, _+_, _-_, _*_, _≤_, _<_}
-use lib.ListN.{length, getD, take, drop, set, length-set}
+use mathlib.Core.Path.{sym, _∙_}
+use Prim.Native.Nat.{_-_}
 use Rattle.support.proofs.Keys.{stored-there, stored-full}
 use Rattle.support.proofs.Index.{stored-added}
 use Rattle.support.proofs.put.Statement.{statement}
