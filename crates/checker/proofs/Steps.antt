@@ -1,15 +1,15 @@
--- Laws of the steps: what was prepared and judged decides the verdicts of the three calls, and the bytes.
+-- Laws of the steps: what was joined and judged decides the verdicts of the three calls, and the bytes.
 use mathlib.Core.Path.{_≡_, refl, sym, ap, _∙_}
-use mathlib.Core.Bool.{Bool, true, false, cond}
+use mathlib.Core.Bool.{true, false}
 use mathlib.Core.List.{List, _++_}
 use Prim.Native.Nat.{ℕ}
 use lib.ListN.{drop}
-use Rattle.stream.specs.Commands.{Outcome, refused, given}
+use Rattle.stream.specs.Commands.{refused}
 use Rattle.problem.specs.Rules.{Problem}
 use Rattle.problem.specs.Stored.{problemOf}
 use Rattle.problem.specs.declared.StoredProblem.{StoredProblem}
-use Rattle.rounds.specs.Bytes.{blockBytes}
 use Rattle.joining.specs.Joining.{closing, tooLarge, blockTotal}
+use Rattle.joining.specs.Tables.{Joining}
 use Rattle.joining.specs.declared.Joined.{Joined}
 use Rattle.certificate.specs.Rules.{Certificate}
 use Rattle.identity.specs.Judgement.{Judgement, judge}
@@ -17,93 +17,59 @@ use Rattle.identity.specs.Judgement as J
 use Rattle.judging.specs.declared.Judged.{Judged}
 use Rattle.judging.specs.declared.Judged.the-variants as Judged
 use Rattle.judging.specs.Refusals.{noRefusal, problemRefusal}
-use Rattle.judging.specs.Steps.{limited, Joins, judgedOf}
-use Rattle.checker.specs.declared.BlocksVerdict.{BlocksVerdict}
-use Rattle.checker.specs.declared.CheckVerdict.{CheckVerdict}
+use Rattle.judging.specs.Steps.{judgedOf}
+use Rattle.judging.proofs.Problems.{full-is}
 use Rattle.checker.specs.declared.PairVerdict.{PairVerdict}
-use Rattle.checker.specs.Blocks.{refusedBlocks, blocksOf, blocksRead, bytesOf, bytesRead}
-use Rattle.checker.specs.Check.{refusedCheck, checkJudged, checkOf, checkRead}
-use Rattle.checker.specs.Pair.{refusedPair, pairSecond, pairFirst, pairOf, pairRead}
+use Rattle.checker.specs.Blocks.{refusedBlocks, blocksOf, bytesOf}
+use Rattle.checker.specs.Check.{refusedCheck, checkJudged, checkOf}
+use Rattle.checker.specs.Pair.{refusedPair, pairSecond, pairFirst, pairOf}
 use Rattle.checker.specs.Steps.{checkFrom, pairFrom}
 
--- ---- a problem by commands, then refusal 7: f of a refusal and g of a problem within its limits are F of the reading
-abbrev onOutcome : {A : Type 0} → (ℕ → ℕ → A) → (Problem → A) → Outcome Problem → A
-onOutcome f g (refused number place) = f number place
-onOutcome f g (given p) = g p
+-- ---- a problem within its limits, and one that is not
+module _ (p : Problem) where
+  pub blocks-full : tooLarge p ≡ true → refusedBlocks 7 0 ≡ blocksOf p
+  unfolding blocksOf
+  blocks-full e = rw e
 
-module _ {A : Type 0} (f : ℕ → ℕ → A) (g : Problem → A) (F : Outcome Problem → A) (on-refused : (n at : ℕ) → f n at ≡ F (refused n at)) (on-given : (p : Problem) → cond (tooLarge p) (f 7 0) (g p) ≡ F (given p)) where
-  steps : (o : Outcome Problem) → onOutcome f g (limited o) ≡ F o
-  steps (refused n at) = on-refused n at
-  steps (given p) = go (tooLarge p) ∙ on-given p
-    where
-      go : (b : Bool) → onOutcome f g (cond b (refused 7 0) (given p)) ≡ cond b (f 7 0) (g p)
-      go true = refl
-      go false = refl
+  pub bytes-full : (out : List ℕ) → tooLarge p ≡ true → out ≡ bytesOf p out
+  unfolding bytesOf
+  bytes-full out e = rw e
 
-  from-refused : (o : Outcome Problem) (n at : ℕ) → refused n at ≡ limited o → f n at ≡ F o
-  from-refused o n at e = ap (onOutcome f g) e ∙ steps o
+  pub check-full : (t : List ℕ) → tooLarge p ≡ true → refusedCheck (problemRefusal 7 0) ≡ checkOf p t
+  unfolding checkOf
+  check-full t e = rw e
 
-  from-given : (o : Outcome Problem) (p : Problem) → given p ≡ limited o → g p ≡ F o
-  from-given o p e = ap (onOutcome f g) e ∙ steps o
+  pub check-within : (t : List ℕ) → tooLarge p ≡ false → checkJudged p (judge p t) ≡ checkOf p t
+  unfolding checkOf
+  check-within t e = rw e
+
+  pub pair-full : (low high : List ℕ) → tooLarge p ≡ true → refusedPair (problemRefusal 7 0) ≡ pairOf p low high
+  unfolding pairOf
+  pair-full low high e = rw e
+
+  pub pair-within : (low high : List ℕ) → tooLarge p ≡ false → pairFirst p (judge p low) high ≡ pairOf p low high
+  unfolding pairOf
+  pair-within low high e = rw e
 
 -- ---- the blocks
-abbrev foundBlocks : Problem → BlocksVerdict
-foundBlocks p = record { refusal = noRefusal; blocks = blockTotal p; rounds = closing p .rounds }
+module _ (p : StoredProblem) (t : List ℕ) (j : Joined) (t′ idx′ : List ℕ) (joined : Joining (closing (problemOf p)) t j t′ idx′) (few : j .full ≡ false) where
+  within : tooLarge (problemOf p) ≡ false
+  within = sym (full-is (problemOf p) t j t′ idx′ joined) ∙ few
 
-abbrev foundBytes : List ℕ → Problem → List ℕ
-foundBytes out p = blockBytes (closing p .state .labels) ++ drop 576 out
+  pub blocks-found : record { refusal = noRefusal; blocks = j .blocks; rounds = j .rounds } ≡ blocksOf (problemOf p)
+  unfolding blocksOf blockTotal
+  blocks-found = rw (within, joined .blocks few, joined .rounds few)
 
-module _ (o : Outcome Problem) where
-  pub blocks-refused : (n at : ℕ) → refused n at ≡ limited o → refusedBlocks n at ≡ blocksRead o
-  unfolding blocksOf
-  blocks-refused = from-refused refusedBlocks foundBlocks blocksRead (λ n at. refl) (λ p. refl) o
-
-  pub bytes-refused : (out : List ℕ) (n at : ℕ) → refused n at ≡ limited o → out ≡ bytesRead o out
+  pub bytes-found : (out out′ : List ℕ) → out′ ≡ j .labels ++ drop 576 out → out′ ≡ bytesOf (problemOf p) out
   unfolding bytesOf
-  bytes-refused out = from-refused (λ n at. out) (foundBytes out) (λ o. bytesRead o out) (λ n at. refl) (λ p. refl) o
-
-  module _ (p : StoredProblem) (j : Joined) (keys idx : List ℕ) (joins : Joins p j keys idx) (e : given (problemOf p) ≡ limited o) where
-    pub blocks-found : record { refusal = noRefusal; blocks = j .blocks; rounds = j .rounds } ≡ blocksRead o
-    unfolding blocksOf blockTotal
-    blocks-found = rw (joins .joining .blocks (joins .few), joins .joining .rounds (joins .few)) (from-given refusedBlocks foundBlocks blocksRead (λ n at. refl) (λ p. refl) o (problemOf p) e)
-
-    pub bytes-found : (out out′ : List ℕ) → out′ ≡ j .labels ++ drop 576 out → out′ ≡ bytesRead o out
-    unfolding bytesOf
-    bytes-found out out′ h =
-        h
-        ∙ ap (λ (l : List ℕ). l ++ drop 576 out) (joins .joining .labels (joins .few))
-        ∙ from-given (λ n at. out) (foundBytes out) (λ o. bytesRead o out) (λ n at. refl) (λ p. refl) o (problemOf p) e
+  bytes-found out out′ h = rw within (h ∙ ap (λ (l : List ℕ). l ++ drop 576 out) (joined .labels few))
 
 -- ---- the check
-module _ (t : List ℕ) where
-  abbrev judgedCheck : Problem → CheckVerdict
-  judgedCheck p = checkJudged p (judge p t)
-
-  pub check-refused : (o : Outcome Problem) (n at : ℕ) → refused n at ≡ limited o → refusedCheck (problemRefusal n at) ≡ checkRead o t
-  unfolding checkOf
-  check-refused = from-refused (λ n at. refusedCheck (problemRefusal n at)) judgedCheck (λ o. checkRead o t) (λ n at. refl) (λ p. refl)
-
-  pub check-given : (o : Outcome Problem) (p : Problem) → given p ≡ limited o → judgedCheck p ≡ checkRead o t
-  unfolding checkOf
-  check-given = from-given (λ n at. refusedCheck (problemRefusal n at)) judgedCheck (λ o. checkRead o t) (λ n at. refl) (λ p. refl)
-
 pub check-judged : (p : Problem) (j : Judgement) (d : Judged) (rounds : ℕ) → d ≡ judgedOf 1 j → rounds ≡ closing p .rounds → checkFrom d rounds ≡ checkJudged p j
 check-judged p (J.refused n at k) d rounds e f = rw e refl
 check-judged p (J.accepted c) d rounds e f = rw (e, f) refl
 
 -- ---- the pair
-module _ (low high : List ℕ) where
-  abbrev judgedPair : Problem → PairVerdict
-  judgedPair p = pairFirst p (judge p low) high
-
-  pub pair-refused : (o : Outcome Problem) (n at : ℕ) → refused n at ≡ limited o → refusedPair (problemRefusal n at) ≡ pairRead o low high
-  unfolding pairOf
-  pair-refused = from-refused (λ n at. refusedPair (problemRefusal n at)) judgedPair (λ o. pairRead o low high) (λ n at. refl) (λ p. refl)
-
-  pub pair-given : (o : Outcome Problem) (p : Problem) → given p ≡ limited o → judgedPair p ≡ pairRead o low high
-  unfolding pairOf
-  pair-given = from-given (λ n at. refusedPair (problemRefusal n at)) judgedPair (λ o. pairRead o low high) (λ n at. refl) (λ p. refl)
-
 -- both judgements, by what is kept of them
 abbrev pairWith : Judged → Judged → ℕ → PairVerdict
 pairWith (Judged.Refused f) e rounds = refusedPair f

@@ -7,16 +7,17 @@ ghost use lib.Dec.{ltb};
 ghost use lib.ListN.{length, drop};
 ghost use lib.IntN.{pos};
 ghost use Rattle.problem.specs.Rules.{readProblem};
-ghost use Rattle.problem.specs.Stored.{problemOf};
+ghost use Rattle.problem.specs.Stored.{problemOf, Kept};
+ghost use Rattle.problem.specs.Limits.{Limits};
 ghost use Rattle.identity.specs.Judgement as J;
 ghost use Rattle.checker.specs.Tables.{tablesShort, Long, Cleared, tableLeft};
-ghost use Rattle.checker.specs.Blocks.{blocksShort, refusedBlocks, blocksRead, bytesRead, blocksVerdict, bytesLeft};
+ghost use Rattle.checker.specs.Blocks.{blocksShort, refusedBlocks, blocksOf, blocksRead, bytesOf, bytesRead, blocksVerdict, bytesLeft};
 ghost use Rattle.fraction.specs.Fractions.{Bound, fraction};
 ghost use Rattle.judging.specs.Refusals.{certificateRefusal};
 ghost use Rattle.gram.specs.Outer.{Below};
 ghost use Rattle.judging.specs.Steps.{Joins};
-ghost use Rattle.checker.specs.Check.{refusedCheck, checkRead, checkVerdict};
-ghost use Rattle.checker.specs.Pair.{refusedPair, pairSides, pairFirst, pairRead, pairVerdict};
+ghost use Rattle.checker.specs.Check.{refusedCheck, checkOf, checkRead, checkVerdict};
+ghost use Rattle.checker.specs.Pair.{refusedPair, pairSides, pairFirst, pairOf, pairRead, pairVerdict};
 ghost use Rattle.checker.specs.Steps.{Rest, checkFrom, pairFrom};
 ghost use Rattle.checker.specs.Promises.{BlocksClosed, BlocksLeast, BlocksLowest, RoundsTaken, FewRounds, SevenExactly, AcceptedExactly, PairExactly, HoldsBelow, HoldsAbove, HoldsGap};
 use certificate::Header;
@@ -103,18 +104,16 @@ fn refuse_blocks(number: u8, place: usize) -> BlocksVerdict
     }
 }
 
-// The blocks of a problem stream, with tables that are long enough. The table is changed before place 2,048 only.
-fn answer_blocks(problem: &[u8], out: &mut [u8], table: &mut [u64]) -> BlocksVerdict
-    requires { ⌜ (576 ≤ length (now out)) × (2048 ≤ length (now table)) ⌝ }
-    ensures { λ r. ⌜ (r ≡ blocksRead (readProblem (now (problem .entry)))) × (now (out .exit) ≡ bytesRead (readProblem (now (problem .entry))) (now (out .entry))) × (drop 2048 (now (table .exit)) ≡ drop 2048 (now (table .entry))) ⌝ }
+// The blocks of a problem that was read. The table is changed before place 2,048 only.
+fn blocks_of(p: StoredProblem, out: &mut [u8], table: &mut [u64]) -> BlocksVerdict
+    requires { ⌜ Kept p × (576 ≤ length (now out)) × (2048 ≤ length (now table)) ⌝ }
+    ensures { λ r. ⌜ (r ≡ blocksOf (problemOf p)) × (now (out .exit) ≡ bytesOf (problemOf p) (now (out .entry))) × (drop 2048 (now (table .exit)) ≡ drop 2048 (now (table .entry))) ⌝ }
 {
     let mut index = [0u16; 6144];
-    let r = judging::prepare(problem, table, &mut index);
-    let number = r.number;
-    if 0 < number {
-        return refuse_blocks(number, r.place);
+    let j = joining::join(p, table, &mut index);
+    if j.full {
+        return refuse_blocks(7, 0);
     }
-    let j = r.joined;
     let labels = j.labels;
     copy(out, &labels);
     BlocksVerdict {
@@ -127,6 +126,19 @@ fn answer_blocks(problem: &[u8], out: &mut [u8], table: &mut [u64]) -> BlocksVer
         blocks: j.blocks,
         rounds: j.rounds,
     }
+}
+
+// The blocks of a problem stream, with tables that are long enough.
+fn answer_blocks(problem: &[u8], out: &mut [u8], table: &mut [u64]) -> BlocksVerdict
+    requires { ⌜ (576 ≤ length (now out)) × (2048 ≤ length (now table)) ⌝ }
+    ensures { λ r. ⌜ (r ≡ blocksRead (readProblem (now (problem .entry)))) × (now (out .exit) ≡ bytesRead (readProblem (now (problem .entry))) (now (out .entry))) × (drop 2048 (now (table .exit)) ≡ drop 2048 (now (table .entry))) ⌝ }
+{
+    let r = problem::read(problem);
+    let number = r.number;
+    if 0 < number {
+        return refuse_blocks(number, r.place);
+    }
+    blocks_of(r.problem, out, table)
 }
 
 // The blocks of a problem. `out` gets the 576 block numbers; `keys`, `high` and `low` are the work tables.
@@ -196,25 +208,22 @@ fn check_one(judged: Judged, rounds: usize) -> CheckVerdict
     }
 }
 
-// The check, with tables that are long enough. They are changed before place 2,048 only.
-fn answer_check(
-    problem: &[u8],
+// The check against a problem that was read. The tables are changed before place 2,048 only.
+fn check_of(
+    p: StoredProblem,
     certificate: &[u8],
     keys: &mut [u64],
     high: &mut [i64],
     low: &mut [u64],
 ) -> CheckVerdict
-    requires { ⌜ (2048 ≤ length (now keys)) × (2048 ≤ length (now high)) × (2048 ≤ length (now low)) ⌝ }
-    ensures { λ r. ⌜ (r ≡ checkRead (readProblem (now (problem .entry))) (now (certificate .entry))) × Rest (now (keys .entry)) (now (high .entry)) (now (low .entry)) (now (keys .exit)) (now (high .exit)) (now (low .exit)) ⌝ }
+    requires { ⌜ Kept p × Limits (problemOf p) × Long (now keys) (now high) (now low) ⌝ }
+    ensures { λ r. ⌜ (r ≡ checkOf (problemOf p) (now (certificate .entry))) × Rest (now (keys .entry)) (now (high .entry)) (now (low .entry)) (now (keys .exit)) (now (high .exit)) (now (low .exit)) ⌝ }
 {
     let mut index = [0u16; 6144];
-    let r = judging::prepare(problem, keys, &mut index);
-    let number = r.number;
-    if 0 < number {
-        return refuse_check(judging::problem_refusal(number, r.place));
+    let j = joining::join(p, keys, &mut index);
+    if j.full {
+        return refuse_check(judging::problem_refusal(7, 0));
     }
-    let p = r.problem;
-    let j = r.joined;
     let mut g = [0i64; 4096];
     let mut lasts = [0u16; 2048];
     let judged = judging::judge(
@@ -230,6 +239,25 @@ fn answer_check(
         low,
     );
     check_one(judged, j.rounds)
+}
+
+// The check, with tables that are long enough.
+fn answer_check(
+    problem: &[u8],
+    certificate: &[u8],
+    keys: &mut [u64],
+    high: &mut [i64],
+    low: &mut [u64],
+) -> CheckVerdict
+    requires { ⌜ Long (now keys) (now high) (now low) ⌝ }
+    ensures { λ r. ⌜ (r ≡ checkRead (readProblem (now (problem .entry))) (now (certificate .entry))) × Rest (now (keys .entry)) (now (high .entry)) (now (low .entry)) (now (keys .exit)) (now (high .exit)) (now (low .exit)) ⌝ }
+{
+    let r = problem::read(problem);
+    let number = r.number;
+    if 0 < number {
+        return refuse_check(judging::problem_refusal(number, r.place));
+    }
+    check_of(r.problem, certificate, keys, high, low)
 }
 
 // Whether one certificate holds for a problem. `keys`, `high` and `low` are the work tables.
@@ -336,26 +364,23 @@ fn pair_both(
     }
 }
 
-// The pair, with tables that are long enough. They are changed before place 2,048 only.
-fn answer_pair(
-    problem: &[u8],
+// The pair against a problem that was read. The tables are changed before place 2,048 only.
+fn pair_of(
+    p: StoredProblem,
     first: &[u8],
     second: &[u8],
     keys: &mut [u64],
     high: &mut [i64],
     low: &mut [u64],
 ) -> PairVerdict
-    requires { ⌜ (2048 ≤ length (now keys)) × (2048 ≤ length (now high)) × (2048 ≤ length (now low)) ⌝ }
-    ensures { λ r. ⌜ (r ≡ pairRead (readProblem (now (problem .entry))) (now (first .entry)) (now (second .entry))) × Rest (now (keys .entry)) (now (high .entry)) (now (low .entry)) (now (keys .exit)) (now (high .exit)) (now (low .exit)) ⌝ }
+    requires { ⌜ Kept p × Limits (problemOf p) × Long (now keys) (now high) (now low) ⌝ }
+    ensures { λ r. ⌜ (r ≡ pairOf (problemOf p) (now (first .entry)) (now (second .entry))) × Rest (now (keys .entry)) (now (high .entry)) (now (low .entry)) (now (keys .exit)) (now (high .exit)) (now (low .exit)) ⌝ }
 {
     let mut index = [0u16; 6144];
-    let r = judging::prepare(problem, keys, &mut index);
-    let number = r.number;
-    if 0 < number {
-        return refuse_pair(judging::problem_refusal(number, r.place));
+    let j = joining::join(p, keys, &mut index);
+    if j.full {
+        return refuse_pair(judging::problem_refusal(7, 0));
     }
-    let p = r.problem;
-    let j = r.joined;
     let mut g = [0i64; 4096];
     let mut lasts = [0u16; 2048];
     pair_both(
@@ -370,6 +395,26 @@ fn answer_pair(
         high,
         low,
     )
+}
+
+// The pair, with tables that are long enough.
+fn answer_pair(
+    problem: &[u8],
+    first: &[u8],
+    second: &[u8],
+    keys: &mut [u64],
+    high: &mut [i64],
+    low: &mut [u64],
+) -> PairVerdict
+    requires { ⌜ Long (now keys) (now high) (now low) ⌝ }
+    ensures { λ r. ⌜ (r ≡ pairRead (readProblem (now (problem .entry))) (now (first .entry)) (now (second .entry))) × Rest (now (keys .entry)) (now (high .entry)) (now (low .entry)) (now (keys .exit)) (now (high .exit)) (now (low .exit)) ⌝ }
+{
+    let r = problem::read(problem);
+    let number = r.number;
+    if 0 < number {
+        return refuse_pair(judging::problem_refusal(number, r.place));
+    }
+    pair_of(r.problem, first, second, keys, high, low)
 }
 
 // Whether two certificates hold for a problem: `first` of a lower bound and `second` of an upper one.

@@ -1,4 +1,4 @@
 pub mod Fills
-pub mod Preparing
+pub mod Problems
 pub mod Judging
 pub mod Comparing

@@ -1,16 +1,15 @@
 -- What the steps of a call hand on: a problem with its blocks, and what became of one certificate.
 use mathlib.Core.Path.{_≡_}
-use mathlib.Core.Bool.{false, cond}
+use mathlib.Core.Bool.{false}
 use mathlib.Core.List.{List}
 use Prim.Native.Nat.{ℕ, _≤_}
-use lib.Dec.{eqb}
-use lib.ListN.{length, drop}
-use Rattle.stream.specs.Commands.{Outcome, refused, given}
+use lib.ListN.{length}
+use Rattle.stream.specs.Commands.{refused, given}
 use Rattle.problem.specs.Rules.{Problem}
 use Rattle.problem.specs.Stored.{problemOf, Kept}
 use Rattle.problem.specs.Limits.{Limits}
 use Rattle.problem.specs.declared.StoredProblem.{StoredProblem}
-use Rattle.joining.specs.Joining.{closing, tooLarge}
+use Rattle.joining.specs.Joining.{closing}
 use Rattle.joining.specs.Tables.{Joining}
 use Rattle.joining.specs.declared.Joined.{Joined}
 use Rattle.support.specs.Table.{keysIn, Holds, Indexed}
@@ -20,18 +19,9 @@ use Rattle.identity.specs.Judgement.{Judgement, comparedKeys}
 use Rattle.identity.specs.Judgement as J
 use Rattle.comparison.specs.declared.Difference.{Difference}
 use Rattle.comparison.specs.declared.Difference.the-variants as Difference
-use Rattle.judging.specs.declared.Prepared.{Prepared}
 use Rattle.judging.specs.declared.Judged.{Judged}
 use Rattle.judging.specs.declared.Judged.the-variants as Judged
 use Rattle.judging.specs.Refusals.{certificateRefusal}
-
--- the problem by commands, then refusal 7
-abbrev pub limited : Outcome Problem → Outcome Problem
-limited (refused number place) = refused number place
-limited (given p) = cond (tooLarge p) (refused 7 0) (given p)
-
-unfoldable pub preparedOf : Prepared → Outcome Problem
-preparedOf r = cond (eqb (r .number) 0) (given (problemOf (r .problem))) (refused (r .number) (r .place))
 
 -- a problem within its limits, what the joining rule gives of it, and the compared keys in the table, with their index
 pub record Joins (p : StoredProblem) (j : Joined) (keys idx : List ℕ) : Type 0 where
@@ -41,11 +31,6 @@ pub record Joins (p : StoredProblem) (j : Joined) (keys idx : List ℕ) : Type 0
   pub long : 2048 ≤ length keys
   pub before : List ℕ
   pub joining : Joining (closing (problemOf p)) before j keys idx
-
-pub record Prepares (o : Outcome Problem) (t : List ℕ) (r : Prepared) (t′ idx′ : List ℕ) : Type 0 where
-  pub outcome : preparedOf r ≡ limited o
-  pub joins : r .number ≡ 0 → Joins (r .problem) (r .joined) t′ idx′
-  pub rest : drop 2048 t′ ≡ drop 2048 t
 
 -- the compared keys are the first n numbers of a table, in some order, with their index
 pub record Compares (p : Problem) (n : ℕ) (table idx : List ℕ) : Type 0 where

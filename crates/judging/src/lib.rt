@@ -1,22 +1,18 @@
-// What the public calls share: a problem that is read and joined, one certificate that is judged against it, and the work tables
-// that are cleared.
+// What the public calls share: one certificate that is judged against a problem with its blocks, and the work tables that are cleared.
 ghost use mathlib.Core.Path.{_≡_};
-ghost use mathlib.Core.Bool.{true};
 ghost use mathlib.Core.List.{_++_};
 ghost use Prim.Native.Nat.{_≤_};
 ghost use lib.ListN.{length, drop, replicate};
 ghost use lib.IntN.{pos};
-ghost use Rattle.problem.specs.Rules.{readProblem};
 ghost use Rattle.problem.specs.Stored.{problemOf, Kept};
 ghost use Rattle.stream.specs.Commands.{given};
 ghost use Rattle.certificate.specs.Rules.{Certificate, shapeOf, readCertificate};
 ghost use Rattle.identity.specs.Judgement as J;
-ghost use Rattle.support.specs.Table.{Indexed};
 ghost use Rattle.gram.specs.Outer.{Below};
 ghost use Rattle.comparison.specs.Compare.{differenceOf, Untouched};
 ghost use Rattle.judging.specs.declared.Judged.the-variants as Judged;
 ghost use Rattle.judging.specs.Refusals.{problemRefusal, certificateRefusal};
-ghost use Rattle.judging.specs.Steps.{Prepares, Joins, Compares, Stands, judgedOf, judgedFrom};
+ghost use Rattle.judging.specs.Steps.{Joins, Compares, Stands, judgedOf, judgedFrom};
 use certificate::Header;
 use certificate::Shape;
 use comparison::Difference;
@@ -31,15 +27,6 @@ pub struct Refusal {
     pub stream: u8,
     pub place: usize,
     pub key: u64,
-}
-
-// What becomes of a problem: number is 0 where it is read and within the limit of refusal 7, and then `joined` is what the joining
-// rule gives; else number and place are the refusal's.
-pub struct Prepared {
-    pub number: u8,
-    pub place: usize,
-    pub problem: StoredProblem,
-    pub joined: Joined,
 }
 
 // What becomes of one certificate: a refusal, or it is accepted, and what its first command states.
@@ -69,46 +56,6 @@ pub fn clear_signed(t: &mut [i64], n: usize)
     while i < n {
         t[i] = 0;
         i += 1;
-    }
-}
-
-// What stands in the place of a joining where the problem is refused.
-fn not_joined() -> Joined
-    ensures { λ r. ⌜ r .full ≡ true ⌝ }
-{
-    Joined {
-        full: true,
-        labels: [0; 576],
-        rounds: 0,
-        blocks: 0,
-        len: 0,
-    }
-}
-
-// Reads a problem and joins its blocks, with an index that holds nothing. The table then holds the compared keys, and the index is
-// theirs.
-pub fn prepare(problem: &[u8], table: &mut [u64], index: &mut [u16]) -> Prepared
-    requires { ⌜ (2048 ≤ length (now table)) × Indexed (now index) (now table) 0 ⌝ }
-    ensures { λ r. ⌜ Prepares (readProblem (now (problem .entry))) (now (table .entry)) r (now (table .exit)) (now (index .exit)) ⌝ }
-{
-    let r = problem::read(problem);
-    let number = r.number;
-    let p = r.problem;
-    if 0 < number {
-        return Prepared {
-            number,
-            place: r.place,
-            problem: p,
-            joined: not_joined(),
-        };
-    }
-    let j = joining::join(p, table, index);
-    let full = j.full;
-    Prepared {
-        number: if full { 7 } else { 0 },
-        place: 0,
-        problem: p,
-        joined: j,
     }
 }
 

@@ -1,70 +1,59 @@
--- `answer_blocks`: each return by what was prepared.
+-- `answer_blocks`: each return by what was read.
 use borrow.Author.Needs.{needs}
 use native.Mathlib.Omega.{arith}
-use mathlib.Core.Path.{_≡_, sym, _∙_}
-use Rattle.problem.specs.Rules.{readProblem}
-use Rattle.support.proofs.Index.{indexed-start}
-use Rattle.judging.proofs.Preparing.{prepared-refused, prepared-given}
-use Rattle.checker.proofs.Steps.{blocks-refused, bytes-refused, blocks-found, bytes-found}
+use mathlib.Core.Path.{_≡_, refl, sym, ap, _∙_}
+use Rattle.stream.specs.Commands.{Outcome, given}
+use Rattle.problem.specs.Rules.{Problem, readProblem}
+use Rattle.problem.specs.Stored.{problemOf}
+use Rattle.judging.proofs.Problems.{reading-refused, reading-given}
+use Rattle.checker.specs.Blocks.{blocksRead, bytesRead}
 use Rattle.checker.proofs.answer_blocks.Statement.{statement}
 use Rattle.checker.proofs.answer_blocks.Tie as tie
 
-slice-aggregate-prepare : tie.Need-slice-aggregate-prepare
-slice-aggregate-prepare c = search needs
+-- the problem that the stream gives
+is-given : (c : tie.Else1) → readProblem (c .before .before .before .before .before .args .problem .now) ≡ given (problemOf (c .before .read .result .problem))
+is-given c = let r = c .before in reading-given (r .read .result) _ (r .read .ensures .0) (omega (arith, c .if1 .left))
 
-prepare-requires : tie.Need-prepare-requires
-prepare-requires c κs = (c .before .before .before .before .before .pre .1, indexed-start _)
+read-requires : tie.Need-read-requires
+read-requires c κs = search needs
 
 refuse-blocks-requires : tie.Need-refuse-blocks-requires
 refuse-blocks-requires c κs = search needs
 
-same-length : tie.Need-same-length
-same-length c = search needs
-
 returns : tie.Need-returns
 returns c =
     let i = c .before in
-    let r = i .before .before .before .before in
-    let s = r .before .before .before .before .before .before in
-    let o = readProblem (s .args .problem .now) in
-    let e = sym (prepared-refused (r .prepare .result) (i .if1 .taken)) ∙ r .prepare .ensures .outcome in
-    (c .refuse-blocks .ensures ∙ blocks-refused o _ _ e, bytes-refused o _ _ _ e, r .prepare .ensures .rest)
+    let r = i .before in
+    let s = r .before .before .before .before in
+    let e = reading-refused (r .read .result) _ (r .read .ensures .0) (i .if1 .taken) in
+    (c .refuse-blocks .ensures ∙ sym (ap blocksRead e), sym (ap (λ (o : Outcome Problem). bytesRead o (s .args .out .now)) e), refl)
 
-slice-aggregate-copy : tie.Need-slice-aggregate-copy
-slice-aggregate-copy c = search needs
+blocks-of-requires : tie.Need-blocks-of-requires
+blocks-of-requires c κs = let r = c .before .before .before in let p = r .before .before .before .before .pre in (r .read .ensures .1, p .0, p .1)
 
-copy-requires : tie.Need-copy-requires
-copy-requires c κs = search needs
+same-length : tie.Need-same-length
+same-length c = search needs
 
 same-length-2 : tie.Need-same-length-2
 same-length-2 c = search needs
 
-same-length-3 : tie.Need-same-length-3
-same-length-3 c = search needs
-
 returns-2 : tie.Need-returns-2
 returns-2 c =
-    let k = c .before .before in
-    let i = k .before .before .before .before .before in
-    let r = i .before .before .before .before in
-    let s = r .before .before .before .before .before .before in
-    let o = readProblem (s .args .problem .now) in
-    let z : r .prepare .result .number ≡ 0 = omega (arith, i .if1 .left) in
-    let j = r .prepare .ensures .joins z in
-    let e = sym (prepared-given (r .prepare .result) z) ∙ r .prepare .ensures .outcome in
-    (blocks-found o _ _ _ _ j e, bytes-found o _ _ _ _ j e _ _ (k .copy .ensures), r .prepare .ensures .rest)
+    let d = c .before .before .before .before in
+    let i = d .before .before .before in
+    let s = i .before .before .before .before .before in
+    let e = is-given i in
+    let v = d .blocks-of .ensures in
+    (v .0 ∙ sym (ap blocksRead e), v .1 ∙ sym (ap (λ (o : Outcome Problem). bytesRead o (s .args .out .now)) e), v .2)
 
 pub answer-blocks-spec : {M : Type 1} → statement M
 answer-blocks-spec =
     tie.close
     (tie.spec
-    slice-aggregate-prepare
-    prepare-requires
+    read-requires
     refuse-blocks-requires
-    same-length
     returns
-    slice-aggregate-copy
-    copy-requires
+    blocks-of-requires
+    same-length
     same-length-2
-    same-length-3
     returns-2)

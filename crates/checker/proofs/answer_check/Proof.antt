@@ -1,27 +1,22 @@
--- `answer_check`: each return by what was prepared and judged.
+-- `answer_check`: each return by what was read.
 use borrow.Author.Needs.{needs}
 use native.Mathlib.Omega.{arith}
-use mathlib.Core.Path.{refl, sym, _∙_}
-use Rattle.problem.specs.Rules.{readProblem}
+use mathlib.Core.Path.{_≡_, refl, sym, ap, _∙_}
+use Rattle.stream.specs.Commands.{Outcome, given}
+use Rattle.problem.specs.Rules.{Problem, readProblem}
 use Rattle.problem.specs.Stored.{problemOf}
-use Rattle.identity.specs.Judgement.{judge}
-use Rattle.support.proofs.Index.{indexed-start}
-use Rattle.gram.proofs.Outers.{none-below}
-use Rattle.judging.specs.Steps.{Joins}
-use Rattle.judging.proofs.Preparing.{prepared-refused, prepared-given}
-use Rattle.checker.proofs.Steps.{check-refused, check-given, check-judged}
+use Rattle.problem.proofs.Limits.{read-limits}
+use Rattle.judging.proofs.Problems.{reading-refused, reading-given}
+use Rattle.checker.specs.Check.{checkRead}
 use Rattle.checker.proofs.answer_check.Statement.{statement}
 use Rattle.checker.proofs.answer_check.Tie as tie
 
--- the problem with its blocks
-joined : (c : tie.Else1) → let r = c .before .before .before .before in Joins (r .prepare .result .problem) (r .prepare .result .joined) (r .prepare .last .1 .0) (r .prepare .last .1 .1 .0)
-joined c = c .before .before .before .before .prepare .ensures .joins (omega (arith, c .if1 .left))
+-- the problem that the stream gives
+is-given : (c : tie.Else1) → readProblem (c .before .before .before .before .before .before .args .problem .now) ≡ given (problemOf (c .before .read .result .problem))
+is-given c = let r = c .before in reading-given (r .read .result) _ (r .read .ensures .0) (omega (arith, c .if1 .left))
 
-slice-aggregate-prepare : tie.Need-slice-aggregate-prepare
-slice-aggregate-prepare c = search needs
-
-prepare-requires : tie.Need-prepare-requires
-prepare-requires c κs = (c .before .before .before .before .before .before .pre .0, indexed-start _)
+read-requires : tie.Need-read-requires
+read-requires c κs = search needs
 
 problem-refusal-requires : tie.Need-problem-refusal-requires
 problem-refusal-requires c κs = search needs
@@ -29,25 +24,19 @@ problem-refusal-requires c κs = search needs
 refuse-check-requires : tie.Need-refuse-check-requires
 refuse-check-requires c κs = search needs
 
-same-length : tie.Need-same-length
-same-length c = search needs
-
 returns : tie.Need-returns
 returns c =
     let i = c .before .before in
-    let r = i .before .before .before .before in
-    let s = r .before .before .before .before .before .before .before in
-    let e = sym (prepared-refused (r .prepare .result) (i .if1 .taken)) ∙ r .prepare .ensures .outcome in
-    (rw (c .before .problem-refusal .ensures) at (c .refuse-check .ensures) ∙ check-refused (s .args .certificate .now) (readProblem (s .args .problem .now)) _ _ e, record { keys = r .prepare .ensures .rest; high = refl; low = refl })
+    let r = i .before in
+    let s = r .before .before .before .before .before in
+    let e = reading-refused (r .read .result) _ (r .read .ensures .0) (i .if1 .taken) in
+    (rw (c .before .problem-refusal .ensures) at (c .refuse-check .ensures) ∙ sym (ap (λ (o : Outcome Problem). checkRead o (s .args .certificate .now)) e), record { keys = refl; high = refl; low = refl })
 
-judge-requires : tie.Need-judge-requires
-judge-requires c κs =
-    let i = c .before .before .before .before .before .before .before .before in
-    let s = i .before .before .before .before .before .before .before .before .before .before .before in
-    (joined i, none-below, s .pre .1, s .pre .2)
+check-of-requires : tie.Need-check-of-requires
+check-of-requires c κs = let i = c .before .before .before in (i .before .read .ensures .1, read-limits _ _ (is-given i), i .before .before .before .before .before .before .pre)
 
-check-one-requires : tie.Need-check-one-requires
-check-one-requires c κs = search needs
+same-length : tie.Need-same-length
+same-length c = search needs
 
 same-length-2 : tie.Need-same-length-2
 same-length-2 c = search needs
@@ -55,32 +44,23 @@ same-length-2 c = search needs
 same-length-3 : tie.Need-same-length-3
 same-length-3 c = search needs
 
-same-length-4 : tie.Need-same-length-4
-same-length-4 c = search needs
-
 returns-2 : tie.Need-returns-2
 returns-2 c =
-    let d = c .before .before .before .before in
-    let i = d .before .before .before .before .before .before .before .before .before in
-    let r = i .before .before .before .before in
-    let s = r .before .before .before .before .before .before .before in
-    let j = joined i in
-    let e = sym (prepared-given (r .prepare .result) (omega (arith, i .if1 .left))) ∙ r .prepare .ensures .outcome in
-    (c .check-one .ensures ∙ (check-judged _ (judge (problemOf (r .prepare .result .problem)) (s .args .certificate .now)) _ _ (d .judge .ensures .0) (j .joining .rounds (j .few)) ∙ check-given (s .args .certificate .now) (readProblem (s .args .problem .now)) _ e), record { keys = r .prepare .ensures .rest; high = d .judge .ensures .1; low = d .judge .ensures .2 })
+    let d = c .before .before .before .before .before in
+    let i = d .before .before .before .before in
+    let s = i .before .before .before .before .before .before in
+    (d .check-of .ensures .0 ∙ sym (ap (λ (o : Outcome Problem). checkRead o (s .args .certificate .now)) (is-given i)), d .check-of .ensures .1)
 
 pub answer-check-spec : {M : Type 1} → statement M
 answer-check-spec =
     tie.close
     (tie.spec
-    slice-aggregate-prepare
-    prepare-requires
+    read-requires
     problem-refusal-requires
     refuse-check-requires
-    same-length
     returns
-    judge-requires
-    check-one-requires
+    check-of-requires
+    same-length
     same-length-2
     same-length-3
-    same-length-4
     returns-2)

@@ -1,25 +1,22 @@
--- `answer_pair`: each return by what was prepared and judged.
+-- `answer_pair`: each return by what was read.
 use borrow.Author.Needs.{needs}
 use native.Mathlib.Omega.{arith}
-use mathlib.Core.Path.{refl, sym, _∙_}
-use Rattle.problem.specs.Rules.{readProblem}
-use Rattle.support.proofs.Index.{indexed-start}
-use Rattle.gram.proofs.Outers.{none-below}
-use Rattle.judging.specs.Steps.{Joins}
-use Rattle.judging.proofs.Preparing.{prepared-refused, prepared-given}
-use Rattle.checker.proofs.Steps.{pair-refused, pair-given}
+use mathlib.Core.Path.{_≡_, refl, sym, ap, _∙_}
+use Rattle.stream.specs.Commands.{Outcome, given}
+use Rattle.problem.specs.Rules.{Problem, readProblem}
+use Rattle.problem.specs.Stored.{problemOf}
+use Rattle.problem.proofs.Limits.{read-limits}
+use Rattle.judging.proofs.Problems.{reading-refused, reading-given}
+use Rattle.checker.specs.Pair.{pairRead}
 use Rattle.checker.proofs.answer_pair.Statement.{statement}
 use Rattle.checker.proofs.answer_pair.Tie as tie
 
--- the problem with its blocks
-joined : (c : tie.Else1) → let r = c .before .before .before .before in Joins (r .prepare .result .problem) (r .prepare .result .joined) (r .prepare .last .1 .0) (r .prepare .last .1 .1 .0)
-joined c = c .before .before .before .before .prepare .ensures .joins (omega (arith, c .if1 .left))
+-- the problem that the stream gives
+is-given : (c : tie.Else1) → readProblem (c .before .before .before .before .before .before .before .args .problem .now) ≡ given (problemOf (c .before .read .result .problem))
+is-given c = let r = c .before in reading-given (r .read .result) _ (r .read .ensures .0) (omega (arith, c .if1 .left))
 
-slice-aggregate-prepare : tie.Need-slice-aggregate-prepare
-slice-aggregate-prepare c = search needs
-
-prepare-requires : tie.Need-prepare-requires
-prepare-requires c κs = (c .before .before .before .before .before .before .before .pre .0, indexed-start _)
+read-requires : tie.Need-read-requires
+read-requires c κs = search needs
 
 problem-refusal-requires : tie.Need-problem-refusal-requires
 problem-refusal-requires c κs = search needs
@@ -27,22 +24,19 @@ problem-refusal-requires c κs = search needs
 refuse-pair-requires : tie.Need-refuse-pair-requires
 refuse-pair-requires c κs = search needs
 
-same-length : tie.Need-same-length
-same-length c = search needs
-
 returns : tie.Need-returns
 returns c =
     let i = c .before .before in
-    let r = i .before .before .before .before in
-    let s = r .before .before .before .before .before .before .before .before in
-    let e = sym (prepared-refused (r .prepare .result) (i .if1 .taken)) ∙ r .prepare .ensures .outcome in
-    (rw (c .before .problem-refusal .ensures) at (c .refuse-pair .ensures) ∙ pair-refused (s .args .first .now) (s .args .second .now) (readProblem (s .args .problem .now)) _ _ e, record { keys = r .prepare .ensures .rest; high = refl; low = refl })
+    let r = i .before in
+    let s = r .before .before .before .before .before .before in
+    let e = reading-refused (r .read .result) _ (r .read .ensures .0) (i .if1 .taken) in
+    (rw (c .before .problem-refusal .ensures) at (c .refuse-pair .ensures) ∙ sym (ap (λ (o : Outcome Problem). pairRead o (s .args .first .now) (s .args .second .now)) e), record { keys = refl; high = refl; low = refl })
 
-pair-both-requires : tie.Need-pair-both-requires
-pair-both-requires c κs =
-    let i = c .before .before .before .before .before .before .before .before in
-    let s = i .before .before .before .before .before .before .before .before .before .before .before .before in
-    (joined i, none-below, s .pre .1, s .pre .2)
+pair-of-requires : tie.Need-pair-of-requires
+pair-of-requires c κs = let i = c .before .before .before in (i .before .read .ensures .1, read-limits _ _ (is-given i), i .before .before .before .before .before .before .before .pre)
+
+same-length : tie.Need-same-length
+same-length c = search needs
 
 same-length-2 : tie.Need-same-length-2
 same-length-2 c = search needs
@@ -50,30 +44,23 @@ same-length-2 c = search needs
 same-length-3 : tie.Need-same-length-3
 same-length-3 c = search needs
 
-same-length-4 : tie.Need-same-length-4
-same-length-4 c = search needs
-
 returns-2 : tie.Need-returns-2
 returns-2 c =
-    let d = c .before .before .before in
-    let i = d .before .before .before .before .before .before .before .before .before in
-    let r = i .before .before .before .before in
-    let s = r .before .before .before .before .before .before .before .before in
-    let e = sym (prepared-given (r .prepare .result) (omega (arith, i .if1 .left))) ∙ r .prepare .ensures .outcome in
-    (d .pair-both .ensures .0 ∙ pair-given (s .args .first .now) (s .args .second .now) (readProblem (s .args .problem .now)) _ e, record { keys = r .prepare .ensures .rest; high = d .pair-both .ensures .1; low = d .pair-both .ensures .2 })
+    let d = c .before .before .before .before .before in
+    let i = d .before .before .before .before in
+    let s = i .before .before .before .before .before .before .before in
+    (d .pair-of .ensures .0 ∙ sym (ap (λ (o : Outcome Problem). pairRead o (s .args .first .now) (s .args .second .now)) (is-given i)), d .pair-of .ensures .1)
 
 pub answer-pair-spec : {M : Type 1} → statement M
 answer-pair-spec =
     tie.close
     (tie.spec
-    slice-aggregate-prepare
-    prepare-requires
+    read-requires
     problem-refusal-requires
     refuse-pair-requires
-    same-length
     returns
-    pair-both-requires
+    pair-of-requires
+    same-length
     same-length-2
     same-length-3
-    same-length-4
     returns-2)

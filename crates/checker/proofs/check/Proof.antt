@@ -41,7 +41,7 @@ returns c =
     rw e (v, (table-kept 0 _, (table-kept (pos 0) _, (table-kept 0 _, check-clauses true (s .args .problem .now) (s .args .certificate .now) _ v))))
 
 answer-check-requires : tie.Need-answer-check-requires
-answer-check-requires c κs = let l = long (c .before .before .before) in (l .keys, l .high, l .low)
+answer-check-requires c κs = long (c .before .before .before)
 
 clear-tables-requires : tie.Need-clear-tables-requires
 clear-tables-requires c κs =

@@ -41,7 +41,7 @@ returns c =
     rw e (v, (table-kept 0 _, (table-kept (pos 0) _, (table-kept 0 _, pair-clauses true (s .args .problem .now) (s .args .first .now) (s .args .second .now) _ v))))
 
 answer-pair-requires : tie.Need-answer-pair-requires
-answer-pair-requires c κs = let l = long (c .before .before .before) in (l .keys, l .high, l .low)
+answer-pair-requires c κs = long (c .before .before .before)
 
 clear-tables-requires : tie.Need-clear-tables-requires
 clear-tables-requires c κs =
