@@ -18,7 +18,7 @@ use Rattle.identity.proofs.Halves.{gram-table}
 use Rattle.identity.proofs.Gram.{all-map, rows-on, squares-bases}
 use Rattle.gram.specs.Frame.{halfAt, Framed}
 use Rattle.gram.specs.Outer.{Below}
-use Rattle.gram.specs.Gather.{Shaped, Gathered}
+use Rattle.gram.specs.Gather.{ShapedRows, Gathered}
 use Rattle.gram.proofs.Gathering.{upper-none, Framing, gram-framed, on-bases, on-low, zero-below}
 use Rattle.comparison.specs.declared.Lengths.{Lengths}
 use Rattle.comparison.specs.Tables.{Ready}
@@ -27,7 +27,7 @@ use Rattle.comparison.specs.Walk.{Summed}
 use Rattle.comparison.proofs.Growth.{grown-none, grown-same, grown-then}
 
 -- ---- one basis: what the table of sums gives is the squares of the rows on it
-module _ {s keys exponents : List ℕ} {coefficients : List ℤ} {l : Lengths} (flat : Flattened keys exponents coefficients l) (shaped : Shaped (l .sizes) s) (j : ℕ) where
+module _ {s keys exponents : List ℕ} {coefficients : List ℤ} {l : Lengths} (flat : Flattened keys exponents coefficients l) (shaped : ShapedRows (l .sizes) s) (j : ℕ) where
   abbrev size : ℕ
   size = getD (l .sizes) j 0
 
@@ -88,7 +88,7 @@ module _ (s : List ℕ) {keys exponents : List ℕ} {coefficients : List ℤ} {l
           are = λ p t k. rw (w .are p t k, d .are p t k) (sym (coefficient-append k (byBasis p (rowsOf s) j) (squares p (rowsOn j (rowsOf s)))));
         }
 
-    pub walked-end : Shaped (l .sizes) s → j ≡ 9 → Summed (λ p. squares p (rowsOf s)) keys exponents coefficients l table n 9 hi₀ lo₀ hi₁ lo₁
+    pub walked-end : ShapedRows (l .sizes) s → j ≡ 9 → Summed (λ p. squares p (rowsOf s)) keys exponents coefficients l table n 9 hi₀ lo₀ hi₁ lo₁
     walked-end h e =
         record {
           sums = w .sums;

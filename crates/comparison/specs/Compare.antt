@@ -18,7 +18,7 @@ use Rattle.rounds.specs.Bytes.{part}
 use Rattle.certificate.specs.Rules.{Certificate, shapeOf, readCertificate}
 use Rattle.certificate.specs.declared.Header.{Header}
 use Rattle.identity.specs.Judgement.{comparedKeys}
-use Rattle.gram.specs.Gather.{Shaped}
+use Rattle.gram.specs.Gather.{ShapedRows}
 use Rattle.comparison.specs.declared.Difference.{Difference}
 use Rattle.comparison.specs.declared.Difference.the-variants.{Same, Differs}
 use Rattle.comparison.specs.declared.Lengths.{Lengths}
@@ -52,7 +52,7 @@ pub record Smallest (table : List ℕ) (hi : List ℤ) (lo : List ℕ) (n m r : 
 -- the arrays have their lengths, and the rows keep their limits
 pub record Comparable (s keys exponents : List ℕ) (coefficients : List ℤ) (l : Lengths) (objective : Objective) : Type 0 where
   pub flat : Flattened keys exponents coefficients l
-  pub rows : Shaped (l .sizes) s
+  pub rows : ShapedRows (l .sizes) s
   pub objective-filled : Filled 32 256 (objective .keys) (objective .coefficients) (objective .count)
 
 -- the arrays stand for the problem p, and the stream for the certificate c; the table holds the keys that are compared

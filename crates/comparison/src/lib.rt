@@ -18,7 +18,7 @@ ghost use Rattle.identity.specs.Gram.{rowsOn};
 ghost use Rattle.identity.specs.Judgement.{differenceKey};
 ghost use Rattle.gram.specs.Frame.{share, spreadAt, halfAt, Framed, Entered};
 ghost use Rattle.gram.specs.Outer.{Below};
-ghost use Rattle.gram.specs.Gather.{Shaped};
+ghost use Rattle.gram.specs.Gather.{ShapedRows};
 ghost use Rattle.comparison.specs.Tables.{unit, Sought, Ready, Grown, Addable, claimed, Negates};
 ghost use Rattle.comparison.specs.Spread.{entryUnit, tableUnit, Spreadable, Spread, multiplierIn, Flattened};
 ghost use Rattle.comparison.specs.Walk.{Summed};
@@ -253,7 +253,7 @@ fn add_basis(
     lo: &mut [u64],
 )
     requires { ⌜ Ready (now table) (now index) n (now hi) (now lo) tableUnit × Below 0 (now g) × (j < 9) ⌝ }
-    requires { ⌜ Flattened (now keys) (now exponents) (now coefficients) l × Shaped (l .sizes) (now s) ⌝ }
+    requires { ⌜ Flattened (now keys) (now exponents) (now coefficients) l × ShapedRows (l .sizes) (now s) ⌝ }
     ensures { λ _. ⌜ Summed (λ p. squares p (rowsOn j (rowsOf (now (s .entry))))) (now (keys .entry)) (now (exponents .entry)) (now (coefficients .entry)) l (now (table .entry)) n 1 (now (hi .entry)) (now (lo .entry)) (now (hi .exit)) (now (lo .exit)) × Below 0 (now (g .exit)) ⌝ }
 {
     if l.sizes[j] != 0 {
@@ -291,7 +291,7 @@ fn sum_rows(
     lo: &mut [u64],
 )
     requires { ⌜ Ready (now table) (now index) n (now hi) (now lo) (9 * tableUnit) × Below 0 (now g) ⌝ }
-    requires { ⌜ Flattened (now keys) (now exponents) (now coefficients) l × Shaped (l .sizes) (now s) ⌝ }
+    requires { ⌜ Flattened (now keys) (now exponents) (now coefficients) l × ShapedRows (l .sizes) (now s) ⌝ }
     ensures { λ _. ⌜ Summed (λ p. squares p (rowsOf (now (s .entry)))) (now (keys .entry)) (now (exponents .entry)) (now (coefficients .entry)) l (now (table .entry)) n 9 (now (hi .entry)) (now (lo .entry)) (now (hi .exit)) (now (lo .exit)) × Below 0 (now (g .exit)) ⌝ }
 {
     let mut j: usize = 0;

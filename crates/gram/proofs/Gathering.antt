@@ -33,7 +33,7 @@ use Rattle.identity.proofs.Halves.{sum-alike, sum-zeros}
 use Rattle.identity.proofs.Gram.{all-map, sum-same, keys-rekeyed, factors-small, gram-more, outer-coefficient, rows-on, rows-all}
 use Rattle.keeping.specs.Places.{Walkable}
 use Rattle.gram.specs.Outer.{rowUnit, Entries, Below, Raised, above, inRow, outerAt}
-use Rattle.gram.specs.Gather.{Shaped, Gathered}
+use Rattle.gram.specs.Gather.{ShapedRows, Gathered}
 use Rattle.gram.proofs.Outers.{match-other, above-other, outer-bound}
 
 -- ---- the upper half
@@ -189,7 +189,7 @@ unfolding All
 chain-sound {s = s} {n = n} {at = at} (done f) = rw (no-row s at n f) tt
 chain-sound {s = s} {at = at} (more {n} t r c) = rw (one-row s at n t) (r, chain-sound c)
 
-module _ {sizes s : List ℕ} (w : Shaped sizes s) where
+module _ {sizes s : List ℕ} (w : ShapedRows sizes s) where
   sound : All (SoundRow (w .shape)) (rowsOf s)
   unfolding rowsOf
   sound = chain-sound (w .rows .chain)

@@ -12,7 +12,7 @@ use Rattle.keeping.specs.Places.{Rows}
 use Rattle.gram.specs.Outer.{Below}
 
 -- the rows of a stream keep the limits of a shape with these sizes
-pub record Shaped (sizes s : List ℕ) : Type 0 where
+pub record ShapedRows (sizes s : List ℕ) : Type 0 where
   pub shape : Shape
   pub sizes-are : shape .sizes ≡ sizes
   pub rows : Rows shape s

@@ -1,16 +1,15 @@
 -- The arrays of a stored problem hold its bases and multipliers, so what is computed of the arrays is the problem's.
 use mathlib.Core.Path.{_≡_, sym, ap, _∙_}
-use mathlib.Core.List.{[]}
 use Prim.Native.Nat.{ℕ, _*_, _<_}
 use native.Mathlib.Omega.{arith}
-use lib.ListN.{getD, take, drop, length-drop}
-use Rattle.counting.proofs.Listed.{listed-at}
+use lib.ListN.{getD, drop, length-drop}
 use Rattle.polynomial.specs.Terms.{keysOf, objectiveTerms}
 use Rattle.polynomial.proofs.Terms.{terms-keys}
 use Rattle.problem.specs.declared.StoredProblem.{StoredProblem}
 use Rattle.problem.specs.declared.Multipliers.{Multipliers}
-use Rattle.problem.specs.Stored.{problemOf, basesOf, Kept}
+use Rattle.problem.specs.Stored.{problemOf, Kept}
 use Rattle.problem.specs.Bases.{basisOf, multiplierOf, Flat}
+use Rattle.problem.proofs.Bases.{basis-part}
 use Rattle.rounds.specs.Rounds.{Bases}
 use Rattle.rounds.specs.Rounds as Rounds
 use Rattle.rounds.specs.Bytes.{basesIn}
@@ -36,8 +35,8 @@ module _ (p : StoredProblem) (kept : Kept p) (m : Multipliers) (flat : Flat (pro
   laid = basesIn (p .keys) (p .sizes) (m .keys) (m .counts)
 
   same-basis : (j : ℕ) → j < 9 → laid .basis j ≡ basisOf (problemOf p) j
-  unfolding basesIn basisOf problemOf basesOf
-  same-basis j h = sym (listed-at 9 (λ j. take (getD (p .sizes) j 0) (drop (64 * j) (p .keys))) j [] h)
+  unfolding basesIn
+  same-basis j h = sym (basis-part p kept j)
 
   same-multiplier : (j : ℕ) → j < 9 → laid .multiplier j ≡ multiplierOf (problemOf p) j
   unfolding basesIn multiplierOf

@@ -1,17 +1,17 @@
 -- What the comparison asks, from a stored problem and two cleared tables.
 use mathlib.Core.Path.{_≡_, refl, sym, ap, _∙_}
-use mathlib.Core.List.{List, [], _++_}
-use Prim.Native.Nat.{ℕ, _+_, _-_, _*_, _≤_, _<_}
+use mathlib.Core.List.{List, _++_}
+use Prim.Native.Nat.{ℕ, _+_, _-_, _≤_, _<_}
 use native.Mathlib.Omega.{arith}
 use lib.IntN.{ℤ, pos}
-use lib.ListN.{length, getD, take, drop, replicate, length-replicate, getD-replicate, List·getD-append}
+use lib.ListN.{length, getD, drop, replicate, length-replicate, getD-replicate, List·getD-append}
 use lib.Seq.{drop-drop, drop-at}
-use Rattle.counting.proofs.Listed.{listed-at}
 use Rattle.stream.specs.Commands.{Outcome, refused, given}
 use Rattle.polynomial.specs.Terms.{objectiveTerms}
 use Rattle.problem.specs.Bases.{basisOf, Flat}
-use Rattle.problem.specs.Stored.{problemOf, constraintsOf, basesOf, Kept}
+use Rattle.problem.specs.Stored.{problemOf, Kept}
 use Rattle.problem.specs.declared.StoredProblem.{StoredProblem}
+use Rattle.problem.proofs.Bases.{basis-part}
 use Rattle.problem.specs.declared.Multipliers.{Multipliers}
 use Rattle.rounds.specs.Bytes.{part}
 use Rattle.joining.proofs.Laid.{arrays}
@@ -46,13 +46,8 @@ module _ (p : StoredProblem) (kept : Kept p) (n : ℕ) (table idx : List ℕ) (c
     lo-zero = cleared-at 0 l l′ n f;
   }
 
-  pub same-constraints : problemOf p .constraints ≡ constraintsOf (p .count) (p .constraints)
-  unfolding problemOf
-  same-constraints = refl
-
   same-basis : (j : ℕ) → j < 9 → part 64 (p .sizes) (p .keys) j ≡ basisOf (problemOf p) j
-  unfolding problemOf basisOf basesOf
-  same-basis j h = sym (listed-at 9 (λ (j : ℕ). take (getD (p .sizes) j 0) (drop (64 * j) (p .keys))) j [] h)
+  same-basis j h = sym (basis-part p kept j)
 
   same-objective : objectiveTerms (p .objective) ≡ problemOf p .objective
   unfolding problemOf

@@ -12,7 +12,7 @@ use Rattle.stream.specs.Commands.{Outcome, refused, given}
 use Rattle.problem.specs.Rules.{Problem}
 use Rattle.problem.specs.Limits.{Limits}
 use Rattle.problem.specs.Bases.{basisOf}
-use Rattle.problem.specs.Stored.{problemOf, constraintsOf, basesOf, Kept}
+use Rattle.problem.specs.Stored.{problemOf, constraintsOf, basesHeld, Kept}
 use Rattle.problem.specs.declared.StoredProblem.{StoredProblem}
 use Rattle.support.specs.Table.{keysIn}
 use Rattle.joining.specs.declared.Joined.{Joined}
@@ -39,7 +39,7 @@ use Rattle.judging.specs.Steps.{Joins, Compares, Stands, judgedOf, judge
 -- ---- what a certificate is read against
 module _ (p : StoredProblem) (kept : Kept p) where
   size-at : (j : ℕ) → j < 9 → getD (p .sizes) j 0 ≡ length (basisOf (problemOf p) j)
-  unfolding problemOf basisOf basesOf
+  unfolding problemOf basisOf basesHeld
   size-at j h =
       rw (listed-at 9 (λ (j : ℕ). take (getD (p .sizes) j 0) (drop (64 * j) (p .keys))) j [] h)
       (sym (length-take-le _ _ (omega (arith, h, kept .bases .sizes-low j, kept .bases .keys-length, length-drop (64 * j) (p .keys)))))

@@ -18,7 +18,7 @@ use Rattle.polynomial.specs.declared.Polynomial.{Polynomial}
 use Rattle.polynomial.proofs.Terms.{set-all}
 use Rattle.problem.specs.declared.StoredProblem.{StoredProblem}
 use Rattle.problem.specs.Rules.{Problem}
-use Rattle.problem.specs.Stored.{noTerms, constraintsOf, basesOf, problemOf, KeptConstraints, Kept}
+use Rattle.problem.specs.Stored.{noTerms, constraintsOf, basesHeld, problemOf, KeptConstraints, Kept}
 use Rattle.problem.specs.Bases.{basisOf, multiplier, Flat}
 use Rattle.problem.proofs.Stored.{constraints-count, bases-count, basis-stored}
 
@@ -35,7 +35,7 @@ basis-part p k j =
     ⊎-elim (λ h. basis-stored (p .sizes) (p .keys) j h)
     (λ h.
     let l = bases-count (p .sizes) (p .keys) in
-    rw (List·getD-eq-default (basesOf (p .sizes) (p .keys)) [] {n = j} (omega arith), List·getD-eq-default (p .sizes) 0 {n = j} (omega arith)))
+    rw (List·getD-eq-default (basesHeld (p .sizes) (p .keys)) [] {n = j} (omega arith), List·getD-eq-default (p .sizes) 0 {n = j} (omega arith)))
     (lt-or-le j 9)
 
 -- ---- a part of a list is replaced

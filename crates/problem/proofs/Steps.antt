@@ -29,7 +29,7 @@ use Rattle.problem.specs.declared.Reading.{Reading}
 use Rattle.problem.specs.Layout.{commandOf, decode}
 use Rattle.problem.specs.Rules.{Problem, placed, fitting, nonzero, applied, commandAt, verdict, next, language, nothing, readProblem}
 use Rattle.problem.specs.Checks.{early, late, lateIn}
-use Rattle.problem.specs.Stored.{noTerms, constraintsOf, basesOf, problemOf, outcomeOf, Kept}
+use Rattle.problem.specs.Stored.{noTerms, constraintsOf, basesHeld, problemOf, outcomeOf, Kept}
 use Rattle.problem.proofs.Checks.{Passes, passes-size, passes-end, passes-on}
 use Rattle.problem.proofs.Stored.{terms-room, constraints-count, last-stored, constraint-begun, term-added, constraints-kept, basis-stored, member-added, bases-kept}
 
@@ -99,7 +99,7 @@ module _ (s : List ℕ) (p : StoredProblem) (number at : ℕ) (g : Going s p num
 -- before the first command
 pub starting : (s : List ℕ) (o : Objective) (q : Polynomial) → Filled 32 256 (o .keys) (o .coefficients) (o .count) × (o .count ≡ 0)
     → Filled 16 32 (q .keys) (q .coefficients) (q .count) × (q .count ≡ 0) → Going s (stored 0 o (replicate 8 q) 0 (replicate 576 0) (replicate 9 0)) 2 0
-unfolding problemOf constraintsOf basesOf termsIn listed readProblem
+unfolding problemOf constraintsOf basesHeld termsIn listed readProblem
 starting s o q f e =
     record {
       undecided = refl;

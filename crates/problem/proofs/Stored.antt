@@ -20,7 +20,7 @@ use Rattle.polynomial.specs.declared.Polynomial.{Polynomial}
 use Rattle.polynomial.proofs.Terms.{terms-length, terms-keys, set-all, low-set}
 use Rattle.problem.specs.Rules.{appendAt, lastOf}
 use Rattle.problem.specs.Checks.{lateIn}
-use Rattle.problem.specs.Stored.{noTerms, constraintsOf, basesOf, KeptConstraints, KeptBases}
+use Rattle.problem.specs.Stored.{noTerms, constraintsOf, basesHeld, KeptConstraints, KeptBases}
 
 before-or-after : (i j : ℕ) → i ≢ j → (i < j) ⊎ (j < i)
 before-or-after i j d = go (decLt i j)
@@ -77,12 +77,12 @@ module _ (n : ℕ) (qs : List Polynomial) where
 
 -- ---- the bases
 module _ (sizes keys : List ℕ) where
-  pub bases-count : length (basesOf sizes keys) ≡ 9
-  unfolding basesOf
+  pub bases-count : length (basesHeld sizes keys) ≡ 9
+  unfolding basesHeld
   bases-count = listed-length 9 (λ j. take (getD sizes j 0) (drop (64 * j) keys))
 
-  pub basis-stored : (j : ℕ) → j < 9 → getD (basesOf sizes keys) j [] ≡ take (getD sizes j 0) (drop (64 * j) keys)
-  unfolding basesOf
+  pub basis-stored : (j : ℕ) → j < 9 → getD (basesHeld sizes keys) j [] ≡ take (getD sizes j 0) (drop (64 * j) keys)
+  unfolding basesHeld
   basis-stored j h = listed-at 9 (λ i. take (getD sizes i 0) (drop (64 * i) keys)) j [] h
 
   module _ (k : KeptBases sizes keys) (j x : ℕ) (h : j < 9) (r : getD sizes j 0 < 64) where
@@ -100,8 +100,8 @@ module _ (sizes keys : List ℕ) where
         (λ p. let l : at < 64 * i = omega arith in rw (drop-set-lt (64 * i) keys at x l))
         (before-or-after i j d)
 
-    pub member-added : basesOf (set sizes j (getD sizes j 0 + 1)) (set keys at x) ≡ appendAt (basesOf sizes keys) j x
-    unfolding basesOf
+    pub member-added : basesHeld (set sizes j (getD sizes j 0 + 1)) (set keys at x) ≡ appendAt (basesHeld sizes keys) j x
+    unfolding basesHeld
     member-added =
         let s = k .sizes-length in
         let l = k .keys-length in

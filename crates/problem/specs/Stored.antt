@@ -22,8 +22,8 @@ unfoldable pub constraintsOf : ℕ → List Polynomial → List (List Term)
 constraintsOf n qs = listed n (λ j. terms (getD qs j noTerms))
 
 -- the bases that one array holds, with their sizes
-unfoldable pub basesOf : List ℕ → List ℕ → List (List ℕ)
-basesOf sizes keys = listed 9 (λ j. take (getD sizes j 0) (drop (64 * j) keys))
+unfoldable pub basesHeld : List ℕ → List ℕ → List (List ℕ)
+basesHeld sizes keys = listed 9 (λ j. take (getD sizes j 0) (drop (64 * j) keys))
 
 -- the problem that the arrays hold: basis j stands from place 64j on in keys
 unfoldable pub problemOf : StoredProblem → Problem
@@ -31,7 +31,7 @@ problemOf p = record {
   variables = p .variables;
   objective = objectiveTerms (p .objective);
   constraints = constraintsOf (p .count) (p .constraints);
-  bases = basesOf (p .sizes) (p .keys);
+  bases = basesHeld (p .sizes) (p .keys);
 }
 
 unfoldable pub outcomeOf : Reading → Outcome Problem

@@ -4,7 +4,8 @@ use native.Mathlib.Omega.{arith}
 use lib.IntN.{pos}
 use Rattle.problem.specs.Stored.{problemOf}
 use Rattle.problem.specs.Bases.{Flat}
-use Rattle.judging.proofs.Comparing.{cleared-untouched, zeroed, same-constraints, comparable, compared}
+use Rattle.problem.proofs.Bases.{stored-constraints}
+use Rattle.judging.proofs.Comparing.{cleared-untouched, zeroed, comparable, compared}
 use Rattle.judging.proofs.difference.Statement.{statement}
 use Rattle.judging.proofs.difference.Tie as tie
 
@@ -12,7 +13,7 @@ abbrev start : tie.After-multipliers-of → tie.Start
 start c = c .before .before .before .before .before .before .before .before .before .before .before .before
 
 flat : (c : tie.After-multipliers-of) → Flat (problemOf (start c .args .p)) (c .multipliers-of .result)
-flat c = let s = start c in c .multipliers-of .ensures (problemOf (s .args .p)) (same-constraints (s .args .p) (s .pre .0) _ _ _ (s .pre .1))
+flat c = let s = start c in c .multipliers-of .ensures (problemOf (s .args .p)) (stored-constraints (s .args .p))
 
 clear-signed-requires : tie.Need-clear-signed-requires
 clear-signed-requires c κs = let p = c .before .before .before .before .pre in omega (arith, p .1 .holds .few, p .4)
