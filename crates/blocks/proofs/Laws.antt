@@ -15,10 +15,6 @@ use Rattle.support.specs.Sets.{member}
 use Rattle.blocks.specs.Join.{linked, renamed, merged, joinPair}
 use Rattle.blocks.specs.Extend.{lowestFrom, blockCount}
 
--- a test that holds does not fail
-pub never : {P : Type 0} → true ≡ false → P
-never e = absurd (let z : _≡_ {A = ℕ} 0 1 = cc in omega arith)
-
 -- ---- a map in place
 
 module _ (g : ℕ → ℕ) where

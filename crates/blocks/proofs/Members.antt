@@ -4,7 +4,7 @@ use mathlib.Core.Logic.{⊎-elim}
 use mathlib.Core.Bool.{Bool, true, false, cond}
 use mathlib.Core.List.{List, [], _∷_}
 use Prim.Native.Nat.{ℕ, _+_}
-use native.Mathlib.Omega.{arith}
+use Rattle.counting.proofs.Cases.{clash}
 use Rattle.support.specs.Sets.{Rising, In, member, insert}
 use Rattle.support.proofs.Elements.{either, not-nil, in-cons, in-here, in-there, in-insert, insert-in, insert-keeps, insert-member}
 use Rattle.blocks.specs.Join.{linked}
@@ -14,7 +14,7 @@ use Rattle.blocks.specs.Extend.{addTerms}
 
 pub linked-from : {P : Type 0} (S T : List ℕ) (s : ℕ) → ((t : ℕ) → In t T → In (t + s) S → P) → linked S T s ≡ true → P
 unfolding linked
-linked-from {P} S [] s h e = let z : _≡_ {A = ℕ} 0 1 = cc in absurd (omega arith)
+linked-from {P} S [] s h e = clash (cc)
 linked-from {P} S (t ∷ ts) s h e = go (linked-from S ts s (λ u i m. h u (in-there u t ts i) m)) (member (t + s) S) refl e
   where
     go : (linked S ts s ≡ true → P) → (b : Bool) → member (t + s) S ≡ b → cond b true (linked S ts s) ≡ true → P

@@ -235,7 +235,8 @@ pub fn join_pass(
     }
 }
 
-// The same with t + s for each exponent t of the multiplier.
+// The support with t + s put in for each exponent t of the multiplier, and the number of its keys: 2,049 where it would have more
+// than 2,048.
 fn add_terms(table: &mut [u64], index: &mut [u16], len: usize, exponents: &[u64], s: u64) -> usize
     requires { ⌜ ForSums (now table) (now index) len (now exponents) s ⌝ }
     ensures { λ r. ⌜ Stored len (addTerms (now (exponents .entry)) s (keysIn len (now (table .entry)))) (now (table .entry)) r (now (table .exit)) (now (index .exit)) ⌝ }

@@ -11,6 +11,7 @@ use lib.Dec.{eqb, ltb}
 use lib.IntN.{ℤ, pos, natAbs, one, _+ℤ_, _*ℤ_, +ℤ-assoc, +ℤ-idr, *ℤ-zero, *ℤ-one}
 use lib.ListN.{length, getD, take}
 use lib.Seq.{getD-take, length-take-le}
+use Rattle.counting.proofs.Cases.{clash}
 use Rattle.polynomial.specs.Algebra.{match}
 use Rattle.support.specs.Table.{Holds, Finds}
 use Rattle.support.specs.Sets.{member}
@@ -102,7 +103,7 @@ module _ {keys : List ℕ} {n : ℕ} (support : Holds keys n) (key : ℕ) (r : F
         none = λ _ q b w.
             let m : member key (take n keys) ≡ false = rw e at f in
             let t = member-at key (take n keys) q (omega (arith, long)) (getD-take n keys q 0 b ∙ w) in
-            absurd (let z : _≡_ {A = ℕ} 0 1 = cc in omega arith);
+            clash (cc);
       }
 
 module _ {keys idx : List ℕ} {n : ℕ} {hi : List ℤ} {lo : List ℕ} {c : ℕ} (r : Ready keys idx n hi lo c) (key p : ℕ) (s : Sought keys n key p) where

@@ -12,6 +12,9 @@ use lib.ListN.{length, getD}
 pub clash : {X : Type 0} → _≡_ {A = ℕ} 0 1 → X
 clash z = absurd (omega arith)
 
+pub never : {X : Type 0} → false ≡ true → X
+never e = clash (cc)
+
 pub lt-or-le : (a b : ℕ) → (a < b) ⊎ (b ≤ a)
 lt-or-le a b = go (decLt a b)
   where

@@ -11,11 +11,9 @@ use lib.Dec.{ltb, eqb}
 use lib.ListN.{length, getD, set, length-set}
 use lib.Seq.{getD-set-same, getD-set-other}
 use borrow.Author.Tests.{ltb-true, lt-ltb, le-ltb, eqb-true, eq-eqb, ne-eqb}
+use Rattle.counting.proofs.Cases.{never}
 use Rattle.counting.proofs.Listed.{same-or-not}
 use Rattle.pairs.specs.Index.{lastOf, pairAt, restAt, meets, Paired}
-
-never : {P : Type 0} → false ≡ true → P
-never e = let z : _≡_ {A = ℕ} 0 1 = cc in absurd (omega arith)
 
 -- ---- the last number that passes a test
 module _ (f : ℕ → Bool) where

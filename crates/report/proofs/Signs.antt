@@ -8,6 +8,7 @@ use lib.IntN.{ℤ, pos, negsuc, natAbs, _-ℤ_}
 use lib.Signed.{ltZ}
 use mir.Syntax.{w64}
 use mir.Val.{SFits}
+use Rattle.counting.proofs.Cases.{clash}
 
 -- -1 less a number below 0 is not below 0, and 1 less than its absolute value
 pub record Turned (n : ℤ) : Type 0 where
@@ -22,4 +23,4 @@ turned (negsuc k) t f = record { value = k; less = rw (le-ltb (suc k) 1 (omega a
 
 pub not-below : (n : ℤ) → ltZ n (pos 0) ≡ false → n ≡ pos (natAbs n)
 not-below (pos a) t = refl
-not-below (negsuc k) t = let z : _≡_ {A = ℕ} 0 1 = cc in absurd (omega arith)
+not-below (negsuc k) t = clash (cc)

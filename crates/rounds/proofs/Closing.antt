@@ -8,6 +8,7 @@ use native.Mathlib.Numerals.{add-one}
 use native.Mathlib.Nat.{eq-or-lt-of-le}
 use native.Mathlib.Omega.{arith}
 use lib.ListN.{length}
+use Rattle.counting.proofs.Cases.{clash}
 use Rattle.support.specs.Sets.{Rising, In, member, insert}
 use Rattle.support.proofs.Elements.{insert-member, length-insert-new}
 use Rattle.blocks.proofs.Growth.{Extends}
@@ -40,8 +41,7 @@ module _ (g : Bases) (s : State) where
   changes c e k q w =
       let u : round g (after g s c) ≡ after g s c = rw q at w in
       let t : sameState (after g s c) (round g (after g s c)) ≡ true = rw (u, sameState-refl (after g s c)) in
-      let z : _≡_ {A = ℕ} 0 1 = cc in
-      omega arith
+      clash (cc)
 
   -- the definition's rounds, where the first c all change something
   pub ran : (m c : ℕ) → ((k : ℕ) → k < c → Moves k) → Ran m c (closeFrom g m (after g s c) c)
@@ -67,7 +67,7 @@ insert-more k S S′ r x = go (member k S) refl (member k S′) refl
     go : (b : Bool) → member k S ≡ b → (d : Bool) → member k S′ ≡ d → length (insert k S) ≤ length (insert k S′)
     go true e d f = rw (insert-member k S r e) (omega (arith, x .more, insert-grows k S′))
     go false e true f =
-        ⊎-elim (λ q. absurd (let w : S′ ≡ S = x .same (sym q) in let z : _≡_ {A = ℕ} 0 1 = cc in omega arith)) (λ l. omega (arith, length-insert-new k S e, insert-grows k S′)) (eq-or-lt-of-le (x .more))
+        ⊎-elim (λ q. let w : S′ ≡ S = x .same (sym q) in clash (cc)) (λ l. omega (arith, length-insert-new k S e, insert-grows k S′)) (eq-or-lt-of-le (x .more))
     go false e false f = omega (arith, length-insert-new k S e, length-insert-new k S′ f, x .more)
 
 module _ (g : Bases) (S₀ : List ℕ) where

@@ -7,6 +7,7 @@ use native.Mathlib.Omega.{arith}
 use lib.Dec.{eqb, ltb}
 use lib.ListN.{length}
 use borrow.Author.Tests.{eqb-true, eq-eqb, ltb-true, ltb-false, le-ltb}
+use Rattle.counting.proofs.Cases.{never}
 use Rattle.support.specs.Table.{keysIn, Stored}
 use Rattle.blocks.proofs.Growth.{Extends, extends-refl, extends-trans, Growing, growing-step, growing-stop, growing-end, grown-length}
 use Rattle.rounds.specs.Rounds.{Bases, State, Closing, start, joinAll, round, same, sameState, closeFrom, closing}
@@ -18,7 +19,7 @@ use Rattle.rounds.specs.declared.Progress.{Progress}
 use Rattle.rounds.proofs.Passes.{labelled-same, singles-labelled, singles-labels, joined-labelled, joined-labels, filled-next}
 use Rattle.rounds.proofs.Rounds.{round-extends}
 use Rattle.rounds.proofs.Latest.{recent-start, recent-next}
-use Rattle.rounds.proofs.Same.{close-next, never, same-true, same-apart, state-same, state-differs}
+use Rattle.rounds.proofs.Same.{close-next, same-true, same-apart, state-same, state-differs}
 
 module _ (g : Bases) where
   -- ---- a round only grows the support, and so do the rounds to the end

@@ -5,17 +5,14 @@ use mathlib.Core.Bool.{Bool, true, false, cond, _&&_}
 use mathlib.Core.List.{List, [], _∷_}
 use Prim.Native.Nat.{ℕ, zero, suc, _+_, _≤_, _<_}
 use native.Mathlib.Numerals.{add-one}
-use native.Mathlib.Omega.{arith}
 use lib.Dec.{eqb}
 use lib.ListN.{length, getD, drop, drop-of-length-le}
 use lib.Seq.{drop-cons}
 use borrow.Author.Tests.{eqb-true, eq-eqb, ne-eqb}
+use Rattle.counting.proofs.Cases.{never}
 use Rattle.counting.proofs.Steps.{fromTo-same}
 use Rattle.counting.proofs.Listed.{listed-same}
 use Rattle.rounds.specs.Rounds.{Bases, State, Closing, singles, start, joinAll, extendAll, round, same, sameAll, sameState, closeFrom, closing}
-
-pub never : {P : Type 0} → false ≡ true → P
-never e = let z : _≡_ {A = ℕ} 0 1 = cc in absurd (omega arith)
 
 pub same-refl : (l : List ℕ) → same l l ≡ true
 unfolding same

@@ -18,7 +18,7 @@ either false = refl
 
 pub not-nil : (x : ℕ) {P : Type 0} → In x [] → P
 unfolding member
-not-nil x e = let z : _≡_ {A = ℕ} 0 1 = cc in absurd (omega arith)
+not-nil x e = clash (cc)
 
 pub in-cons : (x y : ℕ) (ys : List ℕ) → In x (y ∷ ys) → (y ≡ x) ⊎ In x ys
 unfolding member
@@ -140,7 +140,7 @@ above-in x k (y ∷ ks) a m = ⊎-elim (λ e. rw (← e) (a .0)) (λ i. above-in
 
 pub insert-member : (k : ℕ) (l : List ℕ) → Rising l → member k l ≡ true → insert k l ≡ l
 unfolding insert member
-insert-member k [] s m = let z : _≡_ {A = ℕ} 0 1 = cc in absurd (omega arith)
+insert-member k [] s m = clash (cc)
 insert-member k (x ∷ xs) s m = go (insert-member k xs (s .1)) (ltb x k) refl (eqb x k) refl m
   where
     go : (member k xs ≡ true → insert k xs ≡ xs) → (b : Bool) → ltb x k ≡ b → (d : Bool) → eqb x k ≡ d → cond d true (member k xs) ≡ true
@@ -148,7 +148,7 @@ insert-member k (x ∷ xs) s m = go (insert-member k xs (s .1)) (ltb x k) refl (
     go ih true e true f m = absurd (let h = eqb-true x k f in omega (arith, ltb-true x k e))
     go ih true e false f m = ap (λ (r : List ℕ). x ∷ r) (ih m)
     go ih false e true f m = refl
-    go ih false e false f m = let q = beyond k x xs (ltb-false x k e) (s .0) in let z : _≡_ {A = ℕ} 0 1 = cc in absurd (omega arith)
+    go ih false e false f m = let q = beyond k x xs (ltb-false x k e) (s .0) in clash (cc)
 
 pub length-insert-new : (k : ℕ) (l : List ℕ) → member k l ≡ false → length (insert k l) ≡ length l + 1
 unfolding insert member

@@ -1,12 +1,12 @@
 -- `blocks::is_settled` meets its contract: the numbers before i are the same.
 use borrow.Author.Needs.{needs}
 use native.Mathlib.Omega.{arith}
-use mathlib.Core.Path.{_≡_, sym}
+use mathlib.Core.Path.{_≡_}
 use Prim.Native.Nat.{ℕ, _-_, _≤_, _<_}
 use borrow.Author.Count.{below-more}
 use lib.ListN.{length, getD}
 use lib.Seq.{ext-getD}
-use Rattle.blocks.proofs.Laws.{never}
+use Rattle.counting.proofs.Cases.{never}
 use Rattle.blocks.proofs.is_settled.Statement.{statement}
 use Rattle.blocks.proofs.is_settled.Tie as tie
 
@@ -17,7 +17,7 @@ abbrev μ-loop : tie.MeasureT-loop
 μ-loop labels old first i₀ i = length labels - i
 
 returns : tie.Need-returns Inv-loop μ-loop
-returns c = λ e. never (sym e)
+returns c = λ e. never e
 
 loop-holds : tie.Need-loop-holds Inv-loop μ-loop
 loop-holds c = search needs
@@ -29,7 +29,7 @@ shared-slice-read-if2-2 : tie.Need-shared-slice-read-if2-2 Inv-loop μ-loop
 shared-slice-read-if2-2 c = search needs
 
 returns-2 : tie.Need-returns-2 Inv-loop μ-loop
-returns-2 c = λ e. never (sym e)
+returns-2 c = λ e. never e
 
 add-i : tie.Need-add-i Inv-loop μ-loop
 add-i c = search needs

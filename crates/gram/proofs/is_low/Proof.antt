@@ -1,14 +1,12 @@
 -- `is_low`: between the two limits.
-use mathlib.Core.Path.{_≡_}
-use Prim.Native.Nat.{ℕ}
-use native.Mathlib.Omega.{arith}
 use mir.Facts.{toZ-ofZ}
+use Rattle.counting.proofs.Cases.{clash}
 use Rattle.gram.proofs.Folds.{low-abs}
 use Rattle.gram.proofs.is_low.Statement.{statement}
 use Rattle.gram.proofs.is_low.Tie as tie
 
 returns : tie.Need-returns
-returns c = λ e. absurd (let z : _≡_ {A = ℕ} 0 1 = cc in omega arith)
+returns c = λ e. clash (cc)
 
 returns-2 : tie.Need-returns-2
 returns-2 c = let s = c .before in λ e. low-abs 576460752303423487 (s .args .z) (simp (toZ-ofZ (s .fits .z)) at (c .if1 .left)) (simp (toZ-ofZ (s .fits .z)) at e)

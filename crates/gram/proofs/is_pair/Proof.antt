@@ -1,9 +1,9 @@
 -- `is_pair`: both indices are looked at before the product.
-use mathlib.Core.Path.{_≡_}
-use Prim.Native.Nat.{ℕ, _/_, _%_}
+use Prim.Native.Nat.{_/_, _%_}
 use native.Mathlib.Omega.{arith}
 use borrow.Author.Needs.{needs}
 use borrow.Author.Tests.{eqb-true}
+use Rattle.counting.proofs.Cases.{clash}
 use Rattle.gram.proofs.is_pair.Statement.{statement}
 use Rattle.gram.proofs.is_pair.Tie as tie
 
@@ -28,10 +28,10 @@ returns : tie.Need-returns
 returns c = λ e. record { row = c .before .before .before .if1 .taken; column = c .before .before .if2 .taken; is = eqb-true _ _ e }
 
 returns-2 : tie.Need-returns-2
-returns-2 c = λ e. absurd (let z : _≡_ {A = ℕ} 0 1 = cc in omega arith)
+returns-2 c = λ e. clash (cc)
 
 returns-3 : tie.Need-returns-3
-returns-3 c = λ e. absurd (let z : _≡_ {A = ℕ} 0 1 = cc in omega arith)
+returns-3 c = λ e. clash (cc)
 
 pub is-pair-spec : {M : Type 1} → statement M
 is-pair-spec =

@@ -3,9 +3,9 @@ use borrow.Author.Needs.{needs}
 use native.Mathlib.Omega.{arith}
 use mathlib.Core.Path.{sym, _∙_}
 use Prim.Native.Nat.{_-_, _≤_}
+use Rattle.counting.proofs.Cases.{never}
 use Rattle.rounds.specs.Bytes.{basesIn}
 use Rattle.rounds.specs.Between.{closeAfter, Between}
-use Rattle.rounds.proofs.Same.{never}
 use Rattle.rounds.proofs.Passes.{labelled-long}
 use Rattle.rounds.proofs.Rounding.{between-start, between-last, between-more}
 use Rattle.rounds.proofs.run.Statement.{statement}
