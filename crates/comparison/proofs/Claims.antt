@@ -9,11 +9,10 @@ use Rattle.integers.proofs.Ring.{view, diffs, ⊖-eq, negℤ-*ℤ, *ℤ-assoc, 
 use Rattle.polynomial.specs.Terms.{Term, term}
 use Rattle.polynomial.specs.Algebra.{sum, match, coefficient, scale}
 use Rattle.polynomial.proofs.Sums.{sum-append, sum-scale}
-use Rattle.problem.specs.Rules.{Problem}
 use Rattle.certificate.specs.declared.Header.{Header}
-use Rattle.identity.specs.Identity.{turned, claim}
+use Rattle.identity.specs.Identity.{turned, claimOf}
 use Rattle.comparison.specs.declared.Negated.{Negated}
-use Rattle.comparison.specs.Tables.{claimed, Negates}
+use Rattle.comparison.specs.Tables.{Negates}
 
 -- ---- the signs of a side
 pub minus : (a : ℤ) → pos 0 -ℤ a ≡ negℤ a
@@ -30,10 +29,6 @@ turned-other zero x f = absurd (f refl)
 turned-other (suc s) x f = refl
 
 -- ---- the coefficient
-pub problem-claim : (p : Problem) (h : Header) → claimed (p .objective) h ≡ claim p h
-unfolding claimed claim
-problem-claim p h = refl
-
 ring : (d a b s m : ℤ) → negℤ (d *ℤ a) *ℤ s +ℤ negℤ (d *ℤ b) *ℤ m ≡ negℤ (d *ℤ (a *ℤ s +ℤ (b *ℤ m +ℤ pos 0)))
 ring d a b s m =
     rw (negℤ-*ℤ (d *ℤ a) s, *ℤ-assoc d a s, negℤ-*ℤ (d *ℤ b) m, *ℤ-assoc d b m, +ℤ-idr (b *ℤ m), *ℤ-+ℤ d (a *ℤ s) (b *ℤ m)) (sym (negℤ-+ℤ (d *ℤ (a *ℤ s)) (d *ℤ (b *ℤ m))))
@@ -42,8 +37,8 @@ unmoved : (k : ℕ) (P : List Term) → sum (λ t. match k (0 + t)) P ≡ sum (m
 unmoved k P = simp zero-add
 
 pub claim-sum : (h : Header) (P : List Term) (r : Negated) → Negates (h .side) (h .scale) (h .p) (h .q) r → (k : ℕ)
-    → r .objective *ℤ sum (λ t. match k (0 + t)) P +ℤ r .constant *ℤ pos 1 *ℤ match k 0 ≡ negℤ (coefficient k (claimed P h))
-unfolding claimed coefficient one
+    → r .objective *ℤ sum (λ t. match k (0 + t)) P +ℤ r .constant *ℤ pos 1 *ℤ match k 0 ≡ negℤ (coefficient k (claimOf P h))
+unfolding claimOf coefficient one
 claim-sum h P r n k =
     let A = turned (h .side) (pos (h .q)) in
     let B = turned (h .side) (negℤ (h .p)) in

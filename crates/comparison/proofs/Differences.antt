@@ -27,17 +27,16 @@ use Rattle.certificate.specs.Rows.{rowsOf}
 use Rattle.certificate.specs.declared.Header.{Header}
 use Rattle.certificate.proofs.Limits.{shape-within}
 use Rattle.certificate.proofs.Rows.{rows-read}
-use Rattle.identity.specs.Identity.{squares, claim}
+use Rattle.identity.specs.Identity.{squares, claim, claimOf}
 use Rattle.identity.specs.Judgement.{sameNumber, firstDifference, differenceKey}
 use Rattle.identity.proofs.Difference.{same-equal, same-self}
 use Rattle.comparison.specs.declared.Difference.the-variants.{Same, Differs}
 use Rattle.comparison.specs.declared.Lengths.{Lengths}
-use Rattle.comparison.specs.Tables.{unit, Ready, Grown, claimed}
+use Rattle.comparison.specs.Tables.{unit, Ready, Grown}
 use Rattle.comparison.specs.Spread.{multiplierIn}
 use Rattle.comparison.specs.Walk.{Stands, Summed}
 use Rattle.comparison.specs.Compare.{differenceOf, Zeroed, Smallest, Given, Untouched}
 use Rattle.comparison.proofs.Growth.{grown-same}
-use Rattle.comparison.proofs.Claims.{problem-claim}
 
 -- ---- one comparison
 same-not : (a b : ℤ) → (a ≡ b → ⊥) → sameNumber a b ≡ false
@@ -133,12 +132,12 @@ first-terms n E C h = rw (length-take-le n E h) (listed-same n _ _ (λ i b. ap�
 -- the claim over the first places is the claim over the objective
 pub claim-first : {table : List ℕ} {n : ℕ} {hi₀ hi₁ : List ℤ} {lo₀ lo₁ : List ℕ} (q : Objective) (h : Header) → Filled 32 256 (q .keys) (q .coefficients) (q .count)
     → let E = take (q .count) (q .keys) in
-    Grown table n hi₀ lo₀ (λ k. negℤ (coefficient k (claimed (termsIn (length E) E (take (q .count) (q .coefficients))) h))) ((length E + 1) * unit) hi₁ lo₁
-    → Grown table n hi₀ lo₀ (λ k. negℤ (coefficient k (claimed (objectiveTerms q) h))) (257 * unit) hi₁ lo₁
+    Grown table n hi₀ lo₀ (λ k. negℤ (coefficient k (claimOf (termsIn (length E) E (take (q .count) (q .coefficients))) h))) ((length E + 1) * unit) hi₁ lo₁
+    → Grown table n hi₀ lo₀ (λ k. negℤ (coefficient k (claimOf (objectiveTerms q) h))) (257 * unit) hi₁ lo₁
 claim-first q h f g =
     let w : q .count ≤ length (q .keys) = omega (arith, f .count-low, f .keys-length) in
     let e = length-take-le (q .count) (q .keys) w in
-    grown-same g (λ k. ap (λ (P : List Term). negℤ (coefficient k (claimed P h))) (first-terms (q .count) (q .keys) (q .coefficients) w)) (omega (arith, f .count-low))
+    grown-same g (λ k. ap (λ (P : List Term). negℤ (coefficient k (claimOf P h))) (first-terms (q .count) (q .keys) (q .coefficients) w)) (omega (arith, f .count-low))
 
 -- ---- the answer
 module _ (p : Problem) (c : Certificate) (s : List ℕ) (header : Header) (keys exponents : List ℕ) (coefficients : List ℤ) (l : Lengths) (objective : Objective) (table : List ℕ) (n : ℕ)
@@ -148,10 +147,10 @@ module _ (p : Problem) (c : Certificate) (s : List ℕ) (header : Header) (keys 
   stands = record { bases = given .bases; multipliers = λ j h. given .multipliers .each j }
 
   module _ {hi₀ hi₁ hi₂ : List ℤ} {lo₀ lo₁ lo₂ : List ℕ} {a r : ℕ} (z : Zeroed table n hi₀ lo₀)
-      (g : Grown table n hi₀ lo₀ (λ k. negℤ (coefficient k (claimed (objectiveTerms objective) header))) a hi₁ lo₁)
+      (g : Grown table n hi₀ lo₀ (λ k. negℤ (coefficient k (claimOf (objectiveTerms objective) header))) a hi₁ lo₁)
       (m : Summed (λ p. squares p (rowsOf s)) keys exponents coefficients l table n 9 hi₁ lo₁ hi₂ lo₂) (f : Smallest table hi₂ lo₂ n n r) where
-    claim-is : (k : ℕ) → coefficient k (claimed (objectiveTerms objective) header) ≡ coefficient k (claim p (c .header))
-    claim-is k = rw (given .objective-is, given .header-is, problem-claim p (c .header))
+    claim-is : (k : ℕ) → coefficient k (claimOf (objectiveTerms objective) header) ≡ coefficient k (claim p (c .header))
+    claim-is k = rw (given .objective-is, given .header-is)
 
     squares-are : (k : ℕ) → m .sums k ≡ coefficient k (squares p (c .rows))
     squares-are k = m .are p stands k ∙ ap (λ (rs : List Row). coefficient k (squares p rs)) (rows-read (shapeOf p) (shape-within p (given .limits)) s c (given .read))
@@ -159,7 +158,7 @@ module _ (p : Problem) (c : Certificate) (s : List ℕ) (header : Header) (keys 
     sum-is : (q : ℕ) → q < n → valueAt hi₂ lo₂ q ≡ negℤ (coefficient (getD table q 0) (claim p (c .header))) +ℤ coefficient (getD table q 0) (squares p (c .rows))
     sum-is q b =
         let k = getD table q 0 in
-        let x = negℤ (coefficient k (claimed (objectiveTerms objective) header)) in
+        let x = negℤ (coefficient k (claimOf (objectiveTerms objective) header)) in
         let e : valueAt hi₁ lo₁ q ≡ x = g .there q b ∙ ap (λ (v : ℤ). v +ℤ x) (zeroed-value z q b) ∙ +ℤ-idl x in
         m .grown .there q b
         ∙ ap (λ (v : ℤ). v +ℤ m .sums k) e

@@ -1,15 +1,13 @@
 -- The sums at the compared keys, in two lent tables: what they need so that a number can be added, and how they grow.
 use mathlib.Core.Path.{_≡_}
-use mathlib.Core.List.{List, [], _∷_, _++_}
+use mathlib.Core.List.{List}
 use Prim.Native.Nat.{ℕ, _+_, _*_, _^_, _≤_, _<_}
 use lib.IntN.{ℤ, pos, natAbs, negℤ, _+ℤ_, _*ℤ_}
 use lib.ListN.{length, getD}
-use Rattle.polynomial.specs.Terms.{Term, term}
 use Rattle.polynomial.specs.Algebra.{scale}
 use Rattle.support.specs.Table.{Holds, Indexed}
 use Rattle.sums.specs.Sums.{base, valueAt}
 use Rattle.counting.specs.Counting.{Bounded}
-use Rattle.certificate.specs.declared.Header.{Header}
 use Rattle.identity.specs.Identity.{turned}
 use Rattle.comparison.specs.declared.Negated.{Negated}
 
@@ -49,10 +47,6 @@ pub record Addable (exponents : List ℕ) (coefficients : List ℤ) (key : ℕ) 
   pub small : natAbs x ≤ 2 ^ 60
 
 -- ---- the claim, taken away
--- "D × (q × objective − p)", with both signs turned for side 1, of an objective
-unfoldable pub claimed : List Term → Header → List Term
-claimed P h = scale (pos (h .scale)) (scale (turned (h .side) (pos (h .q))) P ++ (term 0 (turned (h .side) (negℤ (h .p))) ∷ []))
-
 -- the factors of the objective and of 1 in minus the claim
 pub record Negates (side scale : ℕ) (p : ℤ) (q : ℕ) (r : Negated) : Type 0 where
   pub objective : r .objective ≡ negℤ (pos scale *ℤ turned side (pos q))

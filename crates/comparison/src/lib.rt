@@ -13,13 +13,13 @@ ghost use Rattle.problem.specs.Rules.{Problem};
 ghost use Rattle.rounds.specs.Bytes.{part};
 ghost use Rattle.certificate.specs.Rules.{Certificate};
 ghost use Rattle.certificate.specs.Rows.{rowsOf};
-ghost use Rattle.identity.specs.Identity.{squares};
+ghost use Rattle.identity.specs.Identity.{squares, claimOf};
 ghost use Rattle.identity.specs.Gram.{rowsOn};
 ghost use Rattle.identity.specs.Judgement.{differenceKey};
 ghost use Rattle.gram.specs.Frame.{share, spreadAt, halfAt, Framed, Entered};
 ghost use Rattle.gram.specs.Outer.{Below};
 ghost use Rattle.gram.specs.Gather.{ShapedRows};
-ghost use Rattle.comparison.specs.Tables.{unit, Sought, Ready, Grown, Addable, claimed, Negates};
+ghost use Rattle.comparison.specs.Tables.{unit, Sought, Ready, Grown, Addable, Negates};
 ghost use Rattle.comparison.specs.Spread.{entryUnit, tableUnit, Spreadable, Spread, multiplierIn, Flattened};
 ghost use Rattle.comparison.specs.Walk.{Summed};
 ghost use Rattle.comparison.specs.Compare.{differenceOf, Zeroed, Smaller, Smallest, Comparable, Given, Untouched};
@@ -126,7 +126,7 @@ fn add_claim(
 )
     requires { ⌜ Ready (now table) (now index) n (now hi) (now lo) ((length (now exponents) + 1) * unit) ⌝ }
     requires { ⌜ Addable (now exponents) (now coefficients) 0 (pos 0) ⌝ }
-    ensures { λ _. ⌜ Grown (now (table .entry)) n (now (hi .entry)) (now (lo .entry)) (λ k. negℤ (coefficient k (claimed (termsIn (length (now (exponents .entry))) (now (exponents .entry)) (now (coefficients .entry))) t))) ((length (now (exponents .entry)) + 1) * unit) (now (hi .exit)) (now (lo .exit)) ⌝ }
+    ensures { λ _. ⌜ Grown (now (table .entry)) n (now (hi .entry)) (now (lo .entry)) (λ k. negℤ (coefficient k (claimOf (termsIn (length (now (exponents .entry))) (now (exponents .entry)) (now (coefficients .entry))) t))) ((length (now (exponents .entry)) + 1) * unit) (now (hi .exit)) (now (lo .exit)) ⌝ }
 {
     let f = negate(t.side, t.scale, t.p, t.q);
     let x = f.objective;

@@ -20,7 +20,7 @@ use Rattle.polynomial.specs.Terms.{Term, term}
 use Rattle.polynomial.specs.Algebra.{sum, match}
 use Rattle.identity.specs.Gram.{pairKey, times}
 use Rattle.gram.specs.Frame.{spreadAt, halfAt, Framed, Entered}
-use Rattle.gram.specs.Fold.{Paired, foldAt, Folded}
+use Rattle.gram.specs.Fold.{WithProduct, foldAt, Folded}
 use Rattle.gram.proofs.Prefixes.{sum-none, sum-more}
 use Rattle.gram.proofs.Frames.{rest-none}
 
@@ -90,7 +90,7 @@ module _ (B : List ℕ) (x : ℕ) (g : List ℤ) where
               (same-or-not y x);
         }
 
-    module _ (y : ℕ) (h : y < x) (pair : Paired B y (pairKey B x)) (room : natAbs (getD g y (pos 0)) ≤ 2 ^ 59) where
+    module _ (y : ℕ) (h : y < x) (pair : WithProduct B y (pairKey B x)) (room : natAbs (getD g y (pos 0)) ≤ 2 ^ 59) where
       abbrev z : ℤ
       z = getD g y (pos 0) +ℤ v
 

@@ -10,7 +10,7 @@ use Rattle.polynomial.specs.Algebra.{sum}
 use Rattle.identity.specs.Gram.{pairKey, times}
 
 -- the indices of place y are in the basis, and their product b × b' is the key
-pub record Paired (B : List ℕ) (y key : ℕ) : Type 0 where
+pub record WithProduct (B : List ℕ) (y key : ℕ) : Type 0 where
   pub row : y / 64 < length B
   pub column : y % 64 < length B
   pub is : pairKey B y ≡ key

@@ -11,7 +11,7 @@ ghost use Rattle.counting.specs.Counting.{Bounded};
 ghost use Rattle.identity.specs.Gram.{times};
 ghost use Rattle.keeping.specs.Places.{Walkable};
 ghost use Rattle.gram.specs.Frame.{spreadAt, halfAt, Next, Framed, Entered};
-ghost use Rattle.gram.specs.Fold.{Paired, Folded};
+ghost use Rattle.gram.specs.Fold.{WithProduct, Folded};
 ghost use Rattle.gram.specs.Outer.{Entries, Below, Raised, inRow, outerAt};
 ghost use Rattle.gram.specs.Gather.{Gathered};
 
@@ -96,7 +96,7 @@ fn counted(x: usize, a: i64) -> i64
 // Whether place y is one of the basis, with this product b * b'.
 fn is_pair(basis: &[u64], y: usize, key: u64) -> bool
     requires { ⌜ Bounded (8 * 2 ^ 56) (now basis) ⌝ }
-    ensures { λ r. ⌜ (r ≡ true → Paired (now (basis .entry)) y key) ⌝ }
+    ensures { λ r. ⌜ (r ≡ true → WithProduct (now (basis .entry)) y key) ⌝ }
 {
     let i = y / 64;
     let k = y % 64;

@@ -20,7 +20,7 @@ use Rattle.problem.specs.Limits.{All, Terms, Limits}
 use Rattle.problem.proofs.Limits.{all-at, monomials-none}
 use Rattle.certificate.specs.Rules.{Entry, Row, Certificate}
 use Rattle.certificate.specs.declared.Header.{Header}
-use Rattle.identity.specs.Identity.{combination, square, squares, turned, claim, Identity}
+use Rattle.identity.specs.Identity.{combination, square, squares, turned, claimOf, claim, Identity}
 use Rattle.identity.specs.Bounds.{Allowed, objectiveValue, objectiveScale, BoundedBelow, BoundedAbove, WithinGap}
 use Rattle.identity.proofs.Reach.{keys-all}
 
@@ -84,7 +84,7 @@ module _ (p : Problem) (limits : Limits p) where
 
     -- the claim's value: D × (q × V − p × c^32), and for side 1 with both signs turned
     claim-value : (h : Header) → value a 32 (claim p h) ≡ pos (h .scale) *ℤ (turned (h .side) (pos (h .q)) *ℤ objectiveValue p a +ℤ turned (h .side) (negℤ (h .p)) *ℤ pos (objectiveScale a))
-    unfolding claim
+    unfolding claimOf
     claim-value h = simp (value-scale, value-append, value-constant)
 
     -- by the identity it is T's, so at least 0; D is at least 1

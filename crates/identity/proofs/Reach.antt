@@ -24,7 +24,7 @@ use Rattle.joining.specs.Joining.{basesOf, multiples, startFrom, startSet, clos
 use Rattle.joining.proofs.Start.{insertAll-extends, start-rising}
 use Rattle.certificate.specs.Rules.{Entry, Row}
 use Rattle.certificate.specs.declared.Header.{Header}
-use Rattle.identity.specs.Identity.{combination, square, squares, turned, claim, blockOf, OneBlock, KeepsBlocks, RowFits, RowsFit}
+use Rattle.identity.specs.Identity.{combination, square, squares, turned, claimOf, claim, blockOf, OneBlock, KeepsBlocks, RowFits, RowsFit}
 use Rattle.identity.specs.Judgement.{comparedKeys}
 
 -- ---- the monomials of a polynomial, as a list
@@ -92,7 +92,7 @@ module _ (p : Problem) where
 
   -- the claim has no monomial but those of the closed S and the zero exponent
   pub claim-reach : (h : Header) → Keys (λ k. In k (comparedKeys p)) (claim p h)
-  unfolding claim comparedKeys
+  unfolding claimOf comparedKeys
   claim-reach h =
       let x = turned (h .side) (pos (h .q)) in
       let y = term 0 (turned (h .side) (negℤ (h .p))) ∷ [] in

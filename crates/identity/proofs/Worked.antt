@@ -17,7 +17,7 @@ use Rattle.problem.proofs.Limits.{monomials-none, nothing-basis}
 use Rattle.problem.specs.Rules.{Problem}
 use Rattle.problem.specs.Bases.{basisOf, multiplier}
 use Rattle.certificate.specs.Rules.{Entry, Certificate}
-use Rattle.identity.specs.Identity.{square, squares, claim, Identity}
+use Rattle.identity.specs.Identity.{square, squares, claimOf, claim, Identity}
 use Rattle.identity.specs.Bounds.{BoundedBelow}
 use Rattle.identity.proofs.Bounds.{identity-below}
 
@@ -66,7 +66,7 @@ lowF = record {
 
 -- the left side is 2 + 2x; on the right 1 + 2x + x² and 1 − x² add up to the same, the cross product 1 × x counted twice
 pub claimF : map (λ (k : ℕ). coefficient k (claim problemF (lowF .header))) (0 ∷ 1 ∷ 2 ∷ []) ≡ pos 2 ∷ pos 2 ∷ pos 0 ∷ []
-unfolding claim coefficient
+unfolding claimOf coefficient
 claimF = refl
 
 pub squaresF : map (λ (k : ℕ). coefficient k (squares problemF (lowF .rows))) (0 ∷ 1 ∷ 2 ∷ []) ≡ pos 2 ∷ pos 2 ∷ pos 0 ∷ []
@@ -75,7 +75,7 @@ squaresF = refl
 
 -- no term has another key, so the identity holds
 identityF : Identity problemF lowF
-unfolding Identity claim squares square multiplier basisOf
+unfolding Identity claimOf squares square multiplier basisOf
 identityF zero = unfold coefficient in refl
 identityF (suc zero) = unfold coefficient in refl
 identityF (suc (suc zero)) = unfold coefficient in refl

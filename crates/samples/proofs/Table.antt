@@ -26,7 +26,7 @@ use Rattle.certificate.specs.Rules.{shapeOf, progressOf, progressVerdict, readC
 use Rattle.certificate.specs.Rules as Certificate
 use Rattle.certificate.specs.Layout as CertificateLayout
 use Rattle.polynomial.specs.Algebra.{coefficient}
-use Rattle.identity.specs.Identity.{square, squares, claim, blockOf}
+use Rattle.identity.specs.Identity.{square, squares, claimOf, blockOf}
 use Rattle.identity.specs.Judgement.{firstOutside, rowSplit, splitBy, firstDifference, comparedKeys, differenceKey, judgeRead, judge}
 use Rattle.fraction.specs.Fractions.{fraction}
 use Rattle.judging.specs.Refusals.{problemRefusal, certificateRefusal}
@@ -80,7 +80,7 @@ pub checks :
     ∷ refusedCheck (certificateRefusal 1 2 0 0)
     ∷ refusedCheck (problemRefusal 2 0)
     ∷ []
-unfolding listed fromTo sumTo number signed firstRefusal run readWhole degreeOf degree within among keysOf commandOf appendAt fitting applied verdict next readProblem basisOf multiplier multiplierOf member insert linked merged joinPair join addTerms addPair extend lowestFrom singles start joinAll extendAll round same sameAll sameState closeFrom blocksIn Rounds.closing insertAll startFrom startSet closing tooLarge CertificateLayout.commandOf shapeOf progressOf progressVerdict Certificate.verdict Certificate.applied Certificate.next readCertificate coefficient square squares claim blockOf firstOutside rowSplit splitBy firstDifference comparedKeys differenceKey judgeRead judge checkOf checkVerdict
+unfolding listed fromTo sumTo number signed firstRefusal run readWhole degreeOf degree within among keysOf commandOf appendAt fitting applied verdict next readProblem basisOf multiplier multiplierOf member insert linked merged joinPair join addTerms addPair extend lowestFrom singles start joinAll extendAll round same sameAll sameState closeFrom blocksIn Rounds.closing insertAll startFrom startSet closing tooLarge CertificateLayout.commandOf shapeOf progressOf progressVerdict Certificate.verdict Certificate.applied Certificate.next readCertificate coefficient square squares claimOf blockOf firstOutside rowSplit splitBy firstDifference comparedKeys differenceKey judgeRead judge checkOf checkVerdict
 checks = refl
 
 -- F: bounds −1 and 1, gap 2, 2 rounds; two lower ones: 10 in the second stream; the certificates turned: 10 in the first
@@ -97,5 +97,5 @@ pub pairs :
     ∷ refusedPair (certificateRefusal 2 2 0 0)
     ∷ refusedPair (problemRefusal 1 0)
     ∷ []
-unfolding listed fromTo sumTo number signed firstRefusal run readWhole degreeOf degree within among keysOf commandOf appendAt fitting applied verdict next readProblem basisOf multiplier multiplierOf member insert linked merged joinPair join addTerms addPair extend lowestFrom singles start joinAll extendAll round same sameAll sameState closeFrom blocksIn Rounds.closing insertAll startFrom startSet closing tooLarge CertificateLayout.commandOf shapeOf progressOf progressVerdict Certificate.verdict Certificate.applied Certificate.next readCertificate coefficient square squares claim blockOf firstOutside rowSplit splitBy firstDifference comparedKeys differenceKey judgeRead judge pairSides pairOf pairVerdict
+unfolding listed fromTo sumTo number signed firstRefusal run readWhole degreeOf degree within among keysOf commandOf appendAt fitting applied verdict next readProblem basisOf multiplier multiplierOf member insert linked merged joinPair join addTerms addPair extend lowestFrom singles start joinAll extendAll round same sameAll sameState closeFrom blocksIn Rounds.closing insertAll startFrom startSet closing tooLarge CertificateLayout.commandOf shapeOf progressOf progressVerdict Certificate.verdict Certificate.applied Certificate.next readCertificate coefficient square squares claimOf blockOf firstOutside rowSplit splitBy firstDifference comparedKeys differenceKey judgeRead judge pairSides pairOf pairVerdict
 pairs = refl
