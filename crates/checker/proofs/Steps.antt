@@ -4,25 +4,25 @@ use mathlib.Core.Bool.{true, false}
 use mathlib.Core.List.{List, _++_}
 use Prim.Native.Nat.{ℕ}
 use lib.ListN.{drop}
-use Rattle.stream.specs.Commands.{refused}
-use Rattle.problem.specs.Rules.{Problem}
-use Rattle.problem.specs.Stored.{problemOf}
-use Rattle.problem.specs.declared.StoredProblem.{StoredProblem}
-use Rattle.joining.specs.Joining.{closing, tooLarge, blockTotal}
-use Rattle.joining.specs.Tables.{Joining}
-use Rattle.joining.specs.declared.Joined.{Joined}
-use Rattle.certificate.specs.Rules.{Certificate}
-use Rattle.identity.specs.Judgement.{Judgement, judge}
-use Rattle.identity.specs.Judgement as J
-use Rattle.judging.specs.declared.Judged.{Judged}
-use Rattle.judging.specs.declared.Judged.the-variants as Judged
-use Rattle.judging.specs.Refusals.{noRefusal, problemRefusal}
-use Rattle.judging.specs.Steps.{judgedOf}
-use Rattle.judging.proofs.Problems.{full-is}
-use Rattle.checker.specs.declared.PairVerdict.{PairVerdict}
-use Rattle.checker.specs.Blocks.{refusedBlocks, blocksOf, bytesOf}
-use Rattle.checker.specs.Check.{refusedCheck, checkJudged, checkOf}
-use Rattle.checker.specs.Pair.{refusedPair, pairSecond, pairFirst, pairOf}
+use Rattle.format.specs.Commands.{refused}
+use Rattle.format.specs.ProblemRules.{Problem}
+use Rattle.problem_reader.specs.Stored.{problemOf}
+use Rattle.problem_reader.specs.declared.StoredProblem.{StoredProblem}
+use Rattle.joining_rule.specs.Joining.{closing, tooLarge, blockTotal}
+use Rattle.closure.specs.Tables.{ClosureLeft}
+use Rattle.closure.specs.declared.Joined.{Joined}
+use Rattle.format.specs.CertificateRules.{Certificate}
+use Rattle.accepting.specs.Judgement.{Judgement, judge}
+use Rattle.accepting.specs.Judgement as J
+use Rattle.certificate_judge.specs.declared.Judged.{Judged}
+use Rattle.certificate_judge.specs.declared.Judged.the-variants as Judged
+use Rattle.calls.specs.Refusals.{noRefusal, problemRefusal}
+use Rattle.certificate_judge.specs.Steps.{judgedOf}
+use Rattle.certificate_judge.proofs.Problems.{full-is}
+use Rattle.calls.specs.declared.PairVerdict.{PairVerdict}
+use Rattle.calls.specs.Blocks.{refusedBlocks, blocksOf, bytesOf}
+use Rattle.calls.specs.Check.{refusedCheck, checkJudged, checkOf}
+use Rattle.calls.specs.Pair.{refusedPair, pairSecond, pairFirst, pairOf}
 use Rattle.checker.specs.Steps.{checkFrom, pairFrom}
 
 -- ---- a problem within its limits, and one that is not
@@ -52,7 +52,7 @@ module _ (p : Problem) where
   pair-within low high e = rw e
 
 -- ---- the blocks
-module _ (p : StoredProblem) (t : List ℕ) (j : Joined) (t′ idx′ : List ℕ) (joined : Joining (closing (problemOf p)) t j t′ idx′) (few : j .full ≡ false) where
+module _ (p : StoredProblem) (t : List ℕ) (j : Joined) (t′ idx′ : List ℕ) (joined : ClosureLeft (closing (problemOf p)) t j t′ idx′) (few : j .full ≡ false) where
   within : tooLarge (problemOf p) ≡ false
   within = sym (full-is (problemOf p) t j t′ idx′ joined) ∙ few
 

@@ -8,8 +8,9 @@ use lib.IntN.{ℤ, pos}
 use lib.ListN.{length, drop, replicate}
 use borrow.Author.Tests.{lt-ltb, le-ltb, ltb-false}
 use Rattle.counting.proofs.Cases.{clash}
-use Rattle.checker.specs.Tables.{tablesShort, Long, Cleared, tableLeft}
-use Rattle.checker.specs.Blocks.{blocksShort}
+use Rattle.calls.specs.Tables.{tablesShort, tableLeft}
+use Rattle.checker.specs.Tables.{Long, Cleared}
+use Rattle.calls.specs.Blocks.{blocksShort}
 use Rattle.checker.specs.Steps.{Rest}
 
 or-left : (a b : Bool) → (a || b) ≡ false → a ≡ false

@@ -1,6 +1,2 @@
 pub mod Tables
-pub mod Blocks
-pub mod Check
-pub mod Pair
-pub mod Promises
 pub mod Steps

@@ -4,13 +4,13 @@ use mathlib.Core.List.{List}
 use Prim.Native.Nat.{ℕ}
 use lib.IntN.{ℤ}
 use lib.ListN.{drop}
-use Rattle.certificate.specs.declared.Header.{Header}
-use Rattle.judging.specs.declared.Judged.{Judged}
-use Rattle.judging.specs.declared.Judged.the-variants as Judged
-use Rattle.checker.specs.declared.CheckVerdict.{CheckVerdict}
-use Rattle.checker.specs.declared.PairVerdict.{PairVerdict}
-use Rattle.checker.specs.Check.{refusedCheck, acceptedCheck}
-use Rattle.checker.specs.Pair.{refusedPair, pairSides}
+use Rattle.format.specs.declared.certificate.Header.{Header}
+use Rattle.certificate_judge.specs.declared.Judged.{Judged}
+use Rattle.certificate_judge.specs.declared.Judged.the-variants as Judged
+use Rattle.calls.specs.declared.CheckVerdict.{CheckVerdict}
+use Rattle.calls.specs.declared.PairVerdict.{PairVerdict}
+use Rattle.calls.specs.Check.{refusedCheck, acceptedCheck}
+use Rattle.calls.specs.Pair.{refusedPair, pairSides}
 
 -- "extra length .. is untouched"
 pub record Rest (k : List ℕ) (h : List ℤ) (l : List ℕ) (k′ : List ℕ) (h′ : List ℤ) (l′ : List ℕ) : Type 0 where

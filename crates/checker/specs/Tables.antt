@@ -1,15 +1,9 @@
--- What is lent to a call: when it is too short, and what a work table holds when the call returns.
+-- The work tables within a call.
 use mathlib.Core.Path.{_≡_}
-use mathlib.Core.Bool.{Bool, cond, _||_}
 use mathlib.Core.List.{List, _++_}
 use Prim.Native.Nat.{ℕ, _≤_}
-use lib.Dec.{ltb}
 use lib.IntN.{ℤ, pos}
 use lib.ListN.{length, drop, replicate}
-
--- refusal 1: "a lent table .. is too short"
-abbrev pub tablesShort : List ℕ → List ℤ → List ℕ → Bool
-tablesShort keys high low = ltb (length keys) 2048 || (ltb (length high) 2048 || ltb (length low) 2048)
 
 -- every work table is long enough
 pub record Long (k : List ℕ) (h : List ℤ) (l : List ℕ) : Type 0 where
@@ -22,7 +16,3 @@ pub record Cleared (k : List ℕ) (h : List ℤ) (l : List ℕ) (k′ : List ℕ
   pub keys : k′ ≡ replicate 2048 0 ++ drop 2048 k
   pub high : h′ ≡ replicate 2048 (pos 0) ++ drop 2048 h
   pub low : l′ ≡ replicate 2048 0 ++ drop 2048 l
-
--- "On every return their first 2,048 numbers are zero and extra length .. is untouched, except that refusal 1 writes nothing"
-unfoldable pub tableLeft {ℓ} : {A : Type ℓ} → Bool → A → List A → List A
-tableLeft short zero t = cond short t (replicate 2048 zero ++ drop 2048 t)

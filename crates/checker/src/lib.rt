@@ -1,4 +1,4 @@
-// The public calls: the blocks of a problem, the check of one certificate and the pair of two. What they share is in `judging`.
+// The public calls: the blocks of a problem, the check of one certificate and the pair of two. What they share is in `certificate_judge`.
 ghost use mathlib.Core.Path.{_≡_};
 ghost use mathlib.Core.Bool.{_||_};
 ghost use mathlib.Core.List.{_++_};
@@ -6,52 +6,31 @@ ghost use Prim.Native.Nat.{_≤_};
 ghost use lib.Dec.{ltb};
 ghost use lib.ListN.{length, drop};
 ghost use lib.IntN.{pos};
-ghost use Rattle.problem.specs.Rules.{readProblem};
-ghost use Rattle.problem.specs.Stored.{problemOf, Kept};
-ghost use Rattle.problem.specs.Limits.{Limits};
-ghost use Rattle.identity.specs.Judgement as J;
-ghost use Rattle.checker.specs.Tables.{tablesShort, Long, Cleared, tableLeft};
-ghost use Rattle.checker.specs.Blocks.{blocksShort, refusedBlocks, blocksOf, blocksRead, bytesOf, bytesRead, blocksVerdict, bytesLeft};
-ghost use Rattle.fraction.specs.Fractions.{Bound, fraction};
-ghost use Rattle.judging.specs.Refusals.{certificateRefusal};
-ghost use Rattle.gram.specs.Outer.{Below};
-ghost use Rattle.judging.specs.Steps.{Joins};
-ghost use Rattle.checker.specs.Check.{refusedCheck, checkOf, checkRead, checkVerdict};
-ghost use Rattle.checker.specs.Pair.{refusedPair, pairSides, pairFirst, pairOf, pairRead, pairVerdict};
+ghost use Rattle.format.specs.ProblemRules.{readProblem};
+ghost use Rattle.problem_reader.specs.Stored.{problemOf, Kept};
+ghost use Rattle.format.specs.ProblemLimits.{Limits};
+ghost use Rattle.accepting.specs.Judgement as J;
+ghost use Rattle.calls.specs.Tables.{tablesShort, tableLeft};
+ghost use Rattle.checker.specs.Tables.{Long, Cleared};
+ghost use Rattle.calls.specs.Blocks.{blocksShort, refusedBlocks, blocksOf, blocksRead, bytesOf, bytesRead, blocksVerdict, bytesLeft};
+ghost use Rattle.fractions.specs.Ranges.{Bound};
+ghost use Rattle.calls.specs.Fractions.{fraction};
+ghost use Rattle.calls.specs.Refusals.{certificateRefusal};
+ghost use Rattle.row_products.specs.Outer.{Below};
+ghost use Rattle.certificate_judge.specs.Steps.{JoinedProblem};
+ghost use Rattle.calls.specs.Check.{refusedCheck, checkOf, checkRead, checkVerdict};
+ghost use Rattle.calls.specs.Pair.{refusedPair, pairSides, pairFirst, pairOf, pairRead, pairVerdict};
 ghost use Rattle.checker.specs.Steps.{Rest, checkFrom, pairFrom};
-ghost use Rattle.checker.specs.Promises.{BlocksClosed, BlocksLeast, BlocksLowest, RoundsTaken, FewRounds, SevenExactly, AcceptedExactly, PairExactly, HoldsBelow, HoldsAbove, HoldsGap};
-use certificate::Header;
-use fraction::Fraction;
-use joining::Joined;
-use judging::Judged;
-use judging::Refusal;
-use problem::StoredProblem;
-
-// What the blocks call returns: the number of blocks over all bases, and the rounds of the joining rule. Both are 0 with a refusal.
-pub struct BlocksVerdict {
-    pub refusal: Refusal,
-    pub blocks: usize,
-    pub rounds: usize,
-}
-
-// What the check returns: the side, the bound p/q that the certificate states, and the rounds. With a refusal side and rounds are 0
-// and the bound is 0 over 0.
-pub struct CheckVerdict {
-    pub refusal: Refusal,
-    pub side: usize,
-    pub bound: Fraction,
-    pub rounds: usize,
-}
-
-// What the pair returns: the bounds p/q and P/Q that the certificates state, their gap, and the rounds. With a refusal the rounds
-// are 0 and the fractions 0 over 0.
-pub struct PairVerdict {
-    pub refusal: Refusal,
-    pub lower: Fraction,
-    pub upper: Fraction,
-    pub gap: Fraction,
-    pub rounds: usize,
-}
+ghost use Rattle.calls.specs.Promises.{BlocksClosed, BlocksLeast, BlocksLowest, RoundsTaken, FewRounds, SevenExactly, AcceptedExactly, PairExactly, HoldsBelow, HoldsAbove, HoldsGap};
+use calls::BlocksVerdict;
+use calls::CheckVerdict;
+use calls::Fraction;
+use calls::PairVerdict;
+use calls::Refusal;
+use certificate_judge::Judged;
+use closure::Joined;
+use format::certificate::Header;
+use problem_reader::StoredProblem;
 
 // The block numbers written to the lent bytes.
 fn copy(out: &mut [u8], labels: &[u8])
@@ -83,9 +62,9 @@ fn clear_tables(keys: &mut [u64], high: &mut [i64], low: &mut [u64])
     requires { ⌜ Long (now keys) (now high) (now low) ⌝ }
     ensures { λ _. ⌜ Cleared (now (keys .entry)) (now (high .entry)) (now (low .entry)) (now (keys .exit)) (now (high .exit)) (now (low .exit)) ⌝ }
 {
-    judging::clear(keys, 2048);
-    judging::clear_signed(high, 2048);
-    judging::clear(low, 2048);
+    certificate_judge::clear(keys, 2048);
+    certificate_judge::clear_signed(high, 2048);
+    certificate_judge::clear(low, 2048);
 }
 
 // A refusal of the blocks call: it is always the problem's, and has no key.
@@ -110,7 +89,7 @@ fn blocks_of(p: StoredProblem, out: &mut [u8], table: &mut [u64]) -> BlocksVerdi
     ensures { λ r. ⌜ (r ≡ blocksOf (problemOf p)) × (now (out .exit) ≡ bytesOf (problemOf p) (now (out .entry))) × (drop 2048 (now (table .exit)) ≡ drop 2048 (now (table .entry))) ⌝ }
 {
     let mut index = [0u16; 6144];
-    let j = joining::join(p, table, &mut index);
+    let j = closure::join(p, table, &mut index);
     if j.full {
         return refuse_blocks(7, 0);
     }
@@ -133,7 +112,7 @@ fn answer_blocks(problem: &[u8], out: &mut [u8], table: &mut [u64]) -> BlocksVer
     requires { ⌜ (576 ≤ length (now out)) × (2048 ≤ length (now table)) ⌝ }
     ensures { λ r. ⌜ (r ≡ blocksRead (readProblem (now (problem .entry)))) × (now (out .exit) ≡ bytesRead (readProblem (now (problem .entry))) (now (out .entry))) × (drop 2048 (now (table .exit)) ≡ drop 2048 (now (table .entry))) ⌝ }
 {
-    let r = problem::read(problem);
+    let r = problem_reader::read(problem);
     let number = r.number;
     if 0 < number {
         return refuse_blocks(number, r.place);
@@ -188,7 +167,7 @@ fn refuse_check(refusal: Refusal) -> CheckVerdict
     CheckVerdict {
         refusal,
         side: 0,
-        bound: fraction::no_fraction(),
+        bound: fractions::no_fraction(),
         rounds: 0,
     }
 }
@@ -200,7 +179,7 @@ fn check_one(judged: Judged, rounds: usize) -> CheckVerdict
     match judged {
         Judged::Refused(f) => refuse_check(f),
         Judged::Accepted(t) => CheckVerdict {
-            refusal: judging::problem_refusal(0, 0),
+            refusal: certificate_judge::problem_refusal(0, 0),
             side: t.side,
             bound: bound(t.p, t.q),
             rounds,
@@ -220,13 +199,13 @@ fn check_of(
     ensures { λ r. ⌜ (r ≡ checkOf (problemOf p) (now (certificate .entry))) × Rest (now (keys .entry)) (now (high .entry)) (now (low .entry)) (now (keys .exit)) (now (high .exit)) (now (low .exit)) ⌝ }
 {
     let mut index = [0u16; 6144];
-    let j = joining::join(p, keys, &mut index);
+    let j = closure::join(p, keys, &mut index);
     if j.full {
-        return refuse_check(judging::problem_refusal(7, 0));
+        return refuse_check(certificate_judge::problem_refusal(7, 0));
     }
     let mut g = [0i64; 4096];
     let mut lasts = [0u16; 2048];
-    let judged = judging::judge(
+    let judged = certificate_judge::judge(
         1,
         p,
         j,
@@ -252,10 +231,10 @@ fn answer_check(
     requires { ⌜ Long (now keys) (now high) (now low) ⌝ }
     ensures { λ r. ⌜ (r ≡ checkRead (readProblem (now (problem .entry))) (now (certificate .entry))) × Rest (now (keys .entry)) (now (high .entry)) (now (low .entry)) (now (keys .exit)) (now (high .exit)) (now (low .exit)) ⌝ }
 {
-    let r = problem::read(problem);
+    let r = problem_reader::read(problem);
     let number = r.number;
     if 0 < number {
-        return refuse_check(judging::problem_refusal(number, r.place));
+        return refuse_check(certificate_judge::problem_refusal(number, r.place));
     }
     check_of(r.problem, certificate, keys, high, low)
 }
@@ -277,7 +256,7 @@ pub fn check(
     ensures few_rounds { λ r. ⌜ FewRounds (now (problem .entry)) (r .refusal .number) (r .rounds) ⌝ }
 {
     if is_short(keys.len(), high.len(), low.len()) {
-        return refuse_check(judging::problem_refusal(1, 0));
+        return refuse_check(certificate_judge::problem_refusal(1, 0));
     }
     let v = answer_check(problem, certificate, keys, high, low);
     clear_tables(keys, high, low);
@@ -289,9 +268,9 @@ fn refuse_pair(refusal: Refusal) -> PairVerdict
 {
     PairVerdict {
         refusal,
-        lower: fraction::no_fraction(),
-        upper: fraction::no_fraction(),
-        gap: fraction::no_fraction(),
+        lower: fractions::no_fraction(),
+        upper: fractions::no_fraction(),
+        gap: fractions::no_fraction(),
         rounds: 0,
     }
 }
@@ -320,10 +299,10 @@ fn pair_sides(lower: Header, upper: Header, rounds: usize) -> PairVerdict
     let a = bound(lower.p, lower.q);
     let b = bound(upper.p, upper.q);
     PairVerdict {
-        refusal: judging::problem_refusal(0, 0),
+        refusal: certificate_judge::problem_refusal(0, 0),
         lower: a,
         upper: b,
-        gap: a.gap(b),
+        gap: fractions::gap(a, b),
         rounds,
     }
 }
@@ -351,14 +330,14 @@ fn pair_both(
     high: &mut [i64],
     low: &mut [u64],
 ) -> PairVerdict
-    requires { ⌜ Joins p j (now keys) (now index) × Below 0 (now g) × (2048 ≤ length (now high)) × (2048 ≤ length (now low)) ⌝ }
+    requires { ⌜ JoinedProblem p j (now keys) (now index) × Below 0 (now g) × (2048 ≤ length (now high)) × (2048 ≤ length (now low)) ⌝ }
     ensures { λ r. ⌜ (r ≡ pairFirst (problemOf p) (J.judge (problemOf p) (now (first .entry))) (now (second .entry))) × (drop 2048 (now (high .exit)) ≡ drop 2048 (now (high .entry))) × (drop 2048 (now (low .exit)) ≡ drop 2048 (now (low .entry))) ⌝ }
 {
-    match judging::judge(1, p, j, first, keys, index, g, lasts, high, low) {
+    match certificate_judge::judge(1, p, j, first, keys, index, g, lasts, high, low) {
         Judged::Refused(f) => refuse_pair(f),
         Judged::Accepted(lower) => pair_second(
             lower,
-            judging::judge(2, p, j, second, keys, index, g, lasts, high, low),
+            certificate_judge::judge(2, p, j, second, keys, index, g, lasts, high, low),
             j.rounds,
         ),
     }
@@ -377,9 +356,9 @@ fn pair_of(
     ensures { λ r. ⌜ (r ≡ pairOf (problemOf p) (now (first .entry)) (now (second .entry))) × Rest (now (keys .entry)) (now (high .entry)) (now (low .entry)) (now (keys .exit)) (now (high .exit)) (now (low .exit)) ⌝ }
 {
     let mut index = [0u16; 6144];
-    let j = joining::join(p, keys, &mut index);
+    let j = closure::join(p, keys, &mut index);
     if j.full {
-        return refuse_pair(judging::problem_refusal(7, 0));
+        return refuse_pair(certificate_judge::problem_refusal(7, 0));
     }
     let mut g = [0i64; 4096];
     let mut lasts = [0u16; 2048];
@@ -409,10 +388,10 @@ fn answer_pair(
     requires { ⌜ Long (now keys) (now high) (now low) ⌝ }
     ensures { λ r. ⌜ (r ≡ pairRead (readProblem (now (problem .entry))) (now (first .entry)) (now (second .entry))) × Rest (now (keys .entry)) (now (high .entry)) (now (low .entry)) (now (keys .exit)) (now (high .exit)) (now (low .exit)) ⌝ }
 {
-    let r = problem::read(problem);
+    let r = problem_reader::read(problem);
     let number = r.number;
     if 0 < number {
-        return refuse_pair(judging::problem_refusal(number, r.place));
+        return refuse_pair(certificate_judge::problem_refusal(number, r.place));
     }
     pair_of(r.problem, first, second, keys, high, low)
 }
@@ -438,7 +417,7 @@ pub fn pair(
     ensures few_rounds { λ r. ⌜ FewRounds (now (problem .entry)) (r .refusal .number) (r .rounds) ⌝ }
 {
     if is_short(keys.len(), high.len(), low.len()) {
-        return refuse_pair(judging::problem_refusal(1, 0));
+        return refuse_pair(certificate_judge::problem_refusal(1, 0));
     }
     let v = answer_pair(problem, first, second, keys, high, low);
     clear_tables(keys, high, low);

@@ -2,7 +2,7 @@
 use libc::STDOUT_FILENO;
 
 fn main() {
-    let text = gap::answer();
+    let text = files::answer();
     let bytes = text.bytes;
-    io::write_all(STDOUT_FILENO, report::cut(&bytes, text.len));
+    io::write_all(STDOUT_FILENO, text::cut(&bytes, text.len));
 }

@@ -9,7 +9,7 @@ use lib.Bits.{bitXor}
 use lib.ListN.{length, getD, set, replicate, getD-replicate, length-set}
 use lib.Seq.{getD-set-same, getD-set-other}
 use Rattle.counting.proofs.Listed.{same-or-not}
-use Rattle.parity.specs.Parity.{class, AllSmall, Noted, Keeps, Spread, SpreadAll, Possible}
+use Rattle.parity.specs.Parity.{class, AllSmall, Noted, Keeps, SpreadOne, SpreadAll, Possible}
 use Rattle.parity.proofs.Laws.{class-low, class-sum, differ-low}
 
 module _ (l : List ℕ) where
@@ -45,18 +45,18 @@ module _ (l : List ℕ) (i : ℕ) where
 
 -- ---- the spread of one class, and of all
 
-module _ (c d : ℕ) (present possible : List ℕ) (f : Spread c d present possible) where
-  pub spread-set : c < 256 → d < 256 → length possible ≡ 256 → Spread c (d + 1) present (set possible (bitXor c d) 1)
+module _ (c d : ℕ) (present possible : List ℕ) (f : SpreadOne c d present possible) where
+  pub spread-set : c < 256 → d < 256 → length possible ≡ 256 → SpreadOne c (d + 1) present (set possible (bitXor c d) 1)
   spread-set hc hd h =
       let p = bitXor c d in
       let b : p < length possible = omega (arith, differ-low c d hc hd) in
       record { at = below-more _ _ (λ k j e. keeps-set possible p b .at _ (f .at k j e)) (λ e. getD-set-same possible p 1 0 b) }
 
-  pub spread-past : (getD present d 0 ≡ 1 → ⊥) → Spread c (d + 1) present possible
+  pub spread-past : (getD present d 0 ≡ 1 → ⊥) → SpreadOne c (d + 1) present possible
   spread-past n = record { at = below-more _ _ (f .at) (λ e. absurd (n e)) }
 
 module _ (n : ℕ) (exponents present possible : List ℕ) (f : SpreadAll n exponents present possible) where
-  pub spread-more : (possible′ : List ℕ) → Keeps possible possible′ → Spread n 256 present possible′
+  pub spread-more : (possible′ : List ℕ) → Keeps possible possible′ → SpreadOne n 256 present possible′
       → SpreadAll (n + 1) exponents present possible′
   spread-more possible′ k s =
       record { at = below-more _ _ (λ c h e. record { at = λ d i g. k .at _ (f .at c h e .at d i g) }) (λ e. s) }

@@ -39,12 +39,12 @@ pub record Keeps (old new : List ℕ) : Type 0 where
   pub at : (p : ℕ) → getD old p 0 ≡ 1 → getD new p 0 ≡ 1
 
 -- place c xor d has 1 for each d below n with 1 in present
-pub record Spread (c n : ℕ) (present possible : List ℕ) : Type 0 where
+pub record SpreadOne (c n : ℕ) (present possible : List ℕ) : Type 0 where
   pub at : (d : ℕ) → d < n → getD present d 0 ≡ 1 → getD possible (bitXor c d) 0 ≡ 1
 
 -- and so for each c below n with 1 in exponents
 pub record SpreadAll (n : ℕ) (exponents present possible : List ℕ) : Type 0 where
-  pub at : (c : ℕ) → c < n → getD exponents c 0 ≡ 1 → Spread c 256 present possible
+  pub at : (c : ℕ) → c < n → getD exponents c 0 ≡ 1 → SpreadOne c 256 present possible
 
 -- the classes of the sums b + b' for which some t + b + b' may be present, with t in T and b, b' in B
 pub record Possible (T B present possible : List ℕ) : Type 0 where

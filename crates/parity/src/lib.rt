@@ -5,7 +5,7 @@ ghost use mathlib.Core.Bool.{true};
 ghost use Prim.Native.Nat.{_≤_, _<_};
 ghost use lib.Bits.{bitXor};
 ghost use lib.ListN.{length, getD};
-ghost use Rattle.parity.specs.Parity.{class, small, AllSmall, Classes, Noted, Keeps, Spread, SpreadAll, Possible};
+ghost use Rattle.parity.specs.Parity.{class, small, AllSmall, Classes, Noted, Keeps, SpreadOne, SpreadAll, Possible};
 
 // The class of a key. Of the lowest bit of each exponent, at 256^i, division by 511 leaves 2^(9 - i), as twice 256 leaves 1.
 fn class_of(key: u64) -> usize
@@ -68,7 +68,7 @@ pub fn note(keys: &[u64]) -> [u8; 256]
 // 1 at the place c xor d for each d that is present.
 fn spread(possible: &mut [u8; 256], c: usize, present: &[u8; 256])
     requires { ⌜ (c < 256) × (length (now possible) ≡ 256) ⌝ }
-    ensures { λ _. ⌜ Keeps (now (possible .entry)) (now (possible .exit)) × Spread c 256 (now (present .entry)) (now (possible .exit)) ⌝ }
+    ensures { λ _. ⌜ Keeps (now (possible .entry)) (now (possible .exit)) × SpreadOne c 256 (now (present .entry)) (now (possible .exit)) ⌝ }
 {
     let mut d = 0;
     while d < 256 {

@@ -1,5 +1,4 @@
 pub mod Monomials
-pub mod Terms
 pub mod Sums
 pub mod Products
 pub mod Values

@@ -3,13 +3,13 @@
 ghost use Prim.Native.Nat.{_+_, _≤_};
 use libc::STDIN_FILENO;
 use libc::STDOUT_FILENO;
-use report::Text;
+use lines::Text;
 
 // The length that four bytes of a record's head give.
 fn length_at(head: &[u8; 13], at: usize) -> usize
     requires { ⌜ at + 4 ≤ 13 ⌝ }
 {
-    stream::number_at(head, at, 4) as usize
+    operand_reader::number_at(head, at, 4) as usize
 }
 
 // The next n bytes of the input; whether there is room for them and they are there.
@@ -23,7 +23,7 @@ fn fill(bytes: &mut [u8], n: usize) -> bool {
 
 fn write(text: Text) {
     let bytes = text.bytes;
-    io::write_all(STDOUT_FILENO, report::cut(&bytes, text.len));
+    io::write_all(STDOUT_FILENO, text::cut(&bytes, text.len));
 }
 
 fn run_blocks(problem: &[u8]) {
@@ -32,7 +32,7 @@ fn run_blocks(problem: &[u8]) {
     let mut high = [0i64; 2048];
     let mut low = [0u64; 2048];
     let v = checker::blocks(problem, &mut out, &mut keys, &mut high, &mut low);
-    write(report::blocks_line(v, &out));
+    write(text::blocks_line(v, &out));
 }
 
 fn run_check(problem: &[u8], certificate: &[u8]) {
@@ -40,7 +40,7 @@ fn run_check(problem: &[u8], certificate: &[u8]) {
     let mut high = [0i64; 2048];
     let mut low = [0u64; 2048];
     let v = checker::check(problem, certificate, &mut keys, &mut high, &mut low);
-    write(report::check_line(v));
+    write(text::check_line(v));
 }
 
 fn run_pair(problem: &[u8], first: &[u8], second: &[u8]) {
@@ -48,7 +48,7 @@ fn run_pair(problem: &[u8], first: &[u8], second: &[u8]) {
     let mut high = [0i64; 2048];
     let mut low = [0u64; 2048];
     let v = checker::pair(problem, first, second, &mut keys, &mut high, &mut low);
-    write(report::pair_line(v));
+    write(text::pair_line(v));
 }
 
 // Answers a record of a kind; whether the kind is known.
@@ -91,9 +91,9 @@ fn answer() -> bool {
     }
     run(
         head[0],
-        report::cut(&problem, a),
-        report::cut(&first, b),
-        report::cut(&second, c),
+        text::cut(&problem, a),
+        text::cut(&first, b),
+        text::cut(&second, c),
     )
 }
 

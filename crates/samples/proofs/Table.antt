@@ -5,34 +5,33 @@ use mathlib.Core.Bool.{true, false}
 use Prim.Native.Nat.{ℕ}
 use lib.ListN.{take, drop}
 use Rattle.counting.specs.Counting.{listed, fromTo, sumTo}
-use Rattle.stream.specs.Operands.{number, signed}
-use Rattle.stream.specs.Commands.{firstRefusal, run, readWhole}
+use Rattle.format.specs.Operands.{number, signed}
+use Rattle.format.specs.Commands.{firstRefusal, run, readWhole}
 use Rattle.polynomial.specs.Monomial.{degreeOf, degree, within, among}
 use Rattle.polynomial.specs.Terms.{keysOf}
-use Rattle.problem.specs.Layout.{commandOf}
-use Rattle.problem.specs.Rules.{appendAt, fitting, applied, verdict, next, readProblem}
-use Rattle.problem.specs.Bases.{basisOf, multiplierOf, multiplier}
-use Rattle.support.specs.Sets.{member, insert, insertAll}
-use Rattle.blocks.specs.Join.{linked, merged, joinPair, join}
-use Rattle.blocks.specs.Extend.{addTerms, addPair, extend, lowestFrom}
-use Rattle.rounds.specs.Rounds.{singles, start, joinAll, extendAll, round, same, sameAll, sameState, closeFrom, blocksIn}
-use Rattle.rounds.specs.Rounds as Rounds
-use Rattle.rounds.specs.Bytes.{blockBytes}
-use Rattle.joining.specs.Joining.{startFrom, startSet, closing, tooLarge, blockTotal}
-use Rattle.judging.specs.Refusals.{noRefusal}
-use Rattle.checker.specs.Blocks.{refusedBlocks, blocksOf, blocksVerdict, bytesOf, bytesLeft}
-use Rattle.checker.specs.declared.BlocksVerdict.{BlocksVerdict}
-use Rattle.certificate.specs.Rules.{shapeOf, progressOf, progressVerdict, readCertificate}
-use Rattle.certificate.specs.Rules as Certificate
-use Rattle.certificate.specs.Layout as CertificateLayout
+use Rattle.format.specs.ProblemLayout.{commandOf}
+use Rattle.format.specs.ProblemRules.{appendAt, fitting, applied, verdict, next, readProblem}
+use Rattle.format.specs.ProblemBases.{basisOf, multiplierOf, multiplier}
+use Rattle.joining_rule.specs.Sets.{member, insert, insertAll}
+use Rattle.joining_rule.specs.Join.{linked, merged, joinPair, join}
+use Rattle.joining_rule.specs.Extend.{addTerms, addPair, extend, lowestFrom}
+use Rattle.joining_rule.specs.Rounds.{singles, start, joinAll, extendAll, round, same, sameAll, sameState, closeFrom, blocksIn}
+use Rattle.joining_rule.specs.Rounds as Rounds
+use Rattle.joining_rule.specs.Bytes.{blockBytes}
+use Rattle.joining_rule.specs.Joining.{startFrom, startSet, closing, tooLarge, blockTotal}
+use Rattle.calls.specs.Refusals.{noRefusal, problemRefusal, certificateRefusal}
+use Rattle.calls.specs.Blocks.{refusedBlocks, blocksOf, blocksVerdict, bytesOf, bytesLeft}
+use Rattle.calls.specs.declared.BlocksVerdict.{BlocksVerdict}
+use Rattle.format.specs.CertificateRules.{shapeOf, progressOf, progressVerdict, readCertificate}
+use Rattle.format.specs.CertificateRules as Certificate
+use Rattle.format.specs.CertificateLayout as CertificateLayout
 use Rattle.polynomial.specs.Algebra.{coefficient}
-use Rattle.identity.specs.Identity.{square, squares, claimOf, blockOf}
-use Rattle.identity.specs.Judgement.{firstOutside, rowSplit, splitBy, firstDifference, comparedKeys, differenceKey, judgeRead, judge}
-use Rattle.fraction.specs.Fractions.{fraction}
-use Rattle.judging.specs.Refusals.{problemRefusal, certificateRefusal}
-use Rattle.checker.specs.Check.{refusedCheck, checkOf, checkVerdict}
-use Rattle.checker.specs.Pair.{refusedPair, pairSides, pairOf, pairVerdict}
-use Rattle.checker.specs.declared.CheckVerdict.{CheckVerdict}
+use Rattle.accepting.specs.Identity.{square, squares, claimOf, blockOf}
+use Rattle.accepting.specs.Judgement.{firstOutside, rowSplit, splitBy, firstDifference, comparedKeys, differenceKey, judgeRead, judge}
+use Rattle.calls.specs.Fractions.{fraction}
+use Rattle.calls.specs.Check.{refusedCheck, checkOf, checkVerdict}
+use Rattle.calls.specs.Pair.{refusedPair, pairSides, pairOf, pairVerdict}
+use Rattle.calls.specs.declared.CheckVerdict.{CheckVerdict}
 use lib.IntN.{ℤ, pos, negsuc}
 use Rattle.samples.specs.Streams.{problemA, problemC, problemD, problemE, problemF, certificateA, certificateB, certificateD, lowF, highF, certificateI}
 
@@ -57,7 +56,7 @@ pub samples :
     ∷ found 2 2 (0 ∷ 0 ∷ 255 ∷ []) (0 ∷ [])
     ∷ record { verdict = refusedBlocks 2 0; zero = 7 ∷ 7 ∷ 7 ∷ []; one = 7 ∷ [] }
     ∷ []
-unfolding listed fromTo sumTo number signed firstRefusal run readWhole degreeOf degree within among keysOf commandOf appendAt fitting applied verdict next readProblem basisOf multiplier multiplierOf member insert linked merged joinPair join addTerms addPair extend lowestFrom singles start joinAll extendAll round same sameAll sameState closeFrom blocksIn Rounds.closing blockBytes insertAll startFrom startSet closing tooLarge blockTotal blocksOf blocksVerdict bytesOf bytesLeft
+unfolding listed fromTo sumTo number signed firstRefusal run readWhole degreeOf degree within among keysOf commandOf appendAt fitting applied verdict next readProblem basisOf multiplier multiplierOf member insert linked merged joinPair join addTerms addPair extend lowestFrom singles start joinAll extendAll round same sameAll sameState closeFrom blocksIn Rounds.closingOf blockBytes insertAll startFrom startSet closing tooLarge blockTotal blocksOf blocksVerdict bytesOf bytesLeft
 samples = refl
 
 -- a lower bound p/1 that is accepted
@@ -80,7 +79,7 @@ pub checks :
     ∷ refusedCheck (certificateRefusal 1 2 0 0)
     ∷ refusedCheck (problemRefusal 2 0)
     ∷ []
-unfolding listed fromTo sumTo number signed firstRefusal run readWhole degreeOf degree within among keysOf commandOf appendAt fitting applied verdict next readProblem basisOf multiplier multiplierOf member insert linked merged joinPair join addTerms addPair extend lowestFrom singles start joinAll extendAll round same sameAll sameState closeFrom blocksIn Rounds.closing insertAll startFrom startSet closing tooLarge CertificateLayout.commandOf shapeOf progressOf progressVerdict Certificate.verdict Certificate.applied Certificate.next readCertificate coefficient square squares claimOf blockOf firstOutside rowSplit splitBy firstDifference comparedKeys differenceKey judgeRead judge checkOf checkVerdict
+unfolding listed fromTo sumTo number signed firstRefusal run readWhole degreeOf degree within among keysOf commandOf appendAt fitting applied verdict next readProblem basisOf multiplier multiplierOf member insert linked merged joinPair join addTerms addPair extend lowestFrom singles start joinAll extendAll round same sameAll sameState closeFrom blocksIn Rounds.closingOf insertAll startFrom startSet closing tooLarge CertificateLayout.commandOf shapeOf progressOf progressVerdict Certificate.verdict Certificate.applied Certificate.next readCertificate coefficient square squares claimOf blockOf firstOutside rowSplit splitBy firstDifference comparedKeys differenceKey judgeRead judge checkOf checkVerdict
 checks = refl
 
 -- F: bounds −1 and 1, gap 2, 2 rounds; two lower ones: 10 in the second stream; the certificates turned: 10 in the first
@@ -97,5 +96,5 @@ pub pairs :
     ∷ refusedPair (certificateRefusal 2 2 0 0)
     ∷ refusedPair (problemRefusal 1 0)
     ∷ []
-unfolding listed fromTo sumTo number signed firstRefusal run readWhole degreeOf degree within among keysOf commandOf appendAt fitting applied verdict next readProblem basisOf multiplier multiplierOf member insert linked merged joinPair join addTerms addPair extend lowestFrom singles start joinAll extendAll round same sameAll sameState closeFrom blocksIn Rounds.closing insertAll startFrom startSet closing tooLarge CertificateLayout.commandOf shapeOf progressOf progressVerdict Certificate.verdict Certificate.applied Certificate.next readCertificate coefficient square squares claimOf blockOf firstOutside rowSplit splitBy firstDifference comparedKeys differenceKey judgeRead judge pairSides pairOf pairVerdict
+unfolding listed fromTo sumTo number signed firstRefusal run readWhole degreeOf degree within among keysOf commandOf appendAt fitting applied verdict next readProblem basisOf multiplier multiplierOf member insert linked merged joinPair join addTerms addPair extend lowestFrom singles start joinAll extendAll round same sameAll sameState closeFrom blocksIn Rounds.closingOf insertAll startFrom startSet closing tooLarge CertificateLayout.commandOf shapeOf progressOf progressVerdict Certificate.verdict Certificate.applied Certificate.next readCertificate coefficient square squares claimOf blockOf firstOutside rowSplit splitBy firstDifference comparedKeys differenceKey judgeRead judge pairSides pairOf pairVerdict
 pairs = refl

@@ -2,11 +2,11 @@
 use borrow.Author.Needs.{needs}
 use native.Mathlib.Omega.{arith}
 use mathlib.Core.Path.{_≡_, refl, sym, ap, _∙_}
-use Rattle.stream.specs.Commands.{Outcome, given}
-use Rattle.problem.specs.Rules.{Problem, readProblem}
-use Rattle.problem.specs.Stored.{problemOf}
-use Rattle.judging.proofs.Problems.{reading-refused, reading-given}
-use Rattle.checker.specs.Blocks.{blocksRead, bytesRead}
+use Rattle.format.specs.Commands.{Outcome, given}
+use Rattle.format.specs.ProblemRules.{Problem, readProblem}
+use Rattle.problem_reader.specs.Stored.{problemOf}
+use Rattle.certificate_judge.proofs.Problems.{reading-refused, reading-given}
+use Rattle.calls.specs.Blocks.{blocksRead, bytesRead}
 use Rattle.checker.proofs.answer_blocks.Statement.{statement}
 use Rattle.checker.proofs.answer_blocks.Tie as tie
 

@@ -4,10 +4,11 @@ use native.Mathlib.Omega.{arith}
 use mathlib.Core.Path.{_≡_, refl, sym, _∙_}
 use mathlib.Core.Bool.{Bool, true, false}
 use lib.IntN.{pos}
-use Rattle.checker.specs.Tables.{tablesShort, Long}
-use Rattle.checker.specs.Blocks.{blocksShort, blocksVerdict, bytesLeft}
+use Rattle.calls.specs.Tables.{tablesShort}
+use Rattle.checker.specs.Tables.{Long}
+use Rattle.calls.specs.Blocks.{blocksShort, blocksVerdict, bytesLeft}
 use Rattle.checker.proofs.Tables.{tables-long, out-short, out-long, tables-cleared, table-kept}
-use Rattle.checker.proofs.Promised.{clauses}
+use Rattle.calls.proofs.Promised.{clauses}
 use Rattle.checker.proofs.blocks.Statement.{statement}
 use Rattle.checker.proofs.blocks.Tie as tie
 

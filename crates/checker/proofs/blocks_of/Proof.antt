@@ -2,10 +2,10 @@
 use borrow.Author.Needs.{needs}
 use mathlib.Core.Path.{_≡_, sym, _∙_}
 use mathlib.Core.Bool.{true}
-use Rattle.problem.specs.Stored.{problemOf}
-use Rattle.support.proofs.Index.{indexed-start}
-use Rattle.joining.specs.Joining.{tooLarge}
-use Rattle.judging.proofs.Problems.{full-is}
+use Rattle.problem_reader.specs.Stored.{problemOf}
+use Rattle.key_set.proofs.Index.{indexed-start}
+use Rattle.joining_rule.specs.Joining.{tooLarge}
+use Rattle.certificate_judge.proofs.Problems.{full-is}
 use Rattle.checker.proofs.Steps.{blocks-full, bytes-full, blocks-found, bytes-found}
 use Rattle.checker.proofs.blocks_of.Statement.{statement}
 use Rattle.checker.proofs.blocks_of.Tie as tie

@@ -4,15 +4,15 @@ use mathlib.Core.Path.{_≡_, refl}
 use Prim.Native.Nat.{ℕ}
 use mir.Syntax.{w32}
 use mir.Val.{toZ, ofZ}
-use Rattle.certificate.specs.declared.Header.{Header}
-use Rattle.fraction.specs.declared.Fraction.{Fraction}
-use Rattle.fraction.specs.Fractions.{fraction}
-use Rattle.judging.specs.declared.Refusal.{Refusal}
-use Rattle.checker.specs.declared.CheckVerdict.{CheckVerdict}
-use Rattle.judging.specs.declared.Judged.{Judged}
-use Rattle.judging.specs.declared.Judged.the-variants as Judged
-use Rattle.judging.specs.Refusals.{noRefusal}
-use Rattle.checker.specs.Check.{refusedCheck}
+use Rattle.format.specs.declared.certificate.Header.{Header}
+use Rattle.calls.specs.declared.Fraction.{Fraction}
+use Rattle.calls.specs.Fractions.{fraction}
+use Rattle.calls.specs.declared.Refusal.{Refusal}
+use Rattle.calls.specs.declared.CheckVerdict.{CheckVerdict}
+use Rattle.certificate_judge.specs.declared.Judged.{Judged}
+use Rattle.certificate_judge.specs.declared.Judged.the-variants as Judged
+use Rattle.calls.specs.Refusals.{noRefusal}
+use Rattle.calls.specs.Check.{refusedCheck}
 use Rattle.checker.specs.Steps.{checkFrom}
 use Rattle.checker.proofs.check_one.Statement.{statement}
 use Rattle.checker.proofs.check_one.Tie as tie

@@ -1,8 +1,8 @@
 -- `pair_both`: the first certificate, then the second.
 use borrow.Author.Needs.{needs}
 use mathlib.Core.Path.{sym, _∙_}
-use Rattle.problem.specs.Stored.{problemOf}
-use Rattle.identity.specs.Judgement.{judge}
+use Rattle.problem_reader.specs.Stored.{problemOf}
+use Rattle.accepting.specs.Judgement.{judge}
 use Rattle.checker.proofs.Steps.{pair-first-refused, pair-both}
 use Rattle.checker.proofs.pair_both.Statement.{statement}
 use Rattle.checker.proofs.pair_both.Tie as tie

@@ -2,12 +2,12 @@
 use borrow.Author.Needs.{needs}
 use mathlib.Core.Path.{_≡_}
 use Prim.Native.Nat.{ℕ}
-use Rattle.certificate.specs.declared.Header.{Header}
-use Rattle.judging.specs.declared.Refusal.{Refusal}
-use Rattle.checker.specs.declared.PairVerdict.{PairVerdict}
-use Rattle.judging.specs.declared.Judged.{Judged}
-use Rattle.judging.specs.declared.Judged.the-variants as Judged
-use Rattle.checker.specs.Pair.{refusedPair, pairSides}
+use Rattle.format.specs.declared.certificate.Header.{Header}
+use Rattle.calls.specs.declared.Refusal.{Refusal}
+use Rattle.calls.specs.declared.PairVerdict.{PairVerdict}
+use Rattle.certificate_judge.specs.declared.Judged.{Judged}
+use Rattle.certificate_judge.specs.declared.Judged.the-variants as Judged
+use Rattle.calls.specs.Pair.{refusedPair, pairSides}
 use Rattle.checker.specs.Steps.{pairFrom}
 use Rattle.checker.proofs.pair_second.Statement.{statement}
 use Rattle.checker.proofs.pair_second.Tie as tie

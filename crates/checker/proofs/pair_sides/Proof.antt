@@ -5,12 +5,12 @@ use Prim.Native.Nat.{ℕ}
 use mir.Syntax.{w32}
 use mir.Val.{toZ, ofZ}
 use borrow.Author.Tests.{eq-eqb, ne-eqb}
-use Rattle.certificate.specs.declared.Header.{Header}
-use Rattle.fraction.specs.declared.Fraction.{Fraction}
-use Rattle.fraction.specs.Fractions.{fraction, gapOf}
-use Rattle.judging.specs.declared.Refusal.{Refusal}
-use Rattle.judging.specs.Refusals.{noRefusal, certificateRefusal}
-use Rattle.checker.specs.Pair.{refusedPair, pairSides}
+use Rattle.format.specs.declared.certificate.Header.{Header}
+use Rattle.calls.specs.declared.Fraction.{Fraction}
+use Rattle.calls.specs.Fractions.{fraction, gapOf}
+use Rattle.calls.specs.declared.Refusal.{Refusal}
+use Rattle.calls.specs.Refusals.{noRefusal, certificateRefusal}
+use Rattle.calls.specs.Pair.{refusedPair, pairSides}
 use Rattle.checker.proofs.pair_sides.Statement.{statement}
 use Rattle.checker.proofs.pair_sides.Tie as tie
 

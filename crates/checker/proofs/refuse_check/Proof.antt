@@ -1,8 +1,8 @@
 -- `refuse_check`: all other fields are 0.
 use borrow.Author.Needs.{needs}
 use mathlib.Core.Path.{ap}
-use Rattle.fraction.specs.declared.Fraction.{Fraction}
-use Rattle.checker.specs.declared.CheckVerdict.{CheckVerdict}
+use Rattle.calls.specs.declared.Fraction.{Fraction}
+use Rattle.calls.specs.declared.CheckVerdict.{CheckVerdict}
 use Rattle.checker.proofs.refuse_check.Statement.{statement}
 use Rattle.checker.proofs.refuse_check.Tie as tie
 

@@ -1,10 +1,10 @@
 -- `refuse_pair`: all other fields are 0.
 use borrow.Author.Needs.{needs}
 use mathlib.Core.Path.{_≡_, refl}
-use Rattle.fraction.specs.declared.Fraction.{Fraction}
-use Rattle.fraction.specs.Fractions.{none}
-use Rattle.judging.specs.declared.Refusal.{Refusal}
-use Rattle.checker.specs.Pair.{refusedPair}
+use Rattle.calls.specs.declared.Fraction.{Fraction}
+use Rattle.calls.specs.Fractions.{none}
+use Rattle.calls.specs.declared.Refusal.{Refusal}
+use Rattle.calls.specs.Pair.{refusedPair}
 use Rattle.checker.proofs.refuse_pair.Statement.{statement}
 use Rattle.checker.proofs.refuse_pair.Tie as tie
 

@@ -6,14 +6,14 @@ use mathlib.Core.Logic.{⊎-elim}
 use Prim.Native.Nat.{_-_, _≤_, _<_}
 use lib.Bits.{bitXor}
 use lib.ListN.{length}
-use Rattle.parity.specs.Parity.{Keeps, Spread}
+use Rattle.parity.specs.Parity.{Keeps, SpreadOne}
 use Rattle.parity.proofs.Laws.{differ-low}
 use Rattle.parity.proofs.Marks.{keeps-all, keeps-set, keeps-both, spread-set, spread-past}
 use Rattle.parity.proofs.spread.Statement.{statement}
 use Rattle.parity.proofs.spread.Tie as tie
 
 abbrev Inv-loop : tie.InvT-loop
-Inv-loop possible₀ c present d₀ possible d = (d ≤ 256) × (length possible ≡ 256) × Keeps possible₀ possible × Spread c d present possible
+Inv-loop possible₀ c present d₀ possible d = (d ≤ 256) × (length possible ≡ 256) × Keeps possible₀ possible × SpreadOne c d present possible
 
 abbrev μ-loop : tie.MeasureT-loop
 μ-loop possible₀ c present d₀ possible d = 256 - d

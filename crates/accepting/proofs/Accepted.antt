@@ -1,0 +1,74 @@
+-- A certificate is accepted exactly when its stream gives it, its rows keep to blocks and the identity holds.
+use mathlib.Core.Path.{_≡_, refl, ap, _∙_}
+use mathlib.Core.List.{List}
+use mathlib.Core.Option.{Option, none, some}
+use Prim.Native.Nat.{ℕ}
+use Rattle.counting.proofs.Cases.{clash}
+use Rattle.format.specs.Commands.{Outcome}
+use Rattle.format.specs.Commands as Stream
+use Rattle.format.specs.ProblemRules.{Problem}
+use Rattle.format.specs.ProblemLimits.{Limits}
+use Rattle.format.specs.CertificateRules.{Certificate, shapeOf, readCertificate}
+use Rattle.accepting.specs.Identity.{Identity, KeepsBlocks}
+use Rattle.accepting.specs.Judgement.{splitPlace, differenceKey, refused, accepted, byIdentity, byBlocks, judgeRead, judgeOutcome, judge, Accepted, Differs}
+use Rattle.accepting.proofs.Blocks.{split-none, split-kept}
+use Rattle.accepting.proofs.Difference.{identity-none, none-identity, difference-smallest}
+use Rattle.accepting.proofs.Fits.{read-fits}
+
+-- a refusal is not an acceptance
+not-refused : {X : Type 0} (n place key : ℕ) (c : Certificate) → refused n place key ≡ accepted c → X
+not-refused n place key c e = clash (cc)
+
+-- neither 8 nor 9 is given
+record Passed (split difference : Option ℕ) (d c : Certificate) : Type 0 where
+  split-none : split ≡ none
+  difference-none : difference ≡ none
+  same : d ≡ c
+
+judged : (d c : Certificate) (x y : Option ℕ) → byBlocks x (byIdentity d y) ≡ accepted c → Passed x y d c
+judged d c (some place) y e = not-refused 8 place 0 c e
+judged d c none (some k) e = not-refused 9 0 k c e
+judged d c none none e = record { split-none = refl; difference-none = refl; same = cc }
+
+module _ (p : Problem) where
+  -- ---- an accepted stream gives a certificate with every row in one block and the identity true
+  pub judge-accepted : Limits p → (s : List ℕ) (c : Certificate) → judge p s ≡ accepted c → Accepted p s c
+  unfolding judge judgeRead
+  judge-accepted limits s c e = go (readCertificate (shapeOf p) s) refl e
+    where
+      go : (o : Outcome Certificate) → readCertificate (shapeOf p) s ≡ o → judgeOutcome p o ≡ accepted c → Accepted p s c
+      go (Stream.refused n at) r e = not-refused n at 0 c e
+      go (Stream.given d) r e =
+          let j = judged d c (splitPlace p (d .rows)) (differenceKey p d) e in
+          let read : readCertificate (shapeOf p) s ≡ Stream.given c = r ∙ ap Stream.given (j .same) in
+          let blocks = split-none p (c .rows) (rw (← j .same) (j .split-none)) in
+          record {
+            read = read;
+            blocks = blocks;
+            identity = none-identity p c limits (read-fits p limits s c read) blocks (rw (← j .same) (j .difference-none));
+          }
+
+  -- and a stream whose certificate is such is accepted
+  pub accepted-judge : (s : List ℕ) (c : Certificate) → Accepted p s c → judge p s ≡ accepted c
+  unfolding judge judgeRead
+  accepted-judge s c a = rw (a .read, split-kept p (c .rows) (a .blocks), identity-none p c (a .identity))
+
+  -- ---- refusals 8 and 9 of a certificate that was read
+  module _ (s : List ℕ) (c : Certificate) (read : readCertificate (shapeOf p) s ≡ Stream.given c) where
+    -- 8: "first entry outside the row's first block"
+    pub judge-split : (place : ℕ) → splitPlace p (c .rows) ≡ some place → judge p s ≡ refused 8 place 0
+    unfolding judge judgeRead
+    judge-split place e = rw (read, e)
+
+    -- 9: given where every row is in one block and the identity is false, with the smallest key that differs
+    pub judge-differs : Limits p → KeepsBlocks p (c .rows) → (Identity p c → ⊥) → Differs p s c
+    unfolding judge judgeRead
+    judge-differs limits blocks fails = go (differenceKey p c) refl
+      where
+        go : (o : Option ℕ) → differenceKey p c ≡ o → Differs p s c
+        go none e = absurd (fails (none-identity p c limits (read-fits p limits s c read) blocks e))
+        go (some k) e = record {
+          key = k;
+          refusal = rw (read, split-kept p (c .rows) blocks, e);
+          smallest = difference-smallest p c limits (read-fits p limits s c read) blocks k e;
+        }

@@ -1,0 +1,3 @@
+pub mod Promised
+pub mod Accepting
+pub mod Untouched

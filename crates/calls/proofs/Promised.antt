@@ -1,0 +1,168 @@
+-- What the definitions of the blocks call promise, in the buyer's terms: each clause of the contract, from the equations.
+use mathlib.Core.Path.{_≡_, refl, sym, _∙_}
+use mathlib.Core.Bool.{Bool, true, false, cond}
+use mathlib.Core.List.{List, [], _++_}
+use Prim.Native.Nat.{ℕ, suc, _+_, _-_, _*_, _≤_, _<_}
+use native.Mathlib.Omega.{arith}
+use lib.Dec.{ltb}
+use lib.ListN.{length, getD, drop, List·getD-append}
+use borrow.Author.Tests.{ltb-true, lt-ltb}
+use Rattle.format.specs.Commands.{given}
+use Rattle.format.specs.ProblemRules.{Problem, readProblem}
+use Rattle.format.specs.ProblemBases.{basisOf}
+use Rattle.format.specs.ProblemLimits.{Limits, Monomials, memberCommands, basesNamed}
+use Rattle.format.proofs.ProblemLimits.{read-limits, all-at, monomials-none}
+use Rattle.format.proofs.ProblemCounts.{count-members, count-named}
+use Rattle.joining_rule.specs.Sets.{Rising}
+use Rattle.joining_rule.specs.Rounds.{Bases, monomials, nonempty, closedWithZero}
+use Rattle.joining_rule.specs.Bytes.{blockBytes, blockAt}
+use Rattle.joining_rule.specs.Meaning.{Pair, Closed, Least, Lowest, TakesRounds}
+use Rattle.joining_rule.proofs.Bytes.{bytes-long, byte-at}
+use Rattle.joining_rule.proofs.Closing.{closing-shaped}
+use Rattle.joining_rule.proofs.Bound.{few-rounds, closing-rounds}
+use Rattle.joining_rule.proofs.Meaning.{labelOf, closing-closed, closing-least, closing-lowest}
+use Rattle.joining_rule.specs.Joining.{basesOf, startSet, closing, closedSupport, tooLarge, blockTotal}
+use Rattle.joining_rule.proofs.Start.{start-rising}
+use Rattle.calls.specs.declared.BlocksVerdict.{BlocksVerdict}
+use Rattle.calls.specs.Refusals.{noRefusal}
+use Rattle.calls.specs.Blocks.{refusedBlocks, blocksOf, blocksVerdict, bytesOf, bytesLeft}
+use Rattle.calls.specs.Promises.{BlocksClosed, BlocksLeast, BlocksLowest, RoundsTaken, FewRounds, SevenExactly}
+
+-- ---- block numbers that agree at every index of a basis mean the same
+pub record Agree (g : Bases) (label label′ : ℕ → ℕ → ℕ) : Type 0 where
+  pub at : (j i : ℕ) → j < 9 → i < length (g .basis j) → label j i ≡ label′ j i
+
+module _ (g : Bases) (S₀ : List ℕ) (label label′ : ℕ → ℕ → ℕ) (a : Agree g label label′) where
+  first-same : (j i k t : ℕ) → Pair g j i k t → label j i ≡ label′ j i
+  first-same j i k t p = a .at j i (p .basis) (p .first)
+
+  second-same : (j i k t : ℕ) → Pair g j i k t → label j k ≡ label′ j k
+  second-same j i k t p = a .at j k (p .basis) (p .second)
+
+  pub closed-same : (S : List ℕ) → Closed g S₀ label S → Closed g S₀ label′ S
+  closed-same S c = record {
+    starts = c .starts;
+    joins = λ j i k t p m. sym (first-same j i k t p) ∙ c .joins j i k t p m ∙ second-same j i k t p;
+    adds = λ j i k t p e. c .adds j i k t p (first-same j i k t p ∙ e ∙ sym (second-same j i k t p));
+  }
+
+  pub least-same : (S : List ℕ) → Least g S₀ label S → Least g S₀ label′ S
+  least-same S l = record {
+    blocks = λ R Q o j i k h x y e. l .blocks R Q o j i k h x y (a .at j i h x ∙ e ∙ sym (a .at j k h y));
+    set = l .set;
+  }
+
+  pub lowest-same : Lowest g label → Lowest g label′
+  lowest-same l = record {
+    within = λ j i h x. rw (← a .at j i h x) (l .within j i h x);
+    own = λ j i h x. rw (← a .at j i h x) (sym (a .at j (label j i) h (l .within j i h x)) ∙ l .own j i h x);
+    lowest = λ j i h x. rw (← a .at j i h x) (l .lowest j i h x);
+  }
+
+-- ---- a byte is a block number
+pub byte-found : (L : List (List ℕ)) (rest : List ℕ) (j i : ℕ) → j < 9 → i < 64 → i < length (getD L j []) → getD (getD L j []) i 0 ≡ blockAt (blockBytes L ++ rest) j i
+byte-found L rest j i h b x = sym (List·getD-append (blockBytes L) rest 0 (64 * j + i) (omega (arith, bytes-long L)) ∙ byte-at L j i h b x)
+
+module _ (s : List ℕ) (p : Problem) (read : readProblem s ≡ given p) where
+  limits : Limits p
+  limits = read-limits s p read
+
+  small : (j : ℕ) → length (basisOf p j) ≤ 64
+  unfolding basisOf
+  small j = all-at (Monomials (p .variables) 8 64) (p .bases) j [] (limits .members) (monomials-none (p .variables) 8 64) .count
+
+  rising : Rising (startSet p)
+  unfolding startSet
+  rising = start-rising _ (basesOf p)
+
+  bytes-agree : (rest : List ℕ) → Agree (basesOf p) (labelOf (basesOf p) (startSet p)) (blockAt (blockBytes (closing p .state .labels) ++ rest))
+  unfolding closing
+  bytes-agree rest = record {
+    at = λ j i h b.
+        let z = small j in
+        let n = closing-shaped (basesOf p) (startSet p) .long j h in
+        byte-found _ rest j i h (omega arith) (omega arith);
+  }
+
+  pub promise-closed : (rest : List ℕ) → Closed (basesOf p) (startSet p) (blockAt (blockBytes (closing p .state .labels) ++ rest)) (closedSupport p)
+  unfolding closing
+  promise-closed rest = closed-same _ _ _ _ (bytes-agree rest) _ (closing-closed (basesOf p) (startSet p) rising small)
+
+  pub promise-least : (rest : List ℕ) → Least (basesOf p) (startSet p) (blockAt (blockBytes (closing p .state .labels) ++ rest)) (closedSupport p)
+  unfolding closing
+  promise-least rest = least-same _ _ _ _ (bytes-agree rest) _ (closing-least (basesOf p) (startSet p))
+
+  pub promise-lowest : (rest : List ℕ) → Lowest (basesOf p) (blockAt (blockBytes (closing p .state .labels) ++ rest))
+  unfolding closing
+  promise-lowest rest = lowest-same _ (startSet p) _ _ (bytes-agree rest) (closing-lowest (basesOf p) (startSet p))
+
+  pub promise-rounds : TakesRounds (basesOf p) (startSet p) (closing p .rounds)
+  unfolding closing
+  promise-rounds = closing-rounds (basesOf p) (startSet p) rising small
+
+  pub promise-few : closing p .rounds + basesNamed s ≤ memberCommands s + 2
+  unfolding closing monomials nonempty basisOf
+  promise-few = rw (count-members s p read, count-named s p read) (few-rounds (basesOf p) (startSet p) rising)
+
+-- ---- from the verdict and the bytes to the clauses
+-- what is found where nothing is refused
+record Found (short : Bool) (s out : List ℕ) (p : Problem) : Type 0 where
+  rounds : blocksVerdict short s .rounds ≡ closing p .rounds
+  bytes : bytesLeft short s out ≡ blockBytes (closing p .state .labels) ++ drop 576 out
+
+never : {X : Type 0} (n : ℕ) → suc n ≡ 0 → X
+never n e = absurd (omega arith)
+
+module _ (short : Bool) (s out : List ℕ) (p : Problem) (read : readProblem s ≡ given p) where
+  found : blocksVerdict short s .refusal .number ≡ 0 → Found short s out p
+  unfolding blocksVerdict bytesLeft blocksOf bytesOf
+  found h = go short (tooLarge p) refl (rw read at h)
+    where
+      go : (b t : Bool) → tooLarge p ≡ t → cond b (refusedBlocks 1 0) (cond t (refusedBlocks 7 0) (record { refusal = noRefusal; blocks = blockTotal p; rounds = closing p .rounds })) .refusal .number ≡ 0 → Found b s out p
+      go true t e h = never 0 h
+      go false true e h = never 6 h
+      go false false e h = record { rounds = rw (read, blocksOf, e); bytes = rw (read, bytesOf, e) }
+
+  seven-only : blocksVerdict short s .refusal .number ≡ 7 → 2048 < length (closedWithZero (closing p))
+  unfolding blocksVerdict blocksOf tooLarge
+  seven-only h = go short (ltb 2048 (length (closedWithZero (closing p)))) refl (rw read at h)
+    where
+      go : (b t : Bool) → ltb 2048 (length (closedWithZero (closing p))) ≡ t → cond b (refusedBlocks 1 0) (cond t (refusedBlocks 7 0) (record { refusal = noRefusal; blocks = blockTotal p; rounds = closing p .rounds })) .refusal .number ≡ 7 → 2048 < length (closedWithZero (closing p))
+      go true t e h = absurd (omega arith)
+      go false true e h = ltb-true _ _ e
+      go false false e h = absurd (omega arith)
+
+  seven-always : (blocksVerdict short s .refusal .number ≡ 1 → ⊥) → 2048 < length (closedWithZero (closing p)) → blocksVerdict short s .refusal .number ≡ 7
+  unfolding blocksVerdict blocksOf tooLarge
+  seven-always n h = rw read (go short (rw read at n))
+    where
+      go : (b : Bool) → (cond b (refusedBlocks 1 0) (blocksOf p) .refusal .number ≡ 1 → ⊥) → cond b (refusedBlocks 1 0) (blocksOf p) .refusal .number ≡ 7
+      go true n = absurd (n refl)
+      go false n = rw (blocksOf, tooLarge, lt-ltb 2048 (length (closedWithZero (closing p))) h)
+
+module _ (short : Bool) (s out : List ℕ) where
+  abbrev number : ℕ
+  number = blocksVerdict short s .refusal .number
+
+  clause-closed : BlocksClosed s number (bytesLeft short s out)
+  clause-closed p read h = rw (found short s out p read h .bytes) (promise-closed s p read (drop 576 out))
+
+  clause-least : BlocksLeast s number (bytesLeft short s out)
+  clause-least p read h = rw (found short s out p read h .bytes) (promise-least s p read (drop 576 out))
+
+  clause-lowest : BlocksLowest s number (bytesLeft short s out)
+  clause-lowest p read h = rw (found short s out p read h .bytes) (promise-lowest s p read (drop 576 out))
+
+  clause-rounds : RoundsTaken s number (blocksVerdict short s .rounds)
+  clause-rounds p read h = rw (found short s out p read h .rounds) (promise-rounds s p read)
+
+  clause-few : FewRounds s number (blocksVerdict short s .rounds)
+  clause-few p read h = rw (found short s out p read h .rounds) (promise-few s p read)
+
+  clause-seven : SevenExactly s number
+  clause-seven = record { only = λ p read. seven-only short s out p read; always = λ p read. seven-always short s out p read }
+
+  -- all of them, of a verdict and bytes that are the definitions'
+  pub clauses : (v : BlocksVerdict) (bytes : List ℕ) → v ≡ blocksVerdict short s → bytes ≡ bytesLeft short s out
+      → BlocksClosed s (v .refusal .number) bytes × (BlocksLeast s (v .refusal .number) bytes × (BlocksLowest s (v .refusal .number) bytes × (RoundsTaken s (v .refusal .number) (v .rounds) × (FewRounds s (v .refusal .number) (v .rounds) × SevenExactly s (v .refusal .number)))))
+  clauses v bytes e f = rw (e, f) (clause-closed, (clause-least, (clause-lowest, (clause-rounds, (clause-few, clause-seven)))))

@@ -1,0 +1,7 @@
+pub mod Fractions
+pub mod Refusals
+pub mod Tables
+pub mod Blocks
+pub mod Check
+pub mod Pair
+pub mod Promises

@@ -1,0 +1,78 @@
+-- Where a set on the way to the closed S is too large, the closed S with the zero exponent is.
+use mathlib.Core.Path.{_≡_, sym, ap, _∙_}
+use mathlib.Core.Bool.{Bool, true, false}
+use mathlib.Core.List.{List}
+use Prim.Native.Nat.{ℕ, _-_, _≤_, _<_}
+use native.Mathlib.Omega.{arith}
+use lib.Dec.{ltb}
+use lib.ListN.{length, drop}
+use borrow.Author.Tests.{lt-ltb, le-ltb}
+use Rattle.counting.proofs.Cases.{clash}
+use Rattle.joining_rule.specs.Sets.{insert}
+use Rattle.key_set.specs.Table.{keysIn, Grown, Stored}
+use Rattle.joining_rule.proofs.Elements.{insert-grows}
+use Rattle.joining_rule.specs.Rounds.{Bases, Closing, start, closingOf, blocksIn, closedWithZero}
+use Rattle.whole_rounds.specs.Parts.{basesIn, labelsIn}
+use Rattle.joining_rule.specs.Bytes.{blockBytes}
+use Rattle.whole_rounds.specs.Arrays.{Settled, Arrays}
+use Rattle.whole_rounds.proofs.Flat.{Shaped, part-long, labels-of}
+use Rattle.joining_rule.proofs.Closing.{closing-shaped}
+use Rattle.whole_rounds.specs.declared.Closed.{Closed}
+use Rattle.whole_rounds.proofs.Rounding.{close-extends}
+
+-- the test for refusal 7
+abbrev large : Closing → Bool
+large o = ltb 2048 (length (closedWithZero o))
+
+module _ (g : Bases) (S₀ t : List ℕ) (n : ℕ) (t₁ : List ℕ) (grown : Grown S₀ t n t₁) where
+  -- the closed S with the zero exponent has all of the start
+  start-few : length S₀ ≤ length (closedWithZero (closingOf g S₀))
+  unfolding closingOf start
+  start-few = let m = close-extends g 578 (start g S₀) 0 .more in omega (arith, insert-grows 0 (closingOf g S₀ .state .support))
+
+  pub start-large : 2048 < n → true ≡ large (closingOf g S₀)
+  start-large h = sym (lt-ltb 2048 (length (closedWithZero (closingOf g S₀))) (omega (arith, grown .count, start-few)))
+
+module _ (o : Closing) (n : ℕ) (t : List ℕ) (r : Closed) (t₁ idx₁ : List ℕ) (settled : Settled o n t r t₁ idx₁) where
+  pub close-large : 2048 < r .len → true ≡ large o
+  close-large h = sym (lt-ltb 2048 (length (closedWithZero o)) (omega (arith, settled .stored .grown .count, insert-grows 0 (o .state .support))))
+
+  module _ (few : r .len ≤ 2048) (len : ℕ) (t₂ idx₂ : List ℕ) (put : Stored (r .len) (insert 0 (keysIn (r .len) t₁)) t₁ len t₂ idx₂) where
+    last : Grown (closedWithZero o) t₁ len t₂
+    last = rw (settled .stored .grown .keys few) at (put .grown)
+
+    pub put-large : 2048 < len → true ≡ large o
+    put-large h = sym (lt-ltb 2048 (length (closedWithZero o)) (omega (arith, last .count)))
+
+    pub put-small : len ≤ 2048 → false ≡ large o
+    put-small h = sym (le-ltb 2048 (length (closedWithZero o)) (omega (arith, last .count)))
+
+    pub len-is : len ≤ 2048 → len ≡ length (closedWithZero o)
+    len-is h = omega (arith, last .count)
+
+    pub put-keys : len ≤ 2048 → keysIn len t₂ ≡ closedWithZero o
+    put-keys h = last .keys h
+
+    pub put-long : length t₂ ≡ length t
+    put-long = last .long ∙ settled .stored .grown .long
+
+    pub put-rest : drop 2048 t₂ ≡ drop 2048 t
+    put-rest = last .rest ∙ settled .stored .grown .rest
+
+-- the blocks' lists are as long as the sizes say, so the bytes give them back
+module _ (keys sizes exponents counts : List ℕ) (a : Arrays keys sizes exponents counts) (S₀ : List ℕ) where
+  abbrev labels : List (List ℕ)
+  labels = closingOf (basesIn keys sizes exponents counts) S₀ .state .labels
+
+  shaped : Shaped sizes labels
+  unfolding basesIn
+  shaped =
+      let c = closing-shaped (basesIn keys sizes exponents counts) S₀ in
+      record { nine = c .nine; long = λ j h. c .long j h ∙ part-long 64 sizes keys j (omega (arith, a .sized .small j, a .keys-long)) }
+
+  pub counted : (l : List ℕ) → l ≡ blockBytes labels → blocksIn (labelsIn sizes l) ≡ blocksIn labels
+  counted l e = ap blocksIn (ap (labelsIn sizes) e ∙ labels-of sizes (a .sized) labels shaped)
+
+-- a test that holds does not fail
+pub never : {b : Bool} {P : Type 0} → b ≡ true → b ≡ false → P
+never p q = clash (cc)

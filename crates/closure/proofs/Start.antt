@@ -1,0 +1,67 @@
+-- Laws of the start of S: what putting keys into a set gives.
+use mathlib.Core.Path.{_≡_, refl, ap, sym, _∙_}
+use mathlib.Core.List.{List, [], _∷_, _++_, map-append}
+use lib.IntN.{ℤ, pos}
+use Prim.Native.Nat.{ℕ, zero, suc, _+_, _*_, _^_, _≤_, _<_}
+use native.Mathlib.Numerals.{add-one}
+use native.Mathlib.Omega.{arith}
+use lib.ListN.{length, take, drop, getD, drop-of-length-le}
+use lib.Seq.{drop-cons}
+use Rattle.counting.proofs.Bounded.{bounded-part}
+use Rattle.joining_rule.specs.Sets.{insert, insertAll}
+use Rattle.whole_rounds.specs.Parts.{part}
+use Rattle.counting.specs.Counting.{listed, Bounded}
+use Rattle.counting.proofs.Listed.{listed-take}
+use Rattle.polynomial.specs.Terms.{term, keysOf}
+use Rattle.problem_reader.specs.TermArrays.{termsIn}
+use Rattle.key_set.specs.Table.{keysIn, Stored}
+use Rattle.joining_rule.specs.Joining.{multiples}
+
+-- ---- one key after another
+module _ (c : ℕ) (ks S : List ℕ) where
+  pub insert-next : (i : ℕ) → i < length ks → insertAll (multiples c (drop i ks)) S ≡ insertAll (multiples c (drop (i + 1) ks)) (insert (c * getD ks i 0) S)
+  unfolding insertAll
+  insert-next i h = rw (add-one, drop-cons ks i 0)
+
+  pub insert-done : (i : ℕ) → length ks ≤ i → insertAll (multiples c (drop i ks)) S ≡ S
+  unfolding insertAll
+  insert-done i h = ap (λ (l : List ℕ). insertAll (multiples c l) S) (drop-of-length-le ks h)
+
+-- a key of degree at most 32, and twice one, fit 64 bits
+pub product-fits : (c k : ℕ) → c ≤ 2 → k ≤ 32 * 2 ^ 56 → c * k < 2 ^ 64
+product-fits zero k h b = omega arith
+product-fits (suc zero) k h b = omega arith
+product-fits (suc (suc zero)) k h b = omega arith
+product-fits (suc (suc (suc c))) k h b = absurd (omega arith)
+
+-- a part of a list that has no number above m has none
+pub part-low : (m w : ℕ) (counts l : List ℕ) (j : ℕ) → Bounded m l → Bounded m (part w counts l j)
+part-low m w counts l j h = bounded-part m (w * j) (getD counts j 0) l h
+
+-- ---- the objective's keys
+pub keys-listed : (n : ℕ) (keys : List ℕ) (coefficients : List ℤ) → keysOf (termsIn n keys coefficients) ≡ listed n (λ i. getD keys i 0)
+unfolding keysOf termsIn listed
+keys-listed zero keys cs = refl
+keys-listed (suc n) keys cs = map-append _ (listed n (λ i. term (getD keys i 0) (getD cs i (pos 0)))) (term (getD keys n 0) (getD cs n (pos 0)) ∷ []) ∙ ap (λ (l : List ℕ). l ++ (getD keys n 0 ∷ [])) (keys-listed n keys cs)
+
+pub first-keys : (n : ℕ) (keys : List ℕ) (coefficients : List ℤ) → n ≤ length keys → take n keys ≡ keysOf (termsIn n keys coefficients)
+first-keys n keys cs h = sym (keys-listed n keys cs ∙ listed-take n keys 0 h)
+
+-- ---- one growth of an empty table after another
+module _ (S t : List ℕ) (n : ℕ) (t₁ idx₁ : List ℕ) (g : Stored 0 S t n t₁ idx₁) where
+  -- a set that is too large stays so
+  pub stored-over : 2048 < n → (S′ : List ℕ) → length S ≤ length S′ → Stored 0 S′ t n t₁ idx₁
+  stored-over b S′ x = record {
+    grown = record { count = omega (arith, g .grown .count); keys = λ q. absurd (omega arith); long = g .grown .long; rest = g .grown .rest };
+    index = λ q. absurd (omega arith);
+    first = λ q. absurd (omega arith);
+  }
+
+  pub stored-then : n ≤ 2048 → (f : List ℕ → List ℕ) (r : ℕ) (t₂ idx₂ : List ℕ) → Stored n (f (keysIn n t₁)) t₁ r t₂ idx₂ → Stored 0 (f S) t r t₂ idx₂
+  stored-then b f r t₂ idx₂ k =
+      let k′ : Stored n (f S) t₁ r t₂ idx₂ = rw (g .grown .keys b) at k in
+      record {
+        grown = record { count = k′ .grown .count; keys = k′ .grown .keys; long = k′ .grown .long ∙ g .grown .long; rest = k′ .grown .rest ∙ g .grown .rest };
+        index = k′ .index;
+        first = λ _. refl;
+      }

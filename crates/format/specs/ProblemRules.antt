@@ -1,0 +1,111 @@
+-- The rules of the problem stream: what is refused, with which number, and what is read.
+use mathlib.Core.Bool.{Bool, true, false, _&&_}
+use mathlib.Core.List.{List, [], _∷_, _++_}
+use Prim.Native.Nat.{ℕ, _+_, _-_}
+use lib.Dec.{eqb, leb, ltb}
+use lib.IntN.{ℤ, pos, negsuc}
+use lib.ListN.{length, getD, set, replicate}
+use Rattle.format.specs.Commands.{Outcome, firstRefusal, Language, readWhole}
+use Rattle.polynomial.specs.Monomial.{degree, within, among}
+use Rattle.polynomial.specs.Terms.{Term, term, keysOf}
+use Rattle.format.specs.declared.problem.Command.{Command}
+use Rattle.format.specs.declared.problem.Command.the-variants as C
+use Rattle.format.specs.declared.problem.Instruction.{Instruction}
+use Rattle.format.specs.declared.problem.Instruction.the-variants as I
+use Rattle.format.specs.ProblemLayout.{commandOf, size, decode}
+
+-- a problem: the number of variables, the objective, the constraints from number 1 on, and the bases 0 to 8
+pub record Problem : Type 0 where
+  pub variables : ℕ
+  pub objective : List Term
+  pub constraints : List (List Term)
+  pub bases : List (List ℕ)
+
+-- before the first command
+abbrev pub nothing : Problem
+nothing = record { variables = 0; objective = []; constraints = []; bases = replicate 9 [] }
+
+-- one more at the end of list j
+unfoldable pub appendAt {ℓ} : {A : Type ℓ} → List (List A) → ℕ → A → List (List A)
+appendAt ls j a = set ls j (getD ls j [] ++ (a ∷ []))
+
+-- "the constraint begun last"
+abbrev pub lastOf {ℓ} : {A : Type ℓ} → List (List A) → List A
+lastOf ls = getD ls (length ls - 1) []
+
+-- ---- refusal 3: 01 stands "first, and only first", and "a 04 before any 03 .. is misplaced"
+abbrev pub placed : Problem → ℕ → Command → Bool
+placed p at C.Variables = eqb at 0
+placed p at C.Objective = ltb 0 at
+placed p at C.Constraint = ltb 0 at
+placed p at C.Term = ltb 0 at && ltb 0 (length (p .constraints))
+placed p at C.Member = ltb 0 at
+placed p at C.End = ltb 0 at
+placed p at C.Unknown = false
+
+-- ---- refusal 4: "operand outside its rule"
+-- "Coefficients and factors are never 0"
+abbrev pub nonzero : ℤ → Bool
+nonzero (pos n) = ltb 0 n
+nonzero (negsuc n) = true
+
+-- a monomial in n variables of total degree at most d
+unfoldable pub fitting : ℕ → ℕ → ℕ → Bool
+fitting n d k = leb (degree k) d && within n k
+
+abbrev pub allowed : Problem → Instruction → Bool
+allowed p (I.Variables n) = leb 1 n && leb n 8
+allowed p (I.Objective k c) = fitting (p .variables) 32 k && nonzero c
+allowed p I.Constraint = true
+allowed p (I.Term k c) = fitting (p .variables) 16 k && nonzero c
+allowed p (I.Member j k) = leb j (length (p .constraints)) && fitting (p .variables) 8 k
+allowed p I.End = true
+
+-- ---- refusal 5: "A polynomial or a basis has no monomial twice"
+abbrev pub repeated : Problem → Instruction → Bool
+repeated p (I.Variables n) = false
+repeated p (I.Objective k c) = among k (keysOf (p .objective))
+repeated p I.Constraint = false
+repeated p (I.Term k c) = among k (keysOf (lastOf (p .constraints)))
+repeated p (I.Member j k) = among k (getD (p .bases) j [])
+repeated p I.End = false
+
+-- ---- refusal 6: "one more than a count allows"
+abbrev pub full : Problem → Instruction → Bool
+full p (I.Variables n) = false
+full p (I.Objective k c) = leb 256 (length (p .objective))
+full p I.Constraint = leb 8 (length (p .constraints))
+full p (I.Term k c) = leb 32 (length (lastOf (p .constraints)))
+full p (I.Member j k) = leb 64 (length (getD (p .bases) j []))
+full p I.End = false
+
+-- ---- what a command that is not refused does
+unfoldable pub applied : Problem → Instruction → Problem
+applied p (I.Variables n) = record { variables = n; objective = p .objective; constraints = p .constraints; bases = p .bases }
+applied p (I.Objective k c) = record { variables = p .variables; objective = p .objective ++ (term k c ∷ []); constraints = p .constraints; bases = p .bases }
+applied p I.Constraint = record { variables = p .variables; objective = p .objective; constraints = p .constraints ++ ([] ∷ []); bases = p .bases }
+applied p (I.Term k c) = record { variables = p .variables; objective = p .objective; constraints = appendAt (p .constraints) (length (p .constraints) - 1) (term k c); bases = p .bases }
+applied p (I.Member j k) = record { variables = p .variables; objective = p .objective; constraints = p .constraints; bases = appendAt (p .bases) j k }
+applied p I.End = p
+
+-- ---- the command at an offset
+abbrev pub commandAt : List ℕ → ℕ → Command
+commandAt s at = commandOf (getD s at 0)
+
+abbrev pub instructionAt : List ℕ → ℕ → Instruction
+instructionAt s at = decode (commandAt s at) s at
+
+unfoldable pub verdict : Problem → List ℕ → ℕ → ℕ
+verdict p s at =
+    firstRefusal (placed p at (commandAt s at)) (leb (at + size (commandAt s at)) (length s))
+    (allowed p (instructionAt s at)) (repeated p (instructionAt s at)) (full p (instructionAt s at))
+
+unfoldable pub next : Problem → List ℕ → ℕ → Problem
+next p s at = applied p (instructionAt s at)
+
+-- ---- the problem stream
+abbrev pub language : Language Problem
+language = record { verdict = verdict; next = next; size = λ b. size (commandOf b); ending = 6 }
+
+unfoldable pub readProblem : List ℕ → Outcome Problem
+readProblem s = readWhole language nothing s

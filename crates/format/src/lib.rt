@@ -1,0 +1,3 @@
+// What the bytes of the two streams say: the types of commands and headers here, definitions in specs/, theorems in proofs/. No code.
+pub mod certificate;
+pub mod problem;

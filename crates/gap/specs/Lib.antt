@@ -1,2 +1,0 @@
--- What gapcheck writes.
-pub mod Answers

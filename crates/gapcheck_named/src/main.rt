@@ -1,8 +1,0 @@
-// gapcheck on files that its arguments name: the certificates of examples/two_decks.
-use libc::STDOUT_FILENO;
-
-fn main() {
-    let text = gap::answer();
-    let bytes = text.bytes;
-    io::write_all(STDOUT_FILENO, report::cut(&bytes, text.len));
-}

@@ -1,5 +1,0 @@
-pub mod Prefixes
-pub mod Frames
-pub mod Folds
-pub mod Outers
-pub mod Gathering

@@ -1,4 +1,0 @@
-pub mod Outer
-pub mod Frame
-pub mod Fold
-pub mod Gather

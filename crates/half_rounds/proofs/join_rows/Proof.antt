@@ -1,0 +1,74 @@
+-- `half_rounds::join_rows` meets its contract: what is left from index i on gives the result.
+use borrow.Author.Needs.{needs}
+use native.Mathlib.Omega.{arith}
+use mathlib.Core.Path.{_≡_, refl, sym, ap, _∙_}
+use Prim.Native.Nat.{_-_, _≤_}
+use lib.ListN.{length}
+use Rattle.key_set.specs.Table.{keysIn}
+use Rattle.counting.specs.Counting.{fromTo}
+use Rattle.counting.proofs.Steps.{fromTo-done, fromTo-more}
+use Rattle.joining_rule.specs.Join.{joinRow, join}
+use Rattle.half_rounds.specs.Sums.{Apart}
+use Rattle.half_rounds.proofs.join_rows.Statement.{statement}
+use Rattle.half_rounds.proofs.join_rows.Tie as tie
+
+abbrev Inv-loop : tie.InvT-loop
+Inv-loop labels₀ apart₀ basis exponents table index len classes possible i₀ labels apart i = (i ≤ length basis) × (length labels ≡ length labels₀) × (length apart ≡ length apart₀) × (fromTo i (length basis) (joinRow (keysIn len table) exponents basis) labels ≡ join (keysIn len table) exponents basis labels₀) × Apart exponents apart (keysIn len table)
+
+abbrev μ-loop : tie.MeasureT-loop
+μ-loop labels₀ apart₀ basis exponents table index len classes possible i₀ labels apart i = length basis - i
+
+loop-holds : tie.Need-loop-holds Inv-loop μ-loop
+unfolding join
+loop-holds c = (omega arith, refl, refl, refl, c .before .before .before .before .before .before .pre .1)
+
+join-row-requires : tie.Need-join-row-requires Inv-loop μ-loop
+join-row-requires c κs =
+    let l = c .before .before .before in
+    let s = c .before .before .before .before .before .before .before .before .before .before in
+    let p = s .pre .0 in (
+      record {
+        support = p .support;
+        index = p .index;
+        basis = record { keys = p .basis .keys; exponents = p .basis .exponents; labels = l .loop .inv .1 ∙ p .basis .labels };
+      },
+      l .loop .inv .4,
+      s .pre .2,
+      omega arith,
+    )
+
+add-i : tie.Need-add-i Inv-loop μ-loop
+add-i c = search needs
+
+loop-less : tie.Need-loop-less Inv-loop μ-loop
+loop-less c = search needs
+
+loop-again : tie.Need-loop-again Inv-loop μ-loop
+loop-again c =
+    let l = c .before .before .before .before .before .before .before .before in
+    let m = c .before .before .before .before .join-row in
+    (omega arith, m .kept .0 ∙ l .loop .inv .1, m .kept .1 .0 ∙ l .loop .inv .2, ap (fromTo _ _ _) (m .ensures .0) ∙ sym (fromTo-more _ _ _ _ (omega arith)) ∙ l .loop .inv .3, m .ensures .1)
+
+same-length : tie.Need-same-length Inv-loop μ-loop
+same-length c = c .before .loop .inv .1
+
+same-length-2 : tie.Need-same-length-2 Inv-loop μ-loop
+same-length-2 c = c .before .loop .inv .2
+
+returns : tie.Need-returns Inv-loop μ-loop
+returns c = sym (fromTo-done _ _ _ _ (omega arith)) ∙ c .before .loop .inv .3
+
+pub join-rows-spec : {M : Type 1} → statement M
+join-rows-spec =
+    tie.close
+    (tie.spec
+    Inv-loop
+    μ-loop
+    loop-holds
+    join-row-requires
+    add-i
+    loop-less
+    loop-again
+    same-length
+    same-length-2
+    returns)

@@ -1,0 +1,4 @@
+pub mod Limits
+pub mod Filled
+pub mod Sums
+pub mod Ruled

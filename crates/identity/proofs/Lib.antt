@@ -1,9 +1,0 @@
-pub mod Blocks
-pub mod Reach
-pub mod Difference
-pub mod Fits
-pub mod Accepted
-pub mod Bounds
-pub mod Worked
-pub mod Gram
-pub mod Halves

@@ -1,4 +1,0 @@
-pub mod Identity
-pub mod Judgement
-pub mod Bounds
-pub mod Gram

@@ -1,0 +1,177 @@
+-- The smallest key whose sum is not 0 is the first at which the claim and the squares differ.
+use mathlib.Core.Path.{_≡_, refl, sym, ap, ap₂, _∙_}
+use mathlib.Core.Logic.{⊎-elim}
+use mathlib.Core.Bool.{Bool, true, false, cond}
+use mathlib.Core.List.{List, [], _∷_}
+use mathlib.Core.Option.{none, some}
+use Prim.Native.Nat.{ℕ, _+_, _-_, _*_, _^_, _≤_, _<_}
+use native.Mathlib.Omega.{arith}
+use borrow.Author.Tests.{ne-eqb}
+use lib.IntN.{ℤ, pos, negsuc, negℤ, natAbs, _+ℤ_, +ℤ-idl}
+use lib.ListN.{length, getD, take, length-drop}
+use lib.Seq.{getD-take, getD-drop, length-take-le, ext-getD}
+use Rattle.integers.proofs.Ring.{view, diffs, ⊖-eq, ⊖-eq⁻¹}
+use Rattle.counting.proofs.Cases.{clash}
+use Rattle.counting.proofs.Listed.{listed-same}
+use Rattle.polynomial.specs.Terms.{Term, term}
+use Rattle.problem_reader.specs.TermArrays.{termsIn, objectiveTerms, FilledTerms}
+use Rattle.problem_reader.specs.declared.Objective.{Objective}
+use Rattle.polynomial.specs.Algebra.{coefficient}
+use Rattle.format.specs.ProblemRules.{Problem}
+use Rattle.joining_rule.specs.Sets.{In, Rising}
+use Rattle.key_set.specs.Table.{keysIn, Holds, Indexed}
+use Rattle.joining_rule.proofs.Elements.{not-nil, in-here, in-there, in-cons, above-in}
+use Rattle.key_set.proofs.Keys.{keys-rising, keys-at, at-keys}
+use Rattle.wide_sums.specs.Sums.{valueAt}
+use Rattle.format.specs.CertificateRules.{Row, Certificate, shapeOf}
+use Rattle.certificate_reader.specs.Rows.{rowsOf}
+use Rattle.format.specs.declared.certificate.Header.{Header}
+use Rattle.certificate_reader.proofs.Shapes.{shape-within}
+use Rattle.certificate_reader.proofs.Rows.{rows-read}
+use Rattle.accepting.specs.Identity.{squares, claim, claimOf}
+use Rattle.accepting.specs.Judgement.{sameNumber, firstDifference, differenceKey}
+use Rattle.accepting.proofs.Difference.{same-equal, same-self}
+use Rattle.identity_check.specs.declared.Difference.the-variants.{Same, Differs}
+use Rattle.identity_check.specs.declared.Lengths.{Lengths}
+use Rattle.identity_check.specs.Tables.{unit, Ready, SumsGrown}
+use Rattle.identity_check.specs.Spread.{multiplierIn}
+use Rattle.identity_check.specs.Walk.{StandsFlat, Summed}
+use Rattle.identity_check.specs.Compare.{differenceOf, Zeroed, SmallestSum, Given, Untouched}
+use Rattle.identity_check.proofs.Growth.{grown-same}
+
+-- ---- one comparison
+same-not : (a b : ℤ) → (a ≡ b → ⊥) → sameNumber a b ≡ false
+same-not (pos a) (pos b) f = ne-eqb a b (λ e. f (ap pos e))
+same-not (pos a) (negsuc b) f = refl
+same-not (negsuc a) (pos b) f = refl
+same-not (negsuc a) (negsuc b) f = ne-eqb a b (λ e. f (ap negsuc e))
+
+module _ (P Q : List Term) where
+  abbrev Equal : ℕ → Type 0
+  Equal k = coefficient k P ≡ coefficient k Q
+
+  difference-none : (ks : List ℕ) → ((k : ℕ) → In k ks → Equal k) → firstDifference P Q ks ≡ none
+  unfolding firstDifference
+  difference-none [] h = refl
+  difference-none (k ∷ ks) h = rw (h k (in-here k k ks refl), same-self (coefficient k Q)) (difference-none ks (λ j m. h j (in-there j k ks m)))
+
+  -- the smallest of rising keys that differs is the first
+  difference-at : (ks : List ℕ) → Rising ks → (x : ℕ) → In x ks → (Equal x → ⊥) → ((k : ℕ) → In k ks → (Equal k → ⊥) → x ≤ k) → firstDifference P Q ks ≡ some x
+  unfolding firstDifference
+  difference-at [] r x m f h = not-nil x m
+  difference-at (k ∷ ks) r x m f h = go (sameNumber (coefficient k P) (coefficient k Q)) refl (λ n. difference-at ks (r .1) x n f (λ j i. h j (in-there j k ks i)))
+    where
+      go : (b : Bool) → sameNumber (coefficient k P) (coefficient k Q) ≡ b → (In x ks → firstDifference P Q ks ≡ some x) → cond b (firstDifference P Q ks) (some k) ≡ some x
+      go true e i = ⊎-elim (λ w. absurd (f (rw (← w) (same-equal _ _ e)))) i (in-cons x k ks m)
+      go false e i =
+          let l : x ≤ k = h k (in-here k k ks refl) (λ w. let t : sameNumber (coefficient k P) (coefficient k Q) ≡ true = rw w (same-self (coefficient k Q)) in clash (cc)) in
+          ⊎-elim (λ w. ap some w) (λ n. let u = above-in k x ks (r .0) n in absurd (omega arith)) (in-cons x k ks m)
+
+-- ---- a sum is 0 where the two sides are equal
+zero-equal : (a b : ℤ) → negℤ a +ℤ b ≡ pos 0 → a ≡ b
+zero-equal a b e =
+    let k = ⊖-eq⁻¹ _ _ _ _ (simp diffs at (rw (view a .eq, view b .eq) at e)) in
+    rw (view a .eq, view b .eq) (⊖-eq _ _ _ _ (omega arith))
+
+equal-zero : (a b : ℤ) → a ≡ b → negℤ a +ℤ b ≡ pos 0
+equal-zero a b e = rw (e, view b .eq) (simp diffs (⊖-eq _ _ _ _ (omega arith)))
+
+-- the places of a table and the elements of its set
+module _ (P Q : List Term) {table : List ℕ} {n : ℕ} (h : Holds table n) (hi : List ℤ) (lo : List ℕ)
+    (v : (q : ℕ) → q < n → valueAt hi lo q ≡ negℤ (coefficient (getD table q 0) P) +ℤ coefficient (getD table q 0) Q) (r : ℕ) (f : SmallestSum table hi lo n n r) where
+  equal : (q : ℕ) → q < n → valueAt hi lo q ≡ pos 0 → Equal P Q (getD table q 0)
+  equal q b e = zero-equal _ _ (sym (v q b) ∙ e)
+
+  unequal : (q : ℕ) → q < n → (Equal P Q (getD table q 0) → ⊥) → valueAt hi lo q ≡ pos 0 → ⊥
+  unequal q b g e = g (equal q b e)
+
+  pub tables-same : n ≤ r → firstDifference P Q (keysIn n table) ≡ none
+  tables-same l = difference-none P Q (keysIn n table) (λ k m. keys-at h k m (λ q b e. rw (← e) (equal q b (f .none l q b))))
+
+  pub tables-differ : r < n → firstDifference P Q (keysIn n table) ≡ some (getD table r 0)
+  tables-differ l =
+      difference-at P Q (keysIn n table) (keys-rising n table) (getD table r 0) (at-keys h r l)
+      (λ e. f .there l (v r l ∙ equal-zero _ _ e))
+      (λ k m g. keys-at h k m (λ q b e. rw (← e) (f .least l q b (unequal q b (λ w. g (rw (← e) w))))))
+
+-- ---- the tables at the start and at the end
+pub zeroed-ready : {table idx : List ℕ} {n : ℕ} {hi : List ℤ} {lo : List ℕ} → Zeroed table n hi lo → Indexed idx table n → (c : ℕ) → c ≤ 2 ^ 120 → Ready table idx n hi lo c
+zeroed-ready {n = n} {hi = hi} {lo = lo} z x c h =
+    let few = z .support .few in
+    record {
+      support = z .support;
+      index = x;
+      in-hi = omega (arith, z .in-hi);
+      in-lo = omega (arith, z .in-lo);
+      low = λ q b. let e = z .lo-zero q b in omega arith;
+      small = λ q b. let e : natAbs (valueAt hi lo q) ≡ 0 = rw (z .hi-zero q b, z .lo-zero q b) in omega arith;
+    }
+
+pub zeroed-value : {table : List ℕ} {n : ℕ} {hi : List ℤ} {lo : List ℕ} → Zeroed table n hi lo → (q : ℕ) → q < n → valueAt hi lo q ≡ pos 0
+zeroed-value z q b = rw (z .hi-zero q b, z .lo-zero q b)
+
+kept : {A : Type 0} (d : A) (t₀ t₁ : List A) → length t₁ ≡ length t₀ → ((q : ℕ) → 2048 ≤ q → getD t₁ q d ≡ getD t₀ q d) → Untouched t₀ t₁
+kept d t₀ t₁ e f =
+    record {
+      long = e;
+      rest = ext-getD d _ _ (length-drop 2048 t₁ ∙ ap (λ (n : ℕ). n - 2048) e ∙ sym (length-drop 2048 t₀))
+          (λ q b. getD-drop 2048 t₁ q d ∙ f (2048 + q) (omega arith) ∙ sym (getD-drop 2048 t₀ q d));
+    }
+
+module _ {table : List ℕ} {n : ℕ} {hi₀ hi₁ : List ℤ} {lo₀ lo₁ : List ℕ} {f : ℕ → ℤ} {c : ℕ} (few : n ≤ 2048) (g : SumsGrown table n hi₀ lo₀ f c hi₁ lo₁) where
+  pub grown-hi : Untouched hi₀ hi₁
+  grown-hi = kept (pos 0) hi₀ hi₁ (g .hi-length) (λ q b. g .hi-rest q (omega arith))
+
+  pub grown-lo : Untouched lo₀ lo₁
+  grown-lo = kept 0 lo₀ lo₁ (g .lo-length) (λ q b. g .lo-rest q (omega arith))
+
+-- ---- the first places of two arrays
+first-terms : (n : ℕ) (E : List ℕ) (C : List ℤ) → n ≤ length E → termsIn (length (take n E)) (take n E) (take n C) ≡ termsIn n E C
+unfolding termsIn
+first-terms n E C h = rw (length-take-le n E h) (listed-same n _ _ (λ i b. ap₂ term (getD-take n E i 0 b) (getD-take n C i (pos 0) b)))
+
+-- the claim over the first places is the claim over the objective
+pub claim-first : {table : List ℕ} {n : ℕ} {hi₀ hi₁ : List ℤ} {lo₀ lo₁ : List ℕ} (q : Objective) (h : Header) → FilledTerms 32 256 (q .keys) (q .coefficients) (q .count)
+    → let E = take (q .count) (q .keys) in
+    SumsGrown table n hi₀ lo₀ (λ k. negℤ (coefficient k (claimOf (termsIn (length E) E (take (q .count) (q .coefficients))) h))) ((length E + 1) * unit) hi₁ lo₁
+    → SumsGrown table n hi₀ lo₀ (λ k. negℤ (coefficient k (claimOf (objectiveTerms q) h))) (257 * unit) hi₁ lo₁
+claim-first q h f g =
+    let w : q .count ≤ length (q .keys) = omega (arith, f .count-low, f .keys-length) in
+    let e = length-take-le (q .count) (q .keys) w in
+    grown-same g (λ k. ap (λ (P : List Term). negℤ (coefficient k (claimOf P h))) (first-terms (q .count) (q .keys) (q .coefficients) w)) (omega (arith, f .count-low))
+
+-- ---- the answer
+module _ (p : Problem) (c : Certificate) (s : List ℕ) (header : Header) (keys exponents : List ℕ) (coefficients : List ℤ) (l : Lengths) (objective : Objective) (table : List ℕ) (n : ℕ)
+    (given : Given p c s header keys exponents coefficients l objective table n) where
+  stands : StandsFlat p keys exponents coefficients l
+  unfolding multiplierIn
+  stands = record { bases = given .bases; multipliers = λ j h. given .multipliers .each j }
+
+  module _ {hi₀ hi₁ hi₂ : List ℤ} {lo₀ lo₁ lo₂ : List ℕ} {a r : ℕ} (z : Zeroed table n hi₀ lo₀)
+      (g : SumsGrown table n hi₀ lo₀ (λ k. negℤ (coefficient k (claimOf (objectiveTerms objective) header))) a hi₁ lo₁)
+      (m : Summed (λ p. squares p (rowsOf s)) keys exponents coefficients l table n 9 hi₁ lo₁ hi₂ lo₂) (f : SmallestSum table hi₂ lo₂ n n r) where
+    claim-is : (k : ℕ) → coefficient k (claimOf (objectiveTerms objective) header) ≡ coefficient k (claim p (c .header))
+    claim-is k = rw (given .objective-is, given .header-is)
+
+    squares-are : (k : ℕ) → m .sums k ≡ coefficient k (squares p (c .rows))
+    squares-are k = m .are p stands k ∙ ap (λ (rs : List Row). coefficient k (squares p rs)) (rows-read (shapeOf p) (shape-within p (given .limits)) s c (given .read))
+
+    sum-is : (q : ℕ) → q < n → valueAt hi₂ lo₂ q ≡ negℤ (coefficient (getD table q 0) (claim p (c .header))) +ℤ coefficient (getD table q 0) (squares p (c .rows))
+    sum-is q b =
+        let k = getD table q 0 in
+        let x = negℤ (coefficient k (claimOf (objectiveTerms objective) header)) in
+        let e : valueAt hi₁ lo₁ q ≡ x = g .there q b ∙ ap (λ (v : ℤ). v +ℤ x) (zeroed-value z q b) ∙ +ℤ-idl x in
+        m .grown .there q b
+        ∙ ap (λ (v : ℤ). v +ℤ m .sums k) e
+        ∙ ap (λ (v : ℤ). negℤ v +ℤ m .sums k) (claim-is k)
+        ∙ ap (λ (v : ℤ). negℤ (coefficient k (claim p (c .header))) +ℤ v) (squares-are k)
+
+    key-is : firstDifference (claim p (c .header)) (squares p (c .rows)) (keysIn n table) ≡ differenceKey p c
+    unfolding differenceKey
+    key-is = rw (given .compared)
+
+    pub found-same : n ≤ r → Same ≡ differenceOf (differenceKey p c)
+    found-same h = ap differenceOf (sym (tables-same _ _ (z .support) hi₂ lo₂ sum-is r f h) ∙ key-is)
+
+    pub found-differs : r < n → Differs (getD table r 0) ≡ differenceOf (differenceKey p c)
+    found-differs h = ap differenceOf (sym (tables-differ _ _ (z .support) hi₂ lo₂ sum-is r f h) ∙ key-is)

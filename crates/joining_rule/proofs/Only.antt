@@ -1,0 +1,72 @@
+-- Closed, least and numbered by lowest indices: there is one such result, and the closing is it.
+use mathlib.Core.Path.{_≡_, refl, sym, _∙_}
+use mathlib.Core.Logic.{⊎-elim}
+use mathlib.Core.List.{List, [], _∷_}
+use Prim.Native.Nat.{ℕ, _≤_, _<_}
+use native.Mathlib.Omega.{arith}
+use lib.ListN.{length}
+use lib.Dec.{eqb}
+use borrow.Author.Tests.{eqb-true, eq-eqb}
+use Rattle.joining_rule.specs.Sets.{Above, Rising, In, member}
+use Rattle.joining_rule.proofs.Elements.{above-in, not-nil, in-cons, in-here, in-there}
+use Rattle.joining_rule.specs.Rounds.{Bases, closingOf}
+use Rattle.joining_rule.specs.Meaning.{Closed, Other, Least, Lowest}
+use Rattle.joining_rule.proofs.Closing.{closing-rising}
+use Rattle.joining_rule.proofs.Meaning.{labelOf, closing-closed, closing-least, closing-lowest}
+
+-- ---- rising lists with the same elements are the same
+
+-- the first of a rising list is at most each element
+first-least : (x y : ℕ) (l : List ℕ) → Above x l → In y (x ∷ l) → x ≤ y
+first-least x y l a m = ⊎-elim (λ e. omega arith) (λ n. omega (arith, above-in x y l a n)) (in-cons y x l m)
+
+-- what is in the rest is not the first
+rest-in : (x y z : ℕ) (l m : List ℕ) → x ≡ y → Above x l → (In z (x ∷ l) → In z (y ∷ m)) → In z l → In z m
+rest-in x y z l m e a f i = ⊎-elim (λ q. absurd (omega (arith, above-in x z l a i))) (λ j. j) (in-cons z y m (f (in-there z x l i)))
+
+pub rising-same : (l m : List ℕ) → Rising l → Rising m → ((x : ℕ) → In x l → In x m) → ((x : ℕ) → In x m → In x l) → l ≡ m
+rising-same [] [] r s f g = refl
+rising-same [] (y ∷ ys) r s f g = not-nil y (g y (in-here y y ys refl))
+rising-same (x ∷ xs) [] r s f g = not-nil x (f x (in-here x x xs refl))
+rising-same (x ∷ xs) (y ∷ ys) r s f g =
+    let e : x ≡ y = omega (arith, first-least x y xs (r .0) (g y (in-here y y ys refl)), first-least y x ys (s .0) (f x (in-here x x xs refl))) in
+    let t : xs ≡ ys = rising-same xs ys (r .1) (s .1) (λ z. rest-in x y z xs ys e (r .0) (f z)) (λ z. rest-in y x z ys xs (sym e) (s .0) (g z)) in
+    cc
+
+-- ---- what is closed is one of the others
+
+module _ (g : Bases) (S₀ : List ℕ) where
+  pub closed-other : (label : ℕ → ℕ → ℕ) (S : List ℕ) → Closed g S₀ label S → Other g S₀ (λ j i k. eqb (label j i) (label j k)) (λ x. member x S)
+  closed-other label S c = record {
+    reflexive = λ j i. eq-eqb (label j i) (label j i) refl;
+    symmetric = λ j i k e. eq-eqb (label j k) (label j i) (sym (eqb-true (label j i) (label j k) e));
+    transitive = λ j i k l e f. eq-eqb (label j i) (label j l) (eqb-true (label j i) (label j k) e ∙ eqb-true (label j k) (label j l) f);
+    starts = c .starts;
+    joins = λ j i k t p q. eq-eqb (label j i) (label j k) (c .joins j i k t p q);
+    adds = λ j i k t p e. c .adds j i k t p (eqb-true (label j i) (label j k) e);
+  }
+
+  -- a least result has its blocks within a closed one's, and its set within that one's
+  module _ (label label′ : ℕ → ℕ → ℕ) (S S′ : List ℕ) (least : Least g S₀ label S) (closed : Closed g S₀ label′ S′) where
+    blocks-in : (j i k : ℕ) → j < 9 → i < length (g .basis j) → k < length (g .basis j) → label j i ≡ label j k → label′ j i ≡ label′ j k
+    blocks-in j i k h a b e = eqb-true (label′ j i) (label′ j k) (least .blocks _ _ (closed-other label′ S′ closed) j i k h a b e)
+
+    set-in : (x : ℕ) → In x S → In x S′
+    set-in = least .set _ _ (closed-other label′ S′ closed)
+
+    -- so its numbers are no lower
+    number-le : Lowest g label → Lowest g label′ → (j i : ℕ) → j < 9 → i < length (g .basis j) → label′ j i ≤ label j i
+    number-le n n′ j i h b =
+        omega (arith, n′ .lowest j (label j i) h (n .within j i h b), blocks-in j (label j i) i h (n .within j i h b) b (n .own j i h b))
+
+  -- The closing is the one result that is closed, least and numbered by lowest indices.
+  pub closing-only : Rising S₀ → ((j : ℕ) → length (g .basis j) ≤ 64) → (label : ℕ → ℕ → ℕ) (S : List ℕ) → Closed g S₀ label S → Least g S₀ label S → Lowest g label → Rising S
+      → ((j i : ℕ) → j < 9 → i < length (g .basis j) → label j i ≡ labelOf g S₀ j i) × (S ≡ closingOf g S₀ .state .support)
+  closing-only rising sizes label S c l n r =
+      let c′ = closing-closed g S₀ rising sizes in
+      let l′ = closing-least g S₀ in
+      let n′ = closing-lowest g S₀ in
+      let S′ = closingOf g S₀ .state .support in (
+        (λ j i h b. omega (arith, number-le label (labelOf g S₀) S S′ l c′ n n′ j i h b, number-le (labelOf g S₀) label S′ S l′ c n′ n j i h b)),
+        rising-same S S′ r (closing-rising g S₀ rising) (set-in label (labelOf g S₀) S S′ l c′) (set-in (labelOf g S₀) label S′ S l′ c),
+      )

@@ -1,0 +1,44 @@
+-- The joining rule applied to a problem: its start, its result, and refusal 7.
+use mathlib.Core.Bool.{Bool}
+use mathlib.Core.List.{List, [], map}
+use Prim.Native.Nat.{ℕ, _*_}
+use lib.Dec.{ltb}
+use lib.ListN.{length}
+use Rattle.counting.specs.Counting.{fromTo}
+use Rattle.polynomial.specs.Terms.{keysOf}
+use Rattle.format.specs.ProblemRules.{Problem}
+use Rattle.format.specs.ProblemBases.{basisOf, multiplierOf}
+use Rattle.joining_rule.specs.Sets.{insertAll}
+use Rattle.joining_rule.specs.Rounds.{Bases, Closing, blocksIn, closedWithZero}
+use Rattle.joining_rule.specs.Rounds as Rounds
+
+-- the bases of a problem, each with its multiplier
+abbrev pub basesOf : Problem → Bases
+basesOf p = record { basis = basisOf p; multiplier = multiplierOf p }
+
+-- each key times c. The key of 2b is twice the key of b
+abbrev pub multiples : ℕ → List ℕ → List ℕ
+multiples c ks = map (λ (k : ℕ). c * k) ks
+
+-- "S starts as all exponents of the objective and constraints, and 2b for each b in basis 0": the objective's exponents are
+-- given, and the constraints are the multipliers 1 to 8
+unfoldable pub startFrom : List ℕ → Bases → List ℕ
+startFrom objective g = insertAll (multiples 2 (g .basis 0)) (fromTo 1 9 (λ j. insertAll (g .multiplier j)) (insertAll objective []))
+
+unfoldable pub startSet : Problem → List ℕ
+startSet p = startFrom (keysOf (p .objective)) (basesOf p)
+
+-- the blocks, S and the number of rounds when the joining rule has ended
+unfoldable pub closing : Problem → Closing
+closing p = Rounds.closingOf (basesOf p) (startSet p)
+
+abbrev pub closedSupport : Problem → List ℕ
+closedSupport p = closing p .state .support
+
+-- refusal 7: "The closed S with the zero exponent added may have at most 2,048 members"
+unfoldable pub tooLarge : Problem → Bool
+tooLarge p = ltb 2048 (length (closedWithZero (closing p)))
+
+-- the number of blocks, over all bases
+unfoldable pub blockTotal : Problem → ℕ
+blockTotal p = blocksIn (closing p .state .labels)

@@ -1,0 +1,52 @@
+-- What the joining rule's result means: closed, least, and the number of rounds.
+use mathlib.Core.Path.{_≡_}
+use mathlib.Core.Bool.{Bool, true}
+use mathlib.Core.List.{List}
+use Prim.Native.Nat.{ℕ, _+_, _-_, _≤_, _<_}
+use lib.ListN.{length, getD}
+use Rattle.joining_rule.specs.Sets.{In}
+use Rattle.joining_rule.specs.Rounds.{Bases, after, start}
+
+-- t + b + b', for the indices i and k of basis j
+abbrev pub sumOf : Bases → ℕ → ℕ → ℕ → ℕ → ℕ
+sumOf g j i k t = t + (getD (g .basis j) i 0 + getD (g .basis j) k 0)
+
+-- i and k are indices of basis j, and t is an exponent of its multiplier
+pub record Pair (g : Bases) (j i k t : ℕ) : Type 0 where
+  pub basis : j < 9
+  pub first : i < length (g .basis j)
+  pub second : k < length (g .basis j)
+  pub exponent : In t (g .multiplier j)
+
+-- blocks, label j i for index i of basis j, and a set S that contain the start S₀ and are closed under the steps of a round
+pub record Closed (g : Bases) (S₀ : List ℕ) (label : ℕ → ℕ → ℕ) (S : List ℕ) : Type 0 where
+  pub starts : (x : ℕ) → In x S₀ → In x S
+  pub joins : (j i k t : ℕ) → Pair g j i k t → In (sumOf g j i k t) S → label j i ≡ label j k
+  pub adds : (j i k t : ℕ) → Pair g j i k t → label j i ≡ label j k → In (sumOf g j i k t) S
+
+-- "any other blocks and set that contain the start and are closed under these steps", as tests: R j i k where i and k of
+-- basis j are in one block, Q x where x is in the set
+pub record Other (g : Bases) (S₀ : List ℕ) (R : ℕ → ℕ → ℕ → Bool) (Q : ℕ → Bool) : Type 0 where
+  pub reflexive : (j i : ℕ) → R j i i ≡ true
+  pub symmetric : (j i k : ℕ) → R j i k ≡ true → R j k i ≡ true
+  pub transitive : (j i k l : ℕ) → R j i k ≡ true → R j k l ≡ true → R j i l ≡ true
+  pub starts : (x : ℕ) → In x S₀ → Q x ≡ true
+  pub joins : (j i k t : ℕ) → Pair g j i k t → Q (sumOf g j i k t) ≡ true → R j i k ≡ true
+  pub adds : (j i k t : ℕ) → Pair g j i k t → R j i k ≡ true → Q (sumOf g j i k t) ≡ true
+
+-- ".. have unions of these blocks and contain this S"
+pub record Least (g : Bases) (S₀ : List ℕ) (label : ℕ → ℕ → ℕ) (S : List ℕ) : Type 0 where
+  pub blocks : (R : ℕ → ℕ → ℕ → Bool) (Q : ℕ → Bool) → Other g S₀ R Q → (j i k : ℕ) → j < 9 → i < length (g .basis j) → k < length (g .basis j) → label j i ≡ label j k → R j i k ≡ true
+  pub set : (R : ℕ → ℕ → ℕ → Bool) (Q : ℕ → Bool) → Other g S₀ R Q → (x : ℕ) → In x S → Q x ≡ true
+
+-- "A block's number is its lowest index"
+pub record Lowest (g : Bases) (label : ℕ → ℕ → ℕ) : Type 0 where
+  pub within : (j i : ℕ) → j < 9 → i < length (g .basis j) → label j i < length (g .basis j)
+  pub own : (j i : ℕ) → j < 9 → i < length (g .basis j) → label j (label j i) ≡ label j i
+  pub lowest : (j i : ℕ) → j < 9 → i < length (g .basis j) → label j i ≤ i
+
+-- "until one changes neither a block nor S; that one counts too": round r is the first that changes nothing
+pub record TakesRounds (g : Bases) (S₀ : List ℕ) (r : ℕ) : Type 0 where
+  pub some : 1 ≤ r
+  pub still : after g (start g S₀) r ≡ after g (start g S₀) (r - 1)
+  pub first : (k : ℕ) → 1 ≤ k → k < r → after g (start g S₀) k ≡ after g (start g S₀) (k - 1) → ⊥

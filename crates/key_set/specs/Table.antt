@@ -1,0 +1,57 @@
+-- The support in a lent table: its keys are the table's first numbers, each once, in the order in which they came. An index of 6,144
+-- numbers finds them.
+use mathlib.Core.Path.{_≡_}
+use mathlib.Core.Bool.{cond, false}
+use mathlib.Core.List.{List, []}
+use Prim.Native.Nat.{ℕ, zero, suc, _+_, _%_, _≤_, _<_, min}
+use lib.Dec.{eqb}
+use lib.ListN.{length, getD, take, drop, set}
+use Rattle.joining_rule.specs.Sets.{member, insertAll}
+use Rattle.key_set.specs.declared.Found.{Found}
+use Rattle.key_set.specs.declared.Found.the-variants.{At, Nowhere}
+
+-- the set of the table's first n numbers
+unfoldable pub keysIn : ℕ → List ℕ → List ℕ
+keysIn n t = insertAll (take n t) []
+
+-- the table's first n numbers differ, and it has room for 2,048
+pub record Holds (t : List ℕ) (n : ℕ) : Type 0 where
+  pub few : n ≤ 2048
+  pub room : 2048 ≤ length t
+  pub apart : length (keysIn n t) ≡ n
+
+-- where a key stands in a list, if it does
+abbrev pub Finds : ℕ → List ℕ → Found → Type 0
+Finds k l (At p) = (p < length l) × (getD l p 0 ≡ k)
+Finds k l Nowhere = member k l ≡ false
+
+-- ---- the index
+-- one more than the last place before n with a number of remainder h, or 0
+unfoldable pub lastWith : ℕ → List ℕ → ℕ → ℕ
+lastWith h t zero = 0
+lastWith h t (suc n) = cond (eqb (getD t n 0 % 4093) h) (suc n) (lastWith h t n)
+
+-- the index of the table's first n numbers: for each remainder the last of them, and for each of them the one before it with the
+-- same remainder
+pub record Indexed (idx t : List ℕ) (n : ℕ) : Type 0 where
+  pub long : length idx ≡ 6144
+  pub last : (h : ℕ) → h < 4093 → getD idx h 0 ≡ lastWith h t n
+  pub before : (p : ℕ) → p < n → getD idx (4096 + p) 0 ≡ lastWith (getD t p 0 % 4093) t p
+
+-- the index of n numbers, with k as one more
+unfoldable pub noted : List ℕ → ℕ → ℕ → List ℕ
+noted idx n k = set (set idx (4096 + n) (getD idx (k % 4093) 0)) (k % 4093) (n + 1)
+
+-- ---- growth
+-- the table t, grown to hold the set S: r is the number of its keys, which t′ holds, or 2,049 where S has more than 2,048
+pub record Grown (S t : List ℕ) (r : ℕ) (t′ : List ℕ) : Type 0 where
+  pub count : r ≡ min (length S) 2049
+  pub keys : r ≤ 2048 → keysIn r t′ ≡ S
+  pub long : length t′ ≡ length t
+  pub rest : drop 2048 t′ ≡ drop 2048 t
+
+-- and its index with it; the n keys that were there stand first
+pub record Stored (n : ℕ) (S t : List ℕ) (r : ℕ) (t′ idx′ : List ℕ) : Type 0 where
+  pub grown : Grown S t r t′
+  pub index : r ≤ 2048 → Indexed idx′ t′ r
+  pub first : r ≤ 2048 → take n t′ ≡ take n t

@@ -1,0 +1,75 @@
+// The support set: keys in a lent table, its first `len` numbers, each once, in the order in which they came. An index finds them:
+// its place key % 4093 has one more than the place of the last key with that remainder, or 0, and its place 4096 + p has the same
+// for the keys before place p, so that a search goes from the last key with a remainder to the first.
+ghost use mathlib.Core.Path.{_≡_};
+ghost use Prim.Native.Nat.{_%_, _<_};
+ghost use lib.ListN.{length, take};
+ghost use Rattle.joining_rule.specs.Sets.{member, insert};
+ghost use Rattle.key_set.specs.Table.{keysIn, Holds, Indexed, noted, Finds, Stored};
+
+// The place of a key's remainder in the index.
+fn slot(key: u64) -> usize
+    ensures { λ r. ⌜ r ≡ key % 4093 ⌝ }
+{
+    (key % 4093) as usize
+}
+
+// Where a key stands.
+pub enum Found {
+    At(usize),
+    Nowhere,
+}
+
+pub fn find(table: &[u64], index: &[u16], len: usize, key: u64) -> Found
+    requires { ⌜ Holds (now table) len × Indexed (now index) (now table) len ⌝ }
+    ensures { λ r. ⌜ Finds key (take len (now (table .entry))) r ⌝ }
+{
+    let h = slot(key);
+    let mut v = index[h] as usize;
+    while 0 < v {
+        let p = v - 1;
+        if table[p] == key {
+            return Found::At(p);
+        }
+        v = index[4096 + p] as usize;
+    }
+    Found::Nowhere
+}
+
+// Whether a key is in the set.
+pub fn contains(table: &[u64], index: &[u16], len: usize, key: u64) -> bool
+    requires { ⌜ Holds (now table) len × Indexed (now index) (now table) len ⌝ }
+    ensures { λ r. ⌜ r ≡ member key (keysIn len (now (table .entry))) ⌝ }
+{
+    match find(table, index, len, key) {
+        Found::At(_) => true,
+        Found::Nowhere => false,
+    }
+}
+
+// The index of `len` keys, with one more.
+fn note(index: &mut [u16], len: usize, key: u64)
+    requires { ⌜ (length (now index) ≡ 6144) × (len < 2048) ⌝ }
+    ensures { λ _. ⌜ now (index .exit) ≡ noted (now (index .entry)) len key ⌝ }
+{
+    let h = slot(key);
+    let last = index[h];
+    index[4096 + len] = last;
+    index[h] = (len + 1) as u16;
+}
+
+// The set with a key put in, and the number of its keys: 2,049 where it would have more than 2,048.
+pub fn put(table: &mut [u64], index: &mut [u16], len: usize, key: u64) -> usize
+    requires { ⌜ Holds (now table) len × Indexed (now index) (now table) len ⌝ }
+    ensures { λ r. ⌜ Stored len (insert key (keysIn len (now (table .entry)))) (now (table .entry)) r (now (table .exit)) (now (index .exit)) ⌝ }
+{
+    if contains(table, index, len, key) {
+        return len;
+    }
+    if 2047 < len {
+        return 2049;
+    }
+    table[len] = key;
+    note(index, len, key);
+    len + 1
+}

@@ -1,0 +1,98 @@
+-- The lines that the programs write, byte by byte, in document 01's words.
+use mathlib.Core.Bool.{cond}
+use mathlib.Core.List.{List, [], _∷_, _++_}
+use Prim.Native.Nat.{ℕ, zero, suc, _/_, _%_}
+use Prim.Native.Char.{code}
+use Prim.Native.String.{String, [] as none, _∷_ as _then_}
+use lib.Dec.{ltb}
+use lib.IntN.{ℤ, pos, natAbs}
+use lib.Signed.{ltZ}
+use Rattle.io.specs.Digits.{glyph}
+use Rattle.calls.specs.declared.Fraction.{Fraction}
+use Rattle.calls.specs.declared.Refusal.{Refusal}
+use Rattle.calls.specs.declared.BlocksVerdict.{BlocksVerdict}
+use Rattle.calls.specs.declared.CheckVerdict.{CheckVerdict}
+use Rattle.calls.specs.declared.PairVerdict.{PairVerdict}
+
+-- the bytes of a text, one for each character
+abbrev pub ascii : String → List ℕ
+ascii none = []
+ascii (c then s) = code c ∷ ascii s
+
+-- ---- numbers: "in base ten, unreduced, with a minus sign below 0"
+
+-- the digits of m, none where m is 0; f, which bounds how many, is at least m at every call
+abbrev pub leading : ℕ → ℕ → List ℕ
+leading zero m = []
+leading (suc f) zero = []
+leading (suc f) (suc m) = leading f (suc m / 10) ++ (glyph (suc m % 10) ∷ [])
+
+-- the digits of the tenth part, and the last digit
+unfoldable pub decimal : ℕ → List ℕ
+decimal n = leading n (n / 10) ++ (glyph (n % 10) ∷ [])
+
+unfoldable pub signedDecimal : ℤ → List ℕ
+signedDecimal n = cond (ltZ n (pos 0)) (ascii "-" ++ decimal (natAbs n)) (decimal (natAbs n))
+
+unfoldable pub ratio : Fraction → List ℕ
+ratio f = signedDecimal (f .num) ++ ascii "/" ++ decimal (f .den)
+
+-- two hexadecimal digits for each byte
+abbrev pub hexadecimal : List ℕ → List ℕ
+hexadecimal [] = []
+hexadecimal (b ∷ s) = glyph (b / 16) ∷ (glyph (b % 16) ∷ hexadecimal s)
+
+-- ---- words, each with what stands after it
+abbrev pub withNumber : String → ℕ → List ℕ
+withNumber word n = ascii word ++ decimal n
+
+abbrev pub withRatio : String → Fraction → List ℕ
+withRatio word f = ascii word ++ ratio f
+
+-- ---- "A refusal is one line, `refused` and then number, stream, place and key"
+unfoldable pub refusalLine : Refusal → List ℕ
+refusalLine r =
+    withNumber "refused " (r .number)
+    ++ withNumber " " (r .stream)
+    ++ withNumber " " (r .place)
+    ++ withNumber " " (r .key)
+    ++ ascii "\n"
+
+-- the line of the refusal, or what stands in its place where nothing is refused
+abbrev pub unlessRefused : Refusal → List ℕ → List ℕ
+unlessRefused r lines = cond (ltb 0 (r .number)) (refusalLine r) lines
+
+-- the bounds, the gap and the rounds of the pair, with the words that stand before each
+unfoldable pub pairWords : List ℕ → List ℕ → List ℕ → List ℕ → PairVerdict → List ℕ
+pairWords lower upper gap rounds v =
+    unlessRefused (v .refusal)
+    ((lower ++ ratio (v .lower))
+    ++ (upper ++ ratio (v .upper))
+    ++ (gap ++ ratio (v .gap))
+    ++ (rounds ++ decimal (v .rounds))
+    ++ ascii "\n")
+
+-- ---- gapcheck: "The lines give p/q, P/Q, the gap and the rounds"; "each line ends in byte 0A"
+abbrev pub pairLines : PairVerdict → List ℕ
+pairLines v = pairWords (ascii "lower ") (ascii "\nupper ") (ascii "\ngap ") (ascii "\nrounds ") v
+
+-- ---- replay: one line for each record
+unfoldable pub blocksLine : BlocksVerdict → List ℕ → List ℕ
+blocksLine v out =
+    unlessRefused (v .refusal)
+    (withNumber "blocks " (v .blocks)
+    ++ withNumber " rounds " (v .rounds)
+    ++ ascii " "
+    ++ hexadecimal out
+    ++ ascii "\n")
+
+unfoldable pub checkLine : CheckVerdict → List ℕ
+checkLine v =
+    unlessRefused (v .refusal)
+    (withNumber "check " (v .side)
+    ++ withRatio " " (v .bound)
+    ++ withNumber " rounds " (v .rounds)
+    ++ ascii "\n")
+
+abbrev pub pairLine : PairVerdict → List ℕ
+pairLine v = pairWords (ascii "pair ") (ascii " ") (ascii " gap ") (ascii " rounds ") v

@@ -1,0 +1,110 @@
+-- Laws of a command's checks: their order, and what follows from the first three.
+use mathlib.Core.Path.{_≡_, refl, sym, _∙_}
+use mathlib.Core.List.{List}
+use mathlib.Core.Bool.{Bool, true, false, not}
+use Prim.Native.Nat.{ℕ, zero, suc, _+_, _-_, _^_, _≤_, _<_}
+use native.Mathlib.Omega.{arith}
+use lib.ListN.{length, getD}
+use lib.Dec.{eqb}
+use lib.IntN.{ℤ, pos, negsuc}
+use mir.Syntax.{w32}
+use mir.Val.{ofZ, SFits}
+use borrow.Author.Tests.{lt-ltb, le-leb, lt-leb, ne-eqb, leb-true}
+use Rattle.format.specs.Commands.{firstRefusal}
+use Rattle.format.specs.declared.problem.Instruction.{Instruction}
+use Rattle.format.specs.declared.problem.Instruction.the-variants as I
+use Rattle.format.specs.ProblemLayout.{commandOf, size}
+use Rattle.format.specs.ProblemRules.{Problem, placed, nonzero, allowed, commandAt, instructionAt, verdict}
+use Rattle.problem_reader.specs.Checks.{early, late}
+use Rattle.format.proofs.ProblemChecks.{placed-size, end-command, end-byte}
+
+-- a signed number is 0 exactly where its bits are
+pub nonzero-bits : (c : ℤ) → SFits w32 c → not (eqb (ofZ w32 c) 0) ≡ nonzero c
+nonzero-bits (pos zero) h = refl
+nonzero-bits (pos (suc n)) h = rw (ne-eqb (suc n) 0 (λ e. omega arith), lt-ltb 0 (suc n) (omega arith))
+nonzero-bits (negsuc n) h = let k = h .sfits in rw (ne-eqb (2 ^ 32 - suc n) 0 (λ e. omega arith))
+
+-- ---- the first three checks, one by one
+module _ (p : Problem) (s : List ℕ) (at : ℕ) where
+  pub early-3 : placed p at (commandAt s at) ≡ false → early p s at ≡ 3
+  unfolding early firstRefusal
+  early-3 h = rw h
+
+  module _ (h : placed p at (commandAt s at) ≡ true) where
+    pub early-2 : length s < at + size (commandAt s at) → early p s at ≡ 2
+    unfolding early firstRefusal
+    early-2 k = rw (h, lt-leb (at + size (commandAt s at)) (length s) k)
+
+    module _ (k : at + size (commandAt s at) ≤ length s) where
+      pub early-4 : allowed p (instructionAt s at) ≡ false → early p s at ≡ 4
+      unfolding early firstRefusal
+      early-4 l = rw (h, le-leb (at + size (commandAt s at)) (length s) k, l)
+
+      pub early-0 : allowed p (instructionAt s at) ≡ true → early p s at ≡ 0
+      unfolding early firstRefusal
+      early-0 l = rw (h, le-leb (at + size (commandAt s at)) (length s) k, l)
+
+-- ---- what follows from them
+module _ (a b c : Bool) where
+  -- where one of them fails, it decides
+  early-decides : (r f : Bool) → 0 < firstRefusal a b c false false → firstRefusal a b c r f ≡ firstRefusal a b c false false
+  unfolding firstRefusal
+  early-decides r f = go a b c
+    where
+      go : (a b c : Bool) → 0 < firstRefusal a b c false false → firstRefusal a b c r f ≡ firstRefusal a b c false false
+      go false b c h = refl
+      go true false c h = refl
+      go true true false h = refl
+      go true true true h = absurd (omega arith)
+
+  early-passes : firstRefusal a b c false false ≡ 0 → (a ≡ true) × (b ≡ true) × (c ≡ true)
+  unfolding firstRefusal
+  early-passes = go a b c
+    where
+      go : (a b c : Bool) → firstRefusal a b c false false ≡ 0 → (a ≡ true) × (b ≡ true) × (c ≡ true)
+      go false b c h = absurd (omega arith)
+      go true false c h = absurd (omega arith)
+      go true true false h = absurd (omega arith)
+      go true true true h = (refl, refl, refl)
+
+-- a command that passed them, with its operands and the place of the next: the last two checks decide
+pub record Passes (p : Problem) (s : List ℕ) (at : ℕ) (i : Instruction) (next : ℕ) : Type 0 where
+  pub instruction : instructionAt s at ≡ i
+  pub stands : placed p at (commandAt s at) ≡ true
+  pub step : next ≡ at + size (commandAt s at)
+  pub whole : next ≤ length s
+  pub operands : allowed p i ≡ true
+  pub decides : verdict p s at ≡ late p i
+
+module _ (p : Problem) (s : List ℕ) (at : ℕ) where
+  pub early-refusal : 0 < early p s at → verdict p s at ≡ early p s at
+  unfolding early verdict
+  early-refusal h = early-decides _ _ _ _ _ h
+
+  pub passes : (i : Instruction) (next : ℕ) → early p s at ≡ 0 → instructionAt s at ≡ i → next ≡ at + size (commandAt s at) → Passes p s at i next
+  unfolding early verdict
+  passes i next h e k =
+      let t = early-passes _ _ _ h in
+      let w = leb-true (at + size (commandAt s at)) (length s) (t .1) in
+      record {
+        instruction = e;
+        stands = t .0;
+        step = k;
+        whole = omega arith;
+        operands = rw e at (t .2);
+        decides = rw (t .0, t .1, t .2, e);
+      }
+
+module _ (p : Problem) (s : List ℕ) (at : ℕ) (i : Instruction) (next : ℕ) (t : Passes p s at i next) where
+  pub passes-size : 1 ≤ size (commandAt s at)
+  passes-size = placed-size p at (commandAt s at) (t .stands)
+
+  pub passes-end : I.End ≡ i → getD s at 0 ≡ 6
+  passes-end e = end-byte (getD s at 0) (end-command p s at (commandAt s at) (t .stands) (t .instruction ∙ sym e))
+
+  pub passes-on : getD s at 0 ≡ 6 → I.End ≡ i
+  unfolding commandOf
+  passes-on e = rw e at (t .instruction)
+
+  pub passes-longer : at < next
+  passes-longer = let e = t .step in let z = passes-size in omega arith

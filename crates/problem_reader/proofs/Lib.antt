@@ -1,0 +1,5 @@
+pub mod Checks
+pub mod TermArrays
+pub mod Stored
+pub mod Steps
+pub mod Flattening

@@ -1,0 +1,81 @@
+-- `check_at`: the laws of the first three checks, in their order.
+use mathlib.Core.Path.{_≡_, sym, ap, _∙_}
+use mathlib.Core.Bool.{true}
+use native.Mathlib.Omega.{arith}
+use lib.ListN.{length}
+use borrow.Author.Needs.{needs}
+use borrow.Author.Tests.{not-true, not-false}
+use Rattle.format.specs.ProblemLayout.{size}
+use Rattle.format.specs.ProblemRules.{Problem, placed, commandAt, instructionAt}
+use Rattle.problem_reader.proofs.Checks.{early-3, early-2, early-4, early-0}
+use Rattle.problem_reader.proofs.check_at.Statement.{statement}
+use Rattle.problem_reader.proofs.check_at.Tie as tie
+
+is-placed-requires : tie.Need-is-placed-requires
+is-placed-requires c κs = search needs
+
+-- past the first check
+stands : (c : tie.Else1) (p : Problem) → length (p .constraints) ≡ c .before .before .before .args .count
+    → placed p (c .before .before .before .args .at) (commandAt (c .before .before .before .args .s .now) (c .before .before .before .args .at)) ≡ true
+stands c p h = rw (c .before .before .before .pre .1) at (sym (c .before .is-placed .ensures p h) ∙ not-false _ (c .if1 .left))
+
+returns : tie.Need-returns
+returns c =
+    λ p e h.
+    let a = c .before .before .before .args in
+    sym (early-3 p (a .s .now) (a .at) (rw (c .before .before .before .pre .1) at (sym (c .before .is-placed .ensures p h) ∙ not-true _ (c .if1 .taken))))
+
+size-of-requires : tie.Need-size-of-requires
+size-of-requires c κs = search needs
+
+length-is : (c : tie.After-size-of) → c .size-of .result ≡ size (commandAt (c .before .before .before .before .args .s .now) (c .before .before .before .before .args .at))
+length-is c = c .size-of .ensures .0 ∙ ap size (c .before .before .before .before .pre .1)
+
+add-if2 : tie.Need-add-if2
+add-if2 c = let h = c .size-of .ensures .1 in omega arith
+
+returns-2 : tie.Need-returns-2
+returns-2 c =
+    λ p e h.
+    let a = c .before .before .before .before .before .args in
+    let k = length-is (c .before) in
+    sym (early-2 p (a .s .now) (a .at) (stands (c .before .before) p h) (omega arith))
+
+decode-at-requires : tie.Need-decode-at-requires
+decode-at-requires c κs = let k = c .before .size-of .ensures .0 in omega arith
+
+is-allowed-requires : tie.Need-is-allowed-requires
+is-allowed-requires c κs = search needs
+
+decoded : (c : tie.After-is-allowed) → c .before .decode-at .result ≡ instructionAt (c .before .before .before .before .before .before .before .args .s .now) (c .before .before .before .before .before .before .before .args .at)
+decoded c = rw (c .before .decode-at .ensures, c .before .before .before .before .before .before .before .pre .1)
+
+returns-3 : tie.Need-returns-3
+returns-3 c =
+    λ p e h.
+    let d = c .before .before .before in
+    let a = d .before .before .before .before .before .args in
+    let k = length-is (d .before) in
+    sym (early-4 p (a .s .now) (a .at) (stands (d .before .before) p h) (omega arith) (rw (decoded (c .before)) at (sym (c .before .is-allowed .ensures p e h) ∙ not-true _ (c .if3 .taken))))
+
+returns-4 : tie.Need-returns-4
+returns-4 c =
+    λ p e h.
+    let d = c .before .before .before in
+    let a = d .before .before .before .before .before .args in
+    let k = length-is (d .before) in
+    sym (early-0 p (a .s .now) (a .at) (stands (d .before .before) p h) (omega arith) (rw (decoded (c .before)) at (sym (c .before .is-allowed .ensures p e h) ∙ not-false _ (c .if3 .left))))
+
+pub check-at-spec : {M : Type 1} → statement M
+check-at-spec =
+    tie.close
+    (tie.spec
+    is-placed-requires
+    returns
+    size-of-requires
+    add-if2
+    returns-2
+    decode-at-requires
+    is-allowed-requires
+    returns-3
+    returns-4)

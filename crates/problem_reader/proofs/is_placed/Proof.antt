@@ -1,0 +1,70 @@
+-- `is_placed`: a test for each command.
+use borrow.Author.Needs.{needs}
+use borrow.Author.Tests.{lt-ltb, le-ltb}
+use Rattle.problem_reader.proofs.is_placed.Statement.{statement}
+use Rattle.problem_reader.proofs.is_placed.Tie as tie
+
+enum-told : tie.Need-enum-told
+enum-told c = search needs
+
+enum-told-2 : tie.Need-enum-told-2
+enum-told-2 c = search needs
+
+enum-told-3 : tie.Need-enum-told-3
+enum-told-3 c = search needs
+
+enum-told-4 : tie.Need-enum-told-4
+enum-told-4 c = search needs
+
+enum-told-5 : tie.Need-enum-told-5
+enum-told-5 c = search needs
+
+enum-told-6 : tie.Need-enum-told-6
+enum-told-6 c = search needs
+
+enum-told-7 : tie.Need-enum-told-7
+enum-told-7 c = search needs
+
+returns : tie.Need-returns
+returns c = λ p h. cc
+
+returns-2 : tie.Need-returns-2
+returns-2 c = λ p h. cc
+
+returns-3 : tie.Need-returns-3
+returns-3 c = λ p h. cc
+
+returns-4 : tie.Need-returns-4
+returns-4 c = λ p h. rw (c .before .enum-told4 .given .1, h, lt-ltb 0 (c .before .before .before .args .at) (c .if1 .taken))
+
+returns-5 : tie.Need-returns-5
+returns-5 c = λ p h. rw (c .before .enum-told4 .given .1, le-ltb 0 (c .before .before .before .args .at) (c .if1 .left))
+
+returns-6 : tie.Need-returns-6
+returns-6 c = λ p h. cc
+
+returns-7 : tie.Need-returns-7
+returns-7 c = λ p h. cc
+
+returns-8 : tie.Need-returns-8
+returns-8 c = λ p h. cc
+
+pub is-placed-spec : {M : Type 1} → statement M
+is-placed-spec =
+    tie.close
+    (tie.spec
+    enum-told
+    enum-told-2
+    enum-told-3
+    enum-told-4
+    enum-told-5
+    enum-told-6
+    enum-told-7
+    returns
+    returns-2
+    returns-3
+    returns-4
+    returns-5
+    returns-6
+    returns-7
+    returns-8)

@@ -1,0 +1,4 @@
+pub mod Checks
+pub mod TermArrays
+pub mod Stored
+pub mod Flat

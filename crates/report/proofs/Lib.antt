@@ -1,6 +1,0 @@
--- Laws that serve several functions, and samples of the lines.
-pub mod Appending
-pub mod Digits
-pub mod Hexadecimal
-pub mod Samples
-pub mod Signs

@@ -1,3 +1,0 @@
--- The lines that the programs write, and what it means to append to a text.
-pub mod Lines
-pub mod Appending

@@ -1,6 +1,0 @@
-pub mod Rounds
-pub mod Bytes
-pub mod Meaning
-pub mod Arrays
-pub mod Lookup
-pub mod Between

@@ -1,0 +1,179 @@
+// The table of 64 x 64 sums: the products w * l * l' of the rows on one basis, read off the certificate's bytes, are summed by their
+// indices; then the entries with the same product b * b' are summed at one place. The compared keys have no part in it.
+ghost use mathlib.Core.Path.{_≡_};
+ghost use mathlib.Core.Bool.{true};
+ghost use mathlib.Core.List.{List};
+ghost use Prim.Native.Nat.{ℕ, _+_, _*_, _^_, _≤_, _<_};
+ghost use lib.IntN.{pos, natAbs, _*ℤ_};
+ghost use lib.ListN.{length, getD};
+ghost use Rattle.polynomial.specs.Terms.{Term};
+ghost use Rattle.problem_reader.specs.TermArrays.{termsIn};
+ghost use Rattle.counting.specs.Counting.{Bounded};
+ghost use Rattle.row_products.specs.Gram.{times};
+ghost use Rattle.row_blocks.specs.Places.{Walkable};
+ghost use Rattle.row_products.specs.Frame.{spreadAt, halfAt, Next, Framed, Entered};
+ghost use Rattle.row_products.specs.Fold.{WithProduct, Folded};
+ghost use Rattle.row_products.specs.Outer.{Entries, Below, Raised, inRow, outerAt};
+ghost use Rattle.row_products.specs.Gather.{Gathered};
+
+// Adds a times each factor of a row from entry `first` on, in the table's row of that entry's index.
+fn add_products(
+    g: &mut [i64; 4096],
+    indices: &[u8; 64],
+    factors: &[i16; 64],
+    count: usize,
+    first: usize,
+    a: i64,
+)
+    requires { ⌜ Entries (now indices) (now factors) count × Below (2 ^ 54) (now g) × (first < count) × (natAbs a ≤ 2 ^ 31) ⌝ }
+    ensures { λ _. ⌜ Raised (now (g .entry)) (λ x. a *ℤ inRow (termsIn count (now (indices .entry)) (now (factors .entry))) x (getD (now (indices .entry)) first 0)) (now (g .exit)) ⌝ }
+{
+    let from = 64 * (indices[first] as usize);
+    let mut k = first;
+    while k < count {
+        let x = from + (indices[k] as usize);
+        let y = a * (factors[k] as i64);
+        let z = g[x];
+        g[x] = z + y;
+        k += 1;
+    }
+}
+
+// Adds the products w * l * l' of each two entries of a row, an entry with itself and with those after it, to the table of sums.
+fn add_outer(g: &mut [i64; 4096], row: certificate_reader::StoredRow)
+    requires { ⌜ Entries (row .indices) (row .factors) (row .count) × Below (2 ^ 53) (now g) ⌝ }
+    ensures { λ _. ⌜ Raised (now (g .entry)) (outerAt (row .weight) (termsIn (row .count) (row .indices) (row .factors))) (now (g .exit)) ⌝ }
+{
+    let indices = row.indices;
+    let factors = row.factors;
+    let count = row.count;
+    let w = row.weight as i64;
+    let mut k = 0;
+    while k < count {
+        let a = w * (factors[k] as i64);
+        add_products(g, &indices, &factors, count, k, a);
+        k += 1;
+    }
+}
+
+// Adds the products of the rows on basis j to the table of sums, which is empty. Other rows are stepped over.
+pub fn add_basis_rows(g: &mut [i64; 4096], s: &[u8], j: usize)
+    requires { ⌜ Below 0 (now g) × Walkable (now s) ⌝ }
+    ensures { λ _. ⌜ Gathered (now (s .entry)) j (now (g .exit)) ⌝ }
+{
+    let mut at = 10;
+    while certificate_reader::stands_at(0x11, s, at) {
+        let head = certificate_reader::head_at(s, at);
+        if head.basis == j {
+            let row = certificate_reader::row_at(s, at);
+            add_outer(g, row);
+        }
+        at = head.next;
+    }
+}
+
+// The place after x, past the columns that no index of a basis of this size has.
+pub fn next_place(x: usize, size: usize) -> usize
+    requires { ⌜ (x < 64 * size) × (size ≤ 64) ⌝ }
+    ensures { λ r. ⌜ Next size x r ⌝ }
+{
+    if x % 64 + 1 < size {
+        return x + 1;
+    }
+    64 * (x / 64 + 1)
+}
+
+// An entry on the diagonal counts once, and any other for its mirror image too.
+fn counted(x: usize, a: i64) -> i64
+    requires { ⌜ natAbs a ≤ 2 ^ 53 ⌝ }
+    ensures { λ r. ⌜ (r ≡ times x *ℤ a) × (natAbs r ≤ 2 ^ 54) ⌝ }
+{
+    if x / 64 == x % 64 {
+        return a;
+    }
+    2 * a
+}
+
+// Whether place y is one of the basis, with this product b * b'.
+fn is_pair(basis: &[u64], y: usize, key: u64) -> bool
+    requires { ⌜ Bounded (8 * 2 ^ 56) (now basis) ⌝ }
+    ensures { λ r. ⌜ (r ≡ true → WithProduct (now (basis .entry)) y key) ⌝ }
+{
+    let i = y / 64;
+    let k = y % 64;
+    if i < basis.len() {
+        if k < basis.len() {
+            return basis[i] + basis[k] == key;
+        }
+    }
+    false
+}
+
+// At most 2^59 in size, so that there is room for an entry.
+fn is_low(z: i64) -> bool
+    ensures { λ r. ⌜ (r ≡ true → natAbs z ≤ 2 ^ 59) ⌝ }
+{
+    if z < -576460752303423488 {
+        return false;
+    }
+    z <= 576460752303423488
+}
+
+// Where `lasts` names a place with this product b * b'.
+fn hint(key: u64) -> usize
+    ensures { λ r. ⌜ r < 2048 ⌝ }
+{
+    (key % 2039) as usize
+}
+
+// A number of 16 bits as a place.
+fn wide(x: u16) -> usize
+    ensures { λ r. ⌜ r ≡ x ⌝ }
+{
+    x as usize
+}
+
+// Moves the entry at place x, as often as it counts, to an earlier place with the same product b * b', if `lasts` names one. What it
+// names is looked at before it is believed.
+fn fold_entry(g: &mut [i64; 4096], basis: &[u64], lasts: &mut [u16; 2048], x: usize)
+    requires { ⌜ Bounded (8 * 2 ^ 56) (now basis) × (x < 4096) × Entered (2 ^ 53) (now basis) x (getD (now g) x (pos 0)) × (length (now g) ≡ 4096) ⌝ }
+    ensures { λ _. ⌜ Folded (now (basis .entry)) x (now (g .entry)) (now (g .exit)) ⌝ }
+{
+    let a = g[x];
+    if a == 0 {
+        return;
+    }
+    let v = counted(x, a);
+    let i = x / 64;
+    let k = x % 64;
+    let key = basis[i] + basis[k];
+    let t = hint(key);
+    let y = wide(lasts[t]);
+    if y < x {
+        if is_pair(basis, y, key) {
+            let z = g[y];
+            if is_low(z) {
+                g[y] = z + v;
+                g[x] = 0;
+                return;
+            }
+        }
+    }
+    lasts[t] = x as u16;
+    g[x] = v;
+}
+
+// Sums the entries with the same product b * b', so that most products with the multiplier are made once for all of them. `lasts` may
+// name anything.
+pub fn fold(g: &mut [i64; 4096], basis: &[u64], lasts: &mut [u16; 2048])
+    requires { ⌜ (length (now basis) ≤ 64) × Bounded (8 * 2 ^ 56) (now basis) × Framed (length (now basis)) (2 ^ 53) (now g) ⌝ }
+    ensures { λ _. ⌜ Framed (length (now (basis .entry))) (2 ^ 60) (now (g .exit)) × ((G : List Term) (k : ℕ) → spreadAt (now (basis .entry)) G (now (g .exit)) k ≡ halfAt (now (basis .entry)) G (now (g .entry)) k) ⌝ }
+{
+    let size = basis.len();
+    let last = 64 * size;
+    let mut x = 0;
+    while x < last {
+        fold_entry(g, basis, lasts, x);
+        x = next_place(x, size);
+    }
+}

@@ -1,0 +1,5 @@
+-- Laws that serve several functions, and samples of the lines.
+pub mod Appending
+pub mod Digits
+pub mod Hexadecimal
+pub mod Signs

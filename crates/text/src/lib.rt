@@ -1,0 +1,199 @@
+// Verdicts as text: the lines that the programs write, made in a buffer first, each proved equal to its definition.
+ghost use mathlib.Core.Path.{_≡_};
+ghost use mathlib.Core.List.{_++_};
+ghost use Prim.Native.Nat.{_+_, _*_, _≤_, _<_};
+ghost use lib.IntN.{natAbs};
+ghost use lib.ListN.{length, take};
+ghost use Rattle.io.specs.Digits.{glyph};
+ghost use Rattle.lines.specs.Lines.{decimal, signedDecimal, ratio, hexadecimal, refusalLine, pairWords, pairLines, blocksLine, checkLine, pairLine};
+ghost use Rattle.lines.specs.Texts.{textOf};
+ghost use Rattle.text.specs.Appending.{Appended};
+use calls::BlocksVerdict;
+use calls::CheckVerdict;
+use calls::Fraction;
+use calls::PairVerdict;
+use calls::Refusal;
+use lines::Text;
+
+// Puts a text at a place of the buffer. What this and the functions below return is the place after what they put.
+fn append(out: &mut [u8], at: usize, text: &[u8]) -> usize
+    requires { ⌜ at + length (now text) ≤ length (now out) ⌝ }
+    ensures { λ r. ⌜ Appended (now (out .entry)) at (now (text .entry)) (now (out .exit)) r ⌝ }
+{
+    let mut i = 0;
+    while i < text.len() {
+        out[at + i] = text[i];
+        i += 1;
+    }
+    at + i
+}
+
+// A number in base ten.
+fn append_number(out: &mut [u8], at: usize, n: u64) -> usize
+    requires { ⌜ at + 20 ≤ length (now out) ⌝ }
+    ensures { λ r. ⌜ Appended (now (out .entry)) at (decimal n) (now (out .exit)) r × (r ≤ at + 20) ⌝ }
+{
+    let mut digits = [0u8; 20];
+    let count = io::decimal(n, &mut digits);
+    append(out, at, &digits[..count])
+}
+
+// The absolute value. The least number has no opposite in 64 bits, so what is turned is the number and 1.
+fn magnitude(n: i64) -> u64
+    ensures { λ r. ⌜ r ≡ natAbs n ⌝ }
+{
+    if n < 0 {
+        return (-1 - n) as u64 + 1;
+    }
+    n as u64
+}
+
+// A number in base ten, with a minus sign below 0.
+fn append_signed(out: &mut [u8], at: usize, n: i64) -> usize
+    requires { ⌜ at + 21 ≤ length (now out) ⌝ }
+    ensures { λ r. ⌜ Appended (now (out .entry)) at (signedDecimal n) (now (out .exit)) r × (r ≤ at + 21) ⌝ }
+{
+    if n < 0 {
+        let next = append(out, at, b"-");
+        return append_number(out, next, magnitude(n));
+    }
+    append_number(out, at, magnitude(n))
+}
+
+// A fraction as it is, not reduced.
+fn append_ratio(out: &mut [u8], at: usize, f: Fraction) -> usize
+    requires { ⌜ at + 42 ≤ length (now out) ⌝ }
+    ensures { λ r. ⌜ Appended (now (out .entry)) at (ratio f) (now (out .exit)) r × (r ≤ at + 42) ⌝ }
+{
+    let a = append_signed(out, at, f.num);
+    let b = append(out, a, b"/");
+    append_number(out, b, f.den)
+}
+
+// A word and a number after it.
+fn append_with_number(out: &mut [u8], at: usize, word: &[u8], n: u64) -> usize
+    requires { ⌜ at + length (now word) + 20 ≤ length (now out) ⌝ }
+    ensures { λ r. ⌜ Appended (now (out .entry)) at (now (word .entry) ++ decimal n) (now (out .exit)) r × (r ≤ at + length (now (word .entry)) + 20) ⌝ }
+{
+    let a = append(out, at, word);
+    append_number(out, a, n)
+}
+
+// A word and a fraction after it.
+fn append_with_ratio(out: &mut [u8], at: usize, word: &[u8], f: Fraction) -> usize
+    requires { ⌜ at + length (now word) + 42 ≤ length (now out) ⌝ }
+    ensures { λ r. ⌜ Appended (now (out .entry)) at (now (word .entry) ++ ratio f) (now (out .exit)) r × (r ≤ at + length (now (word .entry)) + 42) ⌝ }
+{
+    let a = append(out, at, word);
+    append_ratio(out, a, f)
+}
+
+// The hexadecimal digit of a number below 16.
+fn digit(n: u8) -> u8
+    requires { ⌜ n < 16 ⌝ }
+    ensures { λ r. ⌜ r ≡ glyph n ⌝ }
+{
+    if n < 10 { 48 + n } else { 87 + n }
+}
+
+// Two hexadecimal digits for each byte.
+fn append_hexadecimal(out: &mut [u8], at: usize, bytes: &[u8]) -> usize
+    requires { ⌜ at + 2 * length (now bytes) ≤ length (now out) ⌝ }
+    ensures { λ r. ⌜ Appended (now (out .entry)) at (hexadecimal (now (bytes .entry))) (now (out .exit)) r × (r ≤ at + 2 * length (now (bytes .entry))) ⌝ }
+{
+    let mut end = at;
+    let mut i = 0;
+    while i < bytes.len() {
+        let b = bytes[i];
+        out[end] = digit(b / 16);
+        out[end + 1] = digit(b % 16);
+        end += 2;
+        i += 1;
+    }
+    end
+}
+
+// The line of a refusal: number, stream, place and key.
+fn refusal_line(r: Refusal) -> Text
+    ensures { λ t. ⌜ textOf t ≡ refusalLine r ⌝ }
+{
+    let mut out = [0u8; 1280];
+    let a = append_with_number(&mut out, 0, b"refused ", r.number as u64);
+    let b = append_with_number(&mut out, a, b" ", r.stream as u64);
+    let c = append_with_number(&mut out, b, b" ", r.place as u64);
+    let d = append_with_number(&mut out, c, b" ", r.key);
+    let len = append(&mut out, d, b"\n");
+    Text { bytes: out, len }
+}
+
+// A verdict of the pair: the bounds, the gap and the rounds, with the word that stands before each; or the line of the refusal.
+fn pair_words(v: PairVerdict, lower: &[u8], upper: &[u8], gap: &[u8], rounds: &[u8]) -> Text
+    requires { ⌜ length (now lower) + length (now upper) + length (now gap) + length (now rounds) ≤ 256 ⌝ }
+    ensures { λ t. ⌜ textOf t ≡ pairWords (now (lower .entry)) (now (upper .entry)) (now (gap .entry)) (now (rounds .entry)) v ⌝ }
+{
+    let r = v.refusal;
+    if 0 < r.number {
+        return refusal_line(r);
+    }
+    let mut out = [0u8; 1280];
+    let a = append_with_ratio(&mut out, 0, lower, v.lower);
+    let b = append_with_ratio(&mut out, a, upper, v.upper);
+    let c = append_with_ratio(&mut out, b, gap, v.gap);
+    let d = append_with_number(&mut out, c, rounds, v.rounds as u64);
+    let len = append(&mut out, d, b"\n");
+    Text { bytes: out, len }
+}
+
+// What gapcheck writes: the bounds, the gap and the rounds, a line each, or the line of the refusal.
+pub fn pair_lines(v: PairVerdict) -> Text
+    ensures { λ t. ⌜ textOf t ≡ pairLines v ⌝ }
+{
+    pair_words(v, b"lower ", b"\nupper ", b"\ngap ", b"\nrounds ")
+}
+
+// The line of the blocks call, with the 576 bytes that it left, or that of the refusal.
+pub fn blocks_line(v: BlocksVerdict, bytes: &[u8; 576]) -> Text
+    ensures { λ t. ⌜ textOf t ≡ blocksLine v (now (bytes .entry)) ⌝ }
+{
+    let r = v.refusal;
+    if 0 < r.number {
+        return refusal_line(r);
+    }
+    let mut out = [0u8; 1280];
+    let a = append_with_number(&mut out, 0, b"blocks ", v.blocks as u64);
+    let b = append_with_number(&mut out, a, b" rounds ", v.rounds as u64);
+    let c = append(&mut out, b, b" ");
+    let d = append_hexadecimal(&mut out, c, bytes);
+    let len = append(&mut out, d, b"\n");
+    Text { bytes: out, len }
+}
+
+// The line of the check, or that of the refusal.
+pub fn check_line(v: CheckVerdict) -> Text
+    ensures { λ t. ⌜ textOf t ≡ checkLine v ⌝ }
+{
+    let r = v.refusal;
+    if 0 < r.number {
+        return refusal_line(r);
+    }
+    let mut out = [0u8; 1280];
+    let a = append_with_number(&mut out, 0, b"check ", v.side as u64);
+    let b = append_with_ratio(&mut out, a, b" ", v.bound);
+    let c = append_with_number(&mut out, b, b" rounds ", v.rounds as u64);
+    let len = append(&mut out, c, b"\n");
+    Text { bytes: out, len }
+}
+
+// The line of the pair, or that of the refusal.
+pub fn pair_line(v: PairVerdict) -> Text
+    ensures { λ t. ⌜ textOf t ≡ pairLine v ⌝ }
+{
+    pair_words(v, b"pair ", b" ", b" gap ", b" rounds ")
+}
+
+// The first n bytes, or all.
+pub fn cut(bytes: &[u8], n: usize) -> &[u8]
+    ensures { λ r. ⌜ now r ≡ take n (now (bytes .entry)) ⌝ }
+{
+    if n <= bytes.len() { &bytes[..n] } else { bytes }
+}

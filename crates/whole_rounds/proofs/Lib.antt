@@ -1,0 +1,5 @@
+pub mod Flat
+pub mod Passes
+pub mod Latest
+pub mod Rounding
+pub mod Lookup

@@ -1,0 +1,106 @@
+-- `whole_rounds::run` meets its contract: after each round, those that are left lead to the outcome.
+use borrow.Author.Needs.{needs}
+use native.Mathlib.Omega.{arith}
+use mathlib.Core.Path.{sym, _∙_}
+use Prim.Native.Nat.{_-_, _≤_}
+use Rattle.counting.proofs.Cases.{never}
+use Rattle.whole_rounds.specs.Parts.{basesIn}
+use Rattle.whole_rounds.specs.Between.{closeAfter, Between}
+use Rattle.whole_rounds.proofs.Passes.{labelled-long}
+use Rattle.whole_rounds.proofs.Rounding.{between-start, between-last, between-more}
+use Rattle.whole_rounds.proofs.run.Statement.{statement}
+use Rattle.whole_rounds.proofs.run.Tie as tie
+
+abbrev Inv-loop : tie.InvT-loop
+Inv-loop keys sizes exponents counts heads next table₀ index₀ came len done most labels₀ n₀ since₀ rounds₀ table index labels n since rounds = (rounds ≤ most) × Between (closeAfter (basesIn keys sizes exponents counts) done sizes labels₀ len table₀) len table₀ keys sizes exponents counts labels since n table index rounds
+
+abbrev μ-loop : tie.MeasureT-loop
+μ-loop keys sizes exponents counts heads next table₀ index₀ came len done most labels₀ n₀ since₀ rounds₀ table index labels n since rounds = most - rounds
+
+-- ---- where the loop begins
+abbrev started : tie.At-loop Inv-loop μ-loop → tie.Start Inv-loop μ-loop
+started l = l .before .before .before .before .before .before .before .before .before
+
+loop-holds : tie.Need-loop-holds Inv-loop μ-loop
+loop-holds c =
+    let s = c .before .before .before .before .before .before .before .before in
+    (s .pre .0 .some, between-start (s .args .keys .now) (s .args .sizes .now) (s .args .exponents .now) (s .args .counts .now) _ _ _ _ _ _ (omega (arith, s .pre .0 .some, s .pre .0 .most)) (s .pre .0 .asks))
+
+slice-aggregate-round : tie.Need-slice-aggregate-round Inv-loop μ-loop
+slice-aggregate-round c = sym (labelled-long (c .before .before .loop .inv .1 .asks .extending .joining .labels))
+
+slice-aggregate-round-2 : tie.Need-slice-aggregate-round-2 Inv-loop μ-loop
+slice-aggregate-round-2 c = sym (labelled-long (c .before .before .before .loop .inv .1 .asks .extending .joining .labels))
+
+round-requires : tie.Need-round-requires Inv-loop μ-loop
+round-requires c κs = let l = c .before .before .before .before .before in (l .loop .inv .1 .asks, started l .pre .1)
+
+add-rounds : tie.Need-add-rounds Inv-loop μ-loop
+add-rounds c = omega (arith, c .before .before .before .before .before .before .before .before .before .before .loop-test .taken)
+
+slice-aggregate-is-last : tie.Need-slice-aggregate-is-last Inv-loop μ-loop
+slice-aggregate-is-last c = sym (labelled-long (c .before .before .before .before .before .before .before .before .before .before .before .before .loop .inv .1 .asks .extending .joining .labels))
+
+slice-aggregate-is-last-2 : tie.Need-slice-aggregate-is-last-2 Inv-loop μ-loop
+slice-aggregate-is-last-2 c = sym (c .before .before .before .before .before .before .before .round .kept .0 ∙ labelled-long (c .before .before .before .before .before .before .before .before .before .before .before .before .before .loop .inv .1 .asks .extending .joining .labels))
+
+is-last-requires : tie.Need-is-last-requires Inv-loop μ-loop
+is-last-requires c κs = sym (c .before .before .before .before .before .before .before .round .kept .0)
+
+same-length : tie.Need-same-length Inv-loop μ-loop
+same-length c = c .before .before .before .before .before .before .before .before .before .round .kept .1 .1 .1 .1 .1 .1 .1 .1 .1 .0 ∙ c .before .before .before .before .before .before .before .before .before .before .before .before .before .before .before .loop .inv .1 .long
+
+same-length-2 : tie.Need-same-length-2 Inv-loop μ-loop
+same-length-2 c = let l = c .before .before .before .before .before .before .before .before .before .before .before .before .before .before .before in c .before .before .before .before .before .before .before .before .before .round .kept .1 .1 .1 .1 .1 .1 .1 .1 .1 .1 .0 ∙ l .loop .inv .1 .asks .extending .joining .index .long ∙ sym (started l .pre .0 .asks .extending .joining .index .long)
+
+returns : tie.Need-returns Inv-loop μ-loop
+returns c =
+    let l = c .before .before .before .before .before .before .before .before .before .before .before .before .before .before .before in
+    let s = started l in
+    record {
+      done = λ _. between-last (s .args .keys .now) (s .args .sizes .now) (s .args .exponents .now) (s .args .counts .now) _ _ _ _ _ _ _ _ _ (l .loop .inv .1) (omega (arith, c .before .before .before .before .before .before .before .before .before .before .before .before .before .before .loop-test .taken, s .pre .0 .most)) _ _ _ _ (c .before .before .before .before .before .before .before .before .before .round .ensures) (sym (c .before .is-last .ensures) ∙ c .if1 .taken);
+      left = λ e. never (sym e);
+      most = λ e. never (sym e);
+    }
+
+loop-less : tie.Need-loop-less Inv-loop μ-loop
+loop-less c = search needs
+
+loop-again : tie.Need-loop-again Inv-loop μ-loop
+loop-again c =
+    let l = c .before .before .before .before .before .before .before .before .before .before .before .before .before .before .before in
+    let s = started l in
+    let b = c .before .before .before .before .before .before .before .before .before .before .before .before .before .before .loop-test .taken in
+    (omega arith, between-more (s .args .keys .now) (s .args .sizes .now) (s .args .exponents .now) (s .args .counts .now) _ _ _ _ _ _ _ _ _ (l .loop .inv .1) (omega (arith, s .pre .0 .most)) _ _ _ _ (c .before .before .before .before .before .before .before .before .before .round .ensures) (sym (c .before .is-last .ensures) ∙ c .if1 .left))
+
+same-length-3 : tie.Need-same-length-3 Inv-loop μ-loop
+same-length-3 c = c .before .loop .inv .1 .long
+
+same-length-4 : tie.Need-same-length-4 Inv-loop μ-loop
+same-length-4 c = let l = c .before in l .loop .inv .1 .asks .extending .joining .index .long ∙ sym (started l .pre .0 .asks .extending .joining .index .long)
+
+returns-2 : tie.Need-returns-2 Inv-loop μ-loop
+returns-2 c = record { done = λ e. never e; left = λ _. c .before .loop .inv .1; most = λ _. omega (arith, c .loop-test .left, c .before .loop .inv .0) }
+
+pub run-spec : {M : Type 1} → statement M
+run-spec =
+    tie.close
+    (tie.spec
+    Inv-loop
+    μ-loop
+    loop-holds
+    slice-aggregate-round
+    slice-aggregate-round-2
+    round-requires
+    add-rounds
+    slice-aggregate-is-last
+    slice-aggregate-is-last-2
+    is-last-requires
+    same-length
+    same-length-2
+    returns
+    loop-less
+    loop-again
+    same-length-3
+    same-length-4
+    returns-2)

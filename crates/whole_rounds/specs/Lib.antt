@@ -1,0 +1,4 @@
+pub mod Parts
+pub mod Arrays
+pub mod Lookup
+pub mod Between
