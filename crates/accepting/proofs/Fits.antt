@@ -16,7 +16,7 @@ use Rattle.format.specs.ProblemRules.{Problem, nonzero}
 use Rattle.format.specs.ProblemBases.{basisOf}
 use Rattle.format.specs.ProblemLimits.{All, Limits}
 use Rattle.format.proofs.ProblemLimits.{all-more, all-set, all-at}
-use Rattle.format.specs.CertificateRules.{Entry, Row, Certificate, nothing, shapeOf, noRow, lastRow, withEntry, progressOf, allowed, applied, instructionAt, progressVerdict, verdict, next, language, readCertificate}
+use Rattle.format.specs.CertificateRules.{Entry, Row, Certificate, noCertificate, shapeOf, noRow, lastRow, withEntry, progressOf, certificateOperandsFit, certificateApplied, certificateInstructionAt, progressVerdict, certificateRefusalAt, certificateNext, certificateLanguage, readCertificate}
 use Rattle.format.specs.declared.certificate.Shape.{Shape}
 use Rattle.format.specs.declared.certificate.Instruction.{Instruction}
 use Rattle.format.specs.declared.certificate.Instruction.the-variants as I
@@ -35,25 +35,25 @@ module _ (h : Shape) where
   more-passed : (r : Row) (e : Entry) → e .index < getD (h .sizes) (r .basis) 0 → Passed h r → Passed h (withEntry r e)
   more-passed r e b q = record { basis = q .basis; indices = all-more _ (r .entries) e (q .indices) b }
 
-  applied-passed : (c : Certificate) (at : ℕ) (i : Instruction) → allowed h (progressOf c) i ≡ true → All (Passed h) (c .rows) → All (Passed h) (applied c i at .rows)
-  unfolding applied progressOf
+  applied-passed : (c : Certificate) (at : ℕ) (i : Instruction) → certificateOperandsFit h (progressOf c) i ≡ true → All (Passed h) (c .rows) → All (Passed h) (certificateApplied c i at .rows)
+  unfolding certificateApplied progressOf
   applied-passed c at (I.Header side d p q) a k = k
   applied-passed c at (I.Row j w) a k = all-more _ (c .rows) _ k (none-passed j w (leb-true j (h .constraints) (and-left _ (leb 1 w) a)))
   applied-passed c at (I.Entry i l) a k =
       all-set _ (c .rows) _ _ k (more-passed (lastRow (c .rows)) _ (ltb-true i _ (and-left _ (nonzero l) a)) (all-at _ (c .rows) _ noRow k (none-passed 0 0 (omega arith))))
   applied-passed c at I.End a k = k
 
-  next-passed : (c : Certificate) (s : List ℕ) (at : ℕ) → verdict h c s at ≡ 0 → All (Passed h) (c .rows) → All (Passed h) (next c s at .rows)
-  unfolding verdict progressVerdict next
-  next-passed c s at v = applied-passed c at (instructionAt s at) (passes _ _ _ _ _ v .allowed)
+  next-passed : (c : Certificate) (s : List ℕ) (at : ℕ) → certificateRefusalAt h c s at ≡ 0 → All (Passed h) (c .rows) → All (Passed h) (certificateNext c s at .rows)
+  unfolding certificateRefusalAt progressVerdict certificateNext
+  next-passed c s at v = applied-passed c at (certificateInstructionAt s at) (passes _ _ _ _ _ v .allowed)
 
   read-passed : (s : List ℕ) (c : Certificate) → readCertificate h s ≡ given c → All (Passed h) (c .rows)
   unfolding readCertificate All
   read-passed s c e =
-      read-induction (language h) s (λ a at cs b. All (Passed h) (a .rows) → All (Passed h) (b .rows))
+      read-induction (certificateLanguage h) s (λ a at cs b. All (Passed h) (a .rows) → All (Passed h) (b .rows))
       (λ a at t q k. k)
       (λ a b at cs t q f k. f (next-passed a s at (t .passed) k))
-      nothing c e tt
+      noCertificate c e tt
 
 -- the checks speak of the problem's own bases
 passed-fits : (p : Problem) → Limits p → (rs : List Row) → All (Passed (shapeOf p)) rs → RowsFit p rs

@@ -15,7 +15,7 @@ use Rattle.format.specs.ProblemRules.{Problem, readProblem}
 use Rattle.format.proofs.ProblemLimits.{read-limits}
 use Rattle.format.specs.ProblemRules as Rules
 use Rattle.joining_rule.specs.Joining.{closing, tooLarge}
-use Rattle.format.specs.CertificateRules.{Certificate, nothing, language, shapeOf, readCertificate}
+use Rattle.format.specs.CertificateRules.{Certificate, noCertificate, certificateLanguage, shapeOf, readCertificate}
 use Rattle.format.proofs.CertificateLimits.{read-sound}
 use Rattle.accepting.specs.Identity.{KeepsBlocks, Identity}
 use Rattle.accepting.specs.Judgement.{Judgement, judge, judgeRead, judgeOutcome, byBlocks, byIdentity, splitPlace, differenceKey}
@@ -49,7 +49,7 @@ module _ (p : Problem) (s : List ℕ) where
       by-blocks c none d h = by-identity c d h
 
       go : (o : Outcome Certificate) → readCertificate (shapeOf p) s ≡ o → judgeOutcome p o ≡ J.refused n place key → 0 < n
-      go (Stream.refused m at) e h = let f : m ≡ n = cc in rw (← f) (read-positive (language (shapeOf p)) s nothing m at e)
+      go (Stream.refused m at) e h = let f : m ≡ n = cc in rw (← f) (read-positive (certificateLanguage (shapeOf p)) s noCertificate m at e)
       go (Stream.given c) e h = unfold judgeRead in by-blocks c (splitPlace p (c .rows)) (differenceKey p c) h
 
 -- two certificates that a stream gives are one
@@ -206,7 +206,7 @@ module _ (short : Bool) (s low high : List ℕ) where
     where
       go : (b : Bool) (o : Outcome Problem) → readProblem s ≡ o → cond b (refusedPair (problemRefusal 1 0)) (pairRead o low high) .refusal .number ≡ 0 → record { problem : Problem; read : readProblem s ≡ given problem }
       go true o e h = zero-not 1 (omega arith) h
-      go false (Stream.refused n place) e h = zero-not n (read-positive Rules.language s Rules.nothing n place e) h
+      go false (Stream.refused n place) e h = zero-not n (read-positive Rules.problemLanguage s Rules.noProblem n place e) h
       go false (Stream.given p) e h = record { problem = p; read = e }
 
   pair-exactly : PairExactly short s low high (pairVerdict short s low high)

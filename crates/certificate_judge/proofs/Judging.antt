@@ -16,7 +16,7 @@ use Rattle.problem_reader.specs.Stored.{problemOf, constraintsOf, basesHeld, Ke
 use Rattle.problem_reader.specs.declared.StoredProblem.{StoredProblem}
 use Rattle.key_set.specs.Table.{keysIn}
 use Rattle.closure.specs.declared.Joined.{Joined}
-use Rattle.format.specs.CertificateRules.{Certificate, nothing, shapeOf, readCertificate}
+use Rattle.format.specs.CertificateRules.{Certificate, noCertificate, shapeOf, readCertificate}
 use Rattle.certificate_reader.specs.Kept.{headerOutcome, headerOutcomeOf}
 use Rattle.format.specs.declared.certificate.Header.{Header}
 use Rattle.format.specs.declared.certificate.Shape.{Shape}
@@ -91,7 +91,7 @@ module _ (r : Reading) (o : Outcome Certificate) (e : headerOutcomeOf r ≡ head
   certificate-refused h = go o (rw (ne-eqb (r .number) 0 (λ q. omega arith)) at e)
     where
       go : (o : Outcome Certificate) → refused (r .number) (r .place) ≡ headerOutcome o → o ≡ refused (r .number) (r .place)
-      go (refused n at) f = sym (ap (refusalOf nothing) f)
+      go (refused n at) f = sym (ap (refusalOf noCertificate) f)
       go (given c) f = absurd (let z : _≡_ {A = ℕ} 0 1 = ap isGiven f in omega arith)
 
   module _ (h : r .number ≡ 0) where

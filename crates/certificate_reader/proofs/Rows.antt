@@ -16,8 +16,8 @@ use Rattle.format.proofs.Run.{Taken, read-induction}
 use Rattle.format.specs.declared.certificate.Command.{Command}
 use Rattle.format.specs.declared.certificate.Command.the-variants as C
 use Rattle.format.specs.declared.certificate.Shape.{Shape}
-use Rattle.format.specs.CertificateLayout.{commandOf, size, decode}
-use Rattle.format.specs.CertificateRules.{Entry, Row, Certificate, nothing, noRow, lastRow, progressOf, placed, withEntry, applied, commandAt, verdict, next, language, readCertificate}
+use Rattle.format.specs.CertificateLayout.{certificateCommand, certificateSize, certificateDecoded}
+use Rattle.format.specs.CertificateRules.{Entry, Row, Certificate, noCertificate, noRow, lastRow, progressOf, certificatePlaced, withEntry, certificateApplied, certificateCommandAt, certificateRefusalAt, certificateNext, certificateLanguage, readCertificate}
 use Rattle.certificate_reader.specs.Kept.{Within}
 use Rattle.certificate_reader.specs.Rows.{stands, entryCount, entryAt, rowAt, afterRow, rowsFrom, rowsOf}
 use Rattle.format.proofs.CertificateChecks.{Passed, passed}
@@ -72,8 +72,8 @@ ByteIs C.Entry b = b ≡ 0x12
 ByteIs C.End b = b ≡ 0x13
 ByteIs C.Unknown b = Unit {0}
 
-byte-is : (b : ℕ) → ByteIs (commandOf b) b
-unfolding commandOf
+byte-is : (b : ℕ) → ByteIs (certificateCommand b) b
+unfolding certificateCommand
 byte-is b = go (eqb b 0x10) refl (eqb b 0x11) refl (eqb b 0x12) refl (eqb b 0x13) refl
   where
     go : (t : Bool) → eqb b 0x10 ≡ t → (u : Bool) → eqb b 0x11 ≡ u → (v : Bool) → eqb b 0x12 ≡ v → (w : Bool) → eqb b 0x13 ≡ w
@@ -152,8 +152,8 @@ module _ (h : Shape) (w : Within h) (s : List ℕ) where
       let y : at + 4 * entryCount m s at ≡ at = omega arith in
       rw (y, z, no-row s at n (stands-other s at 0x13 0x11 e (λ d. omega arith))) (sym (grown-none (a .rows)))
 
-  rest-row : (a b : Certificate) (at : ℕ) → Passed h (progressOf a) s at C.Row → getD s at 0 ≡ 0x11 → Rest (applied a (decode C.Row s at) at) (at + 4) b → Rest a at b
-  unfolding listed applied rowAt afterRow
+  rest-row : (a b : Certificate) (at : ℕ) → Passed h (progressOf a) s at C.Row → getD s at 0 ≡ 0x11 → Rest (certificateApplied a (certificateDecoded C.Row s at) at) (at + 4) b → Rest a at b
+  unfolding listed certificateApplied rowAt afterRow
   rest-row a b at p e f zero m hn hm = absurd (omega (arith, leb-false 128 (progressOf a .rows) (p .full)))
   rest-row a b at p e f (suc n) m hn hm =
       let g = applied-progress a s at C.Row (p .placed) in
@@ -162,8 +162,8 @@ module _ (h : Shape) (w : Within h) (s : List ℕ) where
       rw (y, z, one-row s at n (stands-here s at 0x11 (leb-true _ _ (p .whole)) e))
       (f n 64 (rw g (omega arith)) (λ _. omega arith) ∙ grown-row (a .rows) _ _ _)
 
-  rest-entry : (a b : Certificate) (at : ℕ) → Passed h (progressOf a) s at C.Entry → getD s at 0 ≡ 0x12 → Rest (applied a (decode C.Entry s at) at) (at + 4) b → Rest a at b
-  unfolding applied
+  rest-entry : (a b : Certificate) (at : ℕ) → Passed h (progressOf a) s at C.Entry → getD s at 0 ≡ 0x12 → Rest (certificateApplied a (certificateDecoded C.Entry s at) at) (at + 4) b → Rest a at b
+  unfolding certificateApplied
   rest-entry a b at p e f n m hn hm = go m (hm r)
     where
       r : 0 < progressOf a .rows
@@ -183,7 +183,7 @@ module _ (h : Shape) (w : Within h) (s : List ℕ) where
 
   -- a command after the first
   rest-more : (a b : Certificate) (at : ℕ) → 0 < at → (k : Command) → ByteIs k (getD s at 0) → (getD s at 0 ≡ 0x13 → ⊥) → Passed h (progressOf a) s at k
-      → Rest (applied a (decode k s at) at) (at + size k) b → Rest a at b
+      → Rest (certificateApplied a (certificateDecoded k s at) at) (at + certificateSize k) b → Rest a at b
   rest-more a b at z C.Header e d p f = absurd (let q = eqb-true at 0 (p .placed) in omega arith)
   rest-more a b at z C.Row e d p f = rest-row a b at p e f
   rest-more a b at z C.Entry e d p f = rest-entry a b at p e f
@@ -191,9 +191,9 @@ module _ (h : Shape) (w : Within h) (s : List ℕ) where
   rest-more a b at z C.Unknown e d p f = absurd (let q : _≡_ {A = ℕ} 0 1 = let x = p .placed in cc in omega arith)
 
   -- the first command is the header
-  rest-first : (a b : Certificate) (at : ℕ) → at ≡ 0 → a ≡ nothing → (k : Command) → Passed h (progressOf a) s at k
-      → (0 < at + size k → Rest (applied a (decode k s at) at) (at + size k) b) → Rest nothing 10 b
-  unfolding applied progressOf
+  rest-first : (a b : Certificate) (at : ℕ) → at ≡ 0 → a ≡ noCertificate → (k : Command) → Passed h (progressOf a) s at k
+      → (0 < at + certificateSize k → Rest (certificateApplied a (certificateDecoded k s at) at) (at + certificateSize k) b) → Rest noCertificate 10 b
+  unfolding certificateApplied progressOf
   rest-first a b at z q C.Header p f = rw (z, q) at (f (omega arith))
   rest-first a b at z q C.Row p f = absurd (let x = ltb-true 0 at (p .placed) in omega arith)
   rest-first a b at z q C.Entry p f = absurd (let x = ltb-true 0 at (and-left _ _ (p .placed)) in omega arith)
@@ -201,32 +201,32 @@ module _ (h : Shape) (w : Within h) (s : List ℕ) where
   rest-first a b at z q C.Unknown p f = absurd (let x : _≡_ {A = ℕ} 0 1 = let y = p .placed in cc in omega arith)
 
   record Follows (a : Certificate) (at : ℕ) (b : Certificate) : Type 0 where
-    first : at ≡ 0 → a ≡ nothing → Rest nothing 10 b
+    first : at ≡ 0 → a ≡ noCertificate → Rest noCertificate 10 b
     later : 0 < at → Rest a at b
 
-  passing : (a : Certificate) (at : ℕ) → Taken (language h) s a at → Passed h (progressOf a) s at (commandAt s at)
-  unfolding verdict
+  passing : (a : Certificate) (at : ℕ) → Taken (certificateLanguage h) s a at → Passed h (progressOf a) s at (certificateCommandAt s at)
+  unfolding certificateRefusalAt
   passing a at t = passed h (progressOf a) s at (t .passed)
 
-  follows-end : (a : Certificate) (at : ℕ) → Taken (language h) s a at → getD s at 0 ≡ 0x13 → Follows a at a
-  unfolding commandOf
+  follows-end : (a : Certificate) (at : ℕ) → Taken (certificateLanguage h) s a at → getD s at 0 ≡ 0x13 → Follows a at a
+  unfolding certificateCommand
   follows-end a at t e = record {
     first = λ z q. absurd (let p = rw e at (passing a at t) in let x = ltb-true 0 at (p .placed) in omega arith);
     later = λ _. rest-end a at e;
   }
 
-  follows-more : (a b : Certificate) (at : ℕ) → Taken (language h) s a at → (getD s at 0 ≡ 0x13 → ⊥) → Follows (next a s at) (at + size (commandAt s at)) b → Follows a at b
-  unfolding next
+  follows-more : (a b : Certificate) (at : ℕ) → Taken (certificateLanguage h) s a at → (getD s at 0 ≡ 0x13 → ⊥) → Follows (certificateNext a s at) (at + certificateSize (certificateCommandAt s at)) b → Follows a at b
+  unfolding certificateNext
   follows-more a b at t d f = record {
-    first = λ z q. rest-first a b at z q (commandAt s at) (passing a at t) (f .later);
-    later = λ z. rest-more a b at z (commandAt s at) (byte-is (getD s at 0)) d (passing a at t) (f .later (omega arith));
+    first = λ z q. rest-first a b at z q (certificateCommandAt s at) (passing a at t) (f .later);
+    later = λ z. rest-more a b at z (certificateCommandAt s at) (byte-is (getD s at 0)) d (passing a at t) (f .later (omega arith));
   }
 
   -- however many rows are asked for above 128
   pub rows-again : (c : Certificate) → readCertificate h s ≡ given c → (n : ℕ) → 128 ≤ n → rowsFrom n s 10 ≡ c .rows
   unfolding readCertificate entryCount grown progressOf
   rows-again c e n l =
-      sym (read-induction (language h) s (λ a at cs b. Follows a at b) follows-end (λ a b at cs. follows-more a b at) nothing c e .first refl refl n 0 (omega arith) (λ z. absurd (omega arith)))
+      sym (read-induction (certificateLanguage h) s (λ a at cs b. Follows a at b) follows-end (λ a b at cs. follows-more a b at) noCertificate c e .first refl refl n 0 (omega arith) (λ z. absurd (omega arith)))
 
 -- the rows read again are all the rows that were validated
 pub rows-read : (h : Shape) → Within h → (s : List ℕ) (c : Certificate) → readCertificate h s ≡ given c → rowsOf s ≡ c .rows

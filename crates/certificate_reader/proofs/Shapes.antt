@@ -13,7 +13,7 @@ use Rattle.format.specs.ProblemRules.{Problem}
 use Rattle.format.specs.ProblemBases.{basisOf}
 use Rattle.format.specs.ProblemLimits.{Monomials, Limits as ProblemLimits}
 use Rattle.format.proofs.ProblemLimits.{all-at, monomials-none}
-use Rattle.format.specs.CertificateLayout.{size}
+use Rattle.format.specs.CertificateLayout.{certificateSize}
 use Rattle.format.specs.CertificateRules.{shapeOf}
 use Rattle.certificate_reader.specs.Kept.{Within}
 
@@ -22,11 +22,11 @@ pub shape-within : (p : Problem) → ProblemLimits p → Within (shapeOf p)
 unfolding shapeOf basisOf
 shape-within p l = record { constraints = l .constraints; sizes = λ j. go j (ltb j 9) refl }
   where
-    size : (j : ℕ) → length (getD (p .bases) j []) ≤ 64
-    size j = all-at (Monomials (p .variables) 8 64) (p .bases) j [] (l .members) (monomials-none (p .variables) 8 64) .count
+    sized : (j : ℕ) → length (getD (p .bases) j []) ≤ 64
+    sized j = all-at (Monomials (p .variables) 8 64) (p .bases) j [] (l .members) (monomials-none (p .variables) 8 64) .count
 
     go : (j : ℕ) (b : Bool) → ltb j 9 ≡ b → getD (listed 9 (λ (i : ℕ). length (getD (p .bases) i []))) j 0 ≤ 64
-    go j true e = rw (listed-at 9 (λ (i : ℕ). length (getD (p .bases) i [])) j 0 (ltb-true j 9 e)) (size j)
+    go j true e = rw (listed-at 9 (λ (i : ℕ). length (getD (p .bases) i [])) j 0 (ltb-true j 9 e)) (sized j)
     go j false e =
         let n = listed-length 9 (λ (i : ℕ). length (getD (p .bases) i [])) in
         let b = ltb-false j 9 e in

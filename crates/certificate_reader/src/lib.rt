@@ -4,8 +4,8 @@ ghost use mathlib.Core.Bool.{true};
 ghost use Prim.Native.Nat.{_+_, _*_, _≤_, _<_};
 ghost use lib.ListN.{length};
 ghost use Rattle.format.specs.Operands.{number, signed};
-ghost use Rattle.format.specs.CertificateLayout.{commandOf, size, decode};
-ghost use Rattle.format.specs.CertificateRules.{noHeader, placed, allowed, repeated, full, progressVerdict, readCertificate};
+ghost use Rattle.format.specs.CertificateLayout.{certificateCommand, certificateSize, certificateDecoded};
+ghost use Rattle.format.specs.CertificateRules.{noHeader, certificatePlaced, certificateOperandsFit, certificateRepeated, certificateFull, progressVerdict, readCertificate};
 ghost use Rattle.certificate_reader.specs.Kept.{noProgress, headerOutcome, headerOutcomeOf, headed, advanced, Within, ProgressWithin};
 ghost use Rattle.certificate_reader.specs.Rows.{stands, entryCount, HoldsRow, rowAt, afterRow};
 use format::certificate::Command;
@@ -54,7 +54,7 @@ pub struct StoredRow {
 }
 
 fn command_of(byte: u8) -> Command
-    ensures { λ r. ⌜ r ≡ commandOf byte ⌝ }
+    ensures { λ r. ⌜ r ≡ certificateCommand byte ⌝ }
 {
     match byte {
         0x10 => Command::Header,
@@ -66,7 +66,7 @@ fn command_of(byte: u8) -> Command
 }
 
 fn size_of(command: Command) -> usize
-    ensures { λ r. ⌜ (r ≡ size command) × (r ≤ 10) ⌝ }
+    ensures { λ r. ⌜ (r ≡ certificateSize command) × (r ≤ 10) ⌝ }
 {
     match command {
         Command::Header => 1 + 1 + 2 + 4 + 2,
@@ -79,7 +79,7 @@ fn size_of(command: Command) -> usize
 
 // Whether a command may stand at an offset.
 fn is_placed(g: Progress, at: usize, command: Command) -> bool
-    ensures { λ r. ⌜ r ≡ placed g at command ⌝ }
+    ensures { λ r. ⌜ r ≡ certificatePlaced g at command ⌝ }
 {
     match command {
         Command::Header => at == 0,
@@ -92,8 +92,8 @@ fn is_placed(g: Progress, at: usize, command: Command) -> bool
 
 // A command with its operands, which stand after its byte.
 fn decode_at(command: Command, s: &[u8], at: usize) -> Instruction
-    requires { ⌜ at + size command ≤ length (now s) ⌝ }
-    ensures { λ r. ⌜ r ≡ decode command (now (s .entry)) at ⌝ }
+    requires { ⌜ at + certificateSize command ≤ length (now s) ⌝ }
+    ensures { λ r. ⌜ r ≡ certificateDecoded command (now (s .entry)) at ⌝ }
 {
     match command {
         Command::Header => {
@@ -124,7 +124,7 @@ fn decode_at(command: Command, s: &[u8], at: usize) -> Instruction
 // Whether a command's operands keep their rules.
 fn is_allowed(h: Shape, g: Progress, i: Instruction) -> bool
     requires { ⌜ ProgressWithin g ⌝ }
-    ensures { λ r. ⌜ r ≡ allowed h g i ⌝ }
+    ensures { λ r. ⌜ r ≡ certificateOperandsFit h g i ⌝ }
 {
     match i {
         Instruction::Header(side, d, _, q) => side <= 1 && (1 <= d && 1 <= q),
@@ -139,7 +139,7 @@ fn is_allowed(h: Shape, g: Progress, i: Instruction) -> bool
 
 // Whether an entry's index does not rise.
 fn is_repeated(g: Progress, i: Instruction) -> bool
-    ensures { λ r. ⌜ r ≡ repeated g i ⌝ }
+    ensures { λ r. ⌜ r ≡ certificateRepeated g i ⌝ }
 {
     match i {
         Instruction::Header(_, _, _, _) => false,
@@ -151,7 +151,7 @@ fn is_repeated(g: Progress, i: Instruction) -> bool
 
 // Whether a row is one too many.
 fn is_full(g: Progress, i: Instruction) -> bool
-    ensures { λ r. ⌜ r ≡ full g i ⌝ }
+    ensures { λ r. ⌜ r ≡ certificateFull g i ⌝ }
 {
     match i {
         Instruction::Header(_, _, _, _) => false,

@@ -15,8 +15,8 @@ use Rattle.format.specs.declared.certificate.Command.the-variants as C
 use Rattle.format.specs.declared.certificate.Shape.{Shape}
 use Rattle.format.specs.declared.certificate.Header.{Header}
 use Rattle.format.specs.declared.certificate.Progress.{Progress}
-use Rattle.format.specs.CertificateLayout.{size, decode}
-use Rattle.format.specs.CertificateRules.{Entry, Row, noRow, lastRow, floorOf, placed, allowed, repeated, full, commandAt, progressVerdict}
+use Rattle.format.specs.CertificateLayout.{certificateSize, certificateDecoded}
+use Rattle.format.specs.CertificateRules.{Entry, Row, noRow, lastRow, floorOf, certificatePlaced, certificateOperandsFit, certificateRepeated, certificateFull, certificateCommandAt, progressVerdict}
 
 -- ---- the row begun last, and the least index that may follow
 pub last-append : (rs : List Row) (r : Row) → lastRow (rs ++ (r ∷ [])) ≡ r
@@ -36,14 +36,14 @@ floor-more (x ∷ y ∷ es) e = floor-more (y ∷ es) e
 -- ---- one command
 -- a command that no check refuses
 abbrev pub Passed : Shape → Progress → List ℕ → ℕ → Command → Type 0
-Passed h g s at k = Passes (placed g at k) (leb (at + size k) (length s)) (allowed h g (decode k s at)) (repeated g (decode k s at)) (full g (decode k s at))
+Passed h g s at k = Passes (certificatePlaced g at k) (leb (at + certificateSize k) (length s)) (certificateOperandsFit h g (certificateDecoded k s at)) (certificateRepeated g (certificateDecoded k s at)) (certificateFull g (certificateDecoded k s at))
 
-pub passed : (h : Shape) (g : Progress) (s : List ℕ) (at : ℕ) → progressVerdict h g s at ≡ 0 → Passed h g s at (commandAt s at)
+pub passed : (h : Shape) (g : Progress) (s : List ℕ) (at : ℕ) → progressVerdict h g s at ≡ 0 → Passed h g s at (certificateCommandAt s at)
 unfolding progressVerdict
 passed h g s at v = passes _ _ _ _ _ v
 
 -- a command that may stand somewhere has a byte
-placed-size : (g : Progress) (at : ℕ) (k : Command) → placed g at k ≡ true → 1 ≤ size k
+placed-size : (g : Progress) (at : ℕ) (k : Command) → certificatePlaced g at k ≡ true → 1 ≤ certificateSize k
 placed-size g at C.Header h = omega arith
 placed-size g at C.Row h = omega arith
 placed-size g at C.Entry h = omega arith
@@ -51,8 +51,8 @@ placed-size g at C.End h = omega arith
 placed-size g at C.Unknown h = clash (cc)
 
 module _ (h : Shape) (g : Progress) (s : List ℕ) (at : ℕ) (v : progressVerdict h g s at ≡ 0) where
-  pub taken-size : 1 ≤ size (commandAt s at)
-  taken-size = placed-size g at (commandAt s at) (passed h g s at v .placed)
+  pub taken-size : 1 ≤ certificateSize (certificateCommandAt s at)
+  taken-size = placed-size g at (certificateCommandAt s at) (passed h g s at v .placed)
 
-  pub taken-whole : at + size (commandAt s at) ≤ length s
+  pub taken-whole : at + certificateSize (certificateCommandAt s at) ≤ length s
   taken-whole = leb-true _ _ (passed h g s at v .whole)

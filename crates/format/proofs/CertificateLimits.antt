@@ -17,8 +17,8 @@ use Rattle.format.proofs.ProblemLimits.{all-more, all-set, nonzero-not}
 use Rattle.format.specs.declared.certificate.Command.{Command}
 use Rattle.format.specs.declared.certificate.Command.the-variants as C
 use Rattle.format.specs.declared.certificate.Shape.{Shape}
-use Rattle.format.specs.CertificateLayout.{commandOf, size, decode}
-use Rattle.format.specs.CertificateRules.{Entry, Row, Certificate, nothing, noRow, lastRow, floorOf, progressOf, withEntry, applied, commandAt, verdict, next, language, readCertificate}
+use Rattle.format.specs.CertificateLayout.{certificateCommand, certificateSize, certificateDecoded}
+use Rattle.format.specs.CertificateRules.{Entry, Row, Certificate, noCertificate, noRow, lastRow, floorOf, progressOf, withEntry, certificateApplied, certificateCommandAt, certificateRefusalAt, certificateNext, certificateLanguage, readCertificate}
 use Rattle.format.specs.CertificateLimits.{IndicesRise, SoundRow, Sound}
 use Rattle.format.proofs.CertificateChecks.{Passed, passed, taken-size}
 
@@ -58,15 +58,15 @@ row-more h r e k a f = record {
 -- ---- a command
 -- what was read before the command at an offset: nothing where it is the first, else a certificate within the limits
 record Kept (h : Shape) (c : Certificate) (at : ℕ) : Type 0 where
-  first : at ≡ 0 → c ≡ nothing
+  first : at ≡ 0 → c ≡ noCertificate
   later : 0 < at → Sound h c
 
-kept-start : (h : Shape) → Kept h nothing 0
+kept-start : (h : Shape) → Kept h noCertificate 0
 kept-start h = record { first = λ _. refl; later = λ z. absurd (omega arith) }
 
 module _ (h : Shape) (c : Certificate) (s : List ℕ) (at : ℕ) (kept : Kept h c at) where
-  applied-sound : (k : Command) → Passed h (progressOf c) s at k → Sound h (applied c (decode k s at) at)
-  unfolding applied progressOf All
+  applied-sound : (k : Command) → Passed h (progressOf c) s at k → Sound h (certificateApplied c (certificateDecoded k s at) at)
+  unfolding certificateApplied progressOf All
   applied-sound C.Header p =
       let side = number 1 s (at + 1) in
       let d = number 2 s (at + 2) in
@@ -100,24 +100,24 @@ module _ (h : Shape) (c : Certificate) (s : List ℕ) (at : ℕ) (kept : Kept h 
   applied-sound C.End p = kept .later (ltb-true 0 at (p .placed))
   applied-sound C.Unknown p = absurd (let z : _≡_ {A = ℕ} 0 1 = let e = p .placed in cc in omega arith)
 
-  next-sound : verdict h c s at ≡ 0 → Sound h (next c s at)
-  unfolding verdict next
-  next-sound v = applied-sound (commandAt s at) (passed h (progressOf c) s at v)
+  next-sound : certificateRefusalAt h c s at ≡ 0 → Sound h (certificateNext c s at)
+  unfolding certificateRefusalAt certificateNext
+  next-sound v = applied-sound (certificateCommandAt s at) (passed h (progressOf c) s at v)
 
-  kept-next : verdict h c s at ≡ 0 → Kept h (next c s at) (at + size (commandAt s at))
-  unfolding verdict
+  kept-next : certificateRefusalAt h c s at ≡ 0 → Kept h (certificateNext c s at) (at + certificateSize (certificateCommandAt s at))
+  unfolding certificateRefusalAt
   kept-next v = record { first = λ z. let n = taken-size h (progressOf c) s at v in absurd (omega arith); later = λ _. next-sound v }
 
 -- the end command leaves the certificate
-pub end-leaves : (c : Certificate) (s : List ℕ) (at : ℕ) → getD s at 0 ≡ 0x13 → next c s at ≡ c
-unfolding next applied commandOf
+pub end-leaves : (c : Certificate) (s : List ℕ) (at : ℕ) → getD s at 0 ≡ 0x13 → certificateNext c s at ≡ c
+unfolding certificateNext certificateApplied certificateCommand
 end-leaves c s at e = rw e
 
 -- every certificate that a stream gives keeps the limits
 pub read-sound : (h : Shape) (s : List ℕ) (c : Certificate) → readCertificate h s ≡ given c → Sound h c
 unfolding readCertificate
 read-sound h s c e =
-    read-induction (language h) s (λ a at cs b. Kept h a at → Sound h b)
+    read-induction (certificateLanguage h) s (λ a at cs b. Kept h a at → Sound h b)
     (λ a at t b k. subst (Sound h) (end-leaves a s at b) (next-sound h a s at k (t .passed)))
     (λ a b at cs t n f k. f (kept-next h a s at k (t .passed)))
-    nothing c e (kept-start h)
+    noCertificate c e (kept-start h)

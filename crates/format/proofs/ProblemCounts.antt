@@ -16,8 +16,8 @@ use Rattle.format.specs.Operands.{number}
 use Rattle.format.proofs.Run.{Passes, passes, read-induction}
 use Rattle.format.specs.declared.problem.Command.{Command}
 use Rattle.format.specs.declared.problem.Command.the-variants as C
-use Rattle.format.specs.ProblemLayout.{commandOf, decode}
-use Rattle.format.specs.ProblemRules.{Problem, nothing, appendAt, placed, fitting, allowed, repeated, full, applied, commandAt, verdict, next, language, readProblem}
+use Rattle.format.specs.ProblemLayout.{problemCommand, problemDecoded}
+use Rattle.format.specs.ProblemRules.{Problem, noProblem, appendAt, problemPlaced, fitting, problemOperandsFit, problemRepeated, problemFull, problemApplied, problemCommandAt, problemRefusalAt, problemNext, problemLanguage, readProblem}
 use Rattle.format.specs.ProblemLimits.{countIf, anyOf, isMember, names, memberCommands, basesNamed}
 use Rattle.format.proofs.ProblemLimits.{Kept, kept-next, kept-start, nothing-basis}
 
@@ -35,8 +35,8 @@ isMemberCommand C.Member = true
 isMemberCommand C.End = false
 isMemberCommand C.Unknown = false
 
-member-byte : (b : ℕ) → eqb b 5 ≡ isMemberCommand (commandOf b)
-unfolding commandOf
+member-byte : (b : ℕ) → eqb b 5 ≡ isMemberCommand (problemCommand b)
+unfolding problemCommand
 member-byte b = one (eqb b 1) refl
   where
     five : (u v : Bool) → u ≡ isMemberCommand (cond u C.Member (cond v C.End C.Unknown))
@@ -72,24 +72,24 @@ module _ (p : Problem) (s : List ℕ) (at : ℕ) (kept : Kept p at) where
       go false e = rw (getD-set-other ls i j (getD ls i [] ++ (k ∷ [])) [] (λ q. eqb-false i j e (sym q))) (omega arith)
 
   -- the basis that an 05 names is one of the nine
-  named-low : (w r f : Bool) → Passes (placed p at C.Member) w (allowed p (decode C.Member s at)) r f → number 1 s (at + 1) < 9
+  named-low : (w r f : Bool) → Passes (problemPlaced p at C.Member) w (problemOperandsFit p (problemDecoded C.Member s at)) r f → number 1 s (at + 1) < 9
   named-low w r f c =
       let q = kept .later (ltb-true 0 at (c .placed)) in
       let b = leb-true _ (length (p .constraints)) (and-left (leb (number 1 s (at + 1)) (length (p .constraints))) (fitting (p .variables) 8 (number 8 s (at + 2))) (c .allowed)) in
       omega (arith, q .constraints)
 
   record Step (k : Command) : Type 0 where
-    grows : (j : ℕ) → size-of (applied p (decode k s at)) j ≡ size-of p j + cond (isMemberCommand k && eqb (number 1 s (at + 1)) j) 1 0
+    grows : (j : ℕ) → size-of (problemApplied p (problemDecoded k s at)) j ≡ size-of p j + cond (isMemberCommand k && eqb (number 1 s (at + 1)) j) 1 0
     named : isMemberCommand k ≡ true → number 1 s (at + 1) < 9
 
-  same-step : (k : Command) → applied p (decode k s at) .bases ≡ p .bases → isMemberCommand k ≡ false → Step k
+  same-step : (k : Command) → problemApplied p (problemDecoded k s at) .bases ≡ p .bases → isMemberCommand k ≡ false → Step k
   same-step k e m = record {
     grows = λ j. rw (e, m) (omega arith);
     named = λ h. clash (cc);
   }
 
-  step : (k : Command) (w : Bool) → Passes (placed p at k) w (allowed p (decode k s at)) (repeated p (decode k s at)) (full p (decode k s at)) → Step k
-  unfolding applied
+  step : (k : Command) (w : Bool) → Passes (problemPlaced p at k) w (problemOperandsFit p (problemDecoded k s at)) (problemRepeated p (problemDecoded k s at)) (problemFull p (problemDecoded k s at)) → Step k
+  unfolding problemApplied
   step C.Variables w c = same-step C.Variables refl refl
   step C.Objective w c = same-step C.Objective refl refl
   step C.Constraint w c = same-step C.Constraint refl refl
@@ -101,15 +101,15 @@ module _ (p : Problem) (s : List ℕ) (at : ℕ) (kept : Kept p at) where
   step C.End w c = same-step C.End refl refl
   step C.Unknown w c = same-step C.Unknown refl refl
 
-  step-at : verdict p s at ≡ 0 → Step (commandAt s at)
-  unfolding verdict
-  step-at h = step (commandAt s at) _ (passes _ _ _ _ _ h)
+  step-at : problemRefusalAt p s at ≡ 0 → Step (problemCommandAt s at)
+  unfolding problemRefusalAt
+  step-at h = step (problemCommandAt s at) _ (passes _ _ _ _ _ h)
 
-  pub next-grows : verdict p s at ≡ 0 → (j : ℕ) → size-of (next p s at) j ≡ size-of p j + cond (names s j at) 1 0
-  unfolding next
+  pub next-grows : problemRefusalAt p s at ≡ 0 → (j : ℕ) → size-of (problemNext p s at) j ≡ size-of p j + cond (names s j at) 1 0
+  unfolding problemNext
   next-grows h j = rw (member-byte (getD s at 0)) (step-at h .grows j)
 
-  pub next-named : verdict p s at ≡ 0 → isMember s at ≡ true → number 1 s (at + 1) < 9
+  pub next-named : problemRefusalAt p s at ≡ 0 → isMember s at ≡ true → number 1 s (at + 1) < 9
   next-named h e = step-at h .named (sym (member-byte (getD s at 0)) ∙ e)
 
 -- each 05 names one j
@@ -129,7 +129,7 @@ counted-end : (s : List ℕ) (a : Problem) (at : ℕ) → getD s at 0 ≡ 6 → 
 unfolding countIf
 counted-end s a at e = record { sizes = λ j. rw e (omega arith); total = rw e (sym (sumTo-none 9 _ (λ i b. refl))) }
 
-counted-more : (s : List ℕ) (a b : Problem) (at : ℕ) (cs : List ℕ) → Kept a at → verdict a s at ≡ 0 → Counted s (next a s at) cs b → Counted s a (at ∷ cs) b
+counted-more : (s : List ℕ) (a b : Problem) (at : ℕ) (cs : List ℕ) → Kept a at → problemRefusalAt a s at ≡ 0 → Counted s (problemNext a s at) cs b → Counted s a (at ∷ cs) b
 unfolding countIf
 counted-more s a b at cs k v c = record {
   sizes = λ j. c .sizes j ∙ omega (arith, next-grows a s at k v j);
@@ -140,15 +140,15 @@ counted-more s a b at cs k v c = record {
 }
 
 module _ (s : List ℕ) (p : Problem) (h : readProblem s ≡ given p) where
-  counted : Counted s nothing (commands language s) p
+  counted : Counted s noProblem (commands problemLanguage s) p
   unfolding readProblem
   counted =
-      read-induction language s (λ a at cs b. Kept a at → Counted s a cs b)
+      read-induction problemLanguage s (λ a at cs b. Kept a at → Counted s a cs b)
       (λ a at t e k. counted-end s a at e)
       (λ a b at cs t e f k. counted-more s a b at cs k (t .passed) (f (kept-next a s at k (t .passed))))
-      nothing p h kept-start
+      noProblem p h kept-start
 
-  basis-size : (j : ℕ) → size-of p j ≡ countIf (names s j) (commands language s)
+  basis-size : (j : ℕ) → size-of p j ≡ countIf (names s j) (commands problemLanguage s)
   basis-size j = counted .sizes j ∙ omega (arith, ap length (nothing-basis j))
 
   -- N is the number of the monomials of all bases
@@ -168,4 +168,4 @@ module _ (s : List ℕ) (p : Problem) (h : readProblem s ≡ given p) where
 
   pub count-named : basesNamed s ≡ sumTo 9 (λ j. cond (ltb 0 (length (getD (p .bases) j []))) 1 0)
   unfolding basesNamed
-  count-named = sumTo-same 9 _ _ (λ j b. ap (λ (t : Bool). cond t 1 0) (sym (any-count (names s j) (commands language s)) ∙ ap (ltb 0) (sym (basis-size j))))
+  count-named = sumTo-same 9 _ _ (λ j b. ap (λ (t : Bool). cond t 1 0) (sym (any-count (names s j) (commands problemLanguage s)) ∙ ap (ltb 0) (sym (basis-size j))))

@@ -19,8 +19,8 @@ use Rattle.polynomial.specs.Terms.{Term, term, keysOf}
 use Rattle.format.specs.declared.problem.Command.{Command}
 use Rattle.format.specs.declared.problem.Command.the-variants as C
 use Rattle.format.specs.declared.problem.Instruction.the-variants as I
-use Rattle.format.specs.ProblemLayout.{commandOf, size, decode}
-use Rattle.format.specs.ProblemRules.{Problem, nothing, appendAt, lastOf, placed, nonzero, fitting, allowed, repeated, full, applied, commandAt, verdict, next, language, readProblem}
+use Rattle.format.specs.ProblemLayout.{problemCommand, problemSize, problemDecoded}
+use Rattle.format.specs.ProblemRules.{Problem, noProblem, appendAt, lastOf, problemPlaced, nonzero, fitting, problemOperandsFit, problemRepeated, problemFull, problemApplied, problemCommandAt, problemRefusalAt, problemNext, problemLanguage, readProblem}
 use Rattle.format.specs.ProblemLimits.{Distinct, All, Monomials, Terms, Limits}
 use Rattle.format.proofs.ProblemChecks.{placed-size}
 
@@ -107,17 +107,17 @@ terms-more n d most ts k c t f r h = record {
 -- ---- a command
 -- what was read before the command at an offset: nothing where it is the first, else a problem within the limits
 pub record Kept (p : Problem) (at : ℕ) : Type 0 where
-  pub first : at ≡ 0 → p ≡ nothing
+  pub first : at ≡ 0 → p ≡ noProblem
   pub later : 0 < at → Limits p
 
-pub kept-start : Kept nothing 0
+pub kept-start : Kept noProblem 0
 kept-start = record { first = λ _. refl; later = λ z. absurd (omega arith) }
 
-nothing-members : (n : ℕ) → All (Monomials n 8 64) (nothing .bases)
+nothing-members : (n : ℕ) → All (Monomials n 8 64) (noProblem .bases)
 unfolding All
 nothing-members n = let e = monomials-none n 8 64 in (e, (e, (e, (e, (e, (e, (e, (e, (e, tt)))))))))
 
-pub nothing-basis : (j : ℕ) → getD (nothing .bases) j [] ≡ []
+pub nothing-basis : (j : ℕ) → getD (noProblem .bases) j [] ≡ []
 nothing-basis j = go 9 j
   where
     go : (n j : ℕ) → getD (replicate {A = List ℕ} n []) j [] ≡ []
@@ -126,7 +126,7 @@ nothing-basis j = go 9 j
     go (suc n) (suc j) = go n j
 
 -- the first command gives the number of variables
-first-limits : (n : ℕ) → (leb 1 n && leb n 8) ≡ true → Limits (record { variables = n; objective = []; constraints = []; bases = nothing .bases })
+first-limits : (n : ℕ) → (leb 1 n && leb n 8) ≡ true → Limits (record { variables = n; objective = []; constraints = []; bases = noProblem .bases })
 unfolding All
 first-limits n h = record {
   variables = (leb-true 1 n (and-left _ _ h), leb-true n 8 (and-right (leb 1 n) _ h));
@@ -148,10 +148,10 @@ appended-other ls j i a d = getD-set-other ls j i _ [] d
 
 module _ (p : Problem) (s : List ℕ) (at : ℕ) (kept : Kept p at) where
   abbrev Passed : Bool → Command → Type 0
-  Passed w k = Passes (placed p at k) w (allowed p (decode k s at)) (repeated p (decode k s at)) (full p (decode k s at))
+  Passed w k = Passes (problemPlaced p at k) w (problemOperandsFit p (problemDecoded k s at)) (problemRepeated p (problemDecoded k s at)) (problemFull p (problemDecoded k s at))
 
-  applied-limits : (w : Bool) (k : Command) → Passed w k → Limits (applied p (decode k s at))
-  unfolding applied
+  applied-limits : (w : Bool) (k : Command) → Passed w k → Limits (problemApplied p (problemDecoded k s at))
+  unfolding problemApplied
   applied-limits w C.Variables c = rw (kept .first (eqb-true at 0 (c .placed))) (first-limits _ (c .allowed))
   applied-limits w C.Objective c =
       let q = kept .later (ltb-true 0 at (c .placed)) in
@@ -203,28 +203,28 @@ module _ (p : Problem) (s : List ℕ) (at : ℕ) (kept : Kept p at) where
   applied-limits w C.End c = kept .later (ltb-true 0 at (c .placed))
   applied-limits w C.Unknown c = let z : _≡_ {A = ℕ} 0 1 = let e = c .placed in cc in absurd (omega arith)
 
-  next-limits : verdict p s at ≡ 0 → Limits (next p s at)
-  unfolding verdict next
-  next-limits h = applied-limits _ (commandAt s at) (passes _ _ _ _ _ h)
+  next-limits : problemRefusalAt p s at ≡ 0 → Limits (problemNext p s at)
+  unfolding problemRefusalAt problemNext
+  next-limits h = applied-limits _ (problemCommandAt s at) (passes _ _ _ _ _ h)
 
 -- a command that stands somewhere has a byte
-pub taken-size : (p : Problem) (s : List ℕ) (at : ℕ) → verdict p s at ≡ 0 → 1 ≤ size (commandAt s at)
-unfolding verdict
-taken-size p s at h = placed-size p at (commandAt s at) (passes _ _ _ _ _ h .placed)
+pub taken-size : (p : Problem) (s : List ℕ) (at : ℕ) → problemRefusalAt p s at ≡ 0 → 1 ≤ problemSize (problemCommandAt s at)
+unfolding problemRefusalAt
+taken-size p s at h = placed-size p at (problemCommandAt s at) (passes _ _ _ _ _ h .placed)
 
-pub kept-next : (p : Problem) (s : List ℕ) (at : ℕ) → Kept p at → verdict p s at ≡ 0 → Kept (next p s at) (at + size (commandAt s at))
+pub kept-next : (p : Problem) (s : List ℕ) (at : ℕ) → Kept p at → problemRefusalAt p s at ≡ 0 → Kept (problemNext p s at) (at + problemSize (problemCommandAt s at))
 kept-next p s at k v = record { first = λ z. let n = taken-size p s at v in absurd (omega arith); later = λ _. next-limits p s at k v }
 
 -- the end command leaves the problem
-end-leaves : (p : Problem) (s : List ℕ) (at : ℕ) → getD s at 0 ≡ 6 → next p s at ≡ p
-unfolding next applied commandOf
+end-leaves : (p : Problem) (s : List ℕ) (at : ℕ) → getD s at 0 ≡ 6 → problemNext p s at ≡ p
+unfolding problemNext problemApplied problemCommand
 end-leaves p s at e = rw e
 
 -- every problem that a stream gives keeps the limits
 pub read-limits : (s : List ℕ) (p : Problem) → readProblem s ≡ given p → Limits p
 unfolding readProblem
 read-limits s p h =
-    read-induction language s (λ a at cs b. Kept a at → Limits b)
+    read-induction problemLanguage s (λ a at cs b. Kept a at → Limits b)
     (λ a at t e k. subst Limits (end-leaves a s at e) (next-limits a s at k (t .passed)))
     (λ a b at cs t e f k. f (kept-next a s at k (t .passed)))
-    nothing p h kept-start
+    noProblem p h kept-start

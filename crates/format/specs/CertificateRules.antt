@@ -16,7 +16,7 @@ use Rattle.format.specs.declared.certificate.Instruction.the-variants as
 use Rattle.format.specs.declared.certificate.Shape.{Shape}
 use Rattle.format.specs.declared.certificate.Header.{Header}
 use Rattle.format.specs.declared.certificate.Progress.{Progress}
-use Rattle.format.specs.CertificateLayout.{commandOf, size, decode}
+use Rattle.format.specs.CertificateLayout.{certificateCommand, certificateSize, certificateDecoded}
 
 -- an entry: factor l on basis index i, and the offset of its command
 pub record Entry : Type 0 where
@@ -37,8 +37,8 @@ abbrev pub noHeader : Header
 noHeader = record { side = 0; scale = 0; p = pos 0; q = 0 }
 
 -- before the first command
-abbrev pub nothing : Certificate
-nothing = record { header = noHeader; rows = [] }
+abbrev pub noCertificate : Certificate
+noCertificate = record { header = noHeader; rows = [] }
 
 -- what a certificate is read against
 unfoldable pub shapeOf : Problem → Shape
@@ -62,66 +62,66 @@ unfoldable pub progressOf : Certificate → Progress
 progressOf c = record { rows = length (c .rows); basis = lastRow (c .rows) .basis; floor = floorOf (lastRow (c .rows) .entries) }
 
 -- ---- refusal 3: 10 stands "first, and only first", and "a 12 before any row, is misplaced"
-abbrev pub placed : Progress → ℕ → Command → Bool
-placed g at C.Header = eqb at 0
-placed g at C.Row = ltb 0 at
-placed g at C.Entry = ltb 0 at && ltb 0 (g .rows)
-placed g at C.End = ltb 0 at
-placed g at C.Unknown = false
+abbrev pub certificatePlaced : Progress → ℕ → Command → Bool
+certificatePlaced g at C.Header = eqb at 0
+certificatePlaced g at C.Row = ltb 0 at
+certificatePlaced g at C.Entry = ltb 0 at && ltb 0 (g .rows)
+certificatePlaced g at C.End = ltb 0 at
+certificatePlaced g at C.Unknown = false
 
 -- ---- refusal 4: "side 0 lower, 1 upper; D and q at least 1"; a row "on basis j, 0 or a constraint of the problem, with weight w at
 -- least 1"; an index "less than the basis's length"; "factors are never 0"
-abbrev pub allowed : Shape → Progress → Instruction → Bool
-allowed h g (I.Header side d p q) = leb side 1 && (leb 1 d && leb 1 q)
-allowed h g (I.Row j w) = leb j (h .constraints) && leb 1 w
-allowed h g (I.Entry i l) = ltb i (getD (h .sizes) (g .basis) 0) && nonzero l
-allowed h g I.End = true
+abbrev pub certificateOperandsFit : Shape → Progress → Instruction → Bool
+certificateOperandsFit h g (I.Header side d p q) = leb side 1 && (leb 1 d && leb 1 q)
+certificateOperandsFit h g (I.Row j w) = leb j (h .constraints) && leb 1 w
+certificateOperandsFit h g (I.Entry i l) = ltb i (getD (h .sizes) (g .basis) 0) && nonzero l
+certificateOperandsFit h g I.End = true
 
 -- ---- refusal 5: "index not rising"
-abbrev pub repeated : Progress → Instruction → Bool
-repeated g (I.Header side d p q) = false
-repeated g (I.Row j w) = false
-repeated g (I.Entry i l) = ltb i (g .floor)
-repeated g I.End = false
+abbrev pub certificateRepeated : Progress → Instruction → Bool
+certificateRepeated g (I.Header side d p q) = false
+certificateRepeated g (I.Row j w) = false
+certificateRepeated g (I.Entry i l) = ltb i (g .floor)
+certificateRepeated g I.End = false
 
 -- ---- refusal 6: "at most 128 rows"
-abbrev pub full : Progress → Instruction → Bool
-full g (I.Header side d p q) = false
-full g (I.Row j w) = leb 128 (g .rows)
-full g (I.Entry i l) = false
-full g I.End = false
+abbrev pub certificateFull : Progress → Instruction → Bool
+certificateFull g (I.Header side d p q) = false
+certificateFull g (I.Row j w) = leb 128 (g .rows)
+certificateFull g (I.Entry i l) = false
+certificateFull g I.End = false
 
 -- ---- what a command that is not refused does; an entry belongs to the row begun last
 abbrev pub withEntry : Row → Entry → Row
 withEntry r e = record { basis = r .basis; weight = r .weight; entries = r .entries ++ (e ∷ []) }
 
-unfoldable pub applied : Certificate → Instruction → ℕ → Certificate
-applied c (I.Header side d p q) at = record { header = record { side = side; scale = d; p = p; q = q }; rows = c .rows }
-applied c (I.Row j w) at = record { header = c .header; rows = c .rows ++ (record { basis = j; weight = w; entries = [] } ∷ []) }
-applied c (I.Entry i l) at = record { header = c .header; rows = set (c .rows) (length (c .rows) - 1) (withEntry (lastRow (c .rows)) (record { index = i; factor = l; place = at })) }
-applied c I.End at = c
+unfoldable pub certificateApplied : Certificate → Instruction → ℕ → Certificate
+certificateApplied c (I.Header side d p q) at = record { header = record { side = side; scale = d; p = p; q = q }; rows = c .rows }
+certificateApplied c (I.Row j w) at = record { header = c .header; rows = c .rows ++ (record { basis = j; weight = w; entries = [] } ∷ []) }
+certificateApplied c (I.Entry i l) at = record { header = c .header; rows = set (c .rows) (length (c .rows) - 1) (withEntry (lastRow (c .rows)) (record { index = i; factor = l; place = at })) }
+certificateApplied c I.End at = c
 
 -- ---- the command at an offset
-abbrev pub commandAt : List ℕ → ℕ → Command
-commandAt s at = commandOf (getD s at 0)
+abbrev pub certificateCommandAt : List ℕ → ℕ → Command
+certificateCommandAt s at = certificateCommand (getD s at 0)
 
-abbrev pub instructionAt : List ℕ → ℕ → Instruction
-instructionAt s at = decode (commandAt s at) s at
+abbrev pub certificateInstructionAt : List ℕ → ℕ → Instruction
+certificateInstructionAt s at = certificateDecoded (certificateCommandAt s at) s at
 
 unfoldable pub progressVerdict : Shape → Progress → List ℕ → ℕ → ℕ
 progressVerdict h g s at =
-    firstRefusal (placed g at (commandAt s at)) (leb (at + size (commandAt s at)) (length s))
-    (allowed h g (instructionAt s at)) (repeated g (instructionAt s at)) (full g (instructionAt s at))
+    firstRefusal (certificatePlaced g at (certificateCommandAt s at)) (leb (at + certificateSize (certificateCommandAt s at)) (length s))
+    (certificateOperandsFit h g (certificateInstructionAt s at)) (certificateRepeated g (certificateInstructionAt s at)) (certificateFull g (certificateInstructionAt s at))
 
-unfoldable pub verdict : Shape → Certificate → List ℕ → ℕ → ℕ
-verdict h c s at = progressVerdict h (progressOf c) s at
+unfoldable pub certificateRefusalAt : Shape → Certificate → List ℕ → ℕ → ℕ
+certificateRefusalAt h c s at = progressVerdict h (progressOf c) s at
 
-unfoldable pub next : Certificate → List ℕ → ℕ → Certificate
-next c s at = applied c (instructionAt s at) at
+unfoldable pub certificateNext : Certificate → List ℕ → ℕ → Certificate
+certificateNext c s at = certificateApplied c (certificateInstructionAt s at) at
 
 -- ---- the certificate stream
-abbrev pub language : Shape → Language Certificate
-language h = record { verdict = verdict h; next = next; size = λ b. size (commandOf b); ending = 0x13 }
+abbrev pub certificateLanguage : Shape → Language Certificate
+certificateLanguage h = record { verdict = certificateRefusalAt h; next = certificateNext; size = λ b. certificateSize (certificateCommand b); ending = 0x13 }
 
 unfoldable pub readCertificate : Shape → List ℕ → Outcome Certificate
-readCertificate h s = readWhole (language h) nothing s
+readCertificate h s = readWhole (certificateLanguage h) noCertificate s

@@ -11,7 +11,7 @@ use Rattle.format.specs.Commands.{commands}
 use Rattle.format.specs.Operands.{number}
 use Rattle.polynomial.specs.Monomial.{degree, within, among}
 use Rattle.polynomial.specs.Terms.{Term, keysOf}
-use Rattle.format.specs.ProblemRules.{Problem, language}
+use Rattle.format.specs.ProblemRules.{Problem, problemLanguage}
 
 -- "no monomial twice"
 unfoldable pub Distinct : List ℕ → Type 0
@@ -62,7 +62,7 @@ abbrev pub names : List ℕ → ℕ → ℕ → Bool
 names s j at = isMember s at && eqb (number 1 s (at + 1)) j
 
 unfoldable pub memberCommands : List ℕ → ℕ
-memberCommands s = countIf (isMember s) (commands language s)
+memberCommands s = countIf (isMember s) (commands problemLanguage s)
 
 unfoldable pub basesNamed : List ℕ → ℕ
-basesNamed s = sumTo 9 (λ j. cond (anyOf (names s j) (commands language s)) 1 0)
+basesNamed s = sumTo 9 (λ j. cond (anyOf (names s j) (commands problemLanguage s)) 1 0)

@@ -12,7 +12,7 @@ use Rattle.format.specs.declared.problem.Command.{Command}
 use Rattle.format.specs.declared.problem.Command.the-variants as C
 use Rattle.format.specs.declared.problem.Instruction.{Instruction}
 use Rattle.format.specs.declared.problem.Instruction.the-variants as I
-use Rattle.format.specs.ProblemLayout.{commandOf, size, decode}
+use Rattle.format.specs.ProblemLayout.{problemCommand, problemSize, problemDecoded}
 
 -- a problem: the number of variables, the objective, the constraints from number 1 on, and the bases 0 to 8
 pub record Problem : Type 0 where
@@ -22,8 +22,8 @@ pub record Problem : Type 0 where
   pub bases : List (List ℕ)
 
 -- before the first command
-abbrev pub nothing : Problem
-nothing = record { variables = 0; objective = []; constraints = []; bases = replicate 9 [] }
+abbrev pub noProblem : Problem
+noProblem = record { variables = 0; objective = []; constraints = []; bases = replicate 9 [] }
 
 -- one more at the end of list j
 unfoldable pub appendAt {ℓ} : {A : Type ℓ} → List (List A) → ℕ → A → List (List A)
@@ -34,14 +34,14 @@ abbrev pub lastOf {ℓ} : {A : Type ℓ} → List (List A) → List A
 lastOf ls = getD ls (length ls - 1) []
 
 -- ---- refusal 3: 01 stands "first, and only first", and "a 04 before any 03 .. is misplaced"
-abbrev pub placed : Problem → ℕ → Command → Bool
-placed p at C.Variables = eqb at 0
-placed p at C.Objective = ltb 0 at
-placed p at C.Constraint = ltb 0 at
-placed p at C.Term = ltb 0 at && ltb 0 (length (p .constraints))
-placed p at C.Member = ltb 0 at
-placed p at C.End = ltb 0 at
-placed p at C.Unknown = false
+abbrev pub problemPlaced : Problem → ℕ → Command → Bool
+problemPlaced p at C.Variables = eqb at 0
+problemPlaced p at C.Objective = ltb 0 at
+problemPlaced p at C.Constraint = ltb 0 at
+problemPlaced p at C.Term = ltb 0 at && ltb 0 (length (p .constraints))
+problemPlaced p at C.Member = ltb 0 at
+problemPlaced p at C.End = ltb 0 at
+problemPlaced p at C.Unknown = false
 
 -- ---- refusal 4: "operand outside its rule"
 -- "Coefficients and factors are never 0"
@@ -53,59 +53,59 @@ nonzero (negsuc n) = true
 unfoldable pub fitting : ℕ → ℕ → ℕ → Bool
 fitting n d k = leb (degree k) d && within n k
 
-abbrev pub allowed : Problem → Instruction → Bool
-allowed p (I.Variables n) = leb 1 n && leb n 8
-allowed p (I.Objective k c) = fitting (p .variables) 32 k && nonzero c
-allowed p I.Constraint = true
-allowed p (I.Term k c) = fitting (p .variables) 16 k && nonzero c
-allowed p (I.Member j k) = leb j (length (p .constraints)) && fitting (p .variables) 8 k
-allowed p I.End = true
+abbrev pub problemOperandsFit : Problem → Instruction → Bool
+problemOperandsFit p (I.Variables n) = leb 1 n && leb n 8
+problemOperandsFit p (I.Objective k c) = fitting (p .variables) 32 k && nonzero c
+problemOperandsFit p I.Constraint = true
+problemOperandsFit p (I.Term k c) = fitting (p .variables) 16 k && nonzero c
+problemOperandsFit p (I.Member j k) = leb j (length (p .constraints)) && fitting (p .variables) 8 k
+problemOperandsFit p I.End = true
 
 -- ---- refusal 5: "A polynomial or a basis has no monomial twice"
-abbrev pub repeated : Problem → Instruction → Bool
-repeated p (I.Variables n) = false
-repeated p (I.Objective k c) = among k (keysOf (p .objective))
-repeated p I.Constraint = false
-repeated p (I.Term k c) = among k (keysOf (lastOf (p .constraints)))
-repeated p (I.Member j k) = among k (getD (p .bases) j [])
-repeated p I.End = false
+abbrev pub problemRepeated : Problem → Instruction → Bool
+problemRepeated p (I.Variables n) = false
+problemRepeated p (I.Objective k c) = among k (keysOf (p .objective))
+problemRepeated p I.Constraint = false
+problemRepeated p (I.Term k c) = among k (keysOf (lastOf (p .constraints)))
+problemRepeated p (I.Member j k) = among k (getD (p .bases) j [])
+problemRepeated p I.End = false
 
 -- ---- refusal 6: "one more than a count allows"
-abbrev pub full : Problem → Instruction → Bool
-full p (I.Variables n) = false
-full p (I.Objective k c) = leb 256 (length (p .objective))
-full p I.Constraint = leb 8 (length (p .constraints))
-full p (I.Term k c) = leb 32 (length (lastOf (p .constraints)))
-full p (I.Member j k) = leb 64 (length (getD (p .bases) j []))
-full p I.End = false
+abbrev pub problemFull : Problem → Instruction → Bool
+problemFull p (I.Variables n) = false
+problemFull p (I.Objective k c) = leb 256 (length (p .objective))
+problemFull p I.Constraint = leb 8 (length (p .constraints))
+problemFull p (I.Term k c) = leb 32 (length (lastOf (p .constraints)))
+problemFull p (I.Member j k) = leb 64 (length (getD (p .bases) j []))
+problemFull p I.End = false
 
 -- ---- what a command that is not refused does
-unfoldable pub applied : Problem → Instruction → Problem
-applied p (I.Variables n) = record { variables = n; objective = p .objective; constraints = p .constraints; bases = p .bases }
-applied p (I.Objective k c) = record { variables = p .variables; objective = p .objective ++ (term k c ∷ []); constraints = p .constraints; bases = p .bases }
-applied p I.Constraint = record { variables = p .variables; objective = p .objective; constraints = p .constraints ++ ([] ∷ []); bases = p .bases }
-applied p (I.Term k c) = record { variables = p .variables; objective = p .objective; constraints = appendAt (p .constraints) (length (p .constraints) - 1) (term k c); bases = p .bases }
-applied p (I.Member j k) = record { variables = p .variables; objective = p .objective; constraints = p .constraints; bases = appendAt (p .bases) j k }
-applied p I.End = p
+unfoldable pub problemApplied : Problem → Instruction → Problem
+problemApplied p (I.Variables n) = record { variables = n; objective = p .objective; constraints = p .constraints; bases = p .bases }
+problemApplied p (I.Objective k c) = record { variables = p .variables; objective = p .objective ++ (term k c ∷ []); constraints = p .constraints; bases = p .bases }
+problemApplied p I.Constraint = record { variables = p .variables; objective = p .objective; constraints = p .constraints ++ ([] ∷ []); bases = p .bases }
+problemApplied p (I.Term k c) = record { variables = p .variables; objective = p .objective; constraints = appendAt (p .constraints) (length (p .constraints) - 1) (term k c); bases = p .bases }
+problemApplied p (I.Member j k) = record { variables = p .variables; objective = p .objective; constraints = p .constraints; bases = appendAt (p .bases) j k }
+problemApplied p I.End = p
 
 -- ---- the command at an offset
-abbrev pub commandAt : List ℕ → ℕ → Command
-commandAt s at = commandOf (getD s at 0)
+abbrev pub problemCommandAt : List ℕ → ℕ → Command
+problemCommandAt s at = problemCommand (getD s at 0)
 
-abbrev pub instructionAt : List ℕ → ℕ → Instruction
-instructionAt s at = decode (commandAt s at) s at
+abbrev pub problemInstructionAt : List ℕ → ℕ → Instruction
+problemInstructionAt s at = problemDecoded (problemCommandAt s at) s at
 
-unfoldable pub verdict : Problem → List ℕ → ℕ → ℕ
-verdict p s at =
-    firstRefusal (placed p at (commandAt s at)) (leb (at + size (commandAt s at)) (length s))
-    (allowed p (instructionAt s at)) (repeated p (instructionAt s at)) (full p (instructionAt s at))
+unfoldable pub problemRefusalAt : Problem → List ℕ → ℕ → ℕ
+problemRefusalAt p s at =
+    firstRefusal (problemPlaced p at (problemCommandAt s at)) (leb (at + problemSize (problemCommandAt s at)) (length s))
+    (problemOperandsFit p (problemInstructionAt s at)) (problemRepeated p (problemInstructionAt s at)) (problemFull p (problemInstructionAt s at))
 
-unfoldable pub next : Problem → List ℕ → ℕ → Problem
-next p s at = applied p (instructionAt s at)
+unfoldable pub problemNext : Problem → List ℕ → ℕ → Problem
+problemNext p s at = problemApplied p (problemInstructionAt s at)
 
 -- ---- the problem stream
-abbrev pub language : Language Problem
-language = record { verdict = verdict; next = next; size = λ b. size (commandOf b); ending = 6 }
+abbrev pub problemLanguage : Language Problem
+problemLanguage = record { verdict = problemRefusalAt; next = problemNext; size = λ b. problemSize (problemCommand b); ending = 6 }
 
 unfoldable pub readProblem : List ℕ → Outcome Problem
-readProblem s = readWhole language nothing s
+readProblem s = readWhole problemLanguage noProblem s

@@ -13,8 +13,8 @@ use borrow.Author.Tests.{lt-ltb, le-leb, lt-leb, ne-eqb, leb-true}
 use Rattle.format.specs.Commands.{firstRefusal}
 use Rattle.format.specs.declared.problem.Instruction.{Instruction}
 use Rattle.format.specs.declared.problem.Instruction.the-variants as I
-use Rattle.format.specs.ProblemLayout.{commandOf, size}
-use Rattle.format.specs.ProblemRules.{Problem, placed, nonzero, allowed, commandAt, instructionAt, verdict}
+use Rattle.format.specs.ProblemLayout.{problemCommand, problemSize}
+use Rattle.format.specs.ProblemRules.{Problem, problemPlaced, nonzero, problemOperandsFit, problemCommandAt, problemInstructionAt, problemRefusalAt}
 use Rattle.problem_reader.specs.Checks.{early, late}
 use Rattle.format.proofs.ProblemChecks.{placed-size, end-command, end-byte}
 
@@ -26,23 +26,23 @@ nonzero-bits (negsuc n) h = let k = h .sfits in rw (ne-eqb (2 ^ 32 - suc n) 0 (�
 
 -- ---- the first three checks, one by one
 module _ (p : Problem) (s : List ℕ) (at : ℕ) where
-  pub early-3 : placed p at (commandAt s at) ≡ false → early p s at ≡ 3
+  pub early-3 : problemPlaced p at (problemCommandAt s at) ≡ false → early p s at ≡ 3
   unfolding early firstRefusal
   early-3 h = rw h
 
-  module _ (h : placed p at (commandAt s at) ≡ true) where
-    pub early-2 : length s < at + size (commandAt s at) → early p s at ≡ 2
+  module _ (h : problemPlaced p at (problemCommandAt s at) ≡ true) where
+    pub early-2 : length s < at + problemSize (problemCommandAt s at) → early p s at ≡ 2
     unfolding early firstRefusal
-    early-2 k = rw (h, lt-leb (at + size (commandAt s at)) (length s) k)
+    early-2 k = rw (h, lt-leb (at + problemSize (problemCommandAt s at)) (length s) k)
 
-    module _ (k : at + size (commandAt s at) ≤ length s) where
-      pub early-4 : allowed p (instructionAt s at) ≡ false → early p s at ≡ 4
+    module _ (k : at + problemSize (problemCommandAt s at) ≤ length s) where
+      pub early-4 : problemOperandsFit p (problemInstructionAt s at) ≡ false → early p s at ≡ 4
       unfolding early firstRefusal
-      early-4 l = rw (h, le-leb (at + size (commandAt s at)) (length s) k, l)
+      early-4 l = rw (h, le-leb (at + problemSize (problemCommandAt s at)) (length s) k, l)
 
-      pub early-0 : allowed p (instructionAt s at) ≡ true → early p s at ≡ 0
+      pub early-0 : problemOperandsFit p (problemInstructionAt s at) ≡ true → early p s at ≡ 0
       unfolding early firstRefusal
-      early-0 l = rw (h, le-leb (at + size (commandAt s at)) (length s) k, l)
+      early-0 l = rw (h, le-leb (at + problemSize (problemCommandAt s at)) (length s) k, l)
 
 -- ---- what follows from them
 module _ (a b c : Bool) where
@@ -69,23 +69,23 @@ module _ (a b c : Bool) where
 
 -- a command that passed them, with its operands and the place of the next: the last two checks decide
 pub record Passes (p : Problem) (s : List ℕ) (at : ℕ) (i : Instruction) (next : ℕ) : Type 0 where
-  pub instruction : instructionAt s at ≡ i
-  pub stands : placed p at (commandAt s at) ≡ true
-  pub step : next ≡ at + size (commandAt s at)
+  pub instruction : problemInstructionAt s at ≡ i
+  pub stands : problemPlaced p at (problemCommandAt s at) ≡ true
+  pub step : next ≡ at + problemSize (problemCommandAt s at)
   pub whole : next ≤ length s
-  pub operands : allowed p i ≡ true
-  pub decides : verdict p s at ≡ late p i
+  pub operands : problemOperandsFit p i ≡ true
+  pub decides : problemRefusalAt p s at ≡ late p i
 
 module _ (p : Problem) (s : List ℕ) (at : ℕ) where
-  pub early-refusal : 0 < early p s at → verdict p s at ≡ early p s at
-  unfolding early verdict
+  pub early-refusal : 0 < early p s at → problemRefusalAt p s at ≡ early p s at
+  unfolding early problemRefusalAt
   early-refusal h = early-decides _ _ _ _ _ h
 
-  pub passes : (i : Instruction) (next : ℕ) → early p s at ≡ 0 → instructionAt s at ≡ i → next ≡ at + size (commandAt s at) → Passes p s at i next
-  unfolding early verdict
+  pub passes : (i : Instruction) (next : ℕ) → early p s at ≡ 0 → problemInstructionAt s at ≡ i → next ≡ at + problemSize (problemCommandAt s at) → Passes p s at i next
+  unfolding early problemRefusalAt
   passes i next h e k =
       let t = early-passes _ _ _ h in
-      let w = leb-true (at + size (commandAt s at)) (length s) (t .1) in
+      let w = leb-true (at + problemSize (problemCommandAt s at)) (length s) (t .1) in
       record {
         instruction = e;
         stands = t .0;
@@ -96,14 +96,14 @@ module _ (p : Problem) (s : List ℕ) (at : ℕ) where
       }
 
 module _ (p : Problem) (s : List ℕ) (at : ℕ) (i : Instruction) (next : ℕ) (t : Passes p s at i next) where
-  pub passes-size : 1 ≤ size (commandAt s at)
-  passes-size = placed-size p at (commandAt s at) (t .stands)
+  pub passes-size : 1 ≤ problemSize (problemCommandAt s at)
+  passes-size = placed-size p at (problemCommandAt s at) (t .stands)
 
   pub passes-end : I.End ≡ i → getD s at 0 ≡ 6
-  passes-end e = end-byte (getD s at 0) (end-command p s at (commandAt s at) (t .stands) (t .instruction ∙ sym e))
+  passes-end e = end-byte (getD s at 0) (end-command p s at (problemCommandAt s at) (t .stands) (t .instruction ∙ sym e))
 
   pub passes-on : getD s at 0 ≡ 6 → I.End ≡ i
-  unfolding commandOf
+  unfolding problemCommand
   passes-on e = rw e at (t .instruction)
 
   pub passes-longer : at < next

@@ -27,8 +27,8 @@ use Rattle.format.specs.declared.problem.Instruction.{Instruction}
 use Rattle.format.specs.declared.problem.Instruction.the-variants as I
 use Rattle.problem_reader.specs.declared.StoredProblem.{StoredProblem}
 use Rattle.problem_reader.specs.declared.Reading.{Reading}
-use Rattle.format.specs.ProblemLayout.{commandOf, decode}
-use Rattle.format.specs.ProblemRules.{Problem, placed, fitting, nonzero, applied, commandAt, verdict, next, language, nothing, readProblem}
+use Rattle.format.specs.ProblemLayout.{problemCommand, problemDecoded}
+use Rattle.format.specs.ProblemRules.{Problem, problemPlaced, fitting, nonzero, problemApplied, problemCommandAt, problemRefusalAt, problemNext, problemLanguage, noProblem, readProblem}
 use Rattle.problem_reader.specs.Checks.{early, late, lateIn}
 use Rattle.problem_reader.specs.Stored.{noTerms, constraintsOf, basesHeld, problemOf, outcomeOf, Kept}
 use Rattle.problem_reader.proofs.Checks.{Passes, passes-size, passes-end, passes-on}
@@ -46,7 +46,7 @@ pub record Going (s : List ℕ) (p : StoredProblem) (number at : ℕ) : Type 0 w
   pub undecided : number ≡ 2
   pub reached : at ≤ length s
   pub kept : Kept p
-  pub left : Left language s (readProblem s) (problemOf p) at
+  pub left : Left problemLanguage s (readProblem s) (problemOf p) at
 
 -- what the function promises
 abbrev pub Done : List ℕ → Reading → Type 0
@@ -58,44 +58,44 @@ module _ (s : List ℕ) (p : StoredProblem) (number at : ℕ) (g : Going s p num
   unfolding outcomeOf
   ended h =
       let e : at ≡ length s = let r = g .reached in omega arith in
-      (rw (g .undecided, e) (left-end language s _ _ at (g .left) h), g .kept)
+      (rw (g .undecided, e) (left-end problemLanguage s _ _ at (g .left) h), g .kept)
 
   module _ (h : at < length s) where
-    pub refusing : (n : ℕ) → 0 < n → verdict (problemOf p) s at ≡ n → Done s (reading n at p)
+    pub refusing : (n : ℕ) → 0 < n → problemRefusalAt (problemOf p) s at ≡ n → Done s (reading n at p)
     unfolding outcomeOf
-    refusing n l v = (rw (ne-eqb n 0 (λ e. omega arith), ← v) (left-refused language s _ _ at (g .left) h (omega arith)), g .kept)
+    refusing n l v = (rw (ne-eqb n 0 (λ e. omega arith), ← v) (left-refused problemLanguage s _ _ at (g .left) h (omega arith)), g .kept)
 
     module _ (i : Instruction) (after : ℕ) (t : Passes (problemOf p) s at i after) where
       pub late-refusal : (n : ℕ) → 0 < n → n ≡ late (problemOf p) i → Done s (reading n at p)
       late-refusal n l e = refusing n l (t .decides ∙ sym e)
 
-      pub going-on : (q : StoredProblem) → late (problemOf p) i ≡ 0 → (I.End ≡ i → ⊥) → problemOf q ≡ applied (problemOf p) i → Kept q → Going s q number after
-      unfolding next
+      pub going-on : (q : StoredProblem) → late (problemOf p) i ≡ 0 → (I.End ≡ i → ⊥) → problemOf q ≡ problemApplied (problemOf p) i → Kept q → Going s q number after
+      unfolding problemNext
       going-on q v d e k =
           record {
             undecided = g .undecided;
             reached = t .whole;
             kept = k;
-            left = rw (e, t .step, ← t .instruction) (left-next language s _ _ at (g .left) h (t .decides ∙ v) (λ b. d (passes-on _ s at i after t b)) (passes-size _ s at i after t));
+            left = rw (e, t .step, ← t .instruction) (left-next problemLanguage s _ _ at (g .left) h (t .decides ∙ v) (λ b. d (passes-on _ s at i after t b)) (passes-size _ s at i after t));
           }
 
     -- the end command
     module _ (after : ℕ) (t : Passes (problemOf p) s at I.End after) where
       last-byte : after ≡ at + 1
-      unfolding commandOf
+      unfolding problemCommand
       last-byte = rw (passes-end _ s at I.End after t refl) at (t .step)
 
-      none : verdict (problemOf p) s at ≡ 0
+      none : problemRefusalAt (problemOf p) s at ≡ 0
       unfolding firstRefusal
       none = t .decides
 
       pub extra : after < length s → Done s (reading number after p)
       unfolding outcomeOf
-      extra m = (rw (g .undecided, last-byte) (left-extra language s _ _ at (g .left) h none (passes-end _ s at I.End after t refl) (rw last-byte at m)), g .kept)
+      extra m = (rw (g .undecided, last-byte) (left-extra problemLanguage s _ _ at (g .left) h none (passes-end _ s at I.End after t refl) (rw last-byte at m)), g .kept)
 
       pub complete : length s ≤ after → Done s (reading 0 at p)
       unfolding outcomeOf
-      complete m = (left-given language s _ _ at (g .left) h none (passes-end _ s at I.End after t refl) (rw last-byte at m), g .kept)
+      complete m = (left-given problemLanguage s _ _ at (g .left) h none (passes-end _ s at I.End after t refl) (rw last-byte at m), g .kept)
 
 -- before the first command
 pub starting : (s : List ℕ) (o : Objective) (q : Polynomial) → FilledTerms 32 256 (o .keys) (o .coefficients) (o .count) × (o .count ≡ 0)
@@ -112,7 +112,7 @@ starting s o q f e =
             constraints = record { count-low = zero-le; places = refl; each = λ j h. rw (getD-replicate 8 j q noTerms h) (e .0) };
             bases = record { sizes-length = refl; sizes-low = λ j. bounded-zeros 64 9 j; keys-length = length-replicate {A = ℕ} 576 0; keys-low = bounded-zeros _ 576 };
           };
-      left = rw (f .1) (left-start language s nothing);
+      left = rw (f .1) (left-start problemLanguage s noProblem);
     }
 
 -- ---- what each command stores
@@ -127,7 +127,7 @@ pub space : (keys : List ℕ) (from n k most : ℕ) → lateIn keys from n k mos
 space keys from n k most h = leb-false most n (not-full _ _ h)
 
 -- a 04 stands after a 03
-term-placed : (p : Problem) (s : List ℕ) (at : ℕ) (w : Command) (k : ℕ) (c : ℤ) → placed p at w ≡ true → decode w s at ≡ I.Term k c → 0 < length (p .constraints)
+term-placed : (p : Problem) (s : List ℕ) (at : ℕ) (w : Command) (k : ℕ) (c : ℤ) → problemPlaced p at w ≡ true → problemDecoded w s at ≡ I.Term k c → 0 < length (p .constraints)
 term-placed p s at C.Variables k c h e = clash (cc)
 term-placed p s at C.Objective k c h e = clash (cc)
 term-placed p s at C.Constraint k c h e = clash (cc)
@@ -156,7 +156,7 @@ module _ (s : List ℕ) (v : ℕ) (o : Objective) (qs : List Polynomial) (n : �
   first-checks r e = e (problemOf here) refl (constraints-count n qs)
 
   pub after-variables : (m : ℕ) → Passes (problemOf here) s at (I.Variables m) after → Going s (stored m o qs n keys sizes) number after
-  unfolding problemOf applied firstRefusal
+  unfolding problemOf problemApplied firstRefusal
   after-variables m t =
       going-on s here number at g h (I.Variables m) after t (stored m o qs n keys sizes) refl (λ e. clash (cc)) refl
       (record { variables-low = leb-true m 8 (and-right (leb 1 m) (leb m 8) (t .operands)); objective = kept .objective; constraints = kept .constraints; bases = kept .bases })
@@ -168,7 +168,7 @@ module _ (s : List ℕ) (v : ℕ) (o : Objective) (qs : List Polynomial) (n : �
 
     pub after-objective : lateIn (o .keys) 0 (o .count) k 256 ≡ 0
         → Going s (stored v (record { keys = set (o .keys) (o .count) k; coefficients = set (o .coefficients) (o .count) c; count = o .count + 1 }) qs n keys sizes) number after
-    unfolding problemOf applied
+    unfolding problemOf problemApplied
     after-objective e =
         let f = kept .objective in
         let l : o .count < 256 = space (o .keys) 0 (o .count) k 256 e in
@@ -188,7 +188,7 @@ module _ (s : List ℕ) (v : ℕ) (o : Objective) (qs : List Polynomial) (n : �
     constraint-full l = rw (constraints-count n qs, le-leb 8 n l)
 
     pub after-constraint : (q : Polynomial) → n < 8 → FilledTerms 16 32 (q .keys) (q .coefficients) (q .count) × (q .count ≡ 0) → Going s (stored v o (set qs n q) (n + 1) keys sizes) number after
-    unfolding problemOf applied firstRefusal
+    unfolding problemOf problemApplied firstRefusal
     after-constraint q l f =
         let w = kept .constraints .places in
         going-on s here number at g h I.Constraint after t _ (rw (constraints-count n qs, lt-leb 8 n l)) (λ e. clash (cc))
@@ -203,7 +203,7 @@ module _ (s : List ℕ) (v : ℕ) (o : Objective) (qs : List Polynomial) (n : �
   module _ (k : ℕ) (c : ℤ) (t : Passes (problemOf here) s at (I.Term k c) after) where
     pub term-begun : 0 < n
     unfolding problemOf
-    term-begun = rw (constraints-count n qs) at (term-placed (problemOf here) s at (commandAt s at) k c (t .stands) (t .instruction))
+    term-begun = rw (constraints-count n qs) at (term-placed (problemOf here) s at (problemCommandAt s at) k c (t .stands) (t .instruction))
 
     abbrev last : Polynomial
     last = getD qs (n - 1) noTerms
@@ -217,7 +217,7 @@ module _ (s : List ℕ) (v : ℕ) (o : Objective) (qs : List Polynomial) (n : �
 
     pub after-term : lateIn (last .keys) 0 (last .count) k 32 ≡ 0
         → Going s (stored v o (set qs (n - 1) (record { keys = set (last .keys) (last .count) k; coefficients = set (last .coefficients) (last .count) c; count = last .count + 1 })) n keys sizes) number after
-    unfolding problemOf applied
+    unfolding problemOf problemApplied
     after-term e =
         let f = last-filled in
         let b = term-begun in
@@ -253,7 +253,7 @@ module _ (s : List ℕ) (v : ℕ) (o : Objective) (qs : List Polynomial) (n : �
 
     pub after-member : lateIn keys (64 * j) (getD sizes j 0) k 64 ≡ 0
         → Going s (stored v o qs n (set keys (64 * j + getD sizes j 0) k) (set sizes j (getD sizes j 0 + 1))) number after
-    unfolding problemOf applied
+    unfolding problemOf problemApplied
     after-member e =
         let l : getD sizes j 0 < 64 = space keys (64 * j) (getD sizes j 0) k 64 e in
         let b = fitting-low v 8 k (kept .variables-low) (and-right (leb j (length (constraintsOf n qs))) (fitting v 8 k) (t .operands)) in

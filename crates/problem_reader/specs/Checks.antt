@@ -8,17 +8,17 @@ use lib.ListN.{length, take, drop}
 use Rattle.format.specs.Commands.{firstRefusal}
 use Rattle.polynomial.specs.Monomial.{among}
 use Rattle.format.specs.declared.problem.Instruction.{Instruction}
-use Rattle.format.specs.ProblemLayout.{size}
-use Rattle.format.specs.ProblemRules.{Problem, placed, allowed, repeated, full, commandAt, instructionAt}
+use Rattle.format.specs.ProblemLayout.{problemSize}
+use Rattle.format.specs.ProblemRules.{Problem, problemPlaced, problemOperandsFit, problemRepeated, problemFull, problemCommandAt, problemInstructionAt}
 
 -- the number of the first of 3, 2 and 4 that fails, or 0
 unfoldable pub early : Problem → List ℕ → ℕ → ℕ
 early p s at =
-    firstRefusal (placed p at (commandAt s at)) (leb (at + size (commandAt s at)) (length s)) (allowed p (instructionAt s at)) false false
+    firstRefusal (problemPlaced p at (problemCommandAt s at)) (leb (at + problemSize (problemCommandAt s at)) (length s)) (problemOperandsFit p (problemInstructionAt s at)) false false
 
 -- the number of the first of 5 and 6 that fails, or 0
 abbrev pub late : Problem → Instruction → ℕ
-late p i = firstRefusal true true true (repeated p i) (full p i)
+late p i = firstRefusal true true true (problemRepeated p i) (problemFull p i)
 
 -- the same of a key and a list that may have `limit` keys and has the `count` that stand in an array from a place on
 abbrev pub lateIn : List ℕ → ℕ → ℕ → ℕ → ℕ → ℕ

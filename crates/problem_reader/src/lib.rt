@@ -2,8 +2,8 @@
 ghost use mathlib.Core.Path.{_≡_};
 ghost use Prim.Native.Nat.{_+_, _≤_, _<_};
 ghost use lib.ListN.{length};
-ghost use Rattle.format.specs.ProblemLayout.{commandOf, size, decode};
-ghost use Rattle.format.specs.ProblemRules.{Problem, placed, fitting, nonzero, allowed, commandAt, readProblem};
+ghost use Rattle.format.specs.ProblemLayout.{problemCommand, problemSize, problemDecoded};
+ghost use Rattle.format.specs.ProblemRules.{Problem, problemPlaced, fitting, nonzero, problemOperandsFit, problemCommandAt, readProblem};
 ghost use Rattle.problem_reader.specs.Checks.{early, lateIn};
 ghost use Rattle.problem_reader.specs.Stored.{outcomeOf, constraintsOf, KeptConstraints, Kept};
 ghost use Rattle.problem_reader.specs.Flat.{Flat};
@@ -117,7 +117,7 @@ pub struct Multipliers {
 }
 
 fn command_of(byte: u8) -> Command
-    ensures { λ r. ⌜ r ≡ commandOf byte ⌝ }
+    ensures { λ r. ⌜ r ≡ problemCommand byte ⌝ }
 {
     match byte {
         1 => Command::Variables,
@@ -131,7 +131,7 @@ fn command_of(byte: u8) -> Command
 }
 
 fn size_of(command: Command) -> usize
-    ensures { λ r. ⌜ (r ≡ size command) × (r ≤ 13) ⌝ }
+    ensures { λ r. ⌜ (r ≡ problemSize command) × (r ≤ 13) ⌝ }
 {
     match command {
         Command::Variables => 1 + 1,
@@ -146,7 +146,7 @@ fn size_of(command: Command) -> usize
 
 // Whether a command may stand at an offset, after `count` constraints.
 fn is_placed(count: usize, at: usize, command: Command) -> bool
-    ensures { λ r. ⌜ ((p : Problem) → length (p .constraints) ≡ count → r ≡ placed p at command) ⌝ }
+    ensures { λ r. ⌜ ((p : Problem) → length (p .constraints) ≡ count → r ≡ problemPlaced p at command) ⌝ }
 {
     match command {
         Command::Variables => at == 0,
@@ -160,8 +160,8 @@ fn is_placed(count: usize, at: usize, command: Command) -> bool
 }
 
 fn decode_at(command: Command, s: &[u8], at: usize) -> Instruction
-    requires { ⌜ at + size command ≤ length (now s) ⌝ }
-    ensures { λ r. ⌜ r ≡ decode command (now (s .entry)) at ⌝ }
+    requires { ⌜ at + problemSize command ≤ length (now s) ⌝ }
+    ensures { λ r. ⌜ r ≡ problemDecoded command (now (s .entry)) at ⌝ }
 {
     match command {
         Command::Variables => Instruction::Variables(
@@ -205,7 +205,7 @@ pub fn is_nonzero(c: i32) -> bool
 
 // Whether a command's operands keep their rules, with n variables and after `count` constraints.
 fn is_allowed(n: usize, count: usize, i: Instruction) -> bool
-    ensures { λ r. ⌜ ((p : Problem) → p .variables ≡ n → length (p .constraints) ≡ count → r ≡ allowed p i) ⌝ }
+    ensures { λ r. ⌜ ((p : Problem) → p .variables ≡ n → length (p .constraints) ≡ count → r ≡ problemOperandsFit p i) ⌝ }
 {
     match i {
         Instruction::Variables(m) => 1 <= m && m <= 8,
@@ -219,7 +219,7 @@ fn is_allowed(n: usize, count: usize, i: Instruction) -> bool
 
 // The checks 3, 2 and 4 of the command at an offset: they need two numbers of what was read before it.
 fn check_at(n: usize, count: usize, command: Command, s: &[u8], at: usize) -> u8
-    requires { ⌜ (at < length (now s)) × (command ≡ commandAt (now s) at) ⌝ }
+    requires { ⌜ (at < length (now s)) × (command ≡ problemCommandAt (now s) at) ⌝ }
     ensures { λ r. ⌜ ((p : Problem) → p .variables ≡ n → length (p .constraints) ≡ count → r ≡ early p (now (s .entry)) at) ⌝ }
 {
     if !is_placed(count, at, command) {

@@ -9,8 +9,8 @@ use Rattle.format.specs.Operands.{number, signed}
 use Rattle.format.specs.Commands.{firstRefusal, run, readWhole}
 use Rattle.polynomial.specs.Monomial.{degreeOf, degree, within, among}
 use Rattle.polynomial.specs.Terms.{keysOf}
-use Rattle.format.specs.ProblemLayout.{commandOf}
-use Rattle.format.specs.ProblemRules.{appendAt, fitting, applied, verdict, next, readProblem}
+use Rattle.format.specs.ProblemLayout.{problemCommand}
+use Rattle.format.specs.ProblemRules.{appendAt, fitting, problemApplied, problemRefusalAt, problemNext, readProblem}
 use Rattle.format.specs.ProblemBases.{basisOf, multiplierOf, multiplier}
 use Rattle.joining_rule.specs.Sets.{member, insert, insertAll}
 use Rattle.joining_rule.specs.Join.{linked, merged, joinPair, join}
@@ -56,7 +56,7 @@ pub samples :
     ∷ found 2 2 (0 ∷ 0 ∷ 255 ∷ []) (0 ∷ [])
     ∷ record { verdict = refusedBlocks 2 0; zero = 7 ∷ 7 ∷ 7 ∷ []; one = 7 ∷ [] }
     ∷ []
-unfolding listed fromTo sumTo number signed firstRefusal run readWhole degreeOf degree within among keysOf commandOf appendAt fitting applied verdict next readProblem basisOf multiplier multiplierOf member insert linked merged joinPair join addTerms addPair extend lowestFrom singles start joinAll extendAll round same sameAll sameState closeFrom blocksIn Rounds.closingOf blockBytes insertAll startFrom startSet closing tooLarge blockTotal blocksOf blocksVerdict bytesOf bytesLeft
+unfolding listed fromTo sumTo number signed firstRefusal run readWhole degreeOf degree within among keysOf problemCommand appendAt fitting problemApplied problemRefusalAt problemNext readProblem basisOf multiplier multiplierOf member insert linked merged joinPair join addTerms addPair extend lowestFrom singles start joinAll extendAll round same sameAll sameState closeFrom blocksIn Rounds.closingOf blockBytes insertAll startFrom startSet closing tooLarge blockTotal blocksOf blocksVerdict bytesOf bytesLeft
 samples = refl
 
 -- a lower bound p/1 that is accepted
@@ -79,7 +79,7 @@ pub checks :
     ∷ refusedCheck (certificateRefusal 1 2 0 0)
     ∷ refusedCheck (problemRefusal 2 0)
     ∷ []
-unfolding listed fromTo sumTo number signed firstRefusal run readWhole degreeOf degree within among keysOf commandOf appendAt fitting applied verdict next readProblem basisOf multiplier multiplierOf member insert linked merged joinPair join addTerms addPair extend lowestFrom singles start joinAll extendAll round same sameAll sameState closeFrom blocksIn Rounds.closingOf insertAll startFrom startSet closing tooLarge CertificateLayout.commandOf shapeOf progressOf progressVerdict Certificate.verdict Certificate.applied Certificate.next readCertificate coefficient square squares claimOf blockOf firstOutside rowSplit splitBy firstDifference comparedKeys differenceKey judgeRead judge checkOf checkVerdict
+unfolding listed fromTo sumTo number signed firstRefusal run readWhole degreeOf degree within among keysOf problemCommand appendAt fitting problemApplied problemRefusalAt problemNext readProblem basisOf multiplier multiplierOf member insert linked merged joinPair join addTerms addPair extend lowestFrom singles start joinAll extendAll round same sameAll sameState closeFrom blocksIn Rounds.closingOf insertAll startFrom startSet closing tooLarge CertificateLayout.certificateCommand shapeOf progressOf progressVerdict Certificate.certificateRefusalAt Certificate.certificateApplied Certificate.certificateNext readCertificate coefficient square squares claimOf blockOf firstOutside rowSplit splitBy firstDifference comparedKeys differenceKey judgeRead judge checkOf checkVerdict
 checks = refl
 
 -- F: bounds −1 and 1, gap 2, 2 rounds; two lower ones: 10 in the second stream; the certificates turned: 10 in the first
@@ -96,5 +96,5 @@ pub pairs :
     ∷ refusedPair (certificateRefusal 2 2 0 0)
     ∷ refusedPair (problemRefusal 1 0)
     ∷ []
-unfolding listed fromTo sumTo number signed firstRefusal run readWhole degreeOf degree within among keysOf commandOf appendAt fitting applied verdict next readProblem basisOf multiplier multiplierOf member insert linked merged joinPair join addTerms addPair extend lowestFrom singles start joinAll extendAll round same sameAll sameState closeFrom blocksIn Rounds.closingOf insertAll startFrom startSet closing tooLarge CertificateLayout.commandOf shapeOf progressOf progressVerdict Certificate.verdict Certificate.applied Certificate.next readCertificate coefficient square squares claimOf blockOf firstOutside rowSplit splitBy firstDifference comparedKeys differenceKey judgeRead judge pairSides pairOf pairVerdict
+unfolding listed fromTo sumTo number signed firstRefusal run readWhole degreeOf degree within among keysOf problemCommand appendAt fitting problemApplied problemRefusalAt problemNext readProblem basisOf multiplier multiplierOf member insert linked merged joinPair join addTerms addPair extend lowestFrom singles start joinAll extendAll round same sameAll sameState closeFrom blocksIn Rounds.closingOf insertAll startFrom startSet closing tooLarge CertificateLayout.certificateCommand shapeOf progressOf progressVerdict Certificate.certificateRefusalAt Certificate.certificateApplied Certificate.certificateNext readCertificate coefficient square squares claimOf blockOf firstOutside rowSplit splitBy firstDifference comparedKeys differenceKey judgeRead judge pairSides pairOf pairVerdict
 pairs = refl

@@ -1,27 +1,27 @@
 -- `command_of`: the byte against each command's.
 use borrow.Author.Tests.{ne-eqb}
-use Rattle.format.specs.CertificateLayout.{commandOf}
+use Rattle.format.specs.CertificateLayout.{certificateCommand}
 use Rattle.certificate_reader.proofs.command_of.Statement.{statement}
 use Rattle.certificate_reader.proofs.command_of.Tie as tie
 
 returns : tie.Need-returns
-unfolding commandOf
+unfolding certificateCommand
 returns c = rw (c .match .keys1)
 
 returns-2 : tie.Need-returns-2
-unfolding commandOf
+unfolding certificateCommand
 returns-2 c = rw (c .match .keys2)
 
 returns-3 : tie.Need-returns-3
-unfolding commandOf
+unfolding certificateCommand
 returns-3 c = rw (c .match .keys3)
 
 returns-4 : tie.Need-returns-4
-unfolding commandOf
+unfolding certificateCommand
 returns-4 c = rw (c .match .keys4)
 
 returns-5 : tie.Need-returns-5
-unfolding commandOf
+unfolding certificateCommand
 returns-5 c =
     let r = c .match .rest in
     let b = c .before .args .byte in

@@ -4,7 +4,7 @@ use native.Mathlib.Omega.{arith}
 use mir.Syntax.{w32}
 use mir.Facts.{toZ-ofZ}
 use borrow.Author.Needs.{sfits-of, needs}
-use Rattle.format.specs.CertificateLayout.{size}
+use Rattle.format.specs.CertificateLayout.{certificateSize}
 use Rattle.certificate_reader.proofs.decode_at.Statement.{statement}
 use Rattle.certificate_reader.proofs.decode_at.Tie as tie
 
@@ -15,7 +15,7 @@ add-number-at : tie.Need-add-number-at
 add-number-at c = search needs
 
 number-at-requires : tie.Need-number-at-requires
-number-at-requires c κs = let e = ap size (c .enum-told .given .1) in omega arith
+number-at-requires c κs = let e = ap certificateSize (c .enum-told .given .1) in omega arith
 
 cast-t7 : tie.Need-cast-t7
 cast-t7 c = search needs
@@ -24,7 +24,7 @@ add-number-at-2 : tie.Need-add-number-at-2
 add-number-at-2 c = search needs
 
 number-at-requires-2 : tie.Need-number-at-requires-2
-number-at-requires-2 c κs = let e = ap size (c .before .enum-told .given .1) in omega arith
+number-at-requires-2 c κs = let e = ap certificateSize (c .before .enum-told .given .1) in omega arith
 
 cast-t10 : tie.Need-cast-t10
 cast-t10 c = search needs
@@ -33,7 +33,7 @@ add-number-at-3 : tie.Need-add-number-at-3
 add-number-at-3 c = search needs
 
 number-at-requires-3 : tie.Need-number-at-requires-3
-number-at-requires-3 c κs = let e = ap size (c .before .before .enum-told .given .1) in omega arith
+number-at-requires-3 c κs = let e = ap certificateSize (c .before .before .enum-told .given .1) in omega arith
 
 signed32-requires : tie.Need-signed32-requires
 signed32-requires c κs = search needs
@@ -42,7 +42,7 @@ add-number-at-4 : tie.Need-add-number-at-4
 add-number-at-4 c = search needs
 
 number-at-requires-4 : tie.Need-number-at-requires-4
-number-at-requires-4 c κs = let e = ap size (c .before .before .before .before .enum-told .given .1) in omega arith
+number-at-requires-4 c κs = let e = ap certificateSize (c .before .before .before .before .enum-told .given .1) in omega arith
 
 cast-t16 : tie.Need-cast-t16
 cast-t16 c = search needs
@@ -54,7 +54,7 @@ add-number-at-5 : tie.Need-add-number-at-5
 add-number-at-5 c = search needs
 
 number-at-requires-5 : tie.Need-number-at-requires-5
-number-at-requires-5 c κs = let e = ap size (c .enum-told2 .given .1) in omega arith
+number-at-requires-5 c κs = let e = ap certificateSize (c .enum-told2 .given .1) in omega arith
 
 cast-t19 : tie.Need-cast-t19
 cast-t19 c = search needs
@@ -63,7 +63,7 @@ add-number-at-6 : tie.Need-add-number-at-6
 add-number-at-6 c = search needs
 
 number-at-requires-6 : tie.Need-number-at-requires-6
-number-at-requires-6 c κs = let e = ap size (c .before .enum-told2 .given .1) in omega arith
+number-at-requires-6 c κs = let e = ap certificateSize (c .before .enum-told2 .given .1) in omega arith
 
 cast-t22 : tie.Need-cast-t22
 cast-t22 c = search needs
@@ -75,7 +75,7 @@ add-number-at-7 : tie.Need-add-number-at-7
 add-number-at-7 c = search needs
 
 number-at-requires-7 : tie.Need-number-at-requires-7
-number-at-requires-7 c κs = let e = ap size (c .enum-told3 .given .1) in omega arith
+number-at-requires-7 c κs = let e = ap certificateSize (c .enum-told3 .given .1) in omega arith
 
 cast-t25 : tie.Need-cast-t25
 cast-t25 c = search needs
@@ -84,7 +84,7 @@ add-number-at-8 : tie.Need-add-number-at-8
 add-number-at-8 c = search needs
 
 number-at-requires-8 : tie.Need-number-at-requires-8
-number-at-requires-8 c κs = let e = ap size (c .before .enum-told3 .given .1) in omega arith
+number-at-requires-8 c κs = let e = ap certificateSize (c .before .enum-told3 .given .1) in omega arith
 
 signed16-requires : tie.Need-signed16-requires
 signed16-requires c κs = search needs

@@ -5,8 +5,8 @@ use native.Mathlib.Omega.{arith}
 use lib.ListN.{length}
 use borrow.Author.Tests.{ne-eqb}
 use borrow.Author.Needs.{needs}
-use Rattle.format.specs.CertificateLayout.{commandOf, size}
-use Rattle.format.specs.CertificateRules.{commandAt, instructionAt, progressVerdict}
+use Rattle.format.specs.CertificateLayout.{certificateCommand, certificateSize}
+use Rattle.format.specs.CertificateRules.{certificateCommandAt, certificateInstructionAt, progressVerdict}
 use Rattle.certificate_reader.specs.Kept.{headerOutcomeOf}
 use Rattle.certificate_reader.proofs.Kept.{Held, held-start, held-end, held-refused, held-extra, held-given, held-next}
 use Rattle.format.proofs.CertificateChecks.{taken-size, taken-whole}
@@ -45,8 +45,8 @@ returns c =
 none : (c : tie.Else1 Inv-loop μ-loop) → let l = c .before .before .before in let a = l .before .before .before .before .args in progressVerdict (a .h) (l .loop .progress) (a .s .now) (l .loop .at) ≡ 0
 none c = let v = c .before .verdict-at .ensures in omega arith
 
-length-is : (c : tie.After-size-of Inv-loop μ-loop) → let l = c .before .before .before .before .before .before in c .size-of .result ≡ size (commandAt (l .before .before .before .before .args .s .now) (l .loop .at))
-length-is c = c .size-of .ensures .0 ∙ ap size (c .before .command-of .ensures)
+length-is : (c : tie.After-size-of Inv-loop μ-loop) → let l = c .before .before .before .before .before .before in c .size-of .result ≡ certificateSize (certificateCommandAt (l .before .before .before .before .args .s .now) (l .loop .at))
+length-is c = c .size-of .ensures .0 ∙ ap certificateSize (c .before .command-of .ensures)
 
 shared-slice-read-byte : tie.Need-shared-slice-read-byte Inv-loop μ-loop
 shared-slice-read-byte c = search needs
@@ -61,21 +61,21 @@ add-next : tie.Need-add-next Inv-loop μ-loop
 add-next c = let k = c .size-of .ensures .1 in omega arith
 
 returns-2 : tie.Need-returns-2 Inv-loop μ-loop
-unfolding headerOutcomeOf commandOf
+unfolding headerOutcomeOf certificateCommand
 returns-2 c =
     let l = c .before .before .before .before .before .before .before .before in
     let a = l .before .before .before .before .args in
     let b = c .before .if2 .taken in
-    let k : c .before .before .size-of .result ≡ 1 = length-is (c .before .before) ∙ ap (λ (x : ℕ). size (commandOf x)) b in
+    let k : c .before .before .size-of .result ≡ 1 = length-is (c .before .before) ∙ ap (λ (x : ℕ). certificateSize (certificateCommand x)) b in
     rw k (held-extra (a .h) (a .s .now) _ _ (l .loop .at) (l .loop .inv) (omega arith) (none (c .before .before .before .before .before)) b (omega arith))
 
 returns-3 : tie.Need-returns-3 Inv-loop μ-loop
-unfolding headerOutcomeOf commandOf
+unfolding headerOutcomeOf certificateCommand
 returns-3 c =
     let l = c .before .before .before .before .before .before .before .before in
     let a = l .before .before .before .before .args in
     let b = c .before .if2 .taken in
-    let k : c .before .before .size-of .result ≡ 1 = length-is (c .before .before) ∙ ap (λ (x : ℕ). size (commandOf x)) b in
+    let k : c .before .before .size-of .result ≡ 1 = length-is (c .before .before) ∙ ap (λ (x : ℕ). certificateSize (certificateCommand x)) b in
     held-given (a .h) (a .s .now) _ _ (l .loop .at) (l .loop .inv) (omega arith) (none (c .before .before .before .before .before)) b (omega arith)
 
 decode-at-requires : tie.Need-decode-at-requires Inv-loop μ-loop
@@ -106,7 +106,7 @@ loop-again c =
     let e = c .before .before .before .before in
     let l = e .before .before .before .before .before .before in
     let a = l .before .before .before .before .args in
-    let i : c .before .before .decode-at .result ≡ instructionAt (a .s .now) (l .loop .at) = rw (c .before .before .decode-at .ensures, e .before .command-of .ensures) in
+    let i : c .before .before .decode-at .result ≡ certificateInstructionAt (a .s .now) (l .loop .at) = rw (c .before .before .decode-at .ensures, e .before .command-of .ensures) in
     rw (c .before .header-after .ensures, c .progress-after .ensures, i, length-is e)
     (held-next (a .h) (a .s .now) _ _ (l .loop .at) (l .loop .inv) (omega arith) (none (e .before .before .before)) (l .before .before .before .before .pre) (c .before .before .before .if2 .left))
 

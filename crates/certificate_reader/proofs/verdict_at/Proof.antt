@@ -6,8 +6,8 @@ use native.Mathlib.Omega.{arith}
 use lib.ListN.{length}
 use borrow.Author.Needs.{needs}
 use borrow.Author.Tests.{not-true, not-false}
-use Rattle.format.specs.CertificateLayout.{size}
-use Rattle.format.specs.CertificateRules.{placed, allowed, repeated, commandAt, instructionAt}
+use Rattle.format.specs.CertificateLayout.{certificateSize}
+use Rattle.format.specs.CertificateRules.{certificatePlaced, certificateOperandsFit, certificateRepeated, certificateCommandAt, certificateInstructionAt}
 use Rattle.certificate_reader.proofs.Checks.{verdict-3, verdict-2, verdict-4, verdict-5, verdict-6, verdict-0}
 use Rattle.certificate_reader.proofs.verdict_at.Statement.{statement}
 use Rattle.certificate_reader.proofs.verdict_at.Tie as tie
@@ -27,14 +27,14 @@ returns c =
     verdict-3 (a .h) (a .g) (a .s .now) (a .at) (rw (c .before .before .command-of .ensures) at (sym (c .before .is-placed .ensures) ∙ not-true _ (c .if1 .taken)))
 
 -- past the first check
-stands : (c : tie.Else1) → let a = c .before .before .before .before .before .args in placed (a .g) (a .at) (commandAt (a .s .now) (a .at)) ≡ true
+stands : (c : tie.Else1) → let a = c .before .before .before .before .before .args in certificatePlaced (a .g) (a .at) (certificateCommandAt (a .s .now) (a .at)) ≡ true
 stands c = rw (c .before .before .command-of .ensures) at (sym (c .before .is-placed .ensures) ∙ not-false _ (c .if1 .left))
 
 size-of-requires : tie.Need-size-of-requires
 size-of-requires c κs = search needs
 
-length-is : (c : tie.After-size-of) → let a = c .before .before .before .before .before .before .args in c .size-of .result ≡ size (commandAt (a .s .now) (a .at))
-length-is c = c .size-of .ensures .0 ∙ ap size (c .before .before .before .command-of .ensures)
+length-is : (c : tie.After-size-of) → let a = c .before .before .before .before .before .before .args in c .size-of .result ≡ certificateSize (certificateCommandAt (a .s .now) (a .at))
+length-is c = c .size-of .ensures .0 ∙ ap certificateSize (c .before .before .before .command-of .ensures)
 
 add-if2 : tie.Need-add-if2
 add-if2 c = search needs
@@ -46,13 +46,13 @@ returns-2 c =
     verdict-2 (a .h) (a .g) (a .s .now) (a .at) (stands (c .before .before)) (omega arith)
 
 -- past the second, with the operands as they stand
-whole : (c : tie.Else2) → let a = c .before .before .before .before .before .before .before .args in a .at + size (commandAt (a .s .now) (a .at)) ≤ length (a .s .now)
+whole : (c : tie.Else2) → let a = c .before .before .before .before .before .before .before .args in a .at + certificateSize (certificateCommandAt (a .s .now) (a .at)) ≤ length (a .s .now)
 whole c = let k = length-is (c .before) in omega arith
 
 decode-at-requires : tie.Need-decode-at-requires
 decode-at-requires c κs = let k = c .before .size-of .ensures .0 in omega arith
 
-decoded : (c : tie.After-decode-at) → let a = c .before .before .before .before .before .before .before .before .args in c .decode-at .result ≡ instructionAt (a .s .now) (a .at)
+decoded : (c : tie.After-decode-at) → let a = c .before .before .before .before .before .before .before .before .args in c .decode-at .result ≡ certificateInstructionAt (a .s .now) (a .at)
 decoded c = rw (c .decode-at .ensures, c .before .before .before .before .before .command-of .ensures)
 
 is-allowed-requires : tie.Need-is-allowed-requires
@@ -65,7 +65,7 @@ returns-3 c =
     verdict-4 (a .h) (a .g) (a .s .now) (a .at) (stands (d .before .before .before)) (whole (d .before)) (rw (decoded d) at (sym (c .before .is-allowed .ensures) ∙ not-true _ (c .if3 .taken)))
 
 -- past the third
-kept : (c : tie.Else3) → let a = c .before .before .before .before .before .before .before .before .before .before .args in allowed (a .h) (a .g) (instructionAt (a .s .now) (a .at)) ≡ true
+kept : (c : tie.Else3) → let a = c .before .before .before .before .before .before .before .before .before .before .args in certificateOperandsFit (a .h) (a .g) (certificateInstructionAt (a .s .now) (a .at)) ≡ true
 kept c = rw (decoded (c .before .before)) at (sym (c .before .is-allowed .ensures) ∙ not-false _ (c .if3 .left))
 
 is-repeated-requires : tie.Need-is-repeated-requires
@@ -78,7 +78,7 @@ returns-4 c =
     verdict-5 (a .h) (a .g) (a .s .now) (a .at) (stands (d .before .before .before)) (whole (d .before)) (kept (c .before .before)) (rw (decoded d) at (sym (c .before .is-repeated .ensures) ∙ c .if4 .taken))
 
 -- past the fourth
-fresh : (c : tie.Else4) → let a = c .before .before .before .before .before .before .before .before .before .before .before .before .args in repeated (a .g) (instructionAt (a .s .now) (a .at)) ≡ false
+fresh : (c : tie.Else4) → let a = c .before .before .before .before .before .before .before .before .before .before .before .before .args in certificateRepeated (a .g) (certificateInstructionAt (a .s .now) (a .at)) ≡ false
 fresh c = rw (decoded (c .before .before .before .before)) at (sym (c .before .is-repeated .ensures) ∙ c .if4 .left)
 
 is-full-requires : tie.Need-is-full-requires

@@ -5,8 +5,8 @@ use native.Mathlib.Omega.{arith}
 use lib.ListN.{length}
 use borrow.Author.Needs.{needs}
 use borrow.Author.Tests.{not-true, not-false}
-use Rattle.format.specs.ProblemLayout.{size}
-use Rattle.format.specs.ProblemRules.{Problem, placed, commandAt, instructionAt}
+use Rattle.format.specs.ProblemLayout.{problemSize}
+use Rattle.format.specs.ProblemRules.{Problem, problemPlaced, problemCommandAt, problemInstructionAt}
 use Rattle.problem_reader.proofs.Checks.{early-3, early-2, early-4, early-0}
 use Rattle.problem_reader.proofs.check_at.Statement.{statement}
 use Rattle.problem_reader.proofs.check_at.Tie as tie
@@ -16,7 +16,7 @@ is-placed-requires c κs = search needs
 
 -- past the first check
 stands : (c : tie.Else1) (p : Problem) → length (p .constraints) ≡ c .before .before .before .args .count
-    → placed p (c .before .before .before .args .at) (commandAt (c .before .before .before .args .s .now) (c .before .before .before .args .at)) ≡ true
+    → problemPlaced p (c .before .before .before .args .at) (problemCommandAt (c .before .before .before .args .s .now) (c .before .before .before .args .at)) ≡ true
 stands c p h = rw (c .before .before .before .pre .1) at (sym (c .before .is-placed .ensures p h) ∙ not-false _ (c .if1 .left))
 
 returns : tie.Need-returns
@@ -28,8 +28,8 @@ returns c =
 size-of-requires : tie.Need-size-of-requires
 size-of-requires c κs = search needs
 
-length-is : (c : tie.After-size-of) → c .size-of .result ≡ size (commandAt (c .before .before .before .before .args .s .now) (c .before .before .before .before .args .at))
-length-is c = c .size-of .ensures .0 ∙ ap size (c .before .before .before .before .pre .1)
+length-is : (c : tie.After-size-of) → c .size-of .result ≡ problemSize (problemCommandAt (c .before .before .before .before .args .s .now) (c .before .before .before .before .args .at))
+length-is c = c .size-of .ensures .0 ∙ ap problemSize (c .before .before .before .before .pre .1)
 
 add-if2 : tie.Need-add-if2
 add-if2 c = let h = c .size-of .ensures .1 in omega arith
@@ -47,7 +47,7 @@ decode-at-requires c κs = let k = c .before .size-of .ensures .0 in omega arith
 is-allowed-requires : tie.Need-is-allowed-requires
 is-allowed-requires c κs = search needs
 
-decoded : (c : tie.After-is-allowed) → c .before .decode-at .result ≡ instructionAt (c .before .before .before .before .before .before .before .args .s .now) (c .before .before .before .before .before .before .before .args .at)
+decoded : (c : tie.After-is-allowed) → c .before .decode-at .result ≡ problemInstructionAt (c .before .before .before .before .before .before .before .args .s .now) (c .before .before .before .before .before .before .before .args .at)
 decoded c = rw (c .before .decode-at .ensures, c .before .before .before .before .before .before .before .pre .1)
 
 returns-3 : tie.Need-returns-3

@@ -1,35 +1,35 @@
 -- `command_of`: the byte is one of the six, or none.
 use borrow.Author.Tests.{ne-eqb}
-use Rattle.format.specs.ProblemLayout.{commandOf}
+use Rattle.format.specs.ProblemLayout.{problemCommand}
 use Rattle.problem_reader.proofs.command_of.Statement.{statement}
 use Rattle.problem_reader.proofs.command_of.Tie as tie
 
 returns : tie.Need-returns
-unfolding commandOf
+unfolding problemCommand
 returns c = rw (c .match .keys1)
 
 returns-2 : tie.Need-returns-2
-unfolding commandOf
+unfolding problemCommand
 returns-2 c = rw (c .match .keys2)
 
 returns-3 : tie.Need-returns-3
-unfolding commandOf
+unfolding problemCommand
 returns-3 c = rw (c .match .keys3)
 
 returns-4 : tie.Need-returns-4
-unfolding commandOf
+unfolding problemCommand
 returns-4 c = rw (c .match .keys4)
 
 returns-5 : tie.Need-returns-5
-unfolding commandOf
+unfolding problemCommand
 returns-5 c = rw (c .match .keys5)
 
 returns-6 : tie.Need-returns-6
-unfolding commandOf
+unfolding problemCommand
 returns-6 c = rw (c .match .keys6)
 
 returns-7 : tie.Need-returns-7
-unfolding commandOf
+unfolding problemCommand
 returns-7 c =
     let b = c .before .args .byte in
     let r = c .match .rest in

@@ -4,7 +4,7 @@ use native.Mathlib.Omega.{arith}
 use mir.Syntax.{w32}
 use mir.Facts.{toZ-ofZ}
 use borrow.Author.Needs.{needs, sfits-of}
-use Rattle.format.specs.ProblemLayout.{size}
+use Rattle.format.specs.ProblemLayout.{problemSize}
 use Rattle.problem_reader.proofs.decode_at.Statement.{statement}
 use Rattle.problem_reader.proofs.decode_at.Tie as tie
 
@@ -15,7 +15,7 @@ add-number-at : tie.Need-add-number-at
 add-number-at c = search needs
 
 number-at-requires : tie.Need-number-at-requires
-number-at-requires c κs = let e = ap size (c .enum-told .given .1) in omega arith
+number-at-requires c κs = let e = ap problemSize (c .enum-told .given .1) in omega arith
 
 enum-told-2 : tie.Need-enum-told-2
 enum-told-2 c = search needs
@@ -24,13 +24,13 @@ add-number-at-2 : tie.Need-add-number-at-2
 add-number-at-2 c = search needs
 
 number-at-requires-2 : tie.Need-number-at-requires-2
-number-at-requires-2 c κs = let e = ap size (c .enum-told2 .given .1) in omega arith
+number-at-requires-2 c κs = let e = ap problemSize (c .enum-told2 .given .1) in omega arith
 
 add-number-at-3 : tie.Need-add-number-at-3
 add-number-at-3 c = search needs
 
 number-at-requires-3 : tie.Need-number-at-requires-3
-number-at-requires-3 c κs = let e = ap size (c .before .enum-told2 .given .1) in omega arith
+number-at-requires-3 c κs = let e = ap problemSize (c .before .enum-told2 .given .1) in omega arith
 
 signed32-requires : tie.Need-signed32-requires
 signed32-requires c κs = search needs
@@ -45,13 +45,13 @@ add-number-at-4 : tie.Need-add-number-at-4
 add-number-at-4 c = search needs
 
 number-at-requires-4 : tie.Need-number-at-requires-4
-number-at-requires-4 c κs = let e = ap size (c .enum-told4 .given .1) in omega arith
+number-at-requires-4 c κs = let e = ap problemSize (c .enum-told4 .given .1) in omega arith
 
 add-number-at-5 : tie.Need-add-number-at-5
 add-number-at-5 c = search needs
 
 number-at-requires-5 : tie.Need-number-at-requires-5
-number-at-requires-5 c κs = let e = ap size (c .before .enum-told4 .given .1) in omega arith
+number-at-requires-5 c κs = let e = ap problemSize (c .before .enum-told4 .given .1) in omega arith
 
 signed16-requires : tie.Need-signed16-requires
 signed16-requires c κs = search needs
@@ -63,13 +63,13 @@ add-number-at-6 : tie.Need-add-number-at-6
 add-number-at-6 c = search needs
 
 number-at-requires-6 : tie.Need-number-at-requires-6
-number-at-requires-6 c κs = let e = ap size (c .enum-told5 .given .1) in omega arith
+number-at-requires-6 c κs = let e = ap problemSize (c .enum-told5 .given .1) in omega arith
 
 add-number-at-7 : tie.Need-add-number-at-7
 add-number-at-7 c = search needs
 
 number-at-requires-7 : tie.Need-number-at-requires-7
-number-at-requires-7 c κs = let e = ap size (c .before .enum-told5 .given .1) in omega arith
+number-at-requires-7 c κs = let e = ap problemSize (c .before .enum-told5 .given .1) in omega arith
 
 enum-told-6 : tie.Need-enum-told-6
 enum-told-6 c = search needs

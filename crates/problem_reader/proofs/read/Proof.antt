@@ -12,7 +12,7 @@ use Rattle.problem_reader.specs.declared.Polynomial.{Polynomial}
 use Rattle.format.specs.declared.problem.Instruction.{Instruction}
 use Rattle.format.specs.declared.problem.Instruction.the-variants as I
 use Rattle.format.specs.declared.problem.Command.{Command}
-use Rattle.format.specs.ProblemLayout.{size, decode}
+use Rattle.format.specs.ProblemLayout.{problemSize, problemDecoded}
 use Rattle.format.specs.ProblemRules.{Problem}
 use Rattle.problem_reader.specs.Checks.{early, lateIn}
 use Rattle.problem_reader.specs.Stored.{problemOf, noTerms}
@@ -55,7 +55,7 @@ At c i = Passes (kept (head c)) (bytes (head c)) (head c .loop .at) i (next c)
 passed : (c : Told) (i : Instruction) → c .decode-at .result ≡ i → At c i
 passed c i e =
     let m = c .before .before .before .before .command-of .ensures in
-    passes _ _ _ _ _ (none (c .before .before)) (sym (c .decode-at .ensures ∙ ap (λ (k : Command). decode k (bytes (head c)) (head c .loop .at)) m) ∙ e) (ap (λ (n : ℕ). head c .loop .at + n) (c .before .size-of .ensures .0 ∙ ap size m))
+    passes _ _ _ _ _ (none (c .before .before)) (sym (c .decode-at .ensures ∙ ap (λ (k : Command). problemDecoded k (bytes (head c)) (head c .loop .at)) m) ∙ e) (ap (λ (n : ℕ). head c .loop .at + n) (c .before .size-of .ensures .0 ∙ ap problemSize m))
 
 shorter : (c : Told) → length (bytes (head c)) - next c < length (bytes (head c)) - head c .loop .at
 shorter c = let t = passed c (c .decode-at .result) refl in let l = passes-longer _ _ _ _ _ t in let w = t .whole in omega arith
@@ -86,7 +86,7 @@ add-next c = let h = c .size-of .ensures .1 in omega arith
 
 decode-at-requires : tie.Need-decode-at-requires Inv-loop μ-loop
 decode-at-requires c κs =
-    let e = ap size (c .before .before .before .command-of .ensures) in
+    let e = ap problemSize (c .before .before .before .command-of .ensures) in
     let w = passes _ _ _ _ _ (none (c .before)) refl refl .whole in
     omega arith
 
