@@ -10,7 +10,8 @@ use Rattle.polynomial.specs.Point.{Point, value}
 use Rattle.format.specs.ProblemRules.{Problem}
 use Rattle.format.specs.ProblemLimits.{All}
 
--- "A point is allowed when every constraint's scaled value is at least 0": n numerators over one c ≥ 1, and constraints by c^16
+-- "A point is allowed when every constraint's scaled value is at least 0": n numerators over one c ≥ 1, and constraints
+-- by c^16
 pub record Allowed (p : Problem) (a : Point) : Type 0 where
   pub denominator : 1 ≤ a .denominator
   pub coordinates : length (a .numerators) ≡ p .variables
@@ -32,9 +33,10 @@ BoundedBelow p x q = (a : Point) → Allowed p a → (x *ℤ pos (objectiveScale
 unfoldable pub BoundedAbove : Problem → ℤ → ℕ → Type 0
 BoundedAbove p x q = (a : Point) → Allowed p a → (pos q *ℤ objectiveValue p a) ≤ℤ (x *ℤ pos (objectiveScale a))
 
--- "The values at two allowed points are V over c^32, each with its own V and c; the larger less the smaller is at most the gap, by
--- cross products": V/c^32 − V'/c'^32 ≤ x/y, whichever of the two points is taken first
+-- "The values at two allowed points are V over c^32, each with its own V and c; the larger less the smaller is at most
+-- the gap, by cross products": V/c^32 − V'/c'^32 ≤ x/y, whichever of the two points is taken first
 unfoldable pub WithinGap : Problem → ℤ → ℕ → Type 0
 WithinGap p x y =
     (a b : Point) → Allowed p a → Allowed p b
-    → ((objectiveValue p a *ℤ pos (objectiveScale b) -ℤ objectiveValue p b *ℤ pos (objectiveScale a)) *ℤ pos y) ≤ℤ (x *ℤ pos (objectiveScale a * objectiveScale b))
+    → ((objectiveValue p a *ℤ pos (objectiveScale b) -ℤ objectiveValue p b *ℤ pos (objectiveScale a)) *ℤ pos y)
+    ≤ℤ (x *ℤ pos (objectiveScale a * objectiveScale b))

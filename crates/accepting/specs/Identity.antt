@@ -20,7 +20,9 @@ combination B (e ∷ es) = term (getD B (e .index) 0) (e .factor) ∷ combinatio
 
 -- "w × (sum of l × b)² × g_j"
 unfoldable pub square : Problem → Row → List Term
-square p r = let L = combination (basisOf p (r .basis)) (r .entries) in scale (pos (r .weight)) (L ⊗ L ⊗ multiplier p (r .basis))
+square p r =
+    let L = combination (basisOf p (r .basis)) (r .entries) in
+    scale (pos (r .weight)) (L ⊗ L ⊗ multiplier p (r .basis))
 
 -- T, "the sum over rows"
 unfoldable pub squares : Problem → List Row → List Term
@@ -34,7 +36,9 @@ turned (suc side) x = negℤ x
 
 -- "D × (q × objective − p)" for side 0, and "D × (p − q × objective)" for side 1
 unfoldable pub claimOf : List Term → Header → List Term
-claimOf objective h = scale (pos (h .scale)) (scale (turned (h .side) (pos (h .q))) objective ++ (term 0 (turned (h .side) (negℤ (h .p))) ∷ []))
+claimOf objective h =
+    scale (pos (h .scale))
+    (scale (turned (h .side) (pos (h .q))) objective ++ (term 0 (turned (h .side) (negℤ (h .p))) ∷ []))
 
 abbrev pub claim : Problem → Header → List Term
 claim p h = claimOf (p .objective) h
@@ -55,7 +59,8 @@ pub record OneBlock (p : Problem) (r : Row) : Type 0 where
 abbrev pub KeepsBlocks : Problem → List Row → Type 0
 KeepsBlocks p rs = All (OneBlock p) rs
 
--- the rows are on bases of the problem: "on basis j, 0 or a constraint of the problem", with indices "less than the basis's length"
+-- the rows are on bases of the problem: "on basis j, 0 or a constraint of the problem", with indices "less than the
+-- basis's length"
 pub record RowFits (p : Problem) (r : Row) : Type 0 where
   pub basis : r .basis ≤ length (p .constraints)
   pub indices : All (λ (e : Entry). e .index < length (basisOf p (r .basis))) (r .entries)

@@ -1,2 +1,2 @@
-// What a certificate claims, what accepting it means, and why an accepted one bounds the objective: definitions in specs/,
-// theorems in proofs/. No code.
+// What a certificate claims, what accepting it means, and why an accepted one bounds the objective: definitions in
+// specs/, theorems in proofs/. No code.

@@ -1,5 +1,5 @@
-// The calls for programs in other languages, as C functions: each lent slice is a pointer and a length. What each leaves behind it is
-// what the call leaves; of the verdict the number of the refusal comes back.
+// The calls for programs in other languages, as C functions: each lent slice is a pointer and a length. What each
+// leaves behind it is what the call leaves; of the verdict the number of the refusal comes back.
 ghost use mathlib.Core.Path.{_≡_};
 ghost use lib.IntN.{pos};
 ghost use Rattle.calls.specs.Tables.{tablesShort, tableLeft};
@@ -24,11 +24,31 @@ pub extern "C" fn zamiachisel_blocks(
     high: &mut [i64],
     low: &mut [u64],
 ) -> u64
-    ensures verdict { λ r. ⌜ r ≡ blocksVerdict (blocksShort (now (out .entry)) (now (keys .entry)) (now (high .entry)) (now (low .entry))) (now (problem .entry)) .refusal .number ⌝ }
-    ensures bytes { λ _. ⌜ now (out .exit) ≡ bytesLeft (blocksShort (now (out .entry)) (now (keys .entry)) (now (high .entry)) (now (low .entry))) (now (problem .entry)) (now (out .entry)) ⌝ }
-    ensures keys_left { λ _. ⌜ now (keys .exit) ≡ tableLeft (blocksShort (now (out .entry)) (now (keys .entry)) (now (high .entry)) (now (low .entry))) 0 (now (keys .entry)) ⌝ }
-    ensures high_left { λ _. ⌜ now (high .exit) ≡ tableLeft (blocksShort (now (out .entry)) (now (keys .entry)) (now (high .entry)) (now (low .entry))) (pos 0) (now (high .entry)) ⌝ }
-    ensures low_left { λ _. ⌜ now (low .exit) ≡ tableLeft (blocksShort (now (out .entry)) (now (keys .entry)) (now (high .entry)) (now (low .entry))) 0 (now (low .entry)) ⌝ }
+    ensures verdict { λ r. ⌜
+        r
+        ≡ blocksVerdict (blocksShort (now (out .entry)) (now (keys .entry)) (now (high .entry)) (now (low .entry)))
+        (now (problem .entry)) .refusal .number
+        ⌝ }
+    ensures bytes { λ _. ⌜
+        now (out .exit)
+        ≡ bytesLeft (blocksShort (now (out .entry)) (now (keys .entry)) (now (high .entry)) (now (low .entry)))
+        (now (problem .entry)) (now (out .entry))
+        ⌝ }
+    ensures keys_left { λ _. ⌜
+        now (keys .exit)
+        ≡ tableLeft (blocksShort (now (out .entry)) (now (keys .entry)) (now (high .entry)) (now (low .entry))) 0
+        (now (keys .entry))
+        ⌝ }
+    ensures high_left { λ _. ⌜
+        now (high .exit)
+        ≡ tableLeft (blocksShort (now (out .entry)) (now (keys .entry)) (now (high .entry)) (now (low .entry)))
+        (pos 0) (now (high .entry))
+        ⌝ }
+    ensures low_left { λ _. ⌜
+        now (low .exit)
+        ≡ tableLeft (blocksShort (now (out .entry)) (now (keys .entry)) (now (high .entry)) (now (low .entry))) 0
+        (now (low .entry))
+        ⌝ }
 {
     let v = checker::blocks(problem, out, keys, high, low);
     number_of(v.refusal)
@@ -43,10 +63,24 @@ pub extern "C" fn zamiachisel_check(
     high: &mut [i64],
     low: &mut [u64],
 ) -> u64
-    ensures verdict { λ r. ⌜ r ≡ checkVerdict (tablesShort (now (keys .entry)) (now (high .entry)) (now (low .entry))) (now (problem .entry)) (now (certificate .entry)) .refusal .number ⌝ }
-    ensures keys_left { λ _. ⌜ now (keys .exit) ≡ tableLeft (tablesShort (now (keys .entry)) (now (high .entry)) (now (low .entry))) 0 (now (keys .entry)) ⌝ }
-    ensures high_left { λ _. ⌜ now (high .exit) ≡ tableLeft (tablesShort (now (keys .entry)) (now (high .entry)) (now (low .entry))) (pos 0) (now (high .entry)) ⌝ }
-    ensures low_left { λ _. ⌜ now (low .exit) ≡ tableLeft (tablesShort (now (keys .entry)) (now (high .entry)) (now (low .entry))) 0 (now (low .entry)) ⌝ }
+    ensures verdict { λ r. ⌜
+        r
+        ≡ checkVerdict (tablesShort (now (keys .entry)) (now (high .entry)) (now (low .entry))) (now (problem .entry))
+        (now (certificate .entry)) .refusal .number
+        ⌝ }
+    ensures keys_left { λ _. ⌜
+        now (keys .exit)
+        ≡ tableLeft (tablesShort (now (keys .entry)) (now (high .entry)) (now (low .entry))) 0 (now (keys .entry))
+        ⌝ }
+    ensures high_left { λ _. ⌜
+        now (high .exit)
+        ≡ tableLeft (tablesShort (now (keys .entry)) (now (high .entry)) (now (low .entry))) (pos 0)
+        (now (high .entry))
+        ⌝ }
+    ensures low_left { λ _. ⌜
+        now (low .exit)
+        ≡ tableLeft (tablesShort (now (keys .entry)) (now (high .entry)) (now (low .entry))) 0 (now (low .entry))
+        ⌝ }
 {
     let v = checker::check(problem, certificate, keys, high, low);
     number_of(v.refusal)
@@ -62,10 +96,24 @@ pub extern "C" fn zamiachisel_pair(
     high: &mut [i64],
     low: &mut [u64],
 ) -> u64
-    ensures verdict { λ r. ⌜ r ≡ pairVerdict (tablesShort (now (keys .entry)) (now (high .entry)) (now (low .entry))) (now (problem .entry)) (now (first .entry)) (now (second .entry)) .refusal .number ⌝ }
-    ensures keys_left { λ _. ⌜ now (keys .exit) ≡ tableLeft (tablesShort (now (keys .entry)) (now (high .entry)) (now (low .entry))) 0 (now (keys .entry)) ⌝ }
-    ensures high_left { λ _. ⌜ now (high .exit) ≡ tableLeft (tablesShort (now (keys .entry)) (now (high .entry)) (now (low .entry))) (pos 0) (now (high .entry)) ⌝ }
-    ensures low_left { λ _. ⌜ now (low .exit) ≡ tableLeft (tablesShort (now (keys .entry)) (now (high .entry)) (now (low .entry))) 0 (now (low .entry)) ⌝ }
+    ensures verdict { λ r. ⌜
+        r
+        ≡ pairVerdict (tablesShort (now (keys .entry)) (now (high .entry)) (now (low .entry))) (now (problem .entry))
+        (now (first .entry)) (now (second .entry)) .refusal .number
+        ⌝ }
+    ensures keys_left { λ _. ⌜
+        now (keys .exit)
+        ≡ tableLeft (tablesShort (now (keys .entry)) (now (high .entry)) (now (low .entry))) 0 (now (keys .entry))
+        ⌝ }
+    ensures high_left { λ _. ⌜
+        now (high .exit)
+        ≡ tableLeft (tablesShort (now (keys .entry)) (now (high .entry)) (now (low .entry))) (pos 0)
+        (now (high .entry))
+        ⌝ }
+    ensures low_left { λ _. ⌜
+        now (low .exit)
+        ≡ tableLeft (tablesShort (now (keys .entry)) (now (high .entry)) (now (low .entry))) 0 (now (low .entry))
+        ⌝ }
 {
     let v = checker::pair(problem, first, second, keys, high, low);
     number_of(v.refusal)

@@ -23,7 +23,9 @@ refusedBlocks number place = record { refusal = problemRefusal number place; blo
 
 -- for a problem that is read: refusal 7, or the number of blocks and of rounds
 unfoldable pub blocksOf : Problem → BlocksVerdict
-blocksOf p = cond (tooLarge p) (refusedBlocks 7 0) (record { refusal = noRefusal; blocks = blockTotal p; rounds = closing p .rounds })
+blocksOf p =
+    cond (tooLarge p) (refusedBlocks 7 0)
+    (record { refusal = noRefusal; blocks = blockTotal p; rounds = closing p .rounds })
 
 abbrev pub blocksRead : Outcome Problem → BlocksVerdict
 blocksRead (refused number place) = refusedBlocks number place

@@ -40,4 +40,5 @@ checkRead (given p) s = checkOf p s
 
 -- "Order: 1; the problem by commands .."
 unfoldable pub checkVerdict : Bool → List ℕ → List ℕ → CheckVerdict
-checkVerdict short problem certificate = cond short (refusedCheck (problemRefusal 1 0)) (checkRead (readProblem problem) certificate)
+checkVerdict short problem certificate =
+    cond short (refusedCheck (problemRefusal 1 0)) (checkRead (readProblem problem) certificate)

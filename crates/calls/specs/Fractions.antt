@@ -21,4 +21,5 @@ isLess a b = ltZ (a .num *ℤ pos (b .den)) (b .num *ℤ pos (a .den))
 
 -- "Its gap is (P × q − p × Q)/(Q × q), not reduced": p/q the lower bound, P/Q the upper one
 abbrev pub gapOf : Fraction → Fraction → Fraction
-gapOf lower upper = fraction (upper .num *ℤ pos (lower .den) -ℤ lower .num *ℤ pos (upper .den)) (upper .den * lower .den)
+gapOf lower upper =
+    fraction (upper .num *ℤ pos (lower .den) -ℤ lower .num *ℤ pos (upper .den)) (upper .den * lower .den)

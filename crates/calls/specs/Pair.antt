@@ -21,7 +21,13 @@ refusedPair r = record { refusal = r; lower = none; upper = none; gap = none; ro
 
 -- "Pair: both bounds, gap, rounds"
 abbrev pub acceptedPair : Header → Header → ℕ → PairVerdict
-acceptedPair t u rounds = record { refusal = noRefusal; lower = boundOf t; upper = boundOf u; gap = gapOf (boundOf t) (boundOf u); rounds = rounds }
+acceptedPair t u rounds = record {
+  refusal = noRefusal;
+  lower = boundOf t;
+  upper = boundOf u;
+  gap = gapOf (boundOf t) (boundOf u);
+  rounds = rounds;
+}
 
 -- refusal 10: "first side not 0 or second not 1"; "the first wrong stream"
 unfoldable pub pairSides : Header → Header → ℕ → PairVerdict
@@ -49,4 +55,5 @@ pairRead (given p) low high = pairOf p low high
 
 -- "Order: 1; the problem by commands ..; 7; the first certificate ..; the second certificate the same; 10"
 unfoldable pub pairVerdict : Bool → List ℕ → List ℕ → List ℕ → PairVerdict
-pairVerdict short problem low high = cond short (refusedPair (problemRefusal 1 0)) (pairRead (readProblem problem) low high)
+pairVerdict short problem low high =
+    cond short (refusedPair (problemRefusal 1 0)) (pairRead (readProblem problem) low high)

@@ -1,5 +1,5 @@
--- What the calls promise where nothing is refused, in the buyer's terms. s is the problem stream, number and rounds what the call
--- returns, bytes the 576 bytes at exit.
+-- What the calls promise where nothing is refused, in the buyer's terms. s is the problem stream, number and rounds
+-- what the call returns, bytes the 576 bytes at exit.
 use mathlib.Core.Path.{_≡_}
 use mathlib.Core.Bool.{Bool, false}
 use mathlib.Core.List.{List}
@@ -27,11 +27,13 @@ WhereAccepted s number P = (p : Problem) → readProblem s ≡ given p → numbe
 
 -- the blocks reported contain the start and are closed under the joining rule's steps
 abbrev pub BlocksClosed : List ℕ → ℕ → List ℕ → Type 0
-BlocksClosed s number bytes = WhereAccepted s number (λ p. Closed (basesOf p) (startSet p) (blockAt bytes) (closedSupport p))
+BlocksClosed s number bytes =
+    WhereAccepted s number (λ p. Closed (basesOf p) (startSet p) (blockAt bytes) (closedSupport p))
 
 -- they are the least such
 abbrev pub BlocksLeast : List ℕ → ℕ → List ℕ → Type 0
-BlocksLeast s number bytes = WhereAccepted s number (λ p. Least (basesOf p) (startSet p) (blockAt bytes) (closedSupport p))
+BlocksLeast s number bytes =
+    WhereAccepted s number (λ p. Least (basesOf p) (startSet p) (blockAt bytes) (closedSupport p))
 
 -- "A block's number is its lowest index"
 abbrev pub BlocksLowest : List ℕ → ℕ → List ℕ → Type 0
@@ -45,17 +47,22 @@ RoundsTaken s number rounds = WhereAccepted s number (λ p. TakesRounds (basesOf
 abbrev pub FewRounds : List ℕ → ℕ → ℕ → Type 0
 FewRounds s number rounds = WhereAccepted s number (λ p. rounds + basesNamed s ≤ memberCommands s + 2)
 
--- with tables that are long enough, refusal 7 is given exactly when the closed S with the zero exponent has more than 2,048 members
+-- with tables that are long enough, refusal 7 is given exactly when the closed S with the zero exponent has more than
+-- 2,048 members
 pub record SevenExactly (s : List ℕ) (number : ℕ) : Type 0 where
   pub only : (p : Problem) → readProblem s ≡ given p → number ≡ 7 → 2048 < length (closedWithZero (closing p))
-  pub always : (p : Problem) → readProblem s ≡ given p → (number ≡ 1 → ⊥) → 2048 < length (closedWithZero (closing p)) → number ≡ 7
+  pub always : (p : Problem) → readProblem s ≡ given p → (number ≡ 1 → ⊥) → 2048 < length (closedWithZero (closing p))
+      → number ≡ 7
 
 -- ---- the check
--- for a problem within its limits and full-length work tables (short is false), "a certificate that reads by its layouts is accepted
--- exactly when its rows keep to those blocks and its weighted squares equal the polynomial identity, coefficient by coefficient"
+-- for a problem within its limits and full-length work tables (short is false), "a certificate that reads by its
+-- layouts is accepted exactly when its rows keep to those blocks and its weighted squares equal the polynomial
+-- identity, coefficient by coefficient"
 pub record AcceptedExactly (short : Bool) (s t : List ℕ) (number : ℕ) : Type 0 where
-  pub only : (p : Problem) (c : Certificate) → readProblem s ≡ given p → readCertificate (shapeOf p) t ≡ given c → number ≡ 0 → KeepsBlocks p (c .rows) × Identity p c
-  pub always : (p : Problem) (c : Certificate) → short ≡ false → readProblem s ≡ given p → tooLarge p ≡ false → readCertificate (shapeOf p) t ≡ given c → KeepsBlocks p (c .rows) → Identity p c → number ≡ 0
+  pub only : (p : Problem) (c : Certificate) → readProblem s ≡ given p → readCertificate (shapeOf p) t ≡ given c
+      → number ≡ 0 → KeepsBlocks p (c .rows) × Identity p c
+  pub always : (p : Problem) (c : Certificate) → short ≡ false → readProblem s ≡ given p → tooLarge p ≡ false
+      → readCertificate (shapeOf p) t ≡ given c → KeepsBlocks p (c .rows) → Identity p c → number ≡ 0
 
 -- ---- the pair
 -- both certificates are accepted, "the first with side 0 and the second with side 1"
@@ -76,11 +83,12 @@ pub record Stated (s low high : List ℕ) (v : PairVerdict) : Type 0 where
   pub upper : v .upper ≡ boundOf (second .header)
   pub gap : v .gap ≡ gapOf (boundOf (first .header)) (boundOf (second .header))
 
--- the pair accepts only what states its bounds, and "for a problem within its limits and full-length work tables it accepts exactly
--- when both certificates are accepted, the first with side 0 and the second with side 1"
+-- the pair accepts only what states its bounds, and "for a problem within its limits and full-length work tables it
+-- accepts exactly when both certificates are accepted, the first with side 0 and the second with side 1"
 pub record PairExactly (short : Bool) (s low high : List ℕ) (v : PairVerdict) : Type 0 where
   pub only : v .refusal .number ≡ 0 → Stated s low high v
-  pub always : (p : Problem) (c d : Certificate) → short ≡ false → readProblem s ≡ given p → tooLarge p ≡ false → BothHold p low high c d → v .refusal .number ≡ 0
+  pub always : (p : Problem) (c d : Certificate) → short ≡ false → readProblem s ≡ given p → tooLarge p ≡ false
+      → BothHold p low high c d → v .refusal .number ≡ 0
 
 -- "at every rational point where all constraints are at least 0, p/q ≤ value ≤ P/Q"
 abbrev pub HoldsBelow : List ℕ → ℕ → Fraction → Type 0

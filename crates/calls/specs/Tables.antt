@@ -10,6 +10,7 @@ use lib.ListN.{length, drop, replicate}
 abbrev pub tablesShort : List ℕ → List ℤ → List ℕ → Bool
 tablesShort keys high low = ltb (length keys) 2048 || (ltb (length high) 2048 || ltb (length low) 2048)
 
--- "On every return their first 2,048 numbers are zero and extra length .. is untouched, except that refusal 1 writes nothing"
+-- "On every return their first 2,048 numbers are zero and extra length .. is untouched, except that refusal 1 writes
+-- nothing"
 unfoldable pub tableLeft {ℓ} : {A : Type ℓ} → Bool → A → List A → List A
 tableLeft short zero t = cond short t (replicate 2048 zero ++ drop 2048 t)

@@ -1,7 +1,8 @@
-// What the three calls return and leave, for all inputs, and what they promise: types here, definitions in specs/, theorems in
-// proofs/. No code.
+// What the three calls return and leave, for all inputs, and what they promise: types here, definitions in specs/,
+// theorems in proofs/. No code.
 
-// A refusal, as document 01's table numbers them: number is 0 where nothing is refused, and then the other fields are 0.
+// A refusal, as document 01's table numbers them: number is 0 where nothing is refused, and then the other fields are
+// 0.
 pub struct Refusal {
     pub number: u8,
     pub stream: u8,
@@ -15,15 +16,16 @@ pub struct Fraction {
     pub den: u64,
 }
 
-// What the blocks call returns: the number of blocks over all bases, and the rounds of the joining rule. Both are 0 with a refusal.
+// What the blocks call returns: the number of blocks over all bases, and the rounds of the joining rule. Both are 0
+// with a refusal.
 pub struct BlocksVerdict {
     pub refusal: Refusal,
     pub blocks: usize,
     pub rounds: usize,
 }
 
-// What the check returns: the side, the bound p/q that the certificate states, and the rounds. With a refusal side and rounds are 0
-// and the bound is 0 over 0.
+// What the check returns: the side, the bound p/q that the certificate states, and the rounds. With a refusal side and
+// rounds are 0 and the bound is 0 over 0.
 pub struct CheckVerdict {
     pub refusal: Refusal,
     pub side: usize,
@@ -31,8 +33,8 @@ pub struct CheckVerdict {
     pub rounds: usize,
 }
 
-// What the pair returns: the bounds p/q and P/Q that the certificates state, their gap, and the rounds. With a refusal the rounds
-// are 0 and the fractions 0 over 0.
+// What the pair returns: the bounds p/q and P/Q that the certificates state, their gap, and the rounds. With a refusal
+// the rounds are 0 and the fractions 0 over 0.
 pub struct PairVerdict {
     pub refusal: Refusal,
     pub lower: Fraction,

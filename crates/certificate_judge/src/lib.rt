@@ -1,4 +1,5 @@
-// What the public calls share: one certificate that is judged against a problem with its blocks, and the work tables that are cleared.
+// What the public calls share: one certificate that is judged against a problem with its blocks, and the work tables
+// that are cleared.
 ghost use mathlib.Core.Path.{_≡_};
 ghost use mathlib.Core.List.{_++_};
 ghost use Prim.Native.Nat.{_≤_};
@@ -52,9 +53,9 @@ pub fn clear_signed(t: &mut [i64], n: usize)
     }
 }
 
-// Whether the identity of a certificate that was read holds; if not, at which key it first differs. The compared keys are the first
-// n numbers of `table`, with `index`; the sums at them are kept in `high` and `low`, before place 2,048 only. `g` is the table of sums
-// by indices, empty before and after, and `lasts` may hold anything.
+// Whether the identity of a certificate that was read holds; if not, at which key it first differs. The compared keys
+// are the first n numbers of `table`, with `index`; the sums at them are kept in `high` and `low`, before place 2,048
+// only. `g` is the table of sums by indices, empty before and after, and `lasts` may hold anything.
 fn difference(
     p: StoredProblem,
     n: usize,
@@ -67,8 +68,21 @@ fn difference(
     high: &mut [i64],
     low: &mut [u64],
 ) -> Difference
-    requires { ⌜ Kept p × Compares (problemOf p) n (now table) (now index) × Below 0 (now g) × HeaderStands (problemOf p) (now s) header × (2048 ≤ length (now high)) × (2048 ≤ length (now low)) ⌝ }
-    ensures { λ r. ⌜ ((c : Certificate) → readCertificate (shapeOf (problemOf p)) (now (s .entry)) ≡ given c → r ≡ differenceOf (J.differenceKey (problemOf p) c)) × Untouched (now (high .entry)) (now (high .exit)) × Untouched (now (low .entry)) (now (low .exit)) × Below 0 (now (g .exit)) ⌝ }
+    requires { ⌜
+        Kept p
+        × Compares (problemOf p) n (now table) (now index)
+        × Below 0 (now g)
+        × HeaderStands (problemOf p) (now s) header
+        × (2048 ≤ length (now high))
+        × (2048 ≤ length (now low))
+        ⌝ }
+    ensures { λ r. ⌜
+        ((c : Certificate) → readCertificate (shapeOf (problemOf p)) (now (s .entry)) ≡ given c
+        → r ≡ differenceOf (J.differenceKey (problemOf p) c))
+        × Untouched (now (high .entry)) (now (high .exit))
+        × Untouched (now (low .entry)) (now (low .exit))
+        × Below 0 (now (g .exit))
+        ⌝ }
 {
     clear_signed(high, n);
     clear(low, n);
@@ -121,7 +135,8 @@ fn by_identity(stream: u8, header: Header, found: Difference) -> Judged
     }
 }
 
-// One certificate against a problem with its blocks: it by commands, 8 by rows, 9. The tables are those of `difference`.
+// One certificate against a problem with its blocks: it by commands, 8 by rows, 9. The tables are those of
+// `difference`.
 pub fn judge(
     stream: u8,
     p: StoredProblem,
@@ -134,8 +149,18 @@ pub fn judge(
     high: &mut [i64],
     low: &mut [u64],
 ) -> Judged
-    requires { ⌜ JoinedProblem p j (now keys) (now index) × Below 0 (now g) × (2048 ≤ length (now high)) × (2048 ≤ length (now low)) ⌝ }
-    ensures { λ r. ⌜ (r ≡ judgedOf stream (J.judge (problemOf p) (now (s .entry)))) × (drop 2048 (now (high .exit)) ≡ drop 2048 (now (high .entry))) × (drop 2048 (now (low .exit)) ≡ drop 2048 (now (low .entry))) × Below 0 (now (g .exit)) ⌝ }
+    requires { ⌜
+        JoinedProblem p j (now keys) (now index)
+        × Below 0 (now g)
+        × (2048 ≤ length (now high))
+        × (2048 ≤ length (now low))
+        ⌝ }
+    ensures { λ r. ⌜
+        (r ≡ judgedOf stream (J.judge (problemOf p) (now (s .entry))))
+        × (drop 2048 (now (high .exit)) ≡ drop 2048 (now (high .entry)))
+        × (drop 2048 (now (low .exit)) ≡ drop 2048 (now (low .entry)))
+        × Below 0 (now (g .exit))
+        ⌝ }
 {
     let sizes = p.sizes;
     let shape = Shape {

@@ -24,11 +24,19 @@ entryCount (suc n) s at = cond (stands 0x12 s at) (suc (entryCount n s (at + 4))
 
 -- entry i of those that begin at an offset
 unfoldable pub entryAt : List ℕ → ℕ → ℕ → Entry
-entryAt s at i = record { index = number 1 s (at + 4 * i + 1); factor = signed 15 (number 2 s (at + 4 * i + 2)); place = at + 4 * i }
+entryAt s at i = record {
+  index = number 1 s (at + 4 * i + 1);
+  factor = signed 15 (number 2 s (at + 4 * i + 2));
+  place = at + 4 * i;
+}
 
 -- the row that begins at an offset, and the offset of the command after it
 unfoldable pub rowAt : List ℕ → ℕ → Row
-rowAt s at = record { basis = number 1 s (at + 1); weight = number 2 s (at + 2); entries = listed (entryCount 64 s (at + 4)) (entryAt s (at + 4)) }
+rowAt s at = record {
+  basis = number 1 s (at + 1);
+  weight = number 2 s (at + 2);
+  entries = listed (entryCount 64 s (at + 4)) (entryAt s (at + 4));
+}
 
 unfoldable pub afterRow : List ℕ → ℕ → ℕ
 afterRow s at = at + 4 + 4 * entryCount 64 s (at + 4)
@@ -60,4 +68,5 @@ pub record HoldsRow (s : List ℕ) (at : ℕ) (r : StoredRow) : Type 0 where
 -- ---- what a walk over the rows needs: from an offset on there are at most n, and each keeps the limits
 pub data Chain (h : Shape) (s : List ℕ) : ℕ → ℕ → Type 0 where
   done : {n at : ℕ} → stands 0x11 s at ≡ false → Chain h s n at
-  more : {n at : ℕ} → stands 0x11 s at ≡ true → SoundRow h (rowAt s at) → Chain h s n (afterRow s at) → Chain h s (suc n) at
+  more : {n at : ℕ} → stands 0x11 s at ≡ true → SoundRow h (rowAt s at) → Chain h s n (afterRow s at)
+      → Chain h s (suc n) at

@@ -1,4 +1,5 @@
--- What the steps of a call leave and decide: the tables after it, and the verdicts from what became of each certificate.
+-- What the steps of a call leave and decide: the tables after it, and the verdicts from what became of each
+-- certificate.
 use mathlib.Core.Path.{_≡_}
 use mathlib.Core.List.{List}
 use Prim.Native.Nat.{ℕ}

@@ -1,4 +1,5 @@
-// The public calls: the blocks of a problem, the check of one certificate and the pair of two. What they share is in `certificate_judge`.
+// The public calls: the blocks of a problem, the check of one certificate and the pair of two. What they share is in
+// `certificate_judge`.
 ghost use mathlib.Core.Path.{_≡_};
 ghost use mathlib.Core.Bool.{_||_};
 ghost use mathlib.Core.List.{_++_};
@@ -60,7 +61,10 @@ fn is_short(keys: usize, high: usize, low: usize) -> bool
 // The work tables as every call leaves them that has used them.
 fn clear_tables(keys: &mut [u64], high: &mut [i64], low: &mut [u64])
     requires { ⌜ Long (now keys) (now high) (now low) ⌝ }
-    ensures { λ _. ⌜ Cleared (now (keys .entry)) (now (high .entry)) (now (low .entry)) (now (keys .exit)) (now (high .exit)) (now (low .exit)) ⌝ }
+    ensures { λ _. ⌜
+        Cleared (now (keys .entry)) (now (high .entry)) (now (low .entry)) (now (keys .exit)) (now (high .exit))
+        (now (low .exit))
+        ⌝ }
 {
     certificate_judge::clear(keys, 2048);
     certificate_judge::clear_signed(high, 2048);
@@ -86,7 +90,11 @@ fn refuse_blocks(number: u8, place: usize) -> BlocksVerdict
 // The blocks of a problem that was read. The table is changed before place 2,048 only.
 fn blocks_of(p: StoredProblem, out: &mut [u8], table: &mut [u64]) -> BlocksVerdict
     requires { ⌜ Kept p × (576 ≤ length (now out)) × (2048 ≤ length (now table)) ⌝ }
-    ensures { λ r. ⌜ (r ≡ blocksOf (problemOf p)) × (now (out .exit) ≡ bytesOf (problemOf p) (now (out .entry))) × (drop 2048 (now (table .exit)) ≡ drop 2048 (now (table .entry))) ⌝ }
+    ensures { λ r. ⌜
+        (r ≡ blocksOf (problemOf p))
+        × (now (out .exit) ≡ bytesOf (problemOf p) (now (out .entry)))
+        × (drop 2048 (now (table .exit)) ≡ drop 2048 (now (table .entry)))
+        ⌝ }
 {
     let mut index = [0u16; 6144];
     let j = closure::join(p, table, &mut index);
@@ -110,7 +118,11 @@ fn blocks_of(p: StoredProblem, out: &mut [u8], table: &mut [u64]) -> BlocksVerdi
 // The blocks of a problem stream, with tables that are long enough.
 fn answer_blocks(problem: &[u8], out: &mut [u8], table: &mut [u64]) -> BlocksVerdict
     requires { ⌜ (576 ≤ length (now out)) × (2048 ≤ length (now table)) ⌝ }
-    ensures { λ r. ⌜ (r ≡ blocksRead (readProblem (now (problem .entry)))) × (now (out .exit) ≡ bytesRead (readProblem (now (problem .entry))) (now (out .entry))) × (drop 2048 (now (table .exit)) ≡ drop 2048 (now (table .entry))) ⌝ }
+    ensures { λ r. ⌜
+        (r ≡ blocksRead (readProblem (now (problem .entry))))
+        × (now (out .exit) ≡ bytesRead (readProblem (now (problem .entry))) (now (out .entry)))
+        × (drop 2048 (now (table .exit)) ≡ drop 2048 (now (table .entry)))
+        ⌝ }
 {
     let r = problem_reader::read(problem);
     let number = r.number;
@@ -128,11 +140,31 @@ pub fn blocks(
     high: &mut [i64],
     low: &mut [u64],
 ) -> BlocksVerdict
-    ensures verdict { λ r. ⌜ r ≡ blocksVerdict (blocksShort (now (out .entry)) (now (keys .entry)) (now (high .entry)) (now (low .entry))) (now (problem .entry)) ⌝ }
-    ensures bytes { λ _. ⌜ now (out .exit) ≡ bytesLeft (blocksShort (now (out .entry)) (now (keys .entry)) (now (high .entry)) (now (low .entry))) (now (problem .entry)) (now (out .entry)) ⌝ }
-    ensures keys_left { λ _. ⌜ now (keys .exit) ≡ tableLeft (blocksShort (now (out .entry)) (now (keys .entry)) (now (high .entry)) (now (low .entry))) 0 (now (keys .entry)) ⌝ }
-    ensures high_left { λ _. ⌜ now (high .exit) ≡ tableLeft (blocksShort (now (out .entry)) (now (keys .entry)) (now (high .entry)) (now (low .entry))) (pos 0) (now (high .entry)) ⌝ }
-    ensures low_left { λ _. ⌜ now (low .exit) ≡ tableLeft (blocksShort (now (out .entry)) (now (keys .entry)) (now (high .entry)) (now (low .entry))) 0 (now (low .entry)) ⌝ }
+    ensures verdict { λ r. ⌜
+        r
+        ≡ blocksVerdict (blocksShort (now (out .entry)) (now (keys .entry)) (now (high .entry)) (now (low .entry)))
+        (now (problem .entry))
+        ⌝ }
+    ensures bytes { λ _. ⌜
+        now (out .exit)
+        ≡ bytesLeft (blocksShort (now (out .entry)) (now (keys .entry)) (now (high .entry)) (now (low .entry)))
+        (now (problem .entry)) (now (out .entry))
+        ⌝ }
+    ensures keys_left { λ _. ⌜
+        now (keys .exit)
+        ≡ tableLeft (blocksShort (now (out .entry)) (now (keys .entry)) (now (high .entry)) (now (low .entry))) 0
+        (now (keys .entry))
+        ⌝ }
+    ensures high_left { λ _. ⌜
+        now (high .exit)
+        ≡ tableLeft (blocksShort (now (out .entry)) (now (keys .entry)) (now (high .entry)) (now (low .entry)))
+        (pos 0) (now (high .entry))
+        ⌝ }
+    ensures low_left { λ _. ⌜
+        now (low .exit)
+        ≡ tableLeft (blocksShort (now (out .entry)) (now (keys .entry)) (now (high .entry)) (now (low .entry))) 0
+        (now (low .entry))
+        ⌝ }
     ensures closed { λ r. ⌜ BlocksClosed (now (problem .entry)) (r .refusal .number) (now (out .exit)) ⌝ }
     ensures least { λ r. ⌜ BlocksLeast (now (problem .entry)) (r .refusal .number) (now (out .exit)) ⌝ }
     ensures lowest { λ r. ⌜ BlocksLowest (now (problem .entry)) (r .refusal .number) (now (out .exit)) ⌝ }
@@ -196,7 +228,11 @@ fn check_of(
     low: &mut [u64],
 ) -> CheckVerdict
     requires { ⌜ Kept p × Limits (problemOf p) × Long (now keys) (now high) (now low) ⌝ }
-    ensures { λ r. ⌜ (r ≡ checkOf (problemOf p) (now (certificate .entry))) × Rest (now (keys .entry)) (now (high .entry)) (now (low .entry)) (now (keys .exit)) (now (high .exit)) (now (low .exit)) ⌝ }
+    ensures { λ r. ⌜
+        (r ≡ checkOf (problemOf p) (now (certificate .entry)))
+        × Rest (now (keys .entry)) (now (high .entry)) (now (low .entry)) (now (keys .exit)) (now (high .exit))
+        (now (low .exit))
+        ⌝ }
 {
     let mut index = [0u16; 6144];
     let j = closure::join(p, keys, &mut index);
@@ -229,7 +265,11 @@ fn answer_check(
     low: &mut [u64],
 ) -> CheckVerdict
     requires { ⌜ Long (now keys) (now high) (now low) ⌝ }
-    ensures { λ r. ⌜ (r ≡ checkRead (readProblem (now (problem .entry))) (now (certificate .entry))) × Rest (now (keys .entry)) (now (high .entry)) (now (low .entry)) (now (keys .exit)) (now (high .exit)) (now (low .exit)) ⌝ }
+    ensures { λ r. ⌜
+        (r ≡ checkRead (readProblem (now (problem .entry))) (now (certificate .entry)))
+        × Rest (now (keys .entry)) (now (high .entry)) (now (low .entry)) (now (keys .exit)) (now (high .exit))
+        (now (low .exit))
+        ⌝ }
 {
     let r = problem_reader::read(problem);
     let number = r.number;
@@ -247,11 +287,28 @@ pub fn check(
     high: &mut [i64],
     low: &mut [u64],
 ) -> CheckVerdict
-    ensures verdict { λ r. ⌜ r ≡ checkVerdict (tablesShort (now (keys .entry)) (now (high .entry)) (now (low .entry))) (now (problem .entry)) (now (certificate .entry)) ⌝ }
-    ensures keys_left { λ _. ⌜ now (keys .exit) ≡ tableLeft (tablesShort (now (keys .entry)) (now (high .entry)) (now (low .entry))) 0 (now (keys .entry)) ⌝ }
-    ensures high_left { λ _. ⌜ now (high .exit) ≡ tableLeft (tablesShort (now (keys .entry)) (now (high .entry)) (now (low .entry))) (pos 0) (now (high .entry)) ⌝ }
-    ensures low_left { λ _. ⌜ now (low .exit) ≡ tableLeft (tablesShort (now (keys .entry)) (now (high .entry)) (now (low .entry))) 0 (now (low .entry)) ⌝ }
-    ensures accepted { λ r. ⌜ AcceptedExactly (tablesShort (now (keys .entry)) (now (high .entry)) (now (low .entry))) (now (problem .entry)) (now (certificate .entry)) (r .refusal .number) ⌝ }
+    ensures verdict { λ r. ⌜
+        r
+        ≡ checkVerdict (tablesShort (now (keys .entry)) (now (high .entry)) (now (low .entry))) (now (problem .entry))
+        (now (certificate .entry))
+        ⌝ }
+    ensures keys_left { λ _. ⌜
+        now (keys .exit)
+        ≡ tableLeft (tablesShort (now (keys .entry)) (now (high .entry)) (now (low .entry))) 0 (now (keys .entry))
+        ⌝ }
+    ensures high_left { λ _. ⌜
+        now (high .exit)
+        ≡ tableLeft (tablesShort (now (keys .entry)) (now (high .entry)) (now (low .entry))) (pos 0)
+        (now (high .entry))
+        ⌝ }
+    ensures low_left { λ _. ⌜
+        now (low .exit)
+        ≡ tableLeft (tablesShort (now (keys .entry)) (now (high .entry)) (now (low .entry))) 0 (now (low .entry))
+        ⌝ }
+    ensures accepted { λ r. ⌜
+        AcceptedExactly (tablesShort (now (keys .entry)) (now (high .entry)) (now (low .entry)))
+        (now (problem .entry)) (now (certificate .entry)) (r .refusal .number)
+        ⌝ }
     ensures rounds { λ r. ⌜ RoundsTaken (now (problem .entry)) (r .refusal .number) (r .rounds) ⌝ }
     ensures few_rounds { λ r. ⌜ FewRounds (now (problem .entry)) (r .refusal .number) (r .rounds) ⌝ }
 {
@@ -330,8 +387,17 @@ fn pair_both(
     high: &mut [i64],
     low: &mut [u64],
 ) -> PairVerdict
-    requires { ⌜ JoinedProblem p j (now keys) (now index) × Below 0 (now g) × (2048 ≤ length (now high)) × (2048 ≤ length (now low)) ⌝ }
-    ensures { λ r. ⌜ (r ≡ pairFirst (problemOf p) (J.judge (problemOf p) (now (first .entry))) (now (second .entry))) × (drop 2048 (now (high .exit)) ≡ drop 2048 (now (high .entry))) × (drop 2048 (now (low .exit)) ≡ drop 2048 (now (low .entry))) ⌝ }
+    requires { ⌜
+        JoinedProblem p j (now keys) (now index)
+        × Below 0 (now g)
+        × (2048 ≤ length (now high))
+        × (2048 ≤ length (now low))
+        ⌝ }
+    ensures { λ r. ⌜
+        (r ≡ pairFirst (problemOf p) (J.judge (problemOf p) (now (first .entry))) (now (second .entry)))
+        × (drop 2048 (now (high .exit)) ≡ drop 2048 (now (high .entry)))
+        × (drop 2048 (now (low .exit)) ≡ drop 2048 (now (low .entry)))
+        ⌝ }
 {
     match certificate_judge::judge(1, p, j, first, keys, index, g, lasts, high, low) {
         Judged::Refused(f) => refuse_pair(f),
@@ -353,7 +419,11 @@ fn pair_of(
     low: &mut [u64],
 ) -> PairVerdict
     requires { ⌜ Kept p × Limits (problemOf p) × Long (now keys) (now high) (now low) ⌝ }
-    ensures { λ r. ⌜ (r ≡ pairOf (problemOf p) (now (first .entry)) (now (second .entry))) × Rest (now (keys .entry)) (now (high .entry)) (now (low .entry)) (now (keys .exit)) (now (high .exit)) (now (low .exit)) ⌝ }
+    ensures { λ r. ⌜
+        (r ≡ pairOf (problemOf p) (now (first .entry)) (now (second .entry)))
+        × Rest (now (keys .entry)) (now (high .entry)) (now (low .entry)) (now (keys .exit)) (now (high .exit))
+        (now (low .exit))
+        ⌝ }
 {
     let mut index = [0u16; 6144];
     let j = closure::join(p, keys, &mut index);
@@ -386,7 +456,11 @@ fn answer_pair(
     low: &mut [u64],
 ) -> PairVerdict
     requires { ⌜ Long (now keys) (now high) (now low) ⌝ }
-    ensures { λ r. ⌜ (r ≡ pairRead (readProblem (now (problem .entry))) (now (first .entry)) (now (second .entry))) × Rest (now (keys .entry)) (now (high .entry)) (now (low .entry)) (now (keys .exit)) (now (high .exit)) (now (low .exit)) ⌝ }
+    ensures { λ r. ⌜
+        (r ≡ pairRead (readProblem (now (problem .entry))) (now (first .entry)) (now (second .entry)))
+        × Rest (now (keys .entry)) (now (high .entry)) (now (low .entry)) (now (keys .exit)) (now (high .exit))
+        (now (low .exit))
+        ⌝ }
 {
     let r = problem_reader::read(problem);
     let number = r.number;
@@ -405,11 +479,28 @@ pub fn pair(
     high: &mut [i64],
     low: &mut [u64],
 ) -> PairVerdict
-    ensures verdict { λ r. ⌜ r ≡ pairVerdict (tablesShort (now (keys .entry)) (now (high .entry)) (now (low .entry))) (now (problem .entry)) (now (first .entry)) (now (second .entry)) ⌝ }
-    ensures keys_left { λ _. ⌜ now (keys .exit) ≡ tableLeft (tablesShort (now (keys .entry)) (now (high .entry)) (now (low .entry))) 0 (now (keys .entry)) ⌝ }
-    ensures high_left { λ _. ⌜ now (high .exit) ≡ tableLeft (tablesShort (now (keys .entry)) (now (high .entry)) (now (low .entry))) (pos 0) (now (high .entry)) ⌝ }
-    ensures low_left { λ _. ⌜ now (low .exit) ≡ tableLeft (tablesShort (now (keys .entry)) (now (high .entry)) (now (low .entry))) 0 (now (low .entry)) ⌝ }
-    ensures accepted { λ r. ⌜ PairExactly (tablesShort (now (keys .entry)) (now (high .entry)) (now (low .entry))) (now (problem .entry)) (now (first .entry)) (now (second .entry)) r ⌝ }
+    ensures verdict { λ r. ⌜
+        r
+        ≡ pairVerdict (tablesShort (now (keys .entry)) (now (high .entry)) (now (low .entry))) (now (problem .entry))
+        (now (first .entry)) (now (second .entry))
+        ⌝ }
+    ensures keys_left { λ _. ⌜
+        now (keys .exit)
+        ≡ tableLeft (tablesShort (now (keys .entry)) (now (high .entry)) (now (low .entry))) 0 (now (keys .entry))
+        ⌝ }
+    ensures high_left { λ _. ⌜
+        now (high .exit)
+        ≡ tableLeft (tablesShort (now (keys .entry)) (now (high .entry)) (now (low .entry))) (pos 0)
+        (now (high .entry))
+        ⌝ }
+    ensures low_left { λ _. ⌜
+        now (low .exit)
+        ≡ tableLeft (tablesShort (now (keys .entry)) (now (high .entry)) (now (low .entry))) 0 (now (low .entry))
+        ⌝ }
+    ensures accepted { λ r. ⌜
+        PairExactly (tablesShort (now (keys .entry)) (now (high .entry)) (now (low .entry))) (now (problem .entry))
+        (now (first .entry)) (now (second .entry)) r
+        ⌝ }
     ensures below { λ r. ⌜ HoldsBelow (now (problem .entry)) (r .refusal .number) (r .lower) ⌝ }
     ensures above { λ r. ⌜ HoldsAbove (now (problem .entry)) (r .refusal .number) (r .upper) ⌝ }
     ensures gap { λ r. ⌜ HoldsGap (now (problem .entry)) (r .refusal .number) (r .gap) ⌝ }

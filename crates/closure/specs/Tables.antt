@@ -18,8 +18,8 @@ pub record Multipliers (exponents counts : List ℕ) : Type 0 where
   pub exponents-long : length exponents ≡ 288
   pub exponents-low : Bounded (16 * 2 ^ 56) exponents
 
--- what is left where the rounds end in o: the table t′ holds the closed S with the zero exponent, and idx′ is its index, unless it has
--- more than 2,048 members
+-- what is left where the rounds end in o: the table t′ holds the closed S with the zero exponent, and idx′ is its
+-- index, unless it has more than 2,048 members
 pub record ClosureLeft (o : Closing) (t : List ℕ) (r : Joined) (t′ idx′ : List ℕ) : Type 0 where
   pub full : r .full ≡ ltb 2048 (length (closedWithZero o))
   pub labels : r .full ≡ false → r .labels ≡ blockBytes (o .state .labels)

@@ -1,6 +1,6 @@
-// The joining rule applied to a problem: from its start to the closed support and the blocks. Basis j stands from place 64j on
-// in `keys`, the exponents of its multiplier from place 32j on in `exponents`, as in the crate whole_rounds. The first `len` numbers of
-// `table` are the support, in the order in which they came, with `index`.
+// The joining rule applied to a problem: from its start to the closed support and the blocks. Basis j stands from place
+// 64j on in `keys`, the exponents of its multiplier from place 32j on in `exponents`, as in the crate whole_rounds. The
+// first `len` numbers of `table` are the support, in the order in which they came, with `index`.
 ghost use mathlib.Core.Path.{_≡_};
 ghost use mathlib.Core.Bool.{true};
 ghost use mathlib.Core.List.{[]};
@@ -23,8 +23,15 @@ use problem_reader::StoredProblem;
 
 // The support with each key times `factor` put in; 2,049 where it has too many.
 fn put_keys(table: &mut [u64], index: &mut [u16], len: usize, keys: &[u64], factor: u64) -> usize
-    requires { ⌜ (Holds (now table) len × Indexed (now index) (now table) len) × Bounded (32 * 2 ^ 56) (now keys) × (factor ≤ 2) ⌝ }
-    ensures { λ r. ⌜ Stored len (insertAll (multiples factor (now (keys .entry))) (keysIn len (now (table .entry)))) (now (table .entry)) r (now (table .exit)) (now (index .exit)) ⌝ }
+    requires { ⌜
+        (Holds (now table) len × Indexed (now index) (now table) len)
+        × Bounded (32 * 2 ^ 56) (now keys)
+        × (factor ≤ 2)
+        ⌝ }
+    ensures { λ r. ⌜
+        Stored len (insertAll (multiples factor (now (keys .entry))) (keysIn len (now (table .entry))))
+        (now (table .entry)) r (now (table .exit)) (now (index .exit))
+        ⌝ }
 {
     let mut n = len;
     let mut i = 0;
@@ -47,8 +54,16 @@ fn put_multiplier(
     counts: &[usize],
     j: usize,
 ) -> usize
-    requires { ⌜ (Holds (now table) len × Indexed (now index) (now table) len) × Multipliers (now exponents) (now counts) × (j < 9) ⌝ }
-    ensures { λ r. ⌜ Stored len (insertAll (part 32 (now (counts .entry)) (now (exponents .entry)) j) (keysIn len (now (table .entry)))) (now (table .entry)) r (now (table .exit)) (now (index .exit)) ⌝ }
+    requires { ⌜
+        (Holds (now table) len × Indexed (now index) (now table) len)
+        × Multipliers (now exponents) (now counts)
+        × (j < 9)
+        ⌝ }
+    ensures { λ r. ⌜
+        Stored len
+        (insertAll (part 32 (now (counts .entry)) (now (exponents .entry)) j) (keysIn len (now (table .entry))))
+        (now (table .entry)) r (now (table .exit)) (now (index .exit))
+        ⌝ }
 {
     let a = 32 * j;
     let e = a + counts[j];
@@ -63,8 +78,14 @@ fn put_constraints(
     exponents: &[u64],
     counts: &[usize],
 ) -> usize
-    requires { ⌜ (Holds (now table) len × Indexed (now index) (now table) len) × Multipliers (now exponents) (now counts) ⌝ }
-    ensures { λ r. ⌜ Stored len (fromTo 1 9 (λ j. insertAll (part 32 (now (counts .entry)) (now (exponents .entry)) j)) (keysIn len (now (table .entry)))) (now (table .entry)) r (now (table .exit)) (now (index .exit)) ⌝ }
+    requires { ⌜
+        (Holds (now table) len × Indexed (now index) (now table) len) × Multipliers (now exponents) (now counts)
+        ⌝ }
+    ensures { λ r. ⌜
+        Stored len
+        (fromTo 1 9 (λ j. insertAll (part 32 (now (counts .entry)) (now (exponents .entry)) j))
+        (keysIn len (now (table .entry)))) (now (table .entry)) r (now (table .exit)) (now (index .exit))
+        ⌝ }
 {
     let mut n = len;
     let mut j = 1;
@@ -80,8 +101,16 @@ fn put_constraints(
 
 // The exponents of the objective alone.
 fn put_objective(q: Objective, table: &mut [u64], index: &mut [u16]) -> usize
-    requires { ⌜ (2048 ≤ length (now table)) × Indexed (now index) (now table) 0 × (q .count ≤ 256) × Bounded (32 * 2 ^ 56) (q .keys) ⌝ }
-    ensures { λ r. ⌜ Stored 0 (insertAll (keysOf (objectiveTerms q)) []) (now (table .entry)) r (now (table .exit)) (now (index .exit)) ⌝ }
+    requires { ⌜
+        (2048 ≤ length (now table))
+        × Indexed (now index) (now table) 0
+        × (q .count ≤ 256)
+        × Bounded (32 * 2 ^ 56) (q .keys)
+        ⌝ }
+    ensures { λ r. ⌜
+        Stored 0 (insertAll (keysOf (objectiveTerms q)) []) (now (table .entry)) r (now (table .exit))
+        (now (index .exit))
+        ⌝ }
 {
     let keys = q.keys;
     let n = q.count;
@@ -98,8 +127,19 @@ fn seed(
     table: &mut [u64],
     index: &mut [u16],
 ) -> usize
-    requires { ⌜ (2048 ≤ length (now table)) × Indexed (now index) (now table) 0 × (q .count ≤ 256) × Bounded (32 * 2 ^ 56) (q .keys) × Arrays (now keys) (now sizes) (now exponents) (now counts) ⌝ }
-    ensures { λ r. ⌜ Stored 0 (startFrom (keysOf (objectiveTerms q)) (basesIn (now (keys .entry)) (now (sizes .entry)) (now (exponents .entry)) (now (counts .entry)))) (now (table .entry)) r (now (table .exit)) (now (index .exit)) ⌝ }
+    requires { ⌜
+        (2048 ≤ length (now table))
+        × Indexed (now index) (now table) 0
+        × (q .count ≤ 256)
+        × Bounded (32 * 2 ^ 56) (q .keys)
+        × Arrays (now keys) (now sizes) (now exponents) (now counts)
+        ⌝ }
+    ensures { λ r. ⌜
+        Stored 0
+        (startFrom (keysOf (objectiveTerms q))
+        (basesIn (now (keys .entry)) (now (sizes .entry)) (now (exponents .entry)) (now (counts .entry))))
+        (now (table .entry)) r (now (table .exit)) (now (index .exit))
+        ⌝ }
 {
     let a = put_objective(q, table, index);
     if 2048 < a {
@@ -113,8 +153,8 @@ fn seed(
     put_keys(table, index, b, &keys[..n], 2)
 }
 
-// What the joining rule leaves: the block numbers, the number of rounds and of blocks, and how many keys the closed support has
-// with the zero exponent. Where that is more than 2,048, `full` says so and the other fields say nothing.
+// What the joining rule leaves: the block numbers, the number of rounds and of blocks, and how many keys the closed
+// support has with the zero exponent. Where that is more than 2,048, `full` says so and the other fields say nothing.
 pub struct Joined {
     pub full: bool,
     pub labels: [u8; 576],
@@ -135,8 +175,8 @@ fn too_many(labels: [u8; 576]) -> Joined
     }
 }
 
-// The joining rule from its start to its end, with an index that holds nothing. The table's first numbers are then the closed support
-// with the zero exponent, and the index is theirs.
+// The joining rule from its start to its end, with an index that holds nothing. The table's first numbers are then the
+// closed support with the zero exponent, and the index is theirs.
 pub fn settle(
     q: Objective,
     keys: &[u64],
@@ -146,8 +186,20 @@ pub fn settle(
     table: &mut [u64],
     index: &mut [u16],
 ) -> Joined
-    requires { ⌜ (2048 ≤ length (now table)) × Indexed (now index) (now table) 0 × (q .count ≤ 256) × Bounded (32 * 2 ^ 56) (q .keys) × Arrays (now keys) (now sizes) (now exponents) (now counts) ⌝ }
-    ensures { λ r. ⌜ ClosureLeft (closingOf (basesIn (now (keys .entry)) (now (sizes .entry)) (now (exponents .entry)) (now (counts .entry))) (startFrom (keysOf (objectiveTerms q)) (basesIn (now (keys .entry)) (now (sizes .entry)) (now (exponents .entry)) (now (counts .entry))))) (now (table .entry)) r (now (table .exit)) (now (index .exit)) ⌝ }
+    requires { ⌜
+        (2048 ≤ length (now table))
+        × Indexed (now index) (now table) 0
+        × (q .count ≤ 256)
+        × Bounded (32 * 2 ^ 56) (q .keys)
+        × Arrays (now keys) (now sizes) (now exponents) (now counts)
+        ⌝ }
+    ensures { λ r. ⌜
+        ClosureLeft
+        (closingOf (basesIn (now (keys .entry)) (now (sizes .entry)) (now (exponents .entry)) (now (counts .entry)))
+        (startFrom (keysOf (objectiveTerms q))
+        (basesIn (now (keys .entry)) (now (sizes .entry)) (now (exponents .entry)) (now (counts .entry)))))
+        (now (table .entry)) r (now (table .exit)) (now (index .exit))
+        ⌝ }
 {
     let start = whole_rounds::start_labels(sizes);
     let n = seed(q, keys, sizes, exponents, counts, table, index);
@@ -176,7 +228,9 @@ pub fn settle(
 // The joining rule of a stored problem.
 pub fn join(p: StoredProblem, table: &mut [u64], index: &mut [u16]) -> Joined
     requires { ⌜ (2048 ≤ length (now table)) × Indexed (now index) (now table) 0 × Kept p ⌝ }
-    ensures { λ r. ⌜ ClosureLeft (J.closing (problemOf p)) (now (table .entry)) r (now (table .exit)) (now (index .exit)) ⌝ }
+    ensures { λ r. ⌜
+        ClosureLeft (J.closing (problemOf p)) (now (table .entry)) r (now (table .exit)) (now (index .exit))
+        ⌝ }
 {
     let constraints = p.constraints;
     let m = problem_reader::multipliers_of(constraints, p.count);

@@ -1,12 +1,12 @@
-// The pair on three files, each to at most 65,536 bytes: problem.bin, low.bin and high.bin of the working folder, or those that the
-// program's arguments name.
+// The pair on three files, each to at most 65,536 bytes: problem.bin, low.bin and high.bin of the working folder, or
+// those that the program's arguments name.
 ghost use mathlib.Core.Path.{_≡_};
 ghost use Rattle.lines.specs.Texts.{textOf};
 ghost use Rattle.lines.specs.Answers.{answerTo, Answers};
 use lines::Text;
 
-// The bytes of a file, at the start of the buffer, and how many. A missing file is an empty stream, and so is one that cannot be
-// opened, which is said on standard error.
+// The bytes of a file, at the start of the buffer, and how many. A missing file is an empty stream, and so is one that
+// cannot be opened, which is said on standard error.
 fn read_file(path: &[u8], bytes: &mut [u8]) -> usize {
     let fd = os::open_read(path);
     if fd < 0 {

@@ -27,7 +27,8 @@ certificateSize C.Unknown = 0
 
 -- a command with its operands, at an offset: 10 side D p q; 11 j w; 12 i l
 abbrev pub certificateDecoded : Command → List ℕ → ℕ → Instruction
-certificateDecoded C.Header s at = I.Header (number 1 s (at + 1)) (number 2 s (at + 2)) (signed 31 (number 4 s (at + 4))) (number 2 s (at + 8))
+certificateDecoded C.Header s at =
+    I.Header (number 1 s (at + 1)) (number 2 s (at + 2)) (signed 31 (number 4 s (at + 4))) (number 2 s (at + 8))
 certificateDecoded C.Row s at = I.Row (number 1 s (at + 1)) (number 2 s (at + 2))
 certificateDecoded C.Entry s at = I.Entry (number 1 s (at + 1)) (signed 15 (number 2 s (at + 2)))
 certificateDecoded C.End s at = I.End

@@ -59,7 +59,11 @@ floorOf (e ∷ f ∷ es) = floorOf (f ∷ es)
 
 -- what the checks look at
 unfoldable pub progressOf : Certificate → Progress
-progressOf c = record { rows = length (c .rows); basis = lastRow (c .rows) .basis; floor = floorOf (lastRow (c .rows) .entries) }
+progressOf c = record {
+  rows = length (c .rows);
+  basis = lastRow (c .rows) .basis;
+  floor = floorOf (lastRow (c .rows) .entries);
+}
 
 -- ---- refusal 3: 10 stands "first, and only first", and "a 12 before any row, is misplaced"
 abbrev pub certificatePlaced : Progress → ℕ → Command → Bool
@@ -69,8 +73,8 @@ certificatePlaced g at C.Entry = ltb 0 at && ltb 0 (g .rows)
 certificatePlaced g at C.End = ltb 0 at
 certificatePlaced g at C.Unknown = false
 
--- ---- refusal 4: "side 0 lower, 1 upper; D and q at least 1"; a row "on basis j, 0 or a constraint of the problem, with weight w at
--- least 1"; an index "less than the basis's length"; "factors are never 0"
+-- ---- refusal 4: "side 0 lower, 1 upper; D and q at least 1"; a row "on basis j, 0 or a constraint of the problem,
+-- with weight w at least 1"; an index "less than the basis's length"; "factors are never 0"
 abbrev pub certificateOperandsFit : Shape → Progress → Instruction → Bool
 certificateOperandsFit h g (I.Header side d p q) = leb side 1 && (leb 1 d && leb 1 q)
 certificateOperandsFit h g (I.Row j w) = leb j (h .constraints) && leb 1 w
@@ -96,9 +100,23 @@ abbrev pub withEntry : Row → Entry → Row
 withEntry r e = record { basis = r .basis; weight = r .weight; entries = r .entries ++ (e ∷ []) }
 
 unfoldable pub certificateApplied : Certificate → Instruction → ℕ → Certificate
-certificateApplied c (I.Header side d p q) at = record { header = record { side = side; scale = d; p = p; q = q }; rows = c .rows }
-certificateApplied c (I.Row j w) at = record { header = c .header; rows = c .rows ++ (record { basis = j; weight = w; entries = [] } ∷ []) }
-certificateApplied c (I.Entry i l) at = record { header = c .header; rows = set (c .rows) (length (c .rows) - 1) (withEntry (lastRow (c .rows)) (record { index = i; factor = l; place = at })) }
+certificateApplied c (I.Header side d p q) at = record {
+  header = record {
+    side = side;
+    scale = d;
+    p = p;
+    q = q;
+  };
+  rows = c .rows;
+}
+certificateApplied c (I.Row j w) at = record {
+  header = c .header;
+  rows = c .rows ++ (record { basis = j; weight = w; entries = [] } ∷ []);
+}
+certificateApplied c (I.Entry i l) at = record {
+  header = c .header;
+  rows = set (c .rows) (length (c .rows) - 1) (withEntry (lastRow (c .rows)) (record { index = i; factor = l; place = at }));
+}
 certificateApplied c I.End at = c
 
 -- ---- the command at an offset
@@ -110,8 +128,10 @@ certificateInstructionAt s at = certificateDecoded (certificateCommandAt s at) s
 
 unfoldable pub progressVerdict : Shape → Progress → List ℕ → ℕ → ℕ
 progressVerdict h g s at =
-    firstRefusal (certificatePlaced g at (certificateCommandAt s at)) (leb (at + certificateSize (certificateCommandAt s at)) (length s))
-    (certificateOperandsFit h g (certificateInstructionAt s at)) (certificateRepeated g (certificateInstructionAt s at)) (certificateFull g (certificateInstructionAt s at))
+    firstRefusal (certificatePlaced g at (certificateCommandAt s at))
+    (leb (at + certificateSize (certificateCommandAt s at)) (length s))
+    (certificateOperandsFit h g (certificateInstructionAt s at))
+    (certificateRepeated g (certificateInstructionAt s at)) (certificateFull g (certificateInstructionAt s at))
 
 unfoldable pub certificateRefusalAt : Shape → Certificate → List ℕ → ℕ → ℕ
 certificateRefusalAt h c s at = progressVerdict h (progressOf c) s at
@@ -121,7 +141,12 @@ certificateNext c s at = certificateApplied c (certificateInstructionAt s at) at
 
 -- ---- the certificate stream
 abbrev pub certificateLanguage : Shape → Language Certificate
-certificateLanguage h = record { verdict = certificateRefusalAt h; next = certificateNext; size = λ b. certificateSize (certificateCommand b); ending = 0x13 }
+certificateLanguage h = record {
+  verdict = certificateRefusalAt h;
+  next = certificateNext;
+  size = λ b. certificateSize (certificateCommand b);
+  ending = 0x13;
+}
 
 unfoldable pub readCertificate : Shape → List ℕ → Outcome Certificate
 readCertificate h s = readWhole (certificateLanguage h) noCertificate s

@@ -12,7 +12,8 @@ pub data Outcome (A : Type 0) : Type 0 where
 
 -- "by commands, each checked 3, 2, 4, 5, 6": the number of the first check that fails, or 0
 unfoldable pub firstRefusal : Bool → Bool → Bool → Bool → Bool → ℕ
-firstRefusal placed whole allowed repeated full = cond (not placed) 3 (cond (not whole) 2 (cond (not allowed) 4 (cond repeated 5 (cond full 6 0))))
+firstRefusal placed whole allowed repeated full =
+    cond (not placed) 3 (cond (not whole) 2 (cond (not allowed) 4 (cond repeated 5 (cond full 6 0))))
 
 -- a kind of stream. A is what has been read so far
 pub record Language (A : Type 0) : Type 0 where
@@ -25,9 +26,9 @@ pub record Language (A : Type 0) : Type 0 where
   -- the byte of the end command
   pub ending : ℕ
 
--- from the command at an offset on. A stream that ends without its end is refused with 2 at its length, a command that fails a
--- check at its own first byte, and bytes after the end command with 2 at the first of them. A command has at least one byte, so
--- the number of commands left is never used up
+-- from the command at an offset on. A stream that ends without its end is refused with 2 at its length, a command that
+-- fails a check at its own first byte, and bytes after the end command with 2 at the first of them. A command has at
+-- least one byte, so the number of commands left is never used up
 unfoldable pub run : {A : Type 0} → Language A → ℕ → A → List ℕ → ℕ → Outcome A
 run l zero a s at = refused 2 (length s)
 run l (suc left) a s at =

@@ -6,8 +6,8 @@ use lib.Dec.{ltb}
 use lib.IntN.{ℤ, pos, _-ℤ_}
 use lib.ListN.{getD}
 
--- the unsigned number that w bytes at an offset give, the first byte the lowest. For the 8 exponent bytes of a monomial this
--- is the key: "the sum of e_i × 256^(i−1)"
+-- the unsigned number that w bytes at an offset give, the first byte the lowest. For the 8 exponent bytes of a monomial
+-- this is the key: "the sum of e_i × 256^(i−1)"
 unfoldable pub number : ℕ → List ℕ → ℕ → ℕ
 number zero s at = 0
 number (suc w) s at = getD s at 0 + 256 * number w s (at + 1)

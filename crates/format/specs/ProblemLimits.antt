@@ -1,4 +1,5 @@
--- The limits that every problem keeps that a stream gives (proofs/ProblemLimits.antt), and the counts N and B of its commands.
+-- The limits that every problem keeps that a stream gives (proofs/ProblemLimits.antt), and the counts N and B of its
+-- commands.
 use mathlib.Core.Path.{_≡_}
 use mathlib.Core.Bool.{Bool, true, false, cond, _&&_, _||_}
 use mathlib.Core.List.{List, [], _∷_}

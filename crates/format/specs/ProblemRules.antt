@@ -81,11 +81,36 @@ problemFull p I.End = false
 
 -- ---- what a command that is not refused does
 unfoldable pub problemApplied : Problem → Instruction → Problem
-problemApplied p (I.Variables n) = record { variables = n; objective = p .objective; constraints = p .constraints; bases = p .bases }
-problemApplied p (I.Objective k c) = record { variables = p .variables; objective = p .objective ++ (term k c ∷ []); constraints = p .constraints; bases = p .bases }
-problemApplied p I.Constraint = record { variables = p .variables; objective = p .objective; constraints = p .constraints ++ ([] ∷ []); bases = p .bases }
-problemApplied p (I.Term k c) = record { variables = p .variables; objective = p .objective; constraints = appendAt (p .constraints) (length (p .constraints) - 1) (term k c); bases = p .bases }
-problemApplied p (I.Member j k) = record { variables = p .variables; objective = p .objective; constraints = p .constraints; bases = appendAt (p .bases) j k }
+problemApplied p (I.Variables n) = record {
+  variables = n;
+  objective = p .objective;
+  constraints = p .constraints;
+  bases = p .bases;
+}
+problemApplied p (I.Objective k c) = record {
+  variables = p .variables;
+  objective = p .objective ++ (term k c ∷ []);
+  constraints = p .constraints;
+  bases = p .bases;
+}
+problemApplied p I.Constraint = record {
+  variables = p .variables;
+  objective = p .objective;
+  constraints = p .constraints ++ ([] ∷ []);
+  bases = p .bases;
+}
+problemApplied p (I.Term k c) = record {
+  variables = p .variables;
+  objective = p .objective;
+  constraints = appendAt (p .constraints) (length (p .constraints) - 1) (term k c);
+  bases = p .bases;
+}
+problemApplied p (I.Member j k) = record {
+  variables = p .variables;
+  objective = p .objective;
+  constraints = p .constraints;
+  bases = appendAt (p .bases) j k;
+}
 problemApplied p I.End = p
 
 -- ---- the command at an offset
@@ -97,15 +122,22 @@ problemInstructionAt s at = problemDecoded (problemCommandAt s at) s at
 
 unfoldable pub problemRefusalAt : Problem → List ℕ → ℕ → ℕ
 problemRefusalAt p s at =
-    firstRefusal (problemPlaced p at (problemCommandAt s at)) (leb (at + problemSize (problemCommandAt s at)) (length s))
-    (problemOperandsFit p (problemInstructionAt s at)) (problemRepeated p (problemInstructionAt s at)) (problemFull p (problemInstructionAt s at))
+    firstRefusal (problemPlaced p at (problemCommandAt s at))
+    (leb (at + problemSize (problemCommandAt s at)) (length s))
+    (problemOperandsFit p (problemInstructionAt s at)) (problemRepeated p (problemInstructionAt s at))
+    (problemFull p (problemInstructionAt s at))
 
 unfoldable pub problemNext : Problem → List ℕ → ℕ → Problem
 problemNext p s at = problemApplied p (problemInstructionAt s at)
 
 -- ---- the problem stream
 abbrev pub problemLanguage : Language Problem
-problemLanguage = record { verdict = problemRefusalAt; next = problemNext; size = λ b. problemSize (problemCommand b); ending = 6 }
+problemLanguage = record {
+  verdict = problemRefusalAt;
+  next = problemNext;
+  size = λ b. problemSize (problemCommand b);
+  ending = 6;
+}
 
 unfoldable pub readProblem : List ℕ → Outcome Problem
 readProblem s = readWhole problemLanguage noProblem s

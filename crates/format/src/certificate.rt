@@ -30,8 +30,8 @@ pub struct Header {
     pub q: u16,
 }
 
-// What the checks of a command look at: how many rows have begun, the basis of the row begun last, and the least index that its
-// next entry may have.
+// What the checks of a command look at: how many rows have begun, the basis of the row begun last, and the least index
+// that its next entry may have.
 pub struct Progress {
     pub rows: usize,
     pub basis: usize,

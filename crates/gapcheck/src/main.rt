@@ -1,4 +1,5 @@
-// gapcheck: whether two certificates hold for a problem, and the bounds and the gap that they prove. Its run is case F of document 01.
+// gapcheck: whether two certificates hold for a problem, and the bounds and the gap that they prove. Its run is case F
+// of document 01.
 use libc::STDOUT_FILENO;
 
 fn main() {

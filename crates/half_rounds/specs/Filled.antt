@@ -18,8 +18,8 @@ pub record Extending (first : Bool) (t idx : List ℕ) (len : ℕ) (B T L L₀ :
   pub before : length L₀ ≡ length B
   pub filled : Filled first T B L₀ (keysIn len t)
 
--- `marks` has a place for every block number. One that has 0 is no block's, or that of a block of the round before: each of the first
--- n indices that has this number had it then
+-- `marks` has a place for every block number. One that has 0 is no block's, or that of a block of the round before:
+-- each of the first n indices that has this number had it then
 pub record Marked (first : Bool) (L L₀ : List ℕ) (n : ℕ) (marks : List ℕ) : Type 0 where
   pub long : length marks ≡ 256
   pub at : (k : ℕ) → k < n → getD marks (getD L k 0) 0 ≡ 0 → (first ≡ false) × (getD L₀ k 0 ≡ getD L k 0)

@@ -1,5 +1,5 @@
--- The sums b + b' of one basis that the parities of the exponents rule out. S, T and B are as in Join.antt of joining_rule; a class is the parities
--- of a monomial's exponents.
+-- The sums b + b' of one basis that the parities of the exponents rule out. S, T and B are as in Join.antt of
+-- joining_rule; a class is the parities of a monomial's exponents.
 use mathlib.Core.Path.{_≡_}
 use mathlib.Core.Bool.{false}
 use mathlib.Core.List.{List}

@@ -1,5 +1,5 @@
-// The joining rule for one basis: `basis` has the keys of its monomials, `exponents` those of its multiplier, `labels` the
-// block number of each index. The first `len` numbers of `table` are the support, and `index` is its index.
+// The joining rule for one basis: `basis` has the keys of its monomials, `exponents` those of its multiplier, `labels`
+// the block number of each index. The first `len` numbers of `table` are the support, and `index` is its index.
 ghost use mathlib.Core.Path.{_≡_};
 ghost use mathlib.Core.Bool.{true, false};
 ghost use mathlib.Core.List.{map};
@@ -72,8 +72,14 @@ fn is_linked_sum(
     exponents: &[u64],
     s: u64,
 ) -> bool
-    requires { ⌜ ForSums (now table) (now index) len (now exponents) s × Apart (now exponents) (now apart) (keysIn len (now table)) ⌝ }
-    ensures { λ r. ⌜ (r ≡ linked (keysIn len (now (table .entry))) (now (exponents .entry)) s) × Apart (now (exponents .entry)) (now (apart .exit)) (keysIn len (now (table .entry))) ⌝ }
+    requires { ⌜
+        ForSums (now table) (now index) len (now exponents) s
+        × Apart (now exponents) (now apart) (keysIn len (now table))
+        ⌝ }
+    ensures { λ r. ⌜
+        (r ≡ linked (keysIn len (now (table .entry))) (now (exponents .entry)) s)
+        × Apart (now (exponents .entry)) (now (apart .exit)) (keysIn len (now (table .entry)))
+        ⌝ }
 {
     if apart.len() < 1021 {
         return is_linked(table, index, len, exponents, s);
@@ -89,8 +95,8 @@ fn is_linked_sum(
     false
 }
 
-// The blocks of the indices i and k made one, where the pair is linked. A pair in one block needs no look at the support, nor
-// does one that its class rules out.
+// The blocks of the indices i and k made one, where the pair is linked. A pair in one block needs no look at the
+// support, nor does one that its class rules out.
 fn join_pair(
     labels: &mut [u8],
     apart: &mut [u64],
@@ -104,8 +110,19 @@ fn join_pair(
     i: usize,
     k: usize,
 )
-    requires { ⌜ JoiningAsks (now table) (now index) len (now basis) (now exponents) (now labels) × Apart (now exponents) (now apart) (keysIn len (now table)) × Ruled (keysIn len (now table)) (now exponents) (now basis) (now classes) (now possible) × (i < length (now basis)) × (k < length (now basis)) ⌝ }
-    ensures { λ _. ⌜ (now (labels .exit) ≡ joinPair (keysIn len (now (table .entry))) (now (exponents .entry)) (now (basis .entry)) i k (now (labels .entry))) × Apart (now (exponents .entry)) (now (apart .exit)) (keysIn len (now (table .entry))) ⌝ }
+    requires { ⌜
+        JoiningAsks (now table) (now index) len (now basis) (now exponents) (now labels)
+        × Apart (now exponents) (now apart) (keysIn len (now table))
+        × Ruled (keysIn len (now table)) (now exponents) (now basis) (now classes) (now possible)
+        × (i < length (now basis))
+        × (k < length (now basis))
+        ⌝ }
+    ensures { λ _. ⌜
+        (now (labels .exit)
+        ≡ joinPair (keysIn len (now (table .entry))) (now (exponents .entry)) (now (basis .entry)) i k
+        (now (labels .entry)))
+        × Apart (now (exponents .entry)) (now (apart .exit)) (keysIn len (now (table .entry)))
+        ⌝ }
 {
     let a = labels[i];
     let b = labels[k];
@@ -133,8 +150,18 @@ fn join_row(
     possible: &[u8; 256],
     i: usize,
 )
-    requires { ⌜ JoiningAsks (now table) (now index) len (now basis) (now exponents) (now labels) × Apart (now exponents) (now apart) (keysIn len (now table)) × Ruled (keysIn len (now table)) (now exponents) (now basis) (now classes) (now possible) × (i < length (now basis)) ⌝ }
-    ensures { λ _. ⌜ (now (labels .exit) ≡ joinRow (keysIn len (now (table .entry))) (now (exponents .entry)) (now (basis .entry)) i (now (labels .entry))) × Apart (now (exponents .entry)) (now (apart .exit)) (keysIn len (now (table .entry))) ⌝ }
+    requires { ⌜
+        JoiningAsks (now table) (now index) len (now basis) (now exponents) (now labels)
+        × Apart (now exponents) (now apart) (keysIn len (now table))
+        × Ruled (keysIn len (now table)) (now exponents) (now basis) (now classes) (now possible)
+        × (i < length (now basis))
+        ⌝ }
+    ensures { λ _. ⌜
+        (now (labels .exit)
+        ≡ joinRow (keysIn len (now (table .entry))) (now (exponents .entry)) (now (basis .entry)) i
+        (now (labels .entry)))
+        × Apart (now (exponents .entry)) (now (apart .exit)) (keysIn len (now (table .entry)))
+        ⌝ }
 {
     let mut k = i + 1;
     while k < basis.len() {
@@ -167,8 +194,15 @@ fn join_rows(
     classes: &[u8; 64],
     possible: &[u8; 256],
 )
-    requires { ⌜ JoiningAsks (now table) (now index) len (now basis) (now exponents) (now labels) × Apart (now exponents) (now apart) (keysIn len (now table)) × Ruled (keysIn len (now table)) (now exponents) (now basis) (now classes) (now possible) ⌝ }
-    ensures { λ _. ⌜ now (labels .exit) ≡ join (keysIn len (now (table .entry))) (now (exponents .entry)) (now (basis .entry)) (now (labels .entry)) ⌝ }
+    requires { ⌜
+        JoiningAsks (now table) (now index) len (now basis) (now exponents) (now labels)
+        × Apart (now exponents) (now apart) (keysIn len (now table))
+        × Ruled (keysIn len (now table)) (now exponents) (now basis) (now classes) (now possible)
+        ⌝ }
+    ensures { λ _. ⌜
+        now (labels .exit)
+        ≡ join (keysIn len (now (table .entry))) (now (exponents .entry)) (now (basis .entry)) (now (labels .entry))
+        ⌝ }
 {
     let mut i = 0;
     while i < basis.len() {
@@ -188,8 +222,8 @@ fn join_rows(
     }
 }
 
-// The joining of a basis by its pairs. `present` has 1 for the class of each member of the support. Where there are few exponents,
-// it is not worth while to rule sums out by their classes, nor to keep those that were seen.
+// The joining of a basis by its pairs. `present` has 1 for the class of each member of the support. Where there are few
+// exponents, it is not worth while to rule sums out by their classes, nor to keep those that were seen.
 pub fn join_pass(
     labels: &mut [u8],
     basis: &[u64],
@@ -199,8 +233,15 @@ pub fn join_pass(
     len: usize,
     present: &[u8; 256],
 )
-    requires { ⌜ JoiningAsks (now table) (now index) len (now basis) (now exponents) (now labels) × (length (now basis) ≤ 64) × Present (keysIn len (now table)) (now present) ⌝ }
-    ensures { λ _. ⌜ now (labels .exit) ≡ join (keysIn len (now (table .entry))) (now (exponents .entry)) (now (basis .entry)) (now (labels .entry)) ⌝ }
+    requires { ⌜
+        JoiningAsks (now table) (now index) len (now basis) (now exponents) (now labels)
+        × (length (now basis) ≤ 64)
+        × Present (keysIn len (now table)) (now present)
+        ⌝ }
+    ensures { λ _. ⌜
+        now (labels .exit)
+        ≡ join (keysIn len (now (table .entry))) (now (exponents .entry)) (now (basis .entry)) (now (labels .entry))
+        ⌝ }
 {
     if exponents.len() < 8 {
         let mut none = [0u64; 1];
@@ -235,11 +276,14 @@ pub fn join_pass(
     }
 }
 
-// The support with t + s put in for each exponent t of the multiplier, and the number of its keys: 2,049 where it would have more
-// than 2,048.
+// The support with t + s put in for each exponent t of the multiplier, and the number of its keys: 2,049 where it would
+// have more than 2,048.
 fn add_terms(table: &mut [u64], index: &mut [u16], len: usize, exponents: &[u64], s: u64) -> usize
     requires { ⌜ ForSums (now table) (now index) len (now exponents) s ⌝ }
-    ensures { λ r. ⌜ Stored len (addTerms (now (exponents .entry)) s (keysIn len (now (table .entry)))) (now (table .entry)) r (now (table .exit)) (now (index .exit)) ⌝ }
+    ensures { λ r. ⌜
+        Stored len (addTerms (now (exponents .entry)) s (keysIn len (now (table .entry)))) (now (table .entry)) r
+        (now (table .exit)) (now (index .exit))
+        ⌝ }
 {
     let mut n = len;
     let mut i = 0;
@@ -262,8 +306,14 @@ fn add_sum(
     exponents: &[u64],
     s: u64,
 ) -> usize
-    requires { ⌜ ForSums (now table) (now index) len (now exponents) s × Seen (now exponents) (now seen) (keysIn len (now table)) ⌝ }
-    ensures { λ r. ⌜ AddedSeen (now (exponents .entry)) (addTerms (now (exponents .entry)) s (keysIn len (now (table .entry)))) len (now (table .entry)) r (now (table .exit)) (now (index .exit)) (now (seen .exit)) ⌝ }
+    requires { ⌜
+        ForSums (now table) (now index) len (now exponents) s
+        × Seen (now exponents) (now seen) (keysIn len (now table))
+        ⌝ }
+    ensures { λ r. ⌜
+        AddedSeen (now (exponents .entry)) (addTerms (now (exponents .entry)) s (keysIn len (now (table .entry)))) len
+        (now (table .entry)) r (now (table .exit)) (now (index .exit)) (now (seen .exit))
+        ⌝ }
 {
     if seen.len() < 1021 {
         return add_terms(table, index, len, exponents, s);
@@ -277,8 +327,8 @@ fn add_sum(
     n
 }
 
-// The same for the indices i and k, where they are in one block. `old` has the blocks of the round before: after the first
-// round, what a pair of one of those adds is in the support already.
+// The same for the indices i and k, where they are in one block. `old` has the blocks of the round before: after the
+// first round, what a pair of one of those adds is in the support already.
 fn add_pair(
     table: &mut [u64],
     index: &mut [u16],
@@ -292,8 +342,18 @@ fn add_pair(
     i: usize,
     k: usize,
 ) -> usize
-    requires { ⌜ Extending first (now table) (now index) len (now basis) (now exponents) (now labels) (now old) × Seen (now exponents) (now seen) (keysIn len (now table)) × (i ≤ k) × (k < length (now basis)) ⌝ }
-    ensures { λ r. ⌜ AddedSeen (now (exponents .entry)) (addPair (now (exponents .entry)) (now (basis .entry)) (now (labels .entry)) i k (keysIn len (now (table .entry)))) len (now (table .entry)) r (now (table .exit)) (now (index .exit)) (now (seen .exit)) ⌝ }
+    requires { ⌜
+        Extending first (now table) (now index) len (now basis) (now exponents) (now labels) (now old)
+        × Seen (now exponents) (now seen) (keysIn len (now table))
+        × (i ≤ k)
+        × (k < length (now basis))
+        ⌝ }
+    ensures { λ r. ⌜
+        AddedSeen (now (exponents .entry))
+        (addPair (now (exponents .entry)) (now (basis .entry)) (now (labels .entry)) i k
+        (keysIn len (now (table .entry)))) len (now (table .entry)) r (now (table .exit)) (now (index .exit))
+        (now (seen .exit))
+        ⌝ }
 {
     if labels[i] != labels[k] {
         return len;
@@ -319,8 +379,17 @@ fn add_row(
     exponents: &[u64],
     i: usize,
 ) -> usize
-    requires { ⌜ Extending first (now table) (now index) len (now basis) (now exponents) (now labels) (now old) × Seen (now exponents) (now seen) (keysIn len (now table)) × (i < length (now basis)) ⌝ }
-    ensures { λ r. ⌜ AddedSeen (now (exponents .entry)) (addRow (now (exponents .entry)) (now (basis .entry)) (now (labels .entry)) i (keysIn len (now (table .entry)))) len (now (table .entry)) r (now (table .exit)) (now (index .exit)) (now (seen .exit)) ⌝ }
+    requires { ⌜
+        Extending first (now table) (now index) len (now basis) (now exponents) (now labels) (now old)
+        × Seen (now exponents) (now seen) (keysIn len (now table))
+        × (i < length (now basis))
+        ⌝ }
+    ensures { λ r. ⌜
+        AddedSeen (now (exponents .entry))
+        (addRow (now (exponents .entry)) (now (basis .entry)) (now (labels .entry)) i
+        (keysIn len (now (table .entry)))) len (now (table .entry)) r (now (table .exit)) (now (index .exit))
+        (now (seen .exit))
+        ⌝ }
 {
     let mut n = len;
     let mut k = i;
@@ -360,8 +429,18 @@ fn add_grown(
     exponents: &[u64],
     i: usize,
 ) -> usize
-    requires { ⌜ Extending first (now table) (now index) len (now basis) (now exponents) (now labels) (now old) × Marked first (now labels) (now old) (length (now labels)) (now grown) × Seen (now exponents) (now seen) (keysIn len (now table)) × (i < length (now basis)) ⌝ }
-    ensures { λ r. ⌜ AddedSeen (now (exponents .entry)) (addRow (now (exponents .entry)) (now (basis .entry)) (now (labels .entry)) i (keysIn len (now (table .entry)))) len (now (table .entry)) r (now (table .exit)) (now (index .exit)) (now (seen .exit)) ⌝ }
+    requires { ⌜
+        Extending first (now table) (now index) len (now basis) (now exponents) (now labels) (now old)
+        × Marked first (now labels) (now old) (length (now labels)) (now grown)
+        × Seen (now exponents) (now seen) (keysIn len (now table))
+        × (i < length (now basis))
+        ⌝ }
+    ensures { λ r. ⌜
+        AddedSeen (now (exponents .entry))
+        (addRow (now (exponents .entry)) (now (basis .entry)) (now (labels .entry)) i
+        (keysIn len (now (table .entry)))) len (now (table .entry)) r (now (table .exit)) (now (index .exit))
+        (now (seen .exit))
+        ⌝ }
 {
     let a = labels[i] as usize;
     if grown[a] == 0 {
@@ -394,8 +473,16 @@ fn add_rows(
     basis: &[u64],
     exponents: &[u64],
 ) -> usize
-    requires { ⌜ Extending first (now table) (now index) len (now basis) (now exponents) (now labels) (now old) × Marked first (now labels) (now old) (length (now labels)) (now grown) × Seen (now exponents) (now seen) (keysIn len (now table)) ⌝ }
-    ensures { λ r. ⌜ Stored len (extend (now (exponents .entry)) (now (basis .entry)) (now (labels .entry)) (keysIn len (now (table .entry)))) (now (table .entry)) r (now (table .exit)) (now (index .exit)) ⌝ }
+    requires { ⌜
+        Extending first (now table) (now index) len (now basis) (now exponents) (now labels) (now old)
+        × Marked first (now labels) (now old) (length (now labels)) (now grown)
+        × Seen (now exponents) (now seen) (keysIn len (now table))
+        ⌝ }
+    ensures { λ r. ⌜
+        Stored len
+        (extend (now (exponents .entry)) (now (basis .entry)) (now (labels .entry)) (keysIn len (now (table .entry))))
+        (now (table .entry)) r (now (table .exit)) (now (index .exit))
+        ⌝ }
 {
     let mut n = len;
     let mut i = 0;
@@ -439,10 +526,13 @@ fn is_settled(labels: &[u8], old: &[u8], first: bool) -> bool
     true
 }
 
-// The blocks that grew: the place of a block's number has 1 where an index of it had another number before, and in the first round.
+// The blocks that grew: the place of a block's number has 1 where an index of it had another number before, and in the
+// first round.
 fn mark_grown(grown: &mut [u8; 256], labels: &[u8], old: &[u8], first: bool)
     requires { ⌜ (length (now labels) ≡ length (now old)) × (length (now grown) ≡ 256) ⌝ }
-    ensures { λ _. ⌜ Marked first (now (labels .entry)) (now (old .entry)) (length (now (labels .entry))) (now (grown .exit)) ⌝ }
+    ensures { λ _. ⌜
+        Marked first (now (labels .entry)) (now (old .entry)) (length (now (labels .entry))) (now (grown .exit))
+        ⌝ }
 {
     let mut k = 0;
     while k < labels.len() {
@@ -454,8 +544,8 @@ fn mark_grown(grown: &mut [u8; 256], labels: &[u8], old: &[u8], first: bool)
     }
 }
 
-// The support's extension by a basis. Blocks that are as they were add nothing. Where there are few exponents, it is not worth
-// while to keep the sums that were seen.
+// The support's extension by a basis. Blocks that are as they were add nothing. Where there are few exponents, it is
+// not worth while to keep the sums that were seen.
 pub fn extend_pass(
     table: &mut [u64],
     index: &mut [u16],
@@ -467,7 +557,11 @@ pub fn extend_pass(
     exponents: &[u64],
 ) -> usize
     requires { ⌜ Extending first (now table) (now index) len (now basis) (now exponents) (now labels) (now old) ⌝ }
-    ensures { λ r. ⌜ Stored len (extend (now (exponents .entry)) (now (basis .entry)) (now (labels .entry)) (keysIn len (now (table .entry)))) (now (table .entry)) r (now (table .exit)) (now (index .exit)) ⌝ }
+    ensures { λ r. ⌜
+        Stored len
+        (extend (now (exponents .entry)) (now (basis .entry)) (now (labels .entry)) (keysIn len (now (table .entry))))
+        (now (table .entry)) r (now (table .exit)) (now (index .exit))
+        ⌝ }
 {
     if is_settled(labels, old, first) {
         return len;

@@ -51,13 +51,15 @@ pub record SmallestSum (table : List ℕ) (hi : List ℤ) (lo : List ℕ) (n m r
   pub least : r < n → (k : ℕ) → k < m → (valueAt hi lo k ≡ pos 0 → ⊥) → getD table r 0 ≤ getD table k 0
 
 -- the arrays have their lengths, and the rows keep their limits
-pub record Comparable (s keys exponents : List ℕ) (coefficients : List ℤ) (l : Lengths) (objective : Objective) : Type 0 where
+pub record Comparable (s keys exponents : List ℕ) (coefficients : List ℤ) (l : Lengths) (objective : Objective) :
+    Type 0 where
   pub flat : Flattened keys exponents coefficients l
   pub rows : ShapedRows (l .sizes) s
   pub objective-filled : FilledTerms 32 256 (objective .keys) (objective .coefficients) (objective .count)
 
 -- the arrays stand for the problem p, and the stream for the certificate c; the table holds the keys that are compared
-pub record Given (p : Problem) (c : Certificate) (s : List ℕ) (header : Header) (keys exponents : List ℕ) (coefficients : List ℤ) (l : Lengths) (objective : Objective) (table : List ℕ) (n : ℕ) : Type 0 where
+pub record Given (p : Problem) (c : Certificate) (s : List ℕ) (header : Header) (keys exponents : List ℕ)
+    (coefficients : List ℤ) (l : Lengths) (objective : Objective) (table : List ℕ) (n : ℕ) : Type 0 where
   pub limits : Limits p
   pub read : readCertificate (shapeOf p) s ≡ given c
   pub header-is : header ≡ c .header

@@ -28,14 +28,16 @@ pub record Spreadable (basis exponents : List ℕ) (coefficients : List ℤ) : T
   pub low : Bounded (16 * 2 ^ 56) exponents
 
 -- the sums grew by f, what a table gives, and all its entries are 0
-pub record Spread (keys : List ℕ) (n : ℕ) (f : ℕ → ℤ) (hi₀ : List ℤ) (lo₀ : List ℕ) (g₁ : List ℤ) (hi₁ : List ℤ) (lo₁ : List ℕ) : Type 0 where
+pub record Spread (keys : List ℕ) (n : ℕ) (f : ℕ → ℤ) (hi₀ : List ℤ) (lo₀ : List ℕ) (g₁ : List ℤ) (hi₁ : List ℤ)
+    (lo₁ : List ℕ) : Type 0 where
   pub grown : SumsGrown keys n hi₀ lo₀ f tableUnit hi₁ lo₁
   pub cleared : (x : ℕ) → x < 4096 → getD g₁ x (pos 0) ≡ pos 0
   pub long : length g₁ ≡ 4096
 
 -- the terms of g_j, from place 32j on in two arrays
 unfoldable pub multiplierIn : List ℕ → List ℤ → List ℕ → ℕ → List Term
-multiplierIn exponents coefficients counts j = termsIn (getD counts j 0) (drop (32 * j) exponents) (drop (32 * j) coefficients)
+multiplierIn exponents coefficients counts j =
+    termsIn (getD counts j 0) (drop (32 * j) exponents) (drop (32 * j) coefficients)
 
 -- the flat arrays of a problem
 pub record Flattened (keys exponents : List ℕ) (coefficients : List ℤ) (l : Lengths) : Type 0 where

@@ -30,7 +30,8 @@ pub record Ready (keys idx : List ℕ) (n : ℕ) (hi : List ℤ) (lo : List ℕ)
   pub small : (q : ℕ) → q < n → natAbs (valueAt hi lo q) + c ≤ 2 ^ 120
 
 -- at each of the first n keys the sum has grown by f of the key, and by at most c; nothing else has changed
-pub record SumsGrown (keys : List ℕ) (n : ℕ) (hi₀ : List ℤ) (lo₀ : List ℕ) (f : ℕ → ℤ) (c : ℕ) (hi₁ : List ℤ) (lo₁ : List ℕ) : Type 0 where
+pub record SumsGrown (keys : List ℕ) (n : ℕ) (hi₀ : List ℤ) (lo₀ : List ℕ) (f : ℕ → ℤ) (c : ℕ) (hi₁ : List ℤ)
+    (lo₁ : List ℕ) : Type 0 where
   pub there : (q : ℕ) → q < n → valueAt hi₁ lo₁ q ≡ valueAt hi₀ lo₀ q +ℤ f (getD keys q 0)
   pub near : (q : ℕ) → q < n → natAbs (valueAt hi₁ lo₁ q) ≤ natAbs (valueAt hi₀ lo₀ q) + c
   pub low : (q : ℕ) → q < n → getD lo₁ q 0 < base

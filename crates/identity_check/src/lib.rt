@@ -1,5 +1,5 @@
-// Refusal 9: whether the identity of a certificate that was read holds, key by key. Minus the claim and the weighted squares of the
-// rows are added up at each key that is compared; a sum that is not 0 is a difference.
+// Refusal 9: whether the identity of a certificate that was read holds, key by key. Minus the claim and the weighted
+// squares of the rows are added up at each key that is compared; a sum that is not 0 is a difference.
 ghost use mathlib.Core.Path.{_≡_};
 ghost use Prim.Native.Nat.{_+_, _*_, _^_, _≤_, _<_};
 ghost use lib.IntN.{pos, natAbs, negℤ, _*ℤ_};
@@ -48,7 +48,10 @@ fn add_term(
     c: i32,
 )
     requires { ⌜ Ready (now table) (now index) n (now hi) (now lo) unit × (natAbs x ≤ 2 ^ 60) ⌝ }
-    ensures { λ _. ⌜ SumsGrown (now (table .entry)) n (now (hi .entry)) (now (lo .entry)) (λ k. x *ℤ c *ℤ match k key) unit (now (hi .exit)) (now (lo .exit)) ⌝ }
+    ensures { λ _. ⌜
+        SumsGrown (now (table .entry)) n (now (hi .entry)) (now (lo .entry)) (λ k. x *ℤ c *ℤ match k key) unit
+        (now (hi .exit)) (now (lo .exit))
+        ⌝ }
 {
     let p = place_of(table, n, index, key);
     if p < n {
@@ -70,7 +73,12 @@ fn add_terms(
 )
     requires { ⌜ Ready (now table) (now index) n (now hi) (now lo) (length (now exponents) * unit) ⌝ }
     requires { ⌜ Addable (now exponents) (now coefficients) key x ⌝ }
-    ensures { λ _. ⌜ SumsGrown (now (table .entry)) n (now (hi .entry)) (now (lo .entry)) (λ k. x *ℤ sum (λ t. match k (key + t)) (termsIn (length (now (exponents .entry))) (now (exponents .entry)) (now (coefficients .entry)))) (length (now (exponents .entry)) * unit) (now (hi .exit)) (now (lo .exit)) ⌝ }
+    ensures { λ _. ⌜
+        SumsGrown (now (table .entry)) n (now (hi .entry)) (now (lo .entry))
+        (λ k. x *ℤ sum (λ t. match k (key + t))
+        (termsIn (length (now (exponents .entry))) (now (exponents .entry)) (now (coefficients .entry))))
+        (length (now (exponents .entry)) * unit) (now (hi .exit)) (now (lo .exit))
+        ⌝ }
 {
     let mut t = 0;
     while t < exponents.len() {
@@ -126,7 +134,13 @@ fn add_claim(
 )
     requires { ⌜ Ready (now table) (now index) n (now hi) (now lo) ((length (now exponents) + 1) * unit) ⌝ }
     requires { ⌜ Addable (now exponents) (now coefficients) 0 (pos 0) ⌝ }
-    ensures { λ _. ⌜ SumsGrown (now (table .entry)) n (now (hi .entry)) (now (lo .entry)) (λ k. negℤ (coefficient k (claimOf (termsIn (length (now (exponents .entry))) (now (exponents .entry)) (now (coefficients .entry))) t))) ((length (now (exponents .entry)) + 1) * unit) (now (hi .exit)) (now (lo .exit)) ⌝ }
+    ensures { λ _. ⌜
+        SumsGrown (now (table .entry)) n (now (hi .entry)) (now (lo .entry))
+        (λ k. negℤ
+        (coefficient k
+        (claimOf (termsIn (length (now (exponents .entry))) (now (exponents .entry)) (now (coefficients .entry))) t)))
+        ((length (now (exponents .entry)) + 1) * unit) (now (hi .exit)) (now (lo .exit))
+        ⌝ }
 {
     let f = negate(t.side, t.scale, t.p, t.q);
     let x = f.objective;
@@ -150,7 +164,12 @@ fn add_entry(
 )
     requires { ⌜ Ready (now table) (now index) n (now hi) (now lo) entryUnit ⌝ }
     requires { ⌜ Spreadable (now basis) (now exponents) (now coefficients) × Entered (2 ^ 60) (now basis) x a ⌝ }
-    ensures { λ _. ⌜ SumsGrown (now (table .entry)) n (now (hi .entry)) (now (lo .entry)) (λ k. a *ℤ share (now (basis .entry)) (termsIn (length (now (exponents .entry))) (now (exponents .entry)) (now (coefficients .entry))) k x) entryUnit (now (hi .exit)) (now (lo .exit)) ⌝ }
+    ensures { λ _. ⌜
+        SumsGrown (now (table .entry)) n (now (hi .entry)) (now (lo .entry))
+        (λ k. a *ℤ share (now (basis .entry))
+        (termsIn (length (now (exponents .entry))) (now (exponents .entry)) (now (coefficients .entry))) k x)
+        entryUnit (now (hi .exit)) (now (lo .exit))
+        ⌝ }
 {
     if a == 0 {
         return;
@@ -174,8 +193,15 @@ fn spread(
     lo: &mut [u64],
 )
     requires { ⌜ Ready (now table) (now index) n (now hi) (now lo) tableUnit ⌝ }
-    requires { ⌜ Spreadable (now basis) (now exponents) (now coefficients) × Framed (length (now basis)) (2 ^ 60) (now g) ⌝ }
-    ensures { λ _. ⌜ Spread (now (table .entry)) n (spreadAt (now (basis .entry)) (termsIn (length (now (exponents .entry))) (now (exponents .entry)) (now (coefficients .entry))) (now (g .entry))) (now (hi .entry)) (now (lo .entry)) (now (g .exit)) (now (hi .exit)) (now (lo .exit)) ⌝ }
+    requires { ⌜
+        Spreadable (now basis) (now exponents) (now coefficients) × Framed (length (now basis)) (2 ^ 60) (now g)
+        ⌝ }
+    ensures { λ _. ⌜
+        Spread (now (table .entry)) n
+        (spreadAt (now (basis .entry))
+        (termsIn (length (now (exponents .entry))) (now (exponents .entry)) (now (coefficients .entry)))
+        (now (g .entry))) (now (hi .entry)) (now (lo .entry)) (now (g .exit)) (now (hi .exit)) (now (lo .exit))
+        ⌝ }
 {
     let size = basis.len();
     let last = 64 * size;
@@ -199,7 +225,8 @@ fn spread(
     }
 }
 
-// How many places of the flat arrays' parts are used: the length of each basis, and the number of each multiplier's terms.
+// How many places of the flat arrays' parts are used: the length of each basis, and the number of each multiplier's
+// terms.
 pub struct Lengths {
     pub sizes: [usize; 9],
     pub counts: [usize; 9],
@@ -221,8 +248,17 @@ fn flush(
     lo: &mut [u64],
 )
     requires { ⌜ Ready (now table) (now index) n (now hi) (now lo) tableUnit ⌝ }
-    requires { ⌜ Flattened (now keys) (now exponents) (now coefficients) l × (j < 9) × Framed (getD (l .sizes) j 0) (2 ^ 53) (now g) ⌝ }
-    ensures { λ _. ⌜ Spread (now (table .entry)) n (halfAt (part 64 (l .sizes) (now (keys .entry)) j) (multiplierIn (now (exponents .entry)) (now (coefficients .entry)) (l .counts) j) (now (g .entry))) (now (hi .entry)) (now (lo .entry)) (now (g .exit)) (now (hi .exit)) (now (lo .exit)) ⌝ }
+    requires { ⌜
+        Flattened (now keys) (now exponents) (now coefficients) l
+        × (j < 9)
+        × Framed (getD (l .sizes) j 0) (2 ^ 53) (now g)
+        ⌝ }
+    ensures { λ _. ⌜
+        Spread (now (table .entry)) n
+        (halfAt (part 64 (l .sizes) (now (keys .entry)) j)
+        (multiplierIn (now (exponents .entry)) (now (coefficients .entry)) (l .counts) j) (now (g .entry)))
+        (now (hi .entry)) (now (lo .entry)) (now (g .exit)) (now (hi .exit)) (now (lo .exit))
+        ⌝ }
 {
     let a = 64 * j;
     let b = a + l.sizes[j];
@@ -235,8 +271,8 @@ fn flush(
     spread(g, basis, es, cs, table, n, index, hi, lo);
 }
 
-// Adds the weighted squares of the rows on basis j times its multiplier: their products are summed by their indices first, so that
-// a product with the multiplier is made once for all of them. An empty basis has no rows to look for.
+// Adds the weighted squares of the rows on basis j times its multiplier: their products are summed by their indices
+// first, so that a product with the multiplier is made once for all of them. An empty basis has no rows to look for.
 fn add_basis(
     g: &mut [i64; 4096],
     lasts: &mut [u16; 2048],
@@ -254,7 +290,12 @@ fn add_basis(
 )
     requires { ⌜ Ready (now table) (now index) n (now hi) (now lo) tableUnit × Below 0 (now g) × (j < 9) ⌝ }
     requires { ⌜ Flattened (now keys) (now exponents) (now coefficients) l × ShapedRows (l .sizes) (now s) ⌝ }
-    ensures { λ _. ⌜ Summed (λ p. squares p (rowsOn j (rowsOf (now (s .entry))))) (now (keys .entry)) (now (exponents .entry)) (now (coefficients .entry)) l (now (table .entry)) n 1 (now (hi .entry)) (now (lo .entry)) (now (hi .exit)) (now (lo .exit)) × Below 0 (now (g .exit)) ⌝ }
+    ensures { λ _. ⌜
+        Summed (λ p. squares p (rowsOn j (rowsOf (now (s .entry))))) (now (keys .entry)) (now (exponents .entry))
+        (now (coefficients .entry)) l (now (table .entry)) n 1 (now (hi .entry)) (now (lo .entry)) (now (hi .exit))
+        (now (lo .exit))
+        × Below 0 (now (g .exit))
+        ⌝ }
 {
     if l.sizes[j] != 0 {
         row_products::add_basis_rows(g, s, j);
@@ -275,7 +316,8 @@ fn add_basis(
     );
 }
 
-// Adds the weighted square of every row times its multiplier, basis by basis. The table of sums is empty before and after.
+// Adds the weighted square of every row times its multiplier, basis by basis. The table of sums is empty before and
+// after.
 fn sum_rows(
     g: &mut [i64; 4096],
     lasts: &mut [u16; 2048],
@@ -292,7 +334,12 @@ fn sum_rows(
 )
     requires { ⌜ Ready (now table) (now index) n (now hi) (now lo) (9 * tableUnit) × Below 0 (now g) ⌝ }
     requires { ⌜ Flattened (now keys) (now exponents) (now coefficients) l × ShapedRows (l .sizes) (now s) ⌝ }
-    ensures { λ _. ⌜ Summed (λ p. squares p (rowsOf (now (s .entry)))) (now (keys .entry)) (now (exponents .entry)) (now (coefficients .entry)) l (now (table .entry)) n 9 (now (hi .entry)) (now (lo .entry)) (now (hi .exit)) (now (lo .exit)) × Below 0 (now (g .exit)) ⌝ }
+    ensures { λ _. ⌜
+        Summed (λ p. squares p (rowsOf (now (s .entry)))) (now (keys .entry)) (now (exponents .entry))
+        (now (coefficients .entry)) l (now (table .entry)) n 9 (now (hi .entry)) (now (lo .entry)) (now (hi .exit))
+        (now (lo .exit))
+        × Below 0 (now (g .exit))
+        ⌝ }
 {
     let mut j: usize = 0;
     while j < 9 {
@@ -350,9 +397,10 @@ pub enum Difference {
     Differs(u64),
 }
 
-// Compares the claim with the weighted squares, at the first n numbers of `table`: minus the claim and all squares are added up at
-// each key, and a sum that is not 0 is a difference. Basis j stands from place 64j on in `keys`, and the multiplier g_j from place
-// 32j on in `exponents` and `coefficients`. `index` is the keys' index, and `g` the table of sums, which is empty before and after.
+// Compares the claim with the weighted squares, at the first n numbers of `table`: minus the claim and all squares are
+// added up at each key, and a sum that is not 0 is a difference. Basis j stands from place 64j on in `keys`, and the
+// multiplier g_j from place 32j on in `exponents` and `coefficients`. `index` is the keys' index, and `g` the table of
+// sums, which is empty before and after.
 pub fn compare(
     s: &[u8],
     header: format::certificate::Header,
@@ -369,9 +417,22 @@ pub fn compare(
     hi: &mut [i64],
     lo: &mut [u64],
 ) -> Difference
-    requires { ⌜ Zeroed (now table) n (now hi) (now lo) × Support.Indexed (now index) (now table) n × Below 0 (now g) × Comparable (now s) (now keys) (now exponents) (now coefficients) l objective ⌝ }
-    ensures difference { λ r. ⌜ ((p : Problem) (c : Certificate) → Given p c (now (s .entry)) header (now (keys .entry)) (now (exponents .entry)) (now (coefficients .entry)) l objective (now (table .entry)) n → r ≡ differenceOf (differenceKey p c)) ⌝ }
-    ensures tables { λ _. ⌜ Untouched (now (hi .entry)) (now (hi .exit)) × Untouched (now (lo .entry)) (now (lo .exit)) × Below 0 (now (g .exit)) ⌝ }
+    requires { ⌜
+        Zeroed (now table) n (now hi) (now lo)
+        × Support.Indexed (now index) (now table) n
+        × Below 0 (now g)
+        × Comparable (now s) (now keys) (now exponents) (now coefficients) l objective
+        ⌝ }
+    ensures difference { λ r. ⌜
+        ((p : Problem) (c : Certificate)
+        → Given p c (now (s .entry)) header (now (keys .entry)) (now (exponents .entry)) (now (coefficients .entry))
+        l objective (now (table .entry)) n → r ≡ differenceOf (differenceKey p c))
+        ⌝ }
+    ensures tables { λ _. ⌜
+        Untouched (now (hi .entry)) (now (hi .exit))
+        × Untouched (now (lo .entry)) (now (lo .exit))
+        × Below 0 (now (g .exit))
+        ⌝ }
 {
     let es = objective.keys;
     let cs = objective.coefficients;

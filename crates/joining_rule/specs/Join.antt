@@ -1,5 +1,6 @@
--- The first half of a round, for one basis. S is the support, T the exponents of the basis's multiplier g_j, B the basis,
--- each monomial by its key; L has the block number of each index of the basis. A block's number is its lowest index.
+-- The first half of a round, for one basis. S is the support, T the exponents of the basis's multiplier g_j, B the
+-- basis, each monomial by its key; L has the block number of each index of the basis. A block's number is its lowest
+-- index.
 use mathlib.Core.Bool.{Bool, true, false, cond}
 use mathlib.Core.List.{List, [], _∷_, map}
 use Prim.Native.Nat.{ℕ, _+_, min, max}

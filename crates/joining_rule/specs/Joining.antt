@@ -20,10 +20,11 @@ basesOf p = record { basis = basisOf p; multiplier = multiplierOf p }
 abbrev pub multiples : ℕ → List ℕ → List ℕ
 multiples c ks = map (λ (k : ℕ). c * k) ks
 
--- "S starts as all exponents of the objective and constraints, and 2b for each b in basis 0": the objective's exponents are
--- given, and the constraints are the multipliers 1 to 8
+-- "S starts as all exponents of the objective and constraints, and 2b for each b in basis 0": the objective's exponents
+-- are given, and the constraints are the multipliers 1 to 8
 unfoldable pub startFrom : List ℕ → Bases → List ℕ
-startFrom objective g = insertAll (multiples 2 (g .basis 0)) (fromTo 1 9 (λ j. insertAll (g .multiplier j)) (insertAll objective []))
+startFrom objective g =
+    insertAll (multiples 2 (g .basis 0)) (fromTo 1 9 (λ j. insertAll (g .multiplier j)) (insertAll objective []))
 
 unfoldable pub startSet : Problem → List ℕ
 startSet p = startFrom (keysOf (p .objective)) (basesOf p)

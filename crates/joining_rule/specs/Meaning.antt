@@ -18,14 +18,15 @@ pub record Pair (g : Bases) (j i k t : ℕ) : Type 0 where
   pub second : k < length (g .basis j)
   pub exponent : In t (g .multiplier j)
 
--- blocks, label j i for index i of basis j, and a set S that contain the start S₀ and are closed under the steps of a round
+-- blocks, label j i for index i of basis j, and a set S that contain the start S₀ and are closed under the steps of a
+-- round
 pub record Closed (g : Bases) (S₀ : List ℕ) (label : ℕ → ℕ → ℕ) (S : List ℕ) : Type 0 where
   pub starts : (x : ℕ) → In x S₀ → In x S
   pub joins : (j i k t : ℕ) → Pair g j i k t → In (sumOf g j i k t) S → label j i ≡ label j k
   pub adds : (j i k t : ℕ) → Pair g j i k t → label j i ≡ label j k → In (sumOf g j i k t) S
 
--- "any other blocks and set that contain the start and are closed under these steps", as tests: R j i k where i and k of
--- basis j are in one block, Q x where x is in the set
+-- "any other blocks and set that contain the start and are closed under these steps", as tests: R j i k where i and k
+-- of basis j are in one block, Q x where x is in the set
 pub record Other (g : Bases) (S₀ : List ℕ) (R : ℕ → ℕ → ℕ → Bool) (Q : ℕ → Bool) : Type 0 where
   pub reflexive : (j i : ℕ) → R j i i ≡ true
   pub symmetric : (j i k : ℕ) → R j i k ≡ true → R j k i ≡ true
@@ -36,7 +37,8 @@ pub record Other (g : Bases) (S₀ : List ℕ) (R : ℕ → ℕ → ℕ → Bool
 
 -- ".. have unions of these blocks and contain this S"
 pub record Least (g : Bases) (S₀ : List ℕ) (label : ℕ → ℕ → ℕ) (S : List ℕ) : Type 0 where
-  pub blocks : (R : ℕ → ℕ → ℕ → Bool) (Q : ℕ → Bool) → Other g S₀ R Q → (j i k : ℕ) → j < 9 → i < length (g .basis j) → k < length (g .basis j) → label j i ≡ label j k → R j i k ≡ true
+  pub blocks : (R : ℕ → ℕ → ℕ → Bool) (Q : ℕ → Bool) → Other g S₀ R Q → (j i k : ℕ) → j < 9 → i < length (g .basis j)
+      → k < length (g .basis j) → label j i ≡ label j k → R j i k ≡ true
   pub set : (R : ℕ → ℕ → ℕ → Bool) (Q : ℕ → Bool) → Other g S₀ R Q → (x : ℕ) → In x S → Q x ≡ true
 
 -- "A block's number is its lowest index"

@@ -77,7 +77,8 @@ closeFrom g (suc m) s c =
 unfoldable pub closingOf : Bases → List ℕ → Closing
 closingOf g S = closeFrom g 578 (start g S) 0
 
--- "The closed S with the zero exponent added": what is counted for refusal 7, and the keys at which an identity is compared
+-- "The closed S with the zero exponent added": what is counted for refusal 7, and the keys at which an identity is
+-- compared
 abbrev pub closedWithZero : Closing → List ℕ
 closedWithZero o = insert 0 (o .state .support)
 

@@ -1,5 +1,5 @@
--- The support in a lent table: its keys are the table's first numbers, each once, in the order in which they came. An index of 6,144
--- numbers finds them.
+-- The support in a lent table: its keys are the table's first numbers, each once, in the order in which they came. An
+-- index of 6,144 numbers finds them.
 use mathlib.Core.Path.{_≡_}
 use mathlib.Core.Bool.{cond, false}
 use mathlib.Core.List.{List, []}
@@ -31,8 +31,8 @@ unfoldable pub lastWith : ℕ → List ℕ → ℕ → ℕ
 lastWith h t zero = 0
 lastWith h t (suc n) = cond (eqb (getD t n 0 % 4093) h) (suc n) (lastWith h t n)
 
--- the index of the table's first n numbers: for each remainder the last of them, and for each of them the one before it with the
--- same remainder
+-- the index of the table's first n numbers: for each remainder the last of them, and for each of them the one before it
+-- with the same remainder
 pub record Indexed (idx t : List ℕ) (n : ℕ) : Type 0 where
   pub long : length idx ≡ 6144
   pub last : (h : ℕ) → h < 4093 → getD idx h 0 ≡ lastWith h t n
@@ -43,7 +43,8 @@ unfoldable pub noted : List ℕ → ℕ → ℕ → List ℕ
 noted idx n k = set (set idx (4096 + n) (getD idx (k % 4093) 0)) (k % 4093) (n + 1)
 
 -- ---- growth
--- the table t, grown to hold the set S: r is the number of its keys, which t′ holds, or 2,049 where S has more than 2,048
+-- the table t, grown to hold the set S: r is the number of its keys, which t′ holds, or 2,049 where S has more than
+-- 2,048
 pub record Grown (S t : List ℕ) (r : ℕ) (t′ : List ℕ) : Type 0 where
   pub count : r ≡ min (length S) 2049
   pub keys : r ≤ 2048 → keysIn r t′ ≡ S

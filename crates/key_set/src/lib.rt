@@ -1,6 +1,7 @@
-// The support set: keys in a lent table, its first `len` numbers, each once, in the order in which they came. An index finds them:
-// its place key % 4093 has one more than the place of the last key with that remainder, or 0, and its place 4096 + p has the same
-// for the keys before place p, so that a search goes from the last key with a remainder to the first.
+// The support set: keys in a lent table, its first `len` numbers, each once, in the order in which they came. An index
+// finds them: its place key % 4093 has one more than the place of the last key with that remainder, or 0, and its place
+// 4096 + p has the same for the keys before place p, so that a search goes from the last key with a remainder to the
+// first.
 ghost use mathlib.Core.Path.{_≡_};
 ghost use Prim.Native.Nat.{_%_, _<_};
 ghost use lib.ListN.{length, take};
@@ -61,7 +62,10 @@ fn note(index: &mut [u16], len: usize, key: u64)
 // The set with a key put in, and the number of its keys: 2,049 where it would have more than 2,048.
 pub fn put(table: &mut [u64], index: &mut [u16], len: usize, key: u64) -> usize
     requires { ⌜ Holds (now table) len × Indexed (now index) (now table) len ⌝ }
-    ensures { λ r. ⌜ Stored len (insert key (keysIn len (now (table .entry)))) (now (table .entry)) r (now (table .exit)) (now (index .exit)) ⌝ }
+    ensures { λ r. ⌜
+        Stored len (insert key (keysIn len (now (table .entry)))) (now (table .entry)) r (now (table .exit))
+        (now (index .exit))
+        ⌝ }
 {
     if contains(table, index, len, key) {
         return len;

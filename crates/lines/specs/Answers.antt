@@ -1,5 +1,5 @@
--- What gapcheck writes: the lines of the pair's verdict on three streams, "each to at most 65,536 bytes". That the streams are the
--- contents of the files is what no contract can say.
+-- What gapcheck writes: the lines of the pair's verdict on three streams, "each to at most 65,536 bytes". That the
+-- streams are the contents of the files is what no contract can say.
 use mathlib.Core.Path.{_≡_}
 use mathlib.Core.Bool.{false}
 use mathlib.Core.List.{List}

@@ -1,5 +1,5 @@
--- A joining by pairs of indices, whatever tells the pairs; and the joining by those members of the support that came last.
--- S, T, B and L are as in Join.antt of joining_rule, and F has the members that came last.
+-- A joining by pairs of indices, whatever tells the pairs; and the joining by those members of the support that came
+-- last. S, T, B and L are as in Join.antt of joining_rule, and F has the members that came last.
 use mathlib.Core.Path.{_≡_}
 use mathlib.Core.Logic.{_⊎_}
 use mathlib.Core.List.{List}
@@ -45,4 +45,5 @@ pub record Blocks (B L : List ℕ) : Type 0 where
 -- what all members of S link is in one block already, or a member that came last links it
 pub record Recent (S T B L F : List ℕ) : Type 0 where
   pub members : (x : ℕ) → In x F → In x S
-  pub at : (x y t : ℕ) → x < length B → y < length B → In t T → In (t + (getD B x 0 + getD B y 0)) S → Together L x y ⊎ In (t + (getD B x 0 + getD B y 0)) F
+  pub at : (x y t : ℕ) → x < length B → y < length B → In t T → In (t + (getD B x 0 + getD B y 0)) S
+      → Together L x y ⊎ In (t + (getD B x 0 + getD B y 0)) F

@@ -1,5 +1,5 @@
--- The index of a basis's pairs by their sums. Place 64i + k belongs to the pair of the indices i < k, and its sum is that of their
--- keys.
+-- The index of a basis's pairs by their sums. Place 64i + k belongs to the pair of the indices i < k, and its sum is
+-- that of their keys.
 use mathlib.Core.Path.{_≡_}
 use mathlib.Core.Bool.{Bool, true, false, cond}
 use mathlib.Core.List.{List}
@@ -24,8 +24,8 @@ restAt B p = (getD B (p / 64) 0 + getD B (p % 64) 0) % 2039
 unfoldable pub meets : List ℕ → ℕ → ℕ → Bool
 meets B h p = cond (pairAt B p) (eqb (restAt B p) h) false
 
--- the index of the pairs at the places before m: for each remainder the last of them, and for each of them the one before it with
--- the same remainder
+-- the index of the pairs at the places before m: for each remainder the last of them, and for each of them the one
+-- before it with the same remainder
 pub record Paired (B : List ℕ) (m : ℕ) (heads next : List ℕ) : Type 0 where
   pub heads-long : length heads ≡ 2048
   pub next-long : length next ≡ 4096

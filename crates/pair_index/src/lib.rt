@@ -1,7 +1,7 @@
-// The joining of one basis by the members that came last: `basis` has the keys of its monomials, `exponents` those of its
-// multiplier, `labels` the block number of each index. Two indices are found by their sum, in an index of the pairs: place 64i + k
-// of `next` belongs to the pair i < k. Place s % 2039 of `heads` has one more than the place of the last pair whose sum has that
-// remainder, or 0, and place p of `next` has the same for the pairs before p.
+// The joining of one basis by the members that came last: `basis` has the keys of its monomials, `exponents` those of
+// its multiplier, `labels` the block number of each index. Two indices are found by their sum, in an index of the
+// pairs: place 64i + k of `next` belongs to the pair i < k. Place s % 2039 of `heads` has one more than the place of
+// the last pair whose sum has that remainder, or 0, and place p of `next` has the same for the pairs before p.
 ghost use mathlib.Core.Path.{_≡_};
 ghost use mathlib.Core.List.{[], _∷_};
 ghost use Prim.Native.Nat.{_+_, _*_, _%_, _<_};
@@ -62,7 +62,10 @@ fn join_two(labels: &mut [u8], i: usize, k: usize)
 // The blocks of every two indices with the sum s made one.
 fn join_sum(labels: &mut [u8], basis: &[u64], heads: &[u16], next: &[u16], s: u64)
     requires { ⌜ Blocks (now basis) (now labels) × AllPaired (now basis) (now heads) (now next) ⌝ }
-    ensures { λ _. ⌜ Joins (WithSum (now (basis .entry)) s) (length (now (basis .entry))) (now (labels .entry)) (now (labels .exit)) ⌝ }
+    ensures { λ _. ⌜
+        Joins (WithSum (now (basis .entry)) s) (length (now (basis .entry))) (now (labels .entry))
+        (now (labels .exit))
+        ⌝ }
 {
     let h = slot(s);
     let mut v = heads[h] as usize;
@@ -87,7 +90,10 @@ fn join_member(
     x: u64,
 )
     requires { ⌜ Blocks (now basis) (now labels) × AllPaired (now basis) (now heads) (now next) ⌝ }
-    ensures { λ _. ⌜ Joins (Through (now (exponents .entry)) (now (basis .entry)) (x ∷ [])) (length (now (basis .entry))) (now (labels .entry)) (now (labels .exit)) ⌝ }
+    ensures { λ _. ⌜
+        Joins (Through (now (exponents .entry)) (now (basis .entry)) (x ∷ [])) (length (now (basis .entry)))
+        (now (labels .entry)) (now (labels .exit))
+        ⌝ }
 {
     let mut j = 0;
     while j < exponents.len() {
@@ -108,7 +114,10 @@ pub fn join_fresh(
     fresh: &[u64],
 )
     requires { ⌜ Blocks (now basis) (now labels) × AllPaired (now basis) (now heads) (now next) ⌝ }
-    ensures { λ _. ⌜ Joins (Through (now (exponents .entry)) (now (basis .entry)) (now (fresh .entry))) (length (now (basis .entry))) (now (labels .entry)) (now (labels .exit)) ⌝ }
+    ensures { λ _. ⌜
+        Joins (Through (now (exponents .entry)) (now (basis .entry)) (now (fresh .entry)))
+        (length (now (basis .entry))) (now (labels .entry)) (now (labels .exit))
+        ⌝ }
 {
     let mut m = 0;
     while m < fresh.len() {

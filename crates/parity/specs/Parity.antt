@@ -16,8 +16,8 @@ parityFrom (suc k) c n = parityFrom k (c * 2 + n % 2) (n / 256)
 unfoldable pub class : ℕ → ℕ
 class n = parityFrom 8 0 n
 
--- whether each exponent of a key is below 64: no bit of 192 × (1 + 256 + .. + 256^7) is set, so that a sum of three such keys
--- carries nothing from one exponent to the next
+-- whether each exponent of a key is below 64: no bit of 192 × (1 + 256 + .. + 256^7) is set, so that a sum of three
+-- such keys carries nothing from one exponent to the next
 unfoldable pub small : ℕ → Bool
 small n = eqb (bitAnd n 13889313184910721216) 0
 

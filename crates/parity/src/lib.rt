@@ -1,5 +1,5 @@
-// The parities of the exponents of monomials, which tell at once that most sums are not in the support. A key's class is the
-// number below 256 whose bits are the parities of its eight exponents.
+// The parities of the exponents of monomials, which tell at once that most sums are not in the support. A key's class
+// is the number below 256 whose bits are the parities of its eight exponents.
 ghost use mathlib.Core.Path.{_≡_};
 ghost use mathlib.Core.Bool.{true};
 ghost use Prim.Native.Nat.{_≤_, _<_};
@@ -7,7 +7,8 @@ ghost use lib.Bits.{bitXor};
 ghost use lib.ListN.{length, getD};
 ghost use Rattle.parity.specs.Parity.{class, small, AllSmall, Classes, Noted, Keeps, SpreadOne, SpreadAll, Possible};
 
-// The class of a key. Of the lowest bit of each exponent, at 256^i, division by 511 leaves 2^(9 - i), as twice 256 leaves 1.
+// The class of a key. Of the lowest bit of each exponent, at 256^i, division by 511 leaves 2^(9 - i), as twice 256
+// leaves 1.
 fn class_of(key: u64) -> usize
     ensures { λ r. ⌜ (r ≡ class key) × (r < 256) ⌝ }
 {
@@ -68,7 +69,10 @@ pub fn note(keys: &[u64]) -> [u8; 256]
 // 1 at the place c xor d for each d that is present.
 fn spread(possible: &mut [u8; 256], c: usize, present: &[u8; 256])
     requires { ⌜ (c < 256) × (length (now possible) ≡ 256) ⌝ }
-    ensures { λ _. ⌜ Keeps (now (possible .entry)) (now (possible .exit)) × SpreadOne c 256 (now (present .entry)) (now (possible .exit)) ⌝ }
+    ensures { λ _. ⌜
+        Keeps (now (possible .entry)) (now (possible .exit))
+        × SpreadOne c 256 (now (present .entry)) (now (possible .exit))
+        ⌝ }
 {
     let mut d = 0;
     while d < 256 {
@@ -94,8 +98,8 @@ fn spread_all(exponents: &[u8; 256], present: &[u8; 256]) -> [u8; 256]
     possible
 }
 
-// The classes of the sums b + b' of a basis for which t + b + b' may be present, for some exponent t. Where a key is not small,
-// its class tells nothing, and all are possible.
+// The classes of the sums b + b' of a basis for which t + b + b' may be present, for some exponent t. Where a key is
+// not small, its class tells nothing, and all are possible.
 pub fn possible(basis: &[u64], exponents: &[u64], present: &[u8; 256]) -> [u8; 256]
     ensures { λ r. ⌜ Possible (now (exponents .entry)) (now (basis .entry)) (now (present .entry)) r ⌝ }
 {
@@ -118,7 +122,11 @@ fn class_of_sum(a: u8, b: u8) -> usize
 // Whether the class of the sum of the keys i and k is not among those that are possible.
 pub fn is_impossible(classes: &[u8; 64], possible: &[u8; 256], i: usize, k: usize) -> bool
     requires { ⌜ (i < 64) × (k < 64) ⌝ }
-    ensures { λ r. ⌜ (r ≡ true → getD (now (possible .entry)) (bitXor (getD (now (classes .entry)) i 0) (getD (now (classes .entry)) k 0)) 0 ≡ 0) ⌝ }
+    ensures { λ r. ⌜
+        (r ≡ true
+        → getD (now (possible .entry)) (bitXor (getD (now (classes .entry)) i 0) (getD (now (classes .entry)) k 0)) 0
+        ≡ 0)
+        ⌝ }
 {
     let c = class_of_sum(classes[i], classes[k]);
     possible[c] == 0

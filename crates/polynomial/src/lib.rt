@@ -1,1 +1,2 @@
-// Monomials by key, terms, polynomials as formal sums, points and values: definitions in specs/, theorems in proofs/. No code.
+// Monomials by key, terms, polynomials as formal sums, points and values: definitions in specs/, theorems in proofs/.
+// No code.

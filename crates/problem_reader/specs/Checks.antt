@@ -1,5 +1,5 @@
--- The five checks of a command in two groups. The first three, 3, 2 and 4, need two numbers of what was read before it; the last
--- two, 5 and 6, need the one list that grows.
+-- The five checks of a command in two groups. The first three, 3, 2 and 4, need two numbers of what was read before it;
+-- the last two, 5 and 6, need the one list that grows.
 use mathlib.Core.Bool.{true, false}
 use mathlib.Core.List.{List}
 use Prim.Native.Nat.{ℕ, _+_}
@@ -14,7 +14,9 @@ use Rattle.format.specs.ProblemRules.{Problem, problemPlaced, problemOperandsFi
 -- the number of the first of 3, 2 and 4 that fails, or 0
 unfoldable pub early : Problem → List ℕ → ℕ → ℕ
 early p s at =
-    firstRefusal (problemPlaced p at (problemCommandAt s at)) (leb (at + problemSize (problemCommandAt s at)) (length s)) (problemOperandsFit p (problemInstructionAt s at)) false false
+    firstRefusal (problemPlaced p at (problemCommandAt s at))
+    (leb (at + problemSize (problemCommandAt s at)) (length s)) (problemOperandsFit p (problemInstructionAt s at))
+    false false
 
 -- the number of the first of 5 and 6 that fails, or 0
 abbrev pub late : Problem → Instruction → ℕ
@@ -22,4 +24,5 @@ late p i = firstRefusal true true true (problemRepeated p i) (problemFull p i)
 
 -- the same of a key and a list that may have `limit` keys and has the `count` that stand in an array from a place on
 abbrev pub lateIn : List ℕ → ℕ → ℕ → ℕ → ℕ → ℕ
-lateIn keys from count key limit = firstRefusal true true true (among key (take count (drop from keys))) (leb limit count)
+lateIn keys from count key limit =
+    firstRefusal true true true (among key (take count (drop from keys))) (leb limit count)

@@ -9,7 +9,8 @@ use Rattle.format.specs.ProblemBases.{multiplier}
 
 -- the arrays hold the terms of each g_j, from place 32 j on
 pub record Flat (p : Problem) (r : Multipliers) : Type 0 where
-  pub each : (j : ℕ) → termsIn (getD (r .counts) j 0) (drop (32 * j) (r .keys)) (drop (32 * j) (r .coefficients)) ≡ multiplier p j
+  pub each : (j : ℕ)
+      → termsIn (getD (r .counts) j 0) (drop (32 * j) (r .keys)) (drop (32 * j) (r .coefficients)) ≡ multiplier p j
   pub counts-length : length (r .counts) ≡ 9
   pub counts-low : (j : ℕ) → getD (r .counts) j 0 ≤ 32
   pub keys-length : length (r .keys) ≡ 288

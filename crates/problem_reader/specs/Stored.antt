@@ -38,12 +38,13 @@ problemOf p = record {
 unfoldable pub outcomeOf : Reading → Outcome Problem
 outcomeOf r = cond (eqb (r .number) 0) (given (problemOf (r .problem))) (refused (r .number) (r .place))
 
--- ---- what the problem of every reading keeps, also of one that is refused: the arrays' lengths, the counts within them, and
--- keys so small that the sum of three exponents fits a machine word
+-- ---- what the problem of every reading keeps, also of one that is refused: the arrays' lengths, the counts within
+-- them, and keys so small that the sum of three exponents fits a machine word
 pub record KeptConstraints (n : ℕ) (qs : List Polynomial) : Type 0 where
   pub count-low : n ≤ 8
   pub places : length qs ≡ 8
-  pub each : (j : ℕ) → j < 8 → FilledTerms 16 32 (getD qs j noTerms .keys) (getD qs j noTerms .coefficients) (getD qs j noTerms .count)
+  pub each : (j : ℕ) → j < 8
+      → FilledTerms 16 32 (getD qs j noTerms .keys) (getD qs j noTerms .coefficients) (getD qs j noTerms .count)
 
 pub record KeptBases (sizes keys : List ℕ) : Type 0 where
   pub sizes-length : length sizes ≡ 9

@@ -92,7 +92,8 @@ pub fn is_among(keys: &[u64], key: u64) -> bool
     false
 }
 
-// A problem as it is stored: count is the number of constraints begun; basis j has sizes[j] keys, from place 64 j of keys on.
+// A problem as it is stored: count is the number of constraints begun; basis j has sizes[j] keys, from place 64 j of
+// keys on.
 pub struct StoredProblem {
     pub variables: usize,
     pub objective: Objective,
@@ -205,7 +206,9 @@ pub fn is_nonzero(c: i32) -> bool
 
 // Whether a command's operands keep their rules, with n variables and after `count` constraints.
 fn is_allowed(n: usize, count: usize, i: Instruction) -> bool
-    ensures { λ r. ⌜ ((p : Problem) → p .variables ≡ n → length (p .constraints) ≡ count → r ≡ problemOperandsFit p i) ⌝ }
+    ensures { λ r. ⌜
+        ((p : Problem) → p .variables ≡ n → length (p .constraints) ≡ count → r ≡ problemOperandsFit p i)
+        ⌝ }
 {
     match i {
         Instruction::Variables(m) => 1 <= m && m <= 8,
@@ -220,7 +223,9 @@ fn is_allowed(n: usize, count: usize, i: Instruction) -> bool
 // The checks 3, 2 and 4 of the command at an offset: they need two numbers of what was read before it.
 fn check_at(n: usize, count: usize, command: Command, s: &[u8], at: usize) -> u8
     requires { ⌜ (at < length (now s)) × (command ≡ problemCommandAt (now s) at) ⌝ }
-    ensures { λ r. ⌜ ((p : Problem) → p .variables ≡ n → length (p .constraints) ≡ count → r ≡ early p (now (s .entry)) at) ⌝ }
+    ensures { λ r. ⌜
+        ((p : Problem) → p .variables ≡ n → length (p .constraints) ≡ count → r ≡ early p (now (s .entry)) at)
+        ⌝ }
 {
     if !is_placed(count, at, command) {
         return 3;
@@ -249,7 +254,8 @@ fn check_room(keys: &[u64], from: usize, count: usize, key: u64, limit: usize) -
     0
 }
 
-// Reads a problem stream. The arrays are stored to in place; number is 2, as of a stream that ends here, until it is decided.
+// Reads a problem stream. The arrays are stored to in place; number is 2, as of a stream that ends here, until it is
+// decided.
 pub fn read(s: &[u8]) -> Reading
     ensures { λ r. ⌜ (outcomeOf r ≡ readProblem (now (s .entry))) × Kept (r .problem) ⌝ }
 {
@@ -363,7 +369,8 @@ fn copy_signed(to: &mut [i32], from: &[i32])
     }
 }
 
-// The multipliers of a problem's bases, so that parts of the arrays can be lent: each constraint is copied once. g_0 is 1.
+// The multipliers of a problem's bases, so that parts of the arrays can be lent: each constraint is copied once. g_0 is
+// 1.
 pub fn multipliers_of(constraints: [Polynomial; 8], count: usize) -> Multipliers
     requires { ⌜ KeptConstraints count constraints ⌝ }
     ensures { λ r. ⌜ ((p : Problem) → p .constraints ≡ constraintsOf count constraints → Flat p r) ⌝ }

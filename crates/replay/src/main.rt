@@ -1,5 +1,5 @@
-// Answers the records of the standard input, one line for each, until it ends. A record is a kind byte (b: blocks, c: check, p: pair), three lengths of
-// 32 bits, little-endian, and three byte runs, each of at most 65,536 bytes.
+// Answers the records of the standard input, one line for each, until it ends. A record is a kind byte (b: blocks, c:
+// check, p: pair), three lengths of 32 bits, little-endian, and three byte runs, each of at most 65,536 bytes.
 ghost use Prim.Native.Nat.{_+_, _≤_};
 use libc::STDIN_FILENO;
 use libc::STDOUT_FILENO;

@@ -1,5 +1,5 @@
-// Refusal 8: whether each row of a certificate that was read keeps to one block, and the place of the first entry that does not. The
-// rows are read off the certificate's bytes again, one at a time.
+// Refusal 8: whether each row of a certificate that was read keeps to one block, and the place of the first entry that
+// does not. The rows are read off the certificate's bytes again, one at a time.
 ghost use mathlib.Core.Path.{_≡_};
 ghost use Prim.Native.Nat.{_+_, _*_, _^_, _<_};
 ghost use lib.ListN.{length};
@@ -43,11 +43,14 @@ fn row_split(row: certificate_reader::StoredRow, labels: &[u8], at: usize) -> Pl
     Place::Nowhere
 }
 
-// The place of the first entry of a certificate outside its row's first block. Byte 64j + i of `labels` is the block number of index
-// i in basis j.
+// The place of the first entry of a certificate outside its row's first block. Byte 64j + i of `labels` is the block
+// number of index i in basis j.
 pub fn split_place(s: &[u8], labels: &[u8]) -> Place
     requires { ⌜ Walkable (now s) × (length (now labels) ≡ 576) ⌝ }
-    ensures { λ r. ⌜ ((p : Problem) (c : Certificate) → Limits p → readCertificate (shapeOf p) (now (s .entry)) ≡ given c → now (labels .entry) ≡ blockBytes (closing p .state .labels) → r ≡ placeOf (splitPlace p (c .rows))) ⌝ }
+    ensures { λ r. ⌜
+        ((p : Problem) (c : Certificate) → Limits p → readCertificate (shapeOf p) (now (s .entry)) ≡ given c
+        → now (labels .entry) ≡ blockBytes (closing p .state .labels) → r ≡ placeOf (splitPlace p (c .rows)))
+        ⌝ }
 {
     let mut at = 10;
     while certificate_reader::stands_at(0x11, s, at) {

@@ -1,5 +1,5 @@
--- The table of 64 × 64 sums in which the products w × l × l' of the rows on one basis are collected: where its entries are, and what
--- it gives at a key, each entry times b × b' times the terms of g_j.
+-- The table of 64 × 64 sums in which the products w × l × l' of the rows on one basis are collected: where its entries
+-- are, and what it gives at a key, each entry times b × b' times the terms of g_j.
 use mathlib.Core.Path.{_≡_}
 use mathlib.Core.List.{List}
 use Prim.Native.Nat.{ℕ, _+_, _*_, _/_, _%_, _≤_, _<_}

@@ -1,5 +1,6 @@
--- The rows on one basis, summed before they are multiplied by g_j: the products w × l × l' go into a table by the indices i and i',
--- at the place 64 × i + i', and the table's entries are then multiplied by b × b' and by the terms of g_j.
+-- The rows on one basis, summed before they are multiplied by g_j: the products w × l × l' go into a table by the
+-- indices i and i', at the place 64 × i + i', and the table's entries are then multiplied by b × b' and by the terms of
+-- g_j.
 use mathlib.Core.Bool.{cond}
 use mathlib.Core.List.{List, [], _∷_, _++_}
 use Prim.Native.Nat.{ℕ, zero, suc, _+_, _*_, _/_, _%_}

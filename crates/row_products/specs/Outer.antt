@@ -1,4 +1,5 @@
--- The products w × l × l' of a row, added into the table of 64 × 64 sums. They are symmetric: only those with i ≤ i' are added.
+-- The products w × l × l' of a row, added into the table of 64 × 64 sums. They are symmetric: only those with i ≤ i'
+-- are added.
 use mathlib.Core.Path.{_≡_}
 use mathlib.Core.Bool.{cond}
 use mathlib.Core.List.{List}

@@ -1,5 +1,6 @@
-// The table of 64 x 64 sums: the products w * l * l' of the rows on one basis, read off the certificate's bytes, are summed by their
-// indices; then the entries with the same product b * b' are summed at one place. The compared keys have no part in it.
+// The table of 64 x 64 sums: the products w * l * l' of the rows on one basis, read off the certificate's bytes, are
+// summed by their indices; then the entries with the same product b * b' are summed at one place. The compared keys
+// have no part in it.
 ghost use mathlib.Core.Path.{_≡_};
 ghost use mathlib.Core.Bool.{true};
 ghost use mathlib.Core.List.{List};
@@ -25,8 +26,14 @@ fn add_products(
     first: usize,
     a: i64,
 )
-    requires { ⌜ Entries (now indices) (now factors) count × Below (2 ^ 54) (now g) × (first < count) × (natAbs a ≤ 2 ^ 31) ⌝ }
-    ensures { λ _. ⌜ Raised (now (g .entry)) (λ x. a *ℤ inRow (termsIn count (now (indices .entry)) (now (factors .entry))) x (getD (now (indices .entry)) first 0)) (now (g .exit)) ⌝ }
+    requires { ⌜
+        Entries (now indices) (now factors) count × Below (2 ^ 54) (now g) × (first < count) × (natAbs a ≤ 2 ^ 31)
+        ⌝ }
+    ensures { λ _. ⌜
+        Raised (now (g .entry))
+        (λ x. a *ℤ inRow (termsIn count (now (indices .entry)) (now (factors .entry))) x
+        (getD (now (indices .entry)) first 0)) (now (g .exit))
+        ⌝ }
 {
     let from = 64 * (indices[first] as usize);
     let mut k = first;
@@ -39,10 +46,14 @@ fn add_products(
     }
 }
 
-// Adds the products w * l * l' of each two entries of a row, an entry with itself and with those after it, to the table of sums.
+// Adds the products w * l * l' of each two entries of a row, an entry with itself and with those after it, to the table
+// of sums.
 fn add_outer(g: &mut [i64; 4096], row: certificate_reader::StoredRow)
     requires { ⌜ Entries (row .indices) (row .factors) (row .count) × Below (2 ^ 53) (now g) ⌝ }
-    ensures { λ _. ⌜ Raised (now (g .entry)) (outerAt (row .weight) (termsIn (row .count) (row .indices) (row .factors))) (now (g .exit)) ⌝ }
+    ensures { λ _. ⌜
+        Raised (now (g .entry)) (outerAt (row .weight) (termsIn (row .count) (row .indices) (row .factors)))
+        (now (g .exit))
+        ⌝ }
 {
     let indices = row.indices;
     let factors = row.factors;
@@ -133,10 +144,15 @@ fn wide(x: u16) -> usize
     x as usize
 }
 
-// Moves the entry at place x, as often as it counts, to an earlier place with the same product b * b', if `lasts` names one. What it
-// names is looked at before it is believed.
+// Moves the entry at place x, as often as it counts, to an earlier place with the same product b * b', if `lasts` names
+// one. What it names is looked at before it is believed.
 fn fold_entry(g: &mut [i64; 4096], basis: &[u64], lasts: &mut [u16; 2048], x: usize)
-    requires { ⌜ Bounded (8 * 2 ^ 56) (now basis) × (x < 4096) × Entered (2 ^ 53) (now basis) x (getD (now g) x (pos 0)) × (length (now g) ≡ 4096) ⌝ }
+    requires { ⌜
+        Bounded (8 * 2 ^ 56) (now basis)
+        × (x < 4096)
+        × Entered (2 ^ 53) (now basis) x (getD (now g) x (pos 0))
+        × (length (now g) ≡ 4096)
+        ⌝ }
     ensures { λ _. ⌜ Folded (now (basis .entry)) x (now (g .entry)) (now (g .exit)) ⌝ }
 {
     let a = g[x];
@@ -163,11 +179,18 @@ fn fold_entry(g: &mut [i64; 4096], basis: &[u64], lasts: &mut [u16; 2048], x: us
     g[x] = v;
 }
 
-// Sums the entries with the same product b * b', so that most products with the multiplier are made once for all of them. `lasts` may
-// name anything.
+// Sums the entries with the same product b * b', so that most products with the multiplier are made once for all of
+// them. `lasts` may name anything.
 pub fn fold(g: &mut [i64; 4096], basis: &[u64], lasts: &mut [u16; 2048])
-    requires { ⌜ (length (now basis) ≤ 64) × Bounded (8 * 2 ^ 56) (now basis) × Framed (length (now basis)) (2 ^ 53) (now g) ⌝ }
-    ensures { λ _. ⌜ Framed (length (now (basis .entry))) (2 ^ 60) (now (g .exit)) × ((G : List Term) (k : ℕ) → spreadAt (now (basis .entry)) G (now (g .exit)) k ≡ halfAt (now (basis .entry)) G (now (g .entry)) k) ⌝ }
+    requires { ⌜
+        (length (now basis) ≤ 64) × Bounded (8 * 2 ^ 56) (now basis) × Framed (length (now basis)) (2 ^ 53) (now g)
+        ⌝ }
+    ensures { λ _. ⌜
+        Framed (length (now (basis .entry))) (2 ^ 60) (now (g .exit))
+        ×
+        ((G : List Term) (k : ℕ)
+        → spreadAt (now (basis .entry)) G (now (g .exit)) k ≡ halfAt (now (basis .entry)) G (now (g .entry)) k)
+        ⌝ }
 {
     let size = basis.len();
     let last = 64 * size;

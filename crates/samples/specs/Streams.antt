@@ -1,5 +1,5 @@
--- The byte streams of document 01's samples. A monomial is written by the exponents of its first two variables, a number below 0 as
--- its lowest byte.
+-- The byte streams of document 01's samples. A monomial is written by the exponents of its first two variables, a
+-- number below 0 as its lowest byte.
 use mathlib.Core.List.{List, [], _∷_, _++_}
 use Prim.Native.Nat.{ℕ}
 use lib.ListN.{replicate}
@@ -35,23 +35,62 @@ end = 6 ∷ []
 -- ---- problems
 -- x² − 2x + 3, basis 1, x
 abbrev pub problemA : List ℕ
-problemA = variables 1 ++ objectiveTerm (exponents 2 0) 1 ++ objectiveMinus (exponents 1 0) 254 ++ objectiveTerm (exponents 0 0) 3 ++ memberCommand 0 (exponents 0 0) ++ memberCommand 0 (exponents 1 0) ++ end
+problemA =
+    variables 1
+    ++ objectiveTerm (exponents 2 0) 1
+    ++ objectiveMinus (exponents 1 0) 254
+    ++ objectiveTerm (exponents 0 0) 3
+    ++ memberCommand 0 (exponents 0 0)
+    ++ memberCommand 0 (exponents 1 0)
+    ++ end
 
 -- 1 + x + x⁴, basis 1, x, x²
 abbrev pub problemC : List ℕ
-problemC = variables 1 ++ objectiveTerm (exponents 0 0) 1 ++ objectiveTerm (exponents 1 0) 1 ++ objectiveTerm (exponents 4 0) 1 ++ memberCommand 0 (exponents 0 0) ++ memberCommand 0 (exponents 1 0) ++ memberCommand 0 (exponents 2 0) ++ end
+problemC =
+    variables 1
+    ++ objectiveTerm (exponents 0 0) 1
+    ++ objectiveTerm (exponents 1 0) 1
+    ++ objectiveTerm (exponents 4 0) 1
+    ++ memberCommand 0 (exponents 0 0)
+    ++ memberCommand 0 (exponents 1 0)
+    ++ memberCommand 0 (exponents 2 0)
+    ++ end
 
 -- two variables, x1² + x2², basis 1, x1, x2
 abbrev pub problemD : List ℕ
-problemD = variables 2 ++ objectiveTerm (exponents 2 0) 1 ++ objectiveTerm (exponents 0 2) 1 ++ memberCommand 0 (exponents 0 0) ++ memberCommand 0 (exponents 1 0) ++ memberCommand 0 (exponents 0 1) ++ end
+problemD =
+    variables 2
+    ++ objectiveTerm (exponents 2 0) 1
+    ++ objectiveTerm (exponents 0 2) 1
+    ++ memberCommand 0 (exponents 0 0)
+    ++ memberCommand 0 (exponents 1 0)
+    ++ memberCommand 0 (exponents 0 1)
+    ++ end
 
 -- objective x⁶, constraint x, basis 0: 1, x³; basis 1: x
 abbrev pub problemE : List ℕ
-problemE = variables 1 ++ objectiveTerm (exponents 6 0) 1 ++ constraint ++ constraintTerm (exponents 1 0) 1 ++ memberCommand 0 (exponents 0 0) ++ memberCommand 0 (exponents 3 0) ++ memberCommand 1 (exponents 1 0) ++ end
+problemE =
+    variables 1
+    ++ objectiveTerm (exponents 6 0) 1
+    ++ constraint
+    ++ constraintTerm (exponents 1 0) 1
+    ++ memberCommand 0 (exponents 0 0)
+    ++ memberCommand 0 (exponents 3 0)
+    ++ memberCommand 1 (exponents 1 0)
+    ++ end
 
 -- objective x, constraint 1 − x², bases {1, x} and {1}
 abbrev pub problemF : List ℕ
-problemF = variables 1 ++ objectiveTerm (exponents 1 0) 1 ++ constraint ++ constraintTerm (exponents 0 0) 1 ++ constraintMinus (exponents 2 0) 255 ++ memberCommand 0 (exponents 0 0) ++ memberCommand 0 (exponents 1 0) ++ memberCommand 1 (exponents 0 0) ++ end
+problemF =
+    variables 1
+    ++ objectiveTerm (exponents 1 0) 1
+    ++ constraint
+    ++ constraintTerm (exponents 0 0) 1
+    ++ constraintMinus (exponents 2 0) 255
+    ++ memberCommand 0 (exponents 0 0)
+    ++ memberCommand 0 (exponents 1 0)
+    ++ memberCommand 1 (exponents 0 0)
+    ++ end
 
 -- ---- certificates
 -- side, D, p and q, each below 256; a p of −256 to −1 is written as 256 more than it

@@ -73,7 +73,10 @@ fn append_ratio(out: &mut [u8], at: usize, f: Fraction) -> usize
 // A word and a number after it.
 fn append_with_number(out: &mut [u8], at: usize, word: &[u8], n: u64) -> usize
     requires { ⌜ at + length (now word) + 20 ≤ length (now out) ⌝ }
-    ensures { λ r. ⌜ Appended (now (out .entry)) at (now (word .entry) ++ decimal n) (now (out .exit)) r × (r ≤ at + length (now (word .entry)) + 20) ⌝ }
+    ensures { λ r. ⌜
+        Appended (now (out .entry)) at (now (word .entry) ++ decimal n) (now (out .exit)) r
+        × (r ≤ at + length (now (word .entry)) + 20)
+        ⌝ }
 {
     let a = append(out, at, word);
     append_number(out, a, n)
@@ -82,7 +85,10 @@ fn append_with_number(out: &mut [u8], at: usize, word: &[u8], n: u64) -> usize
 // A word and a fraction after it.
 fn append_with_ratio(out: &mut [u8], at: usize, word: &[u8], f: Fraction) -> usize
     requires { ⌜ at + length (now word) + 42 ≤ length (now out) ⌝ }
-    ensures { λ r. ⌜ Appended (now (out .entry)) at (now (word .entry) ++ ratio f) (now (out .exit)) r × (r ≤ at + length (now (word .entry)) + 42) ⌝ }
+    ensures { λ r. ⌜
+        Appended (now (out .entry)) at (now (word .entry) ++ ratio f) (now (out .exit)) r
+        × (r ≤ at + length (now (word .entry)) + 42)
+        ⌝ }
 {
     let a = append(out, at, word);
     append_ratio(out, a, f)
@@ -99,7 +105,10 @@ fn digit(n: u8) -> u8
 // Two hexadecimal digits for each byte.
 fn append_hexadecimal(out: &mut [u8], at: usize, bytes: &[u8]) -> usize
     requires { ⌜ at + 2 * length (now bytes) ≤ length (now out) ⌝ }
-    ensures { λ r. ⌜ Appended (now (out .entry)) at (hexadecimal (now (bytes .entry))) (now (out .exit)) r × (r ≤ at + 2 * length (now (bytes .entry))) ⌝ }
+    ensures { λ r. ⌜
+        Appended (now (out .entry)) at (hexadecimal (now (bytes .entry))) (now (out .exit)) r
+        × (r ≤ at + 2 * length (now (bytes .entry)))
+        ⌝ }
 {
     let mut end = at;
     let mut i = 0;
@@ -126,10 +135,13 @@ fn refusal_line(r: Refusal) -> Text
     Text { bytes: out, len }
 }
 
-// A verdict of the pair: the bounds, the gap and the rounds, with the word that stands before each; or the line of the refusal.
+// A verdict of the pair: the bounds, the gap and the rounds, with the word that stands before each; or the line of the
+// refusal.
 fn pair_words(v: PairVerdict, lower: &[u8], upper: &[u8], gap: &[u8], rounds: &[u8]) -> Text
     requires { ⌜ length (now lower) + length (now upper) + length (now gap) + length (now rounds) ≤ 256 ⌝ }
-    ensures { λ t. ⌜ textOf t ≡ pairWords (now (lower .entry)) (now (upper .entry)) (now (gap .entry)) (now (rounds .entry)) v ⌝ }
+    ensures { λ t. ⌜
+        textOf t ≡ pairWords (now (lower .entry)) (now (upper .entry)) (now (gap .entry)) (now (rounds .entry)) v
+        ⌝ }
 {
     let r = v.refusal;
     if 0 < r.number {

@@ -67,7 +67,8 @@ pub record JoiningAt (t idx : List ℕ) (since len : ℕ) (keys sizes exponents 
   pub basis : j < 9
   pub upto : since ≤ len
   pub blocks : Blocks (basesIn keys sizes exponents counts .basis j) (getD (labelsIn sizes l) j [])
-  pub recent : Recent (keysIn len t) (basesIn keys sizes exponents counts .multiplier j) (basesIn keys sizes exponents counts .basis j) (getD (labelsIn sizes l) j []) (latest t since len)
+  pub recent : Recent (keysIn len t) (basesIn keys sizes exponents counts .multiplier j)
+      (basesIn keys sizes exponents counts .basis j) (getD (labelsIn sizes l) j []) (latest t since len)
 
 -- and that of every basis
 pub record JoiningSince (t idx : List ℕ) (since len : ℕ) (keys sizes exponents counts l : List ℕ) : Type 0 where
@@ -89,13 +90,15 @@ pub record FreshAt (g : Bases) (L : List (List ℕ)) (j : ℕ) (F l′ : List �
   pub joins : Joins (Through (g .multiplier j) (g .basis j) F) (length (g .basis j)) (getD L j []) new
 
 -- what an extension asks: what a joining asks, and the blocks of the round before
-pub record ExtendingAll (first : Bool) (t idx : List ℕ) (len : ℕ) (keys sizes exponents counts l l₀ : List ℕ) : Type 0 where
+pub record ExtendingAll (first : Bool) (t idx : List ℕ) (len : ℕ) (keys sizes exponents counts l l₀ : List ℕ) : Type
+    0 where
   pub joining : JoiningAll t idx len keys sizes exponents counts l
   pub before : Labelled sizes l₀
   pub filled : FilledAll first (basesIn keys sizes exponents counts) (labelsIn sizes l₀) (keysIn len t)
 
 -- what a round asks: what an extension asks, and that the members after the first `since` came last
-pub record RoundAsks (first : Bool) (t idx : List ℕ) (since len : ℕ) (keys sizes exponents counts l l₀ : List ℕ) : Type 0 where
+pub record RoundAsks (first : Bool) (t idx : List ℕ) (since len : ℕ) (keys sizes exponents counts l l₀ : List ℕ) :
+    Type 0 where
   pub extending : ExtendingAll first t idx len keys sizes exponents counts l l₀
   pub upto : since ≤ len
   pub recent : RecentAll (basesIn keys sizes exponents counts) (keysIn len t) (labelsIn sizes l) (latest t since len)

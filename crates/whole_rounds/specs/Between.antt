@@ -15,9 +15,10 @@ use Rattle.whole_rounds.specs.declared.Progress.{Progress}
 abbrev pub closeAfter : Bases → ℕ → List ℕ → List ℕ → ℕ → List ℕ → Closing
 closeAfter g c sizes l n t = closeFrom g (578 - c) (record { labels = labelsIn sizes l; support = keysIn n t }) c
 
--- between two rounds, after c of them: what the next one asks; and those that are left lead to o. The table was t₀ and had n₀ keys
--- when the run began
-pub record Between (o : Closing) (n₀ : ℕ) (t₀ keys sizes exponents counts l : List ℕ) (since n : ℕ) (t idx : List ℕ) (c : ℕ) : Type 0 where
+-- between two rounds, after c of them: what the next one asks; and those that are left lead to o. The table was t₀ and
+-- had n₀ keys when the run began
+pub record Between (o : Closing) (n₀ : ℕ) (t₀ keys sizes exponents counts l : List ℕ) (since n : ℕ) (t idx : List ℕ)
+    (c : ℕ) : Type 0 where
   pub upto : c ≤ 578
   pub asks : RoundAsks (eqb c 0) t idx since n keys sizes exponents counts l l
   pub leads : closeAfter (basesIn keys sizes exponents counts) c sizes l n t ≡ o
@@ -32,8 +33,11 @@ pub record Running (keys sizes exponents counts l : List ℕ) (since n : ℕ) (t
   pub some : c ≤ m
   pub most : m ≤ 578
 
--- what it leaves: the outcome o, where one of its rounds was the last; else it has made m rounds, and stands between two
-pub record Advanced (o : Closing) (n₀ : ℕ) (t₀ keys sizes exponents counts : List ℕ) (m : ℕ) (r : Progress) (t idx : List ℕ) : Type 0 where
+-- what it leaves: the outcome o, where one of its rounds was the last; else it has made m rounds, and stands between
+-- two
+pub record Advanced (o : Closing) (n₀ : ℕ) (t₀ keys sizes exponents counts : List ℕ) (m : ℕ) (r : Progress)
+    (t idx : List ℕ) : Type 0 where
   pub done : r .ended ≡ true → Settled o n₀ t₀ (record { labels = r .labels; len = r .len; rounds = r .rounds }) t idx
-  pub left : r .ended ≡ false → Between o n₀ t₀ keys sizes exponents counts (r .labels) (r .since) (r .len) t idx (r .rounds)
+  pub left : r .ended ≡ false
+      → Between o n₀ t₀ keys sizes exponents counts (r .labels) (r .since) (r .len) t idx (r .rounds)
   pub most : r .ended ≡ false → r .rounds ≡ m

@@ -1,5 +1,5 @@
--- The flat arrays with the index of the pairs of all nine bases (Index.antt of pair_index): that of basis j stands from place 2048j on in
--- heads, and from place 4096j on in next.
+-- The flat arrays with the index of the pairs of all nine bases (Index.antt of pair_index): that of basis j stands from
+-- place 2048j on in heads, and from place 4096j on in next.
 use mathlib.Core.Path.{_≡_}
 use mathlib.Core.Bool.{cond}
 use mathlib.Core.List.{List}
@@ -24,7 +24,8 @@ piece w l j = take w (drop (w * j) l)
 pub record PairedTo (basis : ℕ → List ℕ) (m : ℕ) (heads next : List ℕ) : Type 0 where
   pub heads-long : length heads ≡ 18432
   pub next-long : length next ≡ 36864
-  pub at : (j : ℕ) → j < 9 → Paired (basis j) (cond (ltb j m) (64 * length (basis j)) 0) (piece 2048 heads j) (piece 4096 next j)
+  pub at : (j : ℕ) → j < 9
+      → Paired (basis j) (cond (ltb j m) (64 * length (basis j)) 0) (piece 2048 heads j) (piece 4096 next j)
 
 -- the pairs of all bases; or no index, where heads is short
 pub record Lookup (basis : ℕ → List ℕ) (heads next : List ℕ) : Type 0 where

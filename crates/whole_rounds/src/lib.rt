@@ -1,6 +1,7 @@
-// The joining rule over all nine bases, round by round. Basis j stands from place 64j on in `keys` and has sizes[j] monomials;
-// the exponents of its multiplier stand from place 32j on in `exponents`, counts[j] of them; its block numbers stand from
-// place 64j on in `labels`. The first `len` numbers of `table` are the support, in the order in which they came, with `index`.
+// The joining rule over all nine bases, round by round. Basis j stands from place 64j on in `keys` and has sizes[j]
+// monomials; the exponents of its multiplier stand from place 32j on in `exponents`, counts[j] of them; its block
+// numbers stand from place 64j on in `labels`. The first `len` numbers of `table` are the support, in the order in
+// which they came, with `index`.
 ghost use mathlib.Core.Path.{_≡_};
 ghost use Prim.Native.Nat.{_+_, _*_, _≤_, _<_};
 ghost use lib.ListN.{length, getD};
@@ -44,7 +45,8 @@ pub fn start_labels(sizes: &[usize]) -> [u8; 576]
     labels
 }
 
-// Whether some basis has 8 exponents or more and joins by its pairs: else the classes of the support's members are of no use.
+// Whether some basis has 8 exponents or more and joins by its pairs: else the classes of the support's members are of
+// no use.
 fn is_worth_while(counts: &[usize], by_pairs: bool) -> bool
     requires { ⌜ length (now counts) ≡ 9 ⌝ }
 {
@@ -87,8 +89,17 @@ fn join_pairs_at(
     present: &[u8; 256],
     j: usize,
 )
-    requires { ⌜ JoiningAll (now table) (now index) len (now keys) (now sizes) (now exponents) (now counts) (now labels) × (j < 9) × Present (keysIn len (now table)) (now present) ⌝ }
-    ensures { λ _. ⌜ now (labels .exit) ≡ blockBytes (joinAt (basesIn (now (keys .entry)) (now (sizes .entry)) (now (exponents .entry)) (now (counts .entry))) (keysIn len (now (table .entry))) j (labelsIn (now (sizes .entry)) (now (labels .entry)))) ⌝ }
+    requires { ⌜
+        JoiningAll (now table) (now index) len (now keys) (now sizes) (now exponents) (now counts) (now labels)
+        × (j < 9)
+        × Present (keysIn len (now table)) (now present)
+        ⌝ }
+    ensures { λ _. ⌜
+        now (labels .exit)
+        ≡ blockBytes
+        (joinAt (basesIn (now (keys .entry)) (now (sizes .entry)) (now (exponents .entry)) (now (counts .entry)))
+        (keysIn len (now (table .entry))) j (labelsIn (now (sizes .entry)) (now (labels .entry))))
+        ⌝ }
 {
     let a = 64 * j;
     let e = a + sizes[j];
@@ -117,8 +128,14 @@ fn join_fresh_at(
     fresh: &[u64],
     j: usize,
 )
-    requires { ⌜ JoiningFresh (now keys) (now sizes) (now exponents) (now counts) (now labels) j × PairedTo (part 64 (now sizes) (now keys)) 9 (now heads) (now next) ⌝ }
-    ensures { λ _. ⌜ FreshAt (basesIn (now (keys .entry)) (now (sizes .entry)) (now (exponents .entry)) (now (counts .entry))) (labelsIn (now (sizes .entry)) (now (labels .entry))) j (now (fresh .entry)) (now (labels .exit)) ⌝ }
+    requires { ⌜
+        JoiningFresh (now keys) (now sizes) (now exponents) (now counts) (now labels) j
+        × PairedTo (part 64 (now sizes) (now keys)) 9 (now heads) (now next)
+        ⌝ }
+    ensures { λ _. ⌜
+        FreshAt (basesIn (now (keys .entry)) (now (sizes .entry)) (now (exponents .entry)) (now (counts .entry)))
+        (labelsIn (now (sizes .entry)) (now (labels .entry))) j (now (fresh .entry)) (now (labels .exit))
+        ⌝ }
 {
     let a = 64 * j;
     let e = a + sizes[j];
@@ -138,7 +155,8 @@ fn join_fresh_at(
     );
 }
 
-// Basis j joins. The members after the first `since` came in the last round: with the index of the pairs, only they are looked at.
+// Basis j joins. The members after the first `since` came in the last round: with the index of the pairs, only they are
+// looked at.
 fn join_at(
     labels: &mut [u8],
     keys: &[u64],
@@ -154,8 +172,17 @@ fn join_at(
     present: &[u8; 256],
     j: usize,
 )
-    requires { ⌜ JoiningAt (now table) (now index) since len (now keys) (now sizes) (now exponents) (now counts) (now labels) j × Lookup (part 64 (now sizes) (now keys)) (now heads) (now next) × Present (keysIn len (now table)) (now present) ⌝ }
-    ensures { λ _. ⌜ now (labels .exit) ≡ blockBytes (joinAt (basesIn (now (keys .entry)) (now (sizes .entry)) (now (exponents .entry)) (now (counts .entry))) (keysIn len (now (table .entry))) j (labelsIn (now (sizes .entry)) (now (labels .entry)))) ⌝ }
+    requires { ⌜
+        JoiningAt (now table) (now index) since len (now keys) (now sizes) (now exponents) (now counts) (now labels) j
+        × Lookup (part 64 (now sizes) (now keys)) (now heads) (now next)
+        × Present (keysIn len (now table)) (now present)
+        ⌝ }
+    ensures { λ _. ⌜
+        now (labels .exit)
+        ≡ blockBytes
+        (joinAt (basesIn (now (keys .entry)) (now (sizes .entry)) (now (exponents .entry)) (now (counts .entry)))
+        (keysIn len (now (table .entry))) j (labelsIn (now (sizes .entry)) (now (labels .entry))))
+        ⌝ }
 {
     if heads.len() < 18432 {
         join_pairs_at(
@@ -200,8 +227,17 @@ fn join_all(
     since: usize,
     len: usize,
 )
-    requires { ⌜ JoiningSince (now table) (now index) since len (now keys) (now sizes) (now exponents) (now counts) (now labels) × Lookup (part 64 (now sizes) (now keys)) (now heads) (now next) ⌝ }
-    ensures { λ _. ⌜ now (labels .exit) ≡ blockBytes (joinAll (basesIn (now (keys .entry)) (now (sizes .entry)) (now (exponents .entry)) (now (counts .entry))) (keysIn len (now (table .entry))) (labelsIn (now (sizes .entry)) (now (labels .entry)))) ⌝ }
+    requires { ⌜
+        JoiningSince (now table) (now index) since len (now keys) (now sizes) (now exponents) (now counts)
+        (now labels)
+        × Lookup (part 64 (now sizes) (now keys)) (now heads) (now next)
+        ⌝ }
+    ensures { λ _. ⌜
+        now (labels .exit)
+        ≡ blockBytes
+        (joinAll (basesIn (now (keys .entry)) (now (sizes .entry)) (now (exponents .entry)) (now (counts .entry)))
+        (keysIn len (now (table .entry))) (labelsIn (now (sizes .entry)) (now (labels .entry))))
+        ⌝ }
 {
     let present = note_members(table, len, counts, heads.len() < 18432);
     let mut j = 0;
@@ -239,8 +275,17 @@ fn extend_at(
     counts: &[usize],
     j: usize,
 ) -> usize
-    requires { ⌜ ExtendingAll first (now table) (now index) len (now keys) (now sizes) (now exponents) (now counts) (now labels) (now old) × (j < 9) ⌝ }
-    ensures { λ r. ⌜ Stored len (extendAt (basesIn (now (keys .entry)) (now (sizes .entry)) (now (exponents .entry)) (now (counts .entry))) (labelsIn (now (sizes .entry)) (now (labels .entry))) j (keysIn len (now (table .entry)))) (now (table .entry)) r (now (table .exit)) (now (index .exit)) ⌝ }
+    requires { ⌜
+        ExtendingAll first (now table) (now index) len (now keys) (now sizes) (now exponents) (now counts)
+        (now labels) (now old)
+        × (j < 9)
+        ⌝ }
+    ensures { λ r. ⌜
+        Stored len
+        (extendAt (basesIn (now (keys .entry)) (now (sizes .entry)) (now (exponents .entry)) (now (counts .entry)))
+        (labelsIn (now (sizes .entry)) (now (labels .entry))) j (keysIn len (now (table .entry))))
+        (now (table .entry)) r (now (table .exit)) (now (index .exit))
+        ⌝ }
 {
     let a = 64 * j;
     let e = a + sizes[j];
@@ -271,8 +316,16 @@ fn extend_all(
     exponents: &[u64],
     counts: &[usize],
 ) -> usize
-    requires { ⌜ ExtendingAll first (now table) (now index) len (now keys) (now sizes) (now exponents) (now counts) (now labels) (now old) ⌝ }
-    ensures { λ r. ⌜ Stored len (extendAll (basesIn (now (keys .entry)) (now (sizes .entry)) (now (exponents .entry)) (now (counts .entry))) (labelsIn (now (sizes .entry)) (now (labels .entry))) (keysIn len (now (table .entry)))) (now (table .entry)) r (now (table .exit)) (now (index .exit)) ⌝ }
+    requires { ⌜
+        ExtendingAll first (now table) (now index) len (now keys) (now sizes) (now exponents) (now counts)
+        (now labels) (now old)
+        ⌝ }
+    ensures { λ r. ⌜
+        Stored len
+        (extendAll (basesIn (now (keys .entry)) (now (sizes .entry)) (now (exponents .entry)) (now (counts .entry)))
+        (labelsIn (now (sizes .entry)) (now (labels .entry))) (keysIn len (now (table .entry)))) (now (table .entry))
+        r (now (table .exit)) (now (index .exit))
+        ⌝ }
 {
     let mut n = len;
     let mut j = 0;
@@ -298,8 +351,8 @@ fn extend_all(
     n
 }
 
-// A round: every basis joins, and then every basis extends the support. `old` has the blocks before it, and the members after
-// the first `since` came in the round before.
+// A round: every basis joins, and then every basis extends the support. `old` has the blocks before it, and the members
+// after the first `since` came in the round before.
 fn round(
     labels: &mut [u8],
     old: &[u8],
@@ -315,8 +368,17 @@ fn round(
     since: usize,
     len: usize,
 ) -> usize
-    requires { ⌜ RoundAsks first (now table) (now index) since len (now keys) (now sizes) (now exponents) (now counts) (now labels) (now old) × Lookup (part 64 (now sizes) (now keys)) (now heads) (now next) ⌝ }
-    ensures { λ r. ⌜ Rounded (roundFrom (basesIn (now (keys .entry)) (now (sizes .entry)) (now (exponents .entry)) (now (counts .entry))) (labelsIn (now (sizes .entry)) (now (labels .entry))) (keysIn len (now (table .entry)))) len (now (table .entry)) r (now (table .exit)) (now (index .exit)) (now (labels .exit)) ⌝ }
+    requires { ⌜
+        RoundAsks first (now table) (now index) since len (now keys) (now sizes) (now exponents) (now counts)
+        (now labels) (now old)
+        × Lookup (part 64 (now sizes) (now keys)) (now heads) (now next)
+        ⌝ }
+    ensures { λ r. ⌜
+        Rounded
+        (roundFrom (basesIn (now (keys .entry)) (now (sizes .entry)) (now (exponents .entry)) (now (counts .entry)))
+        (labelsIn (now (sizes .entry)) (now (labels .entry))) (keysIn len (now (table .entry)))) len
+        (now (table .entry)) r (now (table .exit)) (now (index .exit)) (now (labels .exit))
+        ⌝ }
 {
     join_all(
         labels,
@@ -363,7 +425,9 @@ fn is_same(a: &[u8], b: &[u8]) -> bool
 // Whether a round is the last: it left too many keys, or as many as before and the blocks as they were.
 fn is_last(few: usize, len: usize, old: &[u8], labels: &[u8]) -> bool
     requires { ⌜ length (now old) ≡ length (now labels) ⌝ }
-    ensures { λ r. ⌜ r ≡ cond (ltb 2048 len) true (cond (eqb len few) (same (now (old .entry)) (now (labels .entry))) false) ⌝ }
+    ensures { λ r. ⌜
+        r ≡ cond (ltb 2048 len) true (cond (eqb len few) (same (now (old .entry)) (now (labels .entry))) false)
+        ⌝ }
 {
     if 2048 < len {
         return true;
@@ -375,15 +439,16 @@ fn is_last(few: usize, len: usize, old: &[u8], labels: &[u8]) -> bool
     }
 }
 
-// What the rounds leave: the block numbers, how many keys the support has (2,049 where it has too many), how many rounds.
+// What the rounds leave: the block numbers, how many keys the support has (2,049 where it has too many), how many
+// rounds.
 pub struct Closed {
     pub labels: [u8; 576],
     pub len: usize,
     pub rounds: usize,
 }
 
-// What some of the rounds leave: `ended`, where one of them was the last; else the members after the first `since` came in the
-// last of them.
+// What some of the rounds leave: `ended`, where one of them was the last; else the members after the first `since` came
+// in the last of them.
 struct Progress {
     labels: [u8; 576],
     since: usize,
@@ -392,8 +457,8 @@ struct Progress {
     ended: bool,
 }
 
-// Rounds after the first `done`, until one is the last, or `most` were made. `heads` and `next` have the pairs of all bases, or
-// are short.
+// Rounds after the first `done`, until one is the last, or `most` were made. `heads` and `next` have the pairs of all
+// bases, or are short.
 fn run(
     start: [u8; 576],
     keys: &[u64],
@@ -409,8 +474,17 @@ fn run(
     done: usize,
     most: usize,
 ) -> Progress
-    requires { ⌜ Running (now keys) (now sizes) (now exponents) (now counts) start came len (now table) (now index) done most × Lookup (part 64 (now sizes) (now keys)) (now heads) (now next) ⌝ }
-    ensures { λ r. ⌜ Advanced (closeAfter (basesIn (now (keys .entry)) (now (sizes .entry)) (now (exponents .entry)) (now (counts .entry))) done (now (sizes .entry)) start len (now (table .entry))) len (now (table .entry)) (now (keys .entry)) (now (sizes .entry)) (now (exponents .entry)) (now (counts .entry)) most r (now (table .exit)) (now (index .exit)) ⌝ }
+    requires { ⌜
+        Running (now keys) (now sizes) (now exponents) (now counts) start came len (now table) (now index) done most
+        × Lookup (part 64 (now sizes) (now keys)) (now heads) (now next)
+        ⌝ }
+    ensures { λ r. ⌜
+        Advanced
+        (closeAfter (basesIn (now (keys .entry)) (now (sizes .entry)) (now (exponents .entry)) (now (counts .entry)))
+        done (now (sizes .entry)) start len (now (table .entry))) len (now (table .entry)) (now (keys .entry))
+        (now (sizes .entry)) (now (exponents .entry)) (now (counts .entry)) most r (now (table .exit))
+        (now (index .exit))
+        ⌝ }
 {
     let mut labels = start;
     let mut n = len;
@@ -457,8 +531,14 @@ fn run(
 
 // The pairs of basis j, put into the index.
 fn note_at(heads: &mut [u16], next: &mut [u16], keys: &[u64], sizes: &[usize], j: usize)
-    requires { ⌜ BasisKeys (now keys) (now sizes) × PairedTo (part 64 (now sizes) (now keys)) j (now heads) (now next) × (j < 9) ⌝ }
-    ensures { λ _. ⌜ PairedTo (part 64 (now (sizes .entry)) (now (keys .entry))) (j + 1) (now (heads .exit)) (now (next .exit)) ⌝ }
+    requires { ⌜
+        BasisKeys (now keys) (now sizes)
+        × PairedTo (part 64 (now sizes) (now keys)) j (now heads) (now next)
+        × (j < 9)
+        ⌝ }
+    ensures { λ _. ⌜
+        PairedTo (part 64 (now (sizes .entry)) (now (keys .entry))) (j + 1) (now (heads .exit)) (now (next .exit))
+        ⌝ }
 {
     let a = 64 * j;
     let e = a + sizes[j];
@@ -471,8 +551,12 @@ fn note_at(heads: &mut [u16], next: &mut [u16], keys: &[u64], sizes: &[usize], j
 
 // Those of every basis.
 fn note_all(heads: &mut [u16], next: &mut [u16], keys: &[u64], sizes: &[usize])
-    requires { ⌜ BasisKeys (now keys) (now sizes) × PairedTo (part 64 (now sizes) (now keys)) 0 (now heads) (now next) ⌝ }
-    ensures { λ _. ⌜ PairedTo (part 64 (now (sizes .entry)) (now (keys .entry))) 9 (now (heads .exit)) (now (next .exit)) ⌝ }
+    requires { ⌜
+        BasisKeys (now keys) (now sizes) × PairedTo (part 64 (now sizes) (now keys)) 0 (now heads) (now next)
+        ⌝ }
+    ensures { λ _. ⌜
+        PairedTo (part 64 (now (sizes .entry)) (now (keys .entry))) 9 (now (heads .exit)) (now (next .exit))
+        ⌝ }
 {
     let mut j = 0;
     while j < 9 {
@@ -508,8 +592,15 @@ fn finish(
     len: usize,
     done: usize,
 ) -> Closed
-    requires { ⌜ Running (now keys) (now sizes) (now exponents) (now counts) start came len (now table) (now index) done 578 ⌝ }
-    ensures { λ r. ⌜ Settled (closeAfter (basesIn (now (keys .entry)) (now (sizes .entry)) (now (exponents .entry)) (now (counts .entry))) done (now (sizes .entry)) start len (now (table .entry))) len (now (table .entry)) r (now (table .exit)) (now (index .exit)) ⌝ }
+    requires { ⌜
+        Running (now keys) (now sizes) (now exponents) (now counts) start came len (now table) (now index) done 578
+        ⌝ }
+    ensures { λ r. ⌜
+        Settled
+        (closeAfter (basesIn (now (keys .entry)) (now (sizes .entry)) (now (exponents .entry)) (now (counts .entry)))
+        done (now (sizes .entry)) start len (now (table .entry))) len (now (table .entry)) r (now (table .exit))
+        (now (index .exit))
+        ⌝ }
 {
     let mut heads = [0u16; 18432];
     let mut next = [0u16; 36864];
@@ -550,8 +641,15 @@ fn go_on(
     len: usize,
     done: usize,
 ) -> Closed
-    requires { ⌜ Running (now keys) (now sizes) (now exponents) (now counts) start came len (now table) (now index) done 8 ⌝ }
-    ensures { λ r. ⌜ Settled (closeAfter (basesIn (now (keys .entry)) (now (sizes .entry)) (now (exponents .entry)) (now (counts .entry))) done (now (sizes .entry)) start len (now (table .entry))) len (now (table .entry)) r (now (table .exit)) (now (index .exit)) ⌝ }
+    requires { ⌜
+        Running (now keys) (now sizes) (now exponents) (now counts) start came len (now table) (now index) done 8
+        ⌝ }
+    ensures { λ r. ⌜
+        Settled
+        (closeAfter (basesIn (now (keys .entry)) (now (sizes .entry)) (now (exponents .entry)) (now (counts .entry)))
+        done (now (sizes .entry)) start len (now (table .entry))) len (now (table .entry)) r (now (table .exit))
+        (now (index .exit))
+        ⌝ }
 {
     let none = [0u16; 1];
     let p = run(
@@ -604,7 +702,11 @@ pub fn close(
     len: usize,
 ) -> Closed
     requires { ⌜ Starting (now table) (now index) len (now keys) (now sizes) (now exponents) (now counts) start ⌝ }
-    ensures { λ r. ⌜ Settled (closingOf (basesIn (now (keys .entry)) (now (sizes .entry)) (now (exponents .entry)) (now (counts .entry))) (keysIn len (now (table .entry)))) len (now (table .entry)) r (now (table .exit)) (now (index .exit)) ⌝ }
+    ensures { λ r. ⌜
+        Settled
+        (closingOf (basesIn (now (keys .entry)) (now (sizes .entry)) (now (exponents .entry)) (now (counts .entry)))
+        (keysIn len (now (table .entry)))) len (now (table .entry)) r (now (table .exit)) (now (index .exit))
+        ⌝ }
 {
     let none = [0u16; 1];
     let p = run(

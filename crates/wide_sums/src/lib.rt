@@ -1,7 +1,7 @@
 // Exact sums in two lent tables: the number at a place is hi[at] * 2^60 + lo[at].
 //
-// The parts meet at 2^60 because two low parts, with a carry, then stay below 2^63, so that nothing wraps and a low part is also a signed
-// number; and two tables hold 2^120, wide enough for factors of 32 bits and sums to 2^117.
+// The parts meet at 2^60 because two low parts, with a carry, then stay below 2^63, so that nothing wraps and a low
+// part is also a signed number; and two tables hold 2^120, wide enough for factors of 32 bits and sums to 2^117.
 ghost use lib.IntN.{_*ℤ_};
 ghost use Rattle.wide_sums.specs.Sums.{base, root, valueOf, Parted, Addend, Factors, Room, Added, Placed, ZeroAt};
 
@@ -16,8 +16,8 @@ pub struct Parts {
     pub lo: u64,
 }
 
-// A number cut at the base. `>>` on a signed number rounds down (floor division), so the low part is never negative: the parts of -1 are
-// -1 and 2^60 - 1.
+// A number cut at the base. `>>` on a signed number rounds down (floor division), so the low part is never negative:
+// the parts of -1 are -1 and 2^60 - 1.
 pub fn split(x: i64) -> Parts
     ensures { λ r. ⌜ Parted base x (r .hi) (r .lo) ⌝ }
 {
@@ -35,7 +35,8 @@ pub fn halves(x: i64) -> Parts
     Parts { hi, lo: lo as u64 }
 }
 
-// Adds the number with the parts h and l to the one at a place. The low parts may reach the base: then 1 is carried to the high part.
+// Adds the number with the parts h and l to the one at a place. The low parts may reach the base: then 1 is carried to
+// the high part.
 pub fn add_parts(hi: &mut [i64], lo: &mut [u64], at: usize, h: i64, l: u64)
     requires { ⌜ Room (now hi) (now lo) at ⌝ }
     requires { ⌜ Addend h l ⌝ }
