@@ -1,5 +1,6 @@
 pub mod Operands
 pub mod Commands
+pub mod Layouts
 pub mod ProblemLayout
 pub mod ProblemRules
 pub mod ProblemBases
