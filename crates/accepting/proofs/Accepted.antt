@@ -7,7 +7,7 @@ use Rattle.counting.proofs.Cases.{clash}
 use Rattle.format.specs.Commands.{Outcome}
 use Rattle.format.specs.Commands as Stream
 use Rattle.format.specs.ProblemRules.{Problem}
-use Rattle.format.specs.ProblemLimits.{Limits}
+use Rattle.format.proofs.WithinLimits.{Limits}
 use Rattle.format.specs.CertificateRules.{Certificate, shapeOf, readCertificate}
 use Rattle.accepting.specs.Identity.{Identity, KeepsBlocks}
 use Rattle.accepting.specs.Judgement.{splitPlace, differenceKey, refused, accepted, byIdentity, byBlocks, judgeRead, judgeOutcome, judge, Accepted, Differs}

@@ -8,7 +8,7 @@ use lib.Dec.{eqb}
 use borrow.Author.Tests.{eqb-true, eq-eqb}
 use Rattle.counting.proofs.Cases.{clash}
 use Rattle.format.specs.ProblemRules.{Problem}
-use Rattle.format.specs.ProblemLimits.{All}
+use Rattle.format.specs.All.{All}
 use Rattle.format.specs.CertificateRules.{Entry, Row}
 use Rattle.accepting.specs.Identity.{blockOf, KeepsBlocks}
 use Rattle.accepting.specs.Judgement.{firstOutside, rowSplit, orElse, splitBy, splitPlace}

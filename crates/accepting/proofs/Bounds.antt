@@ -16,7 +16,8 @@ use Rattle.polynomial.proofs.Products.{Degree, degree-⊗}
 use Rattle.polynomial.proofs.Values.{value-append, value-scale, same-values, value-constant, value-⊗}
 use Rattle.format.specs.ProblemRules.{Problem}
 use Rattle.format.specs.ProblemBases.{basisOf, multiplier}
-use Rattle.format.specs.ProblemLimits.{All, Terms, Limits}
+use Rattle.format.specs.All.{All}
+use Rattle.format.proofs.WithinLimits.{Terms, Limits}
 use Rattle.format.proofs.ProblemLimits.{all-at, monomials-none}
 use Rattle.format.specs.CertificateRules.{Entry, Row, Certificate}
 use Rattle.format.specs.declared.certificate.Header.{Header}

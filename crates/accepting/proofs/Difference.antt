@@ -12,7 +12,7 @@ use Rattle.counting.proofs.Cases.{clash}
 use Rattle.polynomial.specs.Terms.{Term}
 use Rattle.polynomial.specs.Algebra.{coefficient}
 use Rattle.format.specs.ProblemRules.{Problem}
-use Rattle.format.specs.ProblemLimits.{Limits}
+use Rattle.format.proofs.WithinLimits.{Limits}
 use Rattle.joining_rule.specs.Sets.{In, Rising, member}
 use Rattle.joining_rule.proofs.Elements.{in-cons, not-nil, above-in}
 use Rattle.format.specs.CertificateRules.{Certificate}

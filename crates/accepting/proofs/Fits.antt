@@ -14,7 +14,8 @@ use Rattle.format.specs.Commands.{given}
 use Rattle.format.proofs.Run.{passes, read-induction}
 use Rattle.format.specs.ProblemRules.{Problem, nonzero}
 use Rattle.format.specs.ProblemBases.{basisOf}
-use Rattle.format.specs.ProblemLimits.{All, Limits}
+use Rattle.format.specs.All.{All}
+use Rattle.format.proofs.WithinLimits.{Limits}
 use Rattle.format.proofs.ProblemLimits.{all-more, all-set, all-at}
 use Rattle.format.specs.CertificateRules.{Entry, Row, Certificate, noCertificate, shapeOf, noRow, lastRow, withEntry, progressOf, certificateOperandsFit, certificateApplied, certificateInstructionAt, progressVerdict, certificateRefusalAt, certificateNext, certificateLanguage, readCertificate}
 use Rattle.format.specs.declared.certificate.Shape.{Shape}

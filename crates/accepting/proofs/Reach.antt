@@ -13,7 +13,8 @@ use Rattle.polynomial.proofs.Sums.{coefficient-none}
 use Rattle.polynomial.proofs.Products.{keys-append, keys-scale, keys-⊗}
 use Rattle.format.specs.ProblemRules.{Problem}
 use Rattle.format.specs.ProblemBases.{basisOf, multiplierOf, multiplier}
-use Rattle.format.specs.ProblemLimits.{All, Limits}
+use Rattle.format.specs.All.{All}
+use Rattle.format.proofs.WithinLimits.{Limits}
 use Rattle.joining_rule.specs.Sets.{In, Rising, insertAll}
 use Rattle.joining_rule.proofs.Elements.{in-here, in-there, insert-in, insert-keeps, insert-rising}
 use Rattle.joining_rule.proofs.Insertions.{insertAll-in}

@@ -12,7 +12,8 @@ use Rattle.polynomial.specs.Terms.{Term, term, keysOf}
 use Rattle.polynomial.specs.Algebra.{coefficient}
 use Rattle.polynomial.specs.Point.{monomialValue, value}
 use Rattle.polynomial.proofs.Sums.{coefficient-none}
-use Rattle.format.specs.ProblemLimits.{All, Distinct, Monomials, Limits}
+use Rattle.format.specs.All.{All}
+use Rattle.format.proofs.WithinLimits.{Distinct, Monomials, Limits}
 use Rattle.format.proofs.ProblemLimits.{monomials-none, nothing-basis}
 use Rattle.format.specs.ProblemRules.{Problem}
 use Rattle.format.specs.ProblemBases.{basisOf, multiplier}

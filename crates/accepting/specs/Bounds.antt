@@ -8,7 +8,7 @@ use lib.Signed.{_≤ℤ_}
 use Rattle.polynomial.specs.Terms.{Term}
 use Rattle.polynomial.specs.Point.{Point, value}
 use Rattle.format.specs.ProblemRules.{Problem}
-use Rattle.format.specs.ProblemLimits.{All}
+use Rattle.format.specs.All.{All}
 
 -- "A point is allowed when every constraint's scaled value is at least 0": n numerators over one c ≥ 1, and constraints
 -- by c^16

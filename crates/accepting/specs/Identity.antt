@@ -8,7 +8,7 @@ use Rattle.polynomial.specs.Terms.{Term, term}
 use Rattle.polynomial.specs.Algebra.{coefficient, scale, _⊗_}
 use Rattle.format.specs.ProblemRules.{Problem}
 use Rattle.format.specs.ProblemBases.{basisOf, multiplier}
-use Rattle.format.specs.ProblemLimits.{All}
+use Rattle.format.specs.All.{All}
 use Rattle.joining_rule.specs.Joining.{closing}
 use Rattle.format.specs.CertificateRules.{Entry, Row, Certificate}
 use Rattle.format.specs.declared.certificate.Header.{Header}

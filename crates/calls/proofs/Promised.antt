@@ -10,7 +10,8 @@ use borrow.Author.Tests.{ltb-true, lt-ltb}
 use Rattle.format.specs.Commands.{given}
 use Rattle.format.specs.ProblemRules.{Problem, readProblem}
 use Rattle.format.specs.ProblemBases.{basisOf}
-use Rattle.format.specs.ProblemLimits.{Limits, Monomials, memberCommands, basesNamed}
+use Rattle.format.proofs.WithinLimits.{Limits, Monomials}
+use Rattle.format.specs.ProblemCounts.{memberCommands, basesNamed}
 use Rattle.format.proofs.ProblemLimits.{read-limits, all-at, monomials-none}
 use Rattle.format.proofs.ProblemCounts.{count-members, count-named}
 use Rattle.joining_rule.specs.Sets.{Rising}

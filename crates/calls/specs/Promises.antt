@@ -7,7 +7,7 @@ use Prim.Native.Nat.{ℕ, _+_, _≤_, _<_}
 use lib.ListN.{length}
 use Rattle.format.specs.Commands.{given}
 use Rattle.format.specs.ProblemRules.{Problem, readProblem}
-use Rattle.format.specs.ProblemLimits.{memberCommands, basesNamed}
+use Rattle.format.specs.ProblemCounts.{memberCommands, basesNamed}
 use Rattle.joining_rule.specs.Bytes.{blockAt}
 use Rattle.joining_rule.specs.Meaning.{Closed, Least, Lowest, TakesRounds}
 use Rattle.joining_rule.specs.Joining.{basesOf, startSet, closedSupport, tooLarge, closing}

@@ -10,7 +10,7 @@ use borrow.Author.Tests.{eq-eqb, ne-eqb, ltb-false}
 use Rattle.counting.proofs.Listed.{listed-length, listed-same, listed-at, listed-all}
 use Rattle.format.specs.Commands.{Outcome, refused, given}
 use Rattle.format.specs.ProblemRules.{Problem}
-use Rattle.format.specs.ProblemLimits.{Limits}
+use Rattle.format.proofs.WithinLimits.{Limits}
 use Rattle.format.specs.ProblemBases.{basisOf}
 use Rattle.problem_reader.specs.Stored.{problemOf, constraintsOf, basesHeld, Kept}
 use Rattle.problem_reader.specs.declared.StoredProblem.{StoredProblem}

@@ -9,7 +9,7 @@ use borrow.Author.Tests.{eq-eqb, ne-eqb}
 use Rattle.format.specs.Commands.{Outcome, refused, given}
 use Rattle.format.specs.ProblemRules.{Problem}
 use Rattle.problem_reader.specs.Stored.{problemOf, outcomeOf, Kept}
-use Rattle.format.specs.ProblemLimits.{Limits}
+use Rattle.format.proofs.WithinLimits.{Limits}
 use Rattle.problem_reader.specs.declared.StoredProblem.{StoredProblem}
 use Rattle.problem_reader.specs.declared.Reading.{Reading}
 use Rattle.joining_rule.specs.Joining.{closing, tooLarge}

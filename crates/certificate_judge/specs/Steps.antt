@@ -7,7 +7,7 @@ use lib.ListN.{length}
 use Rattle.format.specs.Commands.{refused, given}
 use Rattle.format.specs.ProblemRules.{Problem}
 use Rattle.problem_reader.specs.Stored.{problemOf, Kept}
-use Rattle.format.specs.ProblemLimits.{Limits}
+use Rattle.format.proofs.WithinLimits.{Limits}
 use Rattle.problem_reader.specs.declared.StoredProblem.{StoredProblem}
 use Rattle.joining_rule.specs.Joining.{closing}
 use Rattle.closure.specs.Tables.{ClosureLeft}

@@ -11,7 +11,7 @@ use Rattle.counting.specs.Counting.{listed}
 use Rattle.counting.proofs.Listed.{listed-length, listed-at}
 use Rattle.format.specs.ProblemRules.{Problem}
 use Rattle.format.specs.ProblemBases.{basisOf}
-use Rattle.format.specs.ProblemLimits.{Monomials, Limits as ProblemLimits}
+use Rattle.format.proofs.WithinLimits.{Monomials, Limits as ProblemLimits}
 use Rattle.format.proofs.ProblemLimits.{all-at, monomials-none}
 use Rattle.format.specs.CertificateLayout.{certificateSize}
 use Rattle.format.specs.CertificateRules.{shapeOf}

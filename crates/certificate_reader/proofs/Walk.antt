@@ -10,7 +10,7 @@ use Rattle.counting.specs.Counting.{listed}
 use Rattle.counting.proofs.Listed.{listed-length, listed-at}
 use Rattle.format.specs.Commands.{given}
 use Rattle.format.specs.Operands.{number}
-use Rattle.format.specs.ProblemLimits.{All}
+use Rattle.format.specs.All.{All}
 use Rattle.format.specs.declared.certificate.Shape.{Shape}
 use Rattle.certificate_reader.specs.declared.StoredRow.{StoredRow}
 use Rattle.format.specs.CertificateRules.{Entry, Row, Certificate, readCertificate}

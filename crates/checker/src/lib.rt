@@ -9,7 +9,7 @@ ghost use lib.ListN.{length, drop};
 ghost use lib.IntN.{pos};
 ghost use Rattle.format.specs.ProblemRules.{readProblem};
 ghost use Rattle.problem_reader.specs.Stored.{problemOf, Kept};
-ghost use Rattle.format.specs.ProblemLimits.{Limits};
+ghost use Rattle.format.proofs.WithinLimits.{Limits};
 ghost use Rattle.accepting.specs.Judgement as J;
 ghost use Rattle.calls.specs.Tables.{tablesShort, tableLeft};
 ghost use Rattle.checker.specs.Tables.{Long, Cleared};

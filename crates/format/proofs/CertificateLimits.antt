@@ -12,7 +12,7 @@ use Rattle.format.specs.Commands.{given}
 use Rattle.format.specs.Operands.{number}
 use Rattle.format.proofs.Run.{read-induction}
 use Rattle.format.specs.ProblemRules.{nonzero}
-use Rattle.format.specs.ProblemLimits.{All}
+use Rattle.format.specs.All.{All}
 use Rattle.format.proofs.ProblemLimits.{all-more, all-set, nonzero-not}
 use Rattle.format.specs.declared.certificate.Command.{Command}
 use Rattle.format.specs.declared.certificate.Command.the-variants as C

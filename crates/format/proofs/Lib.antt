@@ -1,3 +1,4 @@
+pub mod WithinLimits
 pub mod ProblemChecks
 pub mod Run
 pub mod ProblemLimits

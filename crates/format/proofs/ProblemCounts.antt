@@ -18,7 +18,7 @@ use Rattle.format.specs.declared.problem.Command.{Command}
 use Rattle.format.specs.declared.problem.Command.the-variants as C
 use Rattle.format.specs.ProblemLayout.{problemCommand, problemDecoded}
 use Rattle.format.specs.ProblemRules.{Problem, noProblem, appendAt, problemPlaced, fitting, problemOperandsFit, problemRepeated, problemFull, problemApplied, problemCommandAt, problemRefusalAt, problemNext, problemLanguage, readProblem}
-use Rattle.format.specs.ProblemLimits.{countIf, anyOf, isMember, names, memberCommands, basesNamed}
+use Rattle.format.specs.ProblemCounts.{countIf, anyOf, isMember, names, memberCommands, basesNamed}
 use Rattle.format.proofs.ProblemLimits.{Kept, kept-next, kept-start, nothing-basis}
 
 -- the length of basis j

@@ -1,4 +1,4 @@
--- Every problem that a stream gives keeps the limits.
+-- Every problem that a stream gives keeps the limits (WithinLimits.antt).
 use mathlib.Core.Path.{_≡_, refl, ap, sym, _∙_, subst}
 use mathlib.Core.List.{List, [], _∷_, _++_}
 use mathlib.Core.Bool.{Bool, true, false, cond, _&&_}
@@ -21,10 +21,10 @@ use Rattle.format.specs.declared.problem.Command.the-variants as C
 use Rattle.format.specs.declared.problem.Instruction.the-variants as I
 use Rattle.format.specs.ProblemLayout.{problemCommand, problemSize, problemDecoded}
 use Rattle.format.specs.ProblemRules.{Problem, noProblem, appendAt, lastOf, problemPlaced, nonzero, fitting, problemOperandsFit, problemRepeated, problemFull, problemApplied, problemCommandAt, problemRefusalAt, problemNext, problemLanguage, readProblem}
-use Rattle.format.specs.ProblemLimits.{Distinct, All, Monomials, Terms, Limits}
+use Rattle.format.specs.All.{All}
+use Rattle.format.proofs.WithinLimits.{Distinct, Monomials, Terms, Limits}
 use Rattle.format.proofs.ProblemChecks.{placed-size}
 
--- ---- tests
 -- ---- lists: one more at the end, one replaced
 module _ {A : Type 0} (P : A → Type 0) where
   pub all-more : (l : List A) (a : A) → All P l → P a → All P (l ++ (a ∷ []))

@@ -1,35 +1,47 @@
 -- The certificate stream's commands and their layouts.
-use mathlib.Core.Bool.{cond}
-use mathlib.Core.List.{List}
-use Prim.Native.Nat.{ℕ, _+_}
-use lib.Dec.{eqb}
-use Rattle.format.specs.Operands.{number, signed}
+use mathlib.Core.List.{List, [], _∷_}
+use Prim.Native.Nat.{ℕ}
+use lib.IntN.{ℤ}
+use Rattle.format.specs.Layouts.{u8, u16, i16, i32, Layout, line, none, lengthOf, unsignedOperand, signedOperand, commandNamed}
 use Rattle.format.specs.declared.certificate.Command.{Command}
 use Rattle.format.specs.declared.certificate.Command.the-variants as C
 use Rattle.format.specs.declared.certificate.Instruction.{Instruction}
 use Rattle.format.specs.declared.certificate.Instruction.the-variants as I
 
+-- the layouts, line by line
+abbrev pub certificateLayout : Command → Layout
+-- "10 side(u8) D(u16) p(i32) q(u16): side 0 lower, 1 upper"
+certificateLayout C.Header = line 0x10 (u8 ∷ u16 ∷ i32 ∷ u16 ∷ [])
+-- "11 j(u8) w(u16): begins a row on basis j, .. with weight w"
+certificateLayout C.Row = line 0x11 (u8 ∷ u16 ∷ [])
+-- "12 i(u8) l(i16): entry of the row begun last"
+certificateLayout C.Entry = line 0x12 (u8 ∷ i16 ∷ [])
+-- "13: end"
+certificateLayout C.End = line 0x13 []
+certificateLayout C.Unknown = none
+
 -- the command that a byte names
 unfoldable pub certificateCommand : ℕ → Command
 certificateCommand b =
-    cond (eqb b 0x10) C.Header
-    (cond (eqb b 0x11) C.Row
-    (cond (eqb b 0x12) C.Entry
-    (cond (eqb b 0x13) C.End C.Unknown)))
+    commandNamed certificateLayout C.Unknown (C.Header ∷ C.Row ∷ C.Entry ∷ C.End ∷ []) b
 
--- a command's length: its own byte and its operands' widths
+-- a command's length; 0 of what is no command
 abbrev pub certificateSize : Command → ℕ
-certificateSize C.Header = 1 + 1 + 2 + 4 + 2
-certificateSize C.Row = 1 + 1 + 2
-certificateSize C.Entry = 1 + 1 + 2
-certificateSize C.End = 1
-certificateSize C.Unknown = 0
+certificateSize k = lengthOf (certificateLayout k)
 
--- a command with its operands, at an offset: 10 side D p q; 11 j w; 12 i l
+-- operand i of a command at an offset, by its layout
+abbrev pub certificateUnsigned : Command → ℕ → List ℕ → ℕ → ℕ
+certificateUnsigned k i s at = unsignedOperand (certificateLayout k) i s at
+
+abbrev pub certificateSigned : Command → ℕ → List ℕ → ℕ → ℤ
+certificateSigned k i s at = signedOperand (certificateLayout k) i s at
+
+-- a command with its operands, at an offset
 abbrev pub certificateDecoded : Command → List ℕ → ℕ → Instruction
 certificateDecoded C.Header s at =
-    I.Header (number 1 s (at + 1)) (number 2 s (at + 2)) (signed 31 (number 4 s (at + 4))) (number 2 s (at + 8))
-certificateDecoded C.Row s at = I.Row (number 1 s (at + 1)) (number 2 s (at + 2))
-certificateDecoded C.Entry s at = I.Entry (number 1 s (at + 1)) (signed 15 (number 2 s (at + 2)))
+    I.Header (certificateUnsigned C.Header 0 s at) (certificateUnsigned C.Header 1 s at)
+    (certificateSigned C.Header 2 s at) (certificateUnsigned C.Header 3 s at)
+certificateDecoded C.Row s at = I.Row (certificateUnsigned C.Row 0 s at) (certificateUnsigned C.Row 1 s at)
+certificateDecoded C.Entry s at = I.Entry (certificateUnsigned C.Entry 0 s at) (certificateSigned C.Entry 1 s at)
 certificateDecoded C.End s at = I.End
 certificateDecoded C.Unknown s at = I.End

@@ -4,7 +4,7 @@ use mathlib.Core.List.{List, [], _∷_}
 use Prim.Native.Nat.{_≤_, _<_}
 use lib.IntN.{pos}
 use lib.ListN.{length, getD}
-use Rattle.format.specs.ProblemLimits.{All}
+use Rattle.format.specs.All.{All}
 use Rattle.format.specs.declared.certificate.Shape.{Shape}
 use Rattle.format.specs.CertificateRules.{Entry, Row, Certificate}
 

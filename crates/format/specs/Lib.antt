@@ -1,9 +1,12 @@
+pub mod All
 pub mod Operands
 pub mod Commands
+pub mod Layouts
 pub mod ProblemLayout
+pub mod ProblemLimits
 pub mod ProblemRules
 pub mod ProblemBases
-pub mod ProblemLimits
+pub mod ProblemCounts
 pub mod CertificateLayout
 pub mod CertificateRules
 pub mod CertificateLimits

@@ -1,40 +1,52 @@
 -- The problem stream's commands and their layouts.
-use mathlib.Core.Bool.{cond}
-use mathlib.Core.List.{List}
-use Prim.Native.Nat.{ℕ, _+_}
-use lib.Dec.{eqb}
-use Rattle.format.specs.Operands.{number, signed}
+use mathlib.Core.List.{List, [], _∷_}
+use Prim.Native.Nat.{ℕ}
+use lib.IntN.{ℤ}
+use Rattle.format.specs.Layouts.{E, u8, i16, i32, Layout, line, none, lengthOf, unsignedOperand, signedOperand, commandNamed}
 use Rattle.format.specs.declared.problem.Command.{Command}
 use Rattle.format.specs.declared.problem.Command.the-variants as C
 use Rattle.format.specs.declared.problem.Instruction.{Instruction}
 use Rattle.format.specs.declared.problem.Instruction.the-variants as I
 
+-- the layouts, line by line
+abbrev pub problemLayout : Command → Layout
+-- "01 n(u8): number of variables"
+problemLayout C.Variables = line 0x01 (u8 ∷ [])
+-- "02 E c(i32): objective term"
+problemLayout C.Objective = line 0x02 (E ∷ i32 ∷ [])
+-- "03: begins the next constraint"
+problemLayout C.Constraint = line 0x03 []
+-- "04 E c(i16): term of the constraint begun last"
+problemLayout C.Term = line 0x04 (E ∷ i16 ∷ [])
+-- "05 j(u8) E: next monomial of basis j"
+problemLayout C.Member = line 0x05 (u8 ∷ E ∷ [])
+-- "06: end"
+problemLayout C.End = line 0x06 []
+problemLayout C.Unknown = none
+
 -- the command that a byte names
 unfoldable pub problemCommand : ℕ → Command
 problemCommand b =
-    cond (eqb b 1) C.Variables
-    (cond (eqb b 2) C.Objective
-    (cond (eqb b 3) C.Constraint
-    (cond (eqb b 4) C.Term
-    (cond (eqb b 5) C.Member
-    (cond (eqb b 6) C.End C.Unknown)))))
+    commandNamed problemLayout C.Unknown
+    (C.Variables ∷ C.Objective ∷ C.Constraint ∷ C.Term ∷ C.Member ∷ C.End ∷ []) b
 
--- a command's length: its own byte and its operands' widths. E is 8 bytes
+-- a command's length; 0 of what is no command
 abbrev pub problemSize : Command → ℕ
-problemSize C.Variables = 1 + 1
-problemSize C.Objective = 1 + 8 + 4
-problemSize C.Constraint = 1
-problemSize C.Term = 1 + 8 + 2
-problemSize C.Member = 1 + 1 + 8
-problemSize C.End = 1
-problemSize C.Unknown = 0
+problemSize k = lengthOf (problemLayout k)
+
+-- operand i of a command at an offset, by its layout
+abbrev pub problemUnsigned : Command → ℕ → List ℕ → ℕ → ℕ
+problemUnsigned k i s at = unsignedOperand (problemLayout k) i s at
+
+abbrev pub problemSigned : Command → ℕ → List ℕ → ℕ → ℤ
+problemSigned k i s at = signedOperand (problemLayout k) i s at
 
 -- a command with its operands, at an offset
 abbrev pub problemDecoded : Command → List ℕ → ℕ → Instruction
-problemDecoded C.Variables s at = I.Variables (number 1 s (at + 1))
-problemDecoded C.Objective s at = I.Objective (number 8 s (at + 1)) (signed 31 (number 4 s (at + 9)))
+problemDecoded C.Variables s at = I.Variables (problemUnsigned C.Variables 0 s at)
+problemDecoded C.Objective s at = I.Objective (problemUnsigned C.Objective 0 s at) (problemSigned C.Objective 1 s at)
 problemDecoded C.Constraint s at = I.Constraint
-problemDecoded C.Term s at = I.Term (number 8 s (at + 1)) (signed 15 (number 2 s (at + 9)))
-problemDecoded C.Member s at = I.Member (number 1 s (at + 1)) (number 8 s (at + 2))
+problemDecoded C.Term s at = I.Term (problemUnsigned C.Term 0 s at) (problemSigned C.Term 1 s at)
+problemDecoded C.Member s at = I.Member (problemUnsigned C.Member 0 s at) (problemUnsigned C.Member 1 s at)
 problemDecoded C.End s at = I.End
 problemDecoded C.Unknown s at = I.End

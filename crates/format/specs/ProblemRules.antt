@@ -13,6 +13,7 @@ use Rattle.format.specs.declared.problem.Command.the-variants as C
 use Rattle.format.specs.declared.problem.Instruction.{Instruction}
 use Rattle.format.specs.declared.problem.Instruction.the-variants as I
 use Rattle.format.specs.ProblemLayout.{problemCommand, problemSize, problemDecoded}
+use Rattle.format.specs.ProblemLimits.{mostVariables, mostObjectiveDegree, mostObjectiveTerms, mostConstraints, mostConstraintDegree, mostConstraintTerms, mostBasisDegree, mostMonomials, mostBases}
 
 -- a problem: the number of variables, the objective, the constraints from number 1 on, and the bases 0 to 8
 pub record Problem : Type 0 where
@@ -23,7 +24,7 @@ pub record Problem : Type 0 where
 
 -- before the first command
 abbrev pub noProblem : Problem
-noProblem = record { variables = 0; objective = []; constraints = []; bases = replicate 9 [] }
+noProblem = record { variables = 0; objective = []; constraints = []; bases = replicate mostBases [] }
 
 -- one more at the end of list j
 unfoldable pub appendAt {ℓ} : {A : Type ℓ} → List (List A) → ℕ → A → List (List A)
@@ -54,11 +55,12 @@ unfoldable pub fitting : ℕ → ℕ → ℕ → Bool
 fitting n d k = leb (degree k) d && within n k
 
 abbrev pub problemOperandsFit : Problem → Instruction → Bool
-problemOperandsFit p (I.Variables n) = leb 1 n && leb n 8
-problemOperandsFit p (I.Objective k c) = fitting (p .variables) 32 k && nonzero c
+problemOperandsFit p (I.Variables n) = leb 1 n && leb n mostVariables
+problemOperandsFit p (I.Objective k c) = fitting (p .variables) mostObjectiveDegree k && nonzero c
 problemOperandsFit p I.Constraint = true
-problemOperandsFit p (I.Term k c) = fitting (p .variables) 16 k && nonzero c
-problemOperandsFit p (I.Member j k) = leb j (length (p .constraints)) && fitting (p .variables) 8 k
+problemOperandsFit p (I.Term k c) = fitting (p .variables) mostConstraintDegree k && nonzero c
+problemOperandsFit p (I.Member j k) =
+    leb j (length (p .constraints)) && fitting (p .variables) mostBasisDegree k
 problemOperandsFit p I.End = true
 
 -- ---- refusal 5: "A polynomial or a basis has no monomial twice"
@@ -73,10 +75,10 @@ problemRepeated p I.End = false
 -- ---- refusal 6: "one more than a count allows"
 abbrev pub problemFull : Problem → Instruction → Bool
 problemFull p (I.Variables n) = false
-problemFull p (I.Objective k c) = leb 256 (length (p .objective))
-problemFull p I.Constraint = leb 8 (length (p .constraints))
-problemFull p (I.Term k c) = leb 32 (length (lastOf (p .constraints)))
-problemFull p (I.Member j k) = leb 64 (length (getD (p .bases) j []))
+problemFull p (I.Objective k c) = leb mostObjectiveTerms (length (p .objective))
+problemFull p I.Constraint = leb mostConstraints (length (p .constraints))
+problemFull p (I.Term k c) = leb mostConstraintTerms (length (lastOf (p .constraints)))
+problemFull p (I.Member j k) = leb mostMonomials (length (getD (p .bases) j []))
 problemFull p I.End = false
 
 -- ---- what a command that is not refused does

@@ -8,7 +8,7 @@ use lib.IntN.{ℤ, pos, natAbs, _+ℤ_}
 use lib.ListN.{getD}
 use Rattle.polynomial.specs.Algebra.{coefficient, Keys}
 use Rattle.polynomial.proofs.Sums.{coefficient-append, coefficient-none}
-use Rattle.format.specs.ProblemLimits.{All}
+use Rattle.format.specs.All.{All}
 use Rattle.whole_rounds.specs.Parts.{part}
 use Rattle.format.specs.CertificateRules.{Entry, Row}
 use Rattle.certificate_reader.specs.Rows.{rowsOf}

@@ -10,7 +10,7 @@ use Rattle.format.specs.Commands.{given}
 use Rattle.problem_reader.specs.TermArrays.{objectiveTerms, FilledTerms}
 use Rattle.problem_reader.specs.declared.Objective.{Objective}
 use Rattle.format.specs.ProblemRules.{Problem}
-use Rattle.format.specs.ProblemLimits.{Limits}
+use Rattle.format.proofs.WithinLimits.{Limits}
 use Rattle.format.specs.ProblemBases.{basisOf}
 use Rattle.problem_reader.specs.Flat.{Flat}
 use Rattle.key_set.specs.Table.{keysIn, Holds}

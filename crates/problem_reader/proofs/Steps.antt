@@ -40,12 +40,15 @@ stored v o qs n keys sizes = record { variables = v; objective = o; constraints 
 abbrev pub reading : ℕ → ℕ → StoredProblem → Reading
 reading n at p = record { number = n; place = at; problem = p }
 
--- what the loop keeps: nothing is decided, the arrays are in order, and from the command at hand on the definition gives what it
--- gives for the whole stream
+-- what the loop of `read` keeps. s is the stream, p what was stored of the commands before the one at hand, number the
+-- refusal that the reading has if the loop ends here, and at the offset of the command at hand
 pub record Going (s : List ℕ) (p : StoredProblem) (number at : ℕ) : Type 0 where
+  -- nothing is decided: a stream that ends here has no end command
   pub undecided : number ≡ 2
   pub reached : at ≤ length s
+  -- the arrays are in order
   pub kept : Kept p
+  -- from the command at hand on the definition gives what it gives for the whole stream
   pub left : Left problemLanguage s (readProblem s) (problemOf p) at
 
 -- what the function promises

@@ -14,7 +14,8 @@ use Rattle.counting.proofs.Listed.{listed-at, listed-length}
 use Rattle.format.specs.Commands.{given}
 use Rattle.format.specs.ProblemRules.{Problem}
 use Rattle.format.specs.ProblemBases.{basisOf}
-use Rattle.format.specs.ProblemLimits.{All, Limits}
+use Rattle.format.specs.All.{All}
+use Rattle.format.proofs.WithinLimits.{Limits}
 use Rattle.joining_rule.specs.Bytes.{blockBytes, blockAt}
 use Rattle.joining_rule.proofs.Bytes.{byte-at}
 use Rattle.joining_rule.proofs.Closing.{closing-shaped}

@@ -5,7 +5,7 @@ ghost use Prim.Native.Nat.{_+_, _*_, _^_, _<_};
 ghost use lib.ListN.{length};
 ghost use Rattle.format.specs.Commands.{given};
 ghost use Rattle.format.specs.ProblemRules.{Problem};
-ghost use Rattle.format.specs.ProblemLimits.{Limits};
+ghost use Rattle.format.proofs.WithinLimits.{Limits};
 ghost use Rattle.joining_rule.specs.Bytes.{blockBytes, blockAt};
 ghost use Rattle.joining_rule.specs.Joining.{closing};
 ghost use Rattle.format.specs.CertificateRules.{Certificate, shapeOf, readCertificate};

@@ -18,7 +18,7 @@ use Rattle.polynomial.specs.Terms.{Term, term}
 use Rattle.problem_reader.specs.TermArrays.{termsIn}
 use Rattle.polynomial.specs.Algebra.{sum, match, coefficient, _⊗_, Keys}
 use Rattle.polynomial.proofs.Products.{keys-append, keys-scale, keys-⊗, keys-map}
-use Rattle.format.specs.ProblemLimits.{All}
+use Rattle.format.specs.All.{All}
 use Rattle.certificate_reader.specs.Kept.{Within}
 use Rattle.format.specs.CertificateLimits.{IndicesRise, SoundRow}
 use Rattle.format.specs.CertificateRules.{Entry, Row}

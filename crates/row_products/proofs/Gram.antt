@@ -18,7 +18,7 @@ use Rattle.polynomial.proofs.Sums.{sum-append, sum-scale, sum-⊗, same-sums, c
 use Rattle.polynomial.proofs.Products.{keys-append, keys-scale, keys-⊗, keys-map}
 use Rattle.format.specs.ProblemRules.{Problem}
 use Rattle.format.specs.ProblemBases.{basisOf, multiplier}
-use Rattle.format.specs.ProblemLimits.{All}
+use Rattle.format.specs.All.{All}
 use Rattle.format.specs.CertificateRules.{Entry, Row}
 use Rattle.accepting.specs.Identity.{combination, square, squares}
 use Rattle.row_products.specs.Gram.{factors, rekeyed, outer, gram, pairKey, expanded, rowsOn, byBasis}

@@ -17,7 +17,7 @@ use Rattle.polynomial.specs.Algebra.{sum, match, coefficient, _⊗_, Keys}
 use Rattle.polynomial.proofs.Sums.{sum-append, sum-scale, sum-⊗}
 use Rattle.format.specs.ProblemRules.{Problem}
 use Rattle.format.specs.ProblemBases.{basisOf, multiplier}
-use Rattle.format.specs.ProblemLimits.{All}
+use Rattle.format.specs.All.{All}
 use Rattle.format.specs.CertificateRules.{Entry, Row}
 use Rattle.accepting.specs.Identity.{squares}
 use Rattle.row_products.specs.Gram.{factors, rekeyed, outer, gram, pairKey, tableTerms, upper, times}
