@@ -13,8 +13,9 @@ use Rattle.format.specs.ProblemBases.{basisOf}
 use Rattle.format.specs.ProblemLimits.{Limits, Monomials, memberCommands, basesNamed}
 use Rattle.format.proofs.ProblemLimits.{read-limits, all-at, monomials-none}
 use Rattle.format.proofs.ProblemCounts.{count-members, count-named}
-use Rattle.joining_rule.specs.Sets.{Rising}
-use Rattle.joining_rule.specs.Rounds.{Bases, monomials, nonempty, closedWithZero}
+use Rattle.joining_rule.proofs.Rising.{Rising}
+use Rattle.joining_rule.specs.Rounds.{Bases, closedWithZero}
+use Rattle.joining_rule.proofs.Rounds.{monomials, nonempty}
 use Rattle.joining_rule.specs.Bytes.{blockBytes, blockAt}
 use Rattle.joining_rule.specs.Meaning.{Pair, Closed, Least, Lowest, TakesRounds}
 use Rattle.joining_rule.proofs.Bytes.{bytes-long, byte-at}

@@ -4,7 +4,7 @@ use mathlib.Core.List.{List, []}
 use Prim.Native.Nat.{ℕ, _≤_, _<_}
 use native.Mathlib.Omega.{arith}
 use lib.ListN.{length, getD}
-use Rattle.joining_rule.specs.Sets.{Rising}
+use Rattle.joining_rule.proofs.Rising.{Rising}
 use Rattle.counting.proofs.Steps.{fromTo-keeps}
 use Rattle.joining_rule.proofs.Members.{linked-by}
 use Rattle.joining_rule.proofs.Least.{Equivalence, ClosedFor, Inside, Within, join-inside, extend-within, singles-inside}

@@ -8,7 +8,8 @@ use native.Mathlib.Omega.{arith}
 use lib.ListN.{length}
 use lib.Dec.{eqb}
 use borrow.Author.Tests.{eqb-true, eq-eqb}
-use Rattle.joining_rule.specs.Sets.{Above, Rising, In, member}
+use Rattle.joining_rule.specs.Sets.{In, member}
+use Rattle.joining_rule.proofs.Rising.{Above, Rising}
 use Rattle.joining_rule.proofs.Elements.{above-in, not-nil, in-cons, in-here, in-there}
 use Rattle.joining_rule.specs.Rounds.{Bases, closingOf}
 use Rattle.joining_rule.specs.Meaning.{Closed, Other, Contained, Least, Lowest}

@@ -14,7 +14,8 @@ use Rattle.format.specs.ProblemRules.{appendAt, fitting, problemApplied, proble
 use Rattle.format.specs.ProblemBases.{basisOf, multiplierOf, multiplier}
 use Rattle.joining_rule.specs.Sets.{member, insert, insertAll}
 use Rattle.joining_rule.specs.Join.{linked, merged, joinPair, join}
-use Rattle.joining_rule.specs.Extend.{addTerms, addPair, extend, lowestFrom}
+use Rattle.joining_rule.specs.Extend.{addTerms, addPair, extend}
+use Rattle.joining_rule.proofs.Numbered.{lowestFrom}
 use Rattle.joining_rule.specs.Rounds.{singles, start, joinAll, extendAll, round, same, sameAll, sameState, closeFrom, blocksIn}
 use Rattle.joining_rule.specs.Rounds as Rounds
 use Rattle.joining_rule.specs.Bytes.{blockBytes}
