@@ -13,7 +13,8 @@ use Rattle.polynomial.specs.Terms.{Term}
 use Rattle.polynomial.specs.Algebra.{coefficient}
 use Rattle.format.specs.ProblemRules.{Problem}
 use Rattle.format.proofs.WithinLimits.{Limits}
-use Rattle.joining_rule.specs.Sets.{In, Rising, member}
+use Rattle.joining_rule.specs.Sets.{In, member}
+use Rattle.joining_rule.proofs.Rising.{Rising}
 use Rattle.joining_rule.proofs.Elements.{in-cons, not-nil, above-in}
 use Rattle.format.specs.CertificateRules.{Certificate}
 use Rattle.accepting.specs.Identity.{squares, claim, Identity, KeepsBlocks, RowsFit}

@@ -8,14 +8,16 @@ use native.Mathlib.Omega.{arith}
 use lib.IntN.{pos, negℤ}
 use lib.ListN.{length, getD}
 use Rattle.polynomial.specs.Terms.{Term, term, keysOf}
-use Rattle.polynomial.specs.Algebra.{coefficient, scale, _⊗_, Keys}
+use Rattle.polynomial.specs.Algebra.{coefficient, scale, _⊗_}
+use Rattle.polynomial.proofs.Keys.{Keys}
 use Rattle.polynomial.proofs.Sums.{coefficient-none}
 use Rattle.polynomial.proofs.Products.{keys-append, keys-scale, keys-⊗}
 use Rattle.format.specs.ProblemRules.{Problem}
 use Rattle.format.specs.ProblemBases.{basisOf, multiplierOf, multiplier}
 use Rattle.format.specs.All.{All}
 use Rattle.format.proofs.WithinLimits.{Limits}
-use Rattle.joining_rule.specs.Sets.{In, Rising, insertAll}
+use Rattle.joining_rule.specs.Sets.{In, insertAll}
+use Rattle.joining_rule.proofs.Rising.{Rising}
 use Rattle.joining_rule.proofs.Elements.{in-here, in-there, insert-in, insert-keeps, insert-rising}
 use Rattle.joining_rule.proofs.Insertions.{insertAll-in}
 use Rattle.joining_rule.proofs.Extending.{fromTo-extends}

@@ -14,14 +14,15 @@ use Rattle.format.proofs.WithinLimits.{Limits, Monomials}
 use Rattle.format.specs.ProblemCounts.{memberCommands, basesNamed}
 use Rattle.format.proofs.ProblemLimits.{read-limits, all-at, monomials-none}
 use Rattle.format.proofs.ProblemCounts.{count-members, count-named}
-use Rattle.joining_rule.specs.Sets.{Rising}
-use Rattle.joining_rule.specs.Rounds.{Bases, monomials, nonempty, closedWithZero}
+use Rattle.joining_rule.proofs.Rising.{Rising}
+use Rattle.joining_rule.specs.Rounds.{Bases, closedWithZero}
+use Rattle.joining_rule.proofs.Rounds.{monomials, nonempty}
 use Rattle.joining_rule.specs.Bytes.{blockBytes, blockAt}
 use Rattle.joining_rule.specs.Meaning.{Pair, Closed, Least, Lowest, TakesRounds}
 use Rattle.joining_rule.proofs.Bytes.{bytes-long, byte-at}
 use Rattle.joining_rule.proofs.Closing.{closing-shaped}
 use Rattle.joining_rule.proofs.Bound.{few-rounds, closing-rounds}
-use Rattle.joining_rule.proofs.Meaning.{labelOf, closing-closed, closing-least, closing-lowest}
+use Rattle.joining_rule.proofs.Meaning.{labelOf, closing-closed, closing-least, least-tests, closing-lowest}
 use Rattle.joining_rule.specs.Joining.{basesOf, startSet, closing, closedSupport, tooLarge, blockTotal}
 use Rattle.joining_rule.proofs.Start.{start-rising}
 use Rattle.calls.specs.declared.BlocksVerdict.{BlocksVerdict}
@@ -49,8 +50,10 @@ module _ (g : Bases) (S₀ : List ℕ) (label label′ : ℕ → ℕ → ℕ) (a
 
   pub least-same : (S : List ℕ) → Least g S₀ label S → Least g S₀ label′ S
   least-same S l = record {
-    blocks = λ R Q o j i k h x y e. l .blocks R Q o j i k h x y (a .at j i h x ∙ e ∙ sym (a .at j k h y));
-    set = l .set;
+    within = λ R Q o. record {
+      blocks = λ j i k h x y e. l .within R Q o .blocks j i k h x y (a .at j i h x ∙ e ∙ sym (a .at j k h y));
+      set = l .within R Q o .set;
+    };
   }
 
   pub lowest-same : Lowest g label → Lowest g label′
@@ -91,7 +94,7 @@ module _ (s : List ℕ) (p : Problem) (read : readProblem s ≡ given p) where
 
   pub promise-least : (rest : List ℕ) → Least (basesOf p) (startSet p) (blockAt (blockBytes (closing p .state .labels) ++ rest)) (closedSupport p)
   unfolding closing
-  promise-least rest = least-same _ _ _ _ (bytes-agree rest) _ (closing-least (basesOf p) (startSet p))
+  promise-least rest = least-same _ _ _ _ (bytes-agree rest) _ (least-tests _ _ _ _ (closing-least (basesOf p) (startSet p)))
 
   pub promise-lowest : (rest : List ℕ) → Lowest (basesOf p) (blockAt (blockBytes (closing p .state .labels) ++ rest))
   unfolding closing

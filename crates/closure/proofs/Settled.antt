@@ -16,7 +16,9 @@ use Rattle.whole_rounds.specs.Parts.{basesIn, labelsIn}
 use Rattle.joining_rule.specs.Bytes.{blockBytes}
 use Rattle.whole_rounds.specs.Arrays.{Settled, Arrays}
 use Rattle.whole_rounds.proofs.Flat.{Shaped, part-long, labels-of}
-use Rattle.joining_rule.proofs.Closing.{closing-shaped}
+use Rattle.joining_rule.proofs.Closing.{closing-shaped, closing-numbered}
+use Rattle.joining_rule.proofs.Numbered.{lowestIn, different-lowest}
+use Rattle.counting.proofs.Sums.{sumTo-same}
 use Rattle.whole_rounds.specs.declared.Closed.{Closed}
 use Rattle.whole_rounds.proofs.Rounding.{close-extends}
 
@@ -70,8 +72,12 @@ module _ (keys sizes exponents counts : List ℕ) (a : Arrays keys sizes exponen
       let c = closing-shaped (basesIn keys sizes exponents counts) S₀ in
       record { nine = c .nine; long = λ j h. c .long j h ∙ part-long 64 sizes keys j (omega (arith, a .sized .small j, a .keys-long)) }
 
-  pub counted : (l : List ℕ) → l ≡ blockBytes labels → blocksIn (labelsIn sizes l) ≡ blocksIn labels
-  counted l e = ap blocksIn (ap (labelsIn sizes) e ∙ labels-of sizes (a .sized) labels shaped)
+  -- their numbers are lowest indices, so counting these counts the blocks
+  pub counted : (l : List ℕ) → l ≡ blockBytes labels → lowestIn (labelsIn sizes l) ≡ blocksIn labels
+  unfolding lowestIn blocksIn
+  counted l e =
+      ap lowestIn (ap (labelsIn sizes) e ∙ labels-of sizes (a .sized) labels shaped)
+      ∙ sumTo-same 9 _ _ (λ j h. sym (different-lowest _ (closing-numbered (basesIn keys sizes exponents counts) S₀ .at j h)))
 
 -- a test that holds does not fail
 pub never : {b : Bool} {P : Type 0} → b ≡ true → b ≡ false → P

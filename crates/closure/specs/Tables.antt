@@ -8,6 +8,7 @@ use lib.ListN.{length, drop}
 use Rattle.key_set.specs.Table.{keysIn, Indexed}
 use Rattle.joining_rule.specs.Rounds.{Closing, blocksIn, closedWithZero}
 use Rattle.joining_rule.specs.Bytes.{blockBytes}
+use Rattle.joining_rule.specs.Joining.{mostKeys}
 use Rattle.closure.specs.declared.Joined.{Joined}
 use Rattle.counting.specs.Counting.{Bounded}
 
@@ -21,7 +22,7 @@ pub record Multipliers (exponents counts : List ℕ) : Type 0 where
 -- what is left where the rounds end in o: the table t′ holds the closed S with the zero exponent, and idx′ is its
 -- index, unless it has more than 2,048 members
 pub record ClosureLeft (o : Closing) (t : List ℕ) (r : Joined) (t′ idx′ : List ℕ) : Type 0 where
-  pub full : r .full ≡ ltb 2048 (length (closedWithZero o))
+  pub full : r .full ≡ ltb mostKeys (length (closedWithZero o))
   pub labels : r .full ≡ false → r .labels ≡ blockBytes (o .state .labels)
   pub rounds : r .full ≡ false → r .rounds ≡ o .rounds
   pub blocks : r .full ≡ false → r .blocks ≡ blocksIn (o .state .labels)

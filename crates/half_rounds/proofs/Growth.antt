@@ -10,7 +10,8 @@ use lib.ListN.{length, getD, set, take, drop, length-set, drop-of-length-le}
 use lib.Seq.{drop-cons, take-take, getD-set-same, getD-set-other}
 use borrow.Author.Count.{below-more}
 use borrow.Author.Tests.{eq-eqb, ne-eqb}
-use Rattle.joining_rule.specs.Sets.{insert, Rising}
+use Rattle.joining_rule.specs.Sets.{insert}
+use Rattle.joining_rule.proofs.Rising.{Rising}
 use Rattle.key_set.specs.Table.{keysIn, Holds, Indexed, Grown, Stored}
 use Rattle.key_set.proofs.Keys.{grown-holds}
 use Rattle.counting.proofs.Listed.{same-or-not}

@@ -1,3 +1,4 @@
 pub mod Growth
 pub mod Sums
+pub mod Loops
 pub mod Ruled

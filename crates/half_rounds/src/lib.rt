@@ -11,7 +11,8 @@ ghost use Rattle.half_rounds.specs.Filled.{Extending, Marked};
 ghost use Rattle.half_rounds.specs.Sums.{Apart, Seen, AddedSeen};
 ghost use Rattle.half_rounds.specs.Ruled.{Present, Ruled};
 ghost use Rattle.joining_rule.specs.Join.{linked, renamed, merged, joinPair, joinRow, join};
-ghost use Rattle.joining_rule.specs.Extend.{addTerms, addPair, addRow, extend, blockCount};
+ghost use Rattle.joining_rule.specs.Extend.{addTerms, addPair, addRow, extend};
+ghost use Rattle.joining_rule.proofs.Numbered.{lowestFrom};
 
 // A block number, with one replaced by another.
 fn rename(x: u8, from: u8, to: u8) -> u8
@@ -599,9 +600,9 @@ pub fn extend_pass(
     }
 }
 
-// How many blocks there are: how many indices are their own block's number.
+// How many indices are their own block's number.
 pub fn count_blocks(labels: &[u8]) -> usize
-    ensures { λ r. ⌜ r ≡ blockCount (now (labels .entry)) ⌝ }
+    ensures { λ r. ⌜ r ≡ lowestFrom 0 (now (labels .entry)) ⌝ }
 {
     let mut n = 0;
     let mut i = 0;

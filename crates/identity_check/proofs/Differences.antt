@@ -18,7 +18,8 @@ use Rattle.problem_reader.specs.TermArrays.{termsIn, objectiveTerms, FilledTerm
 use Rattle.problem_reader.specs.declared.Objective.{Objective}
 use Rattle.polynomial.specs.Algebra.{coefficient}
 use Rattle.format.specs.ProblemRules.{Problem}
-use Rattle.joining_rule.specs.Sets.{In, Rising}
+use Rattle.joining_rule.specs.Sets.{In}
+use Rattle.joining_rule.proofs.Rising.{Rising}
 use Rattle.key_set.specs.Table.{keysIn, Holds, Indexed}
 use Rattle.joining_rule.proofs.Elements.{not-nil, in-here, in-there, in-cons, above-in}
 use Rattle.key_set.proofs.Keys.{keys-rising, keys-at, at-keys}

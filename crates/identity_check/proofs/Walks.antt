@@ -6,7 +6,8 @@ use native.Mathlib.Numerals.{add-one}
 use native.Mathlib.Omega.{arith}
 use lib.IntN.{ℤ, pos, natAbs, _+ℤ_}
 use lib.ListN.{getD}
-use Rattle.polynomial.specs.Algebra.{coefficient, Keys}
+use Rattle.polynomial.specs.Algebra.{coefficient}
+use Rattle.polynomial.proofs.Keys.{Keys}
 use Rattle.polynomial.proofs.Sums.{coefficient-append, coefficient-none}
 use Rattle.format.specs.All.{All}
 use Rattle.whole_rounds.specs.Parts.{part}

@@ -10,10 +10,11 @@ use native.Mathlib.Omega.{arith}
 use lib.ListN.{length}
 use lib.Dec.{ltb}
 use borrow.Author.Tests.{ltb-true, ltb-false}
-use Rattle.joining_rule.specs.Sets.{Rising}
+use Rattle.joining_rule.proofs.Rising.{Rising}
 use Rattle.counting.specs.Counting.{sumTo}
 use Rattle.counting.proofs.Sums.{sumTo-le}
-use Rattle.joining_rule.specs.Rounds.{Bases, start, round, after, closingOf, blocksIn, monomials, nonempty}
+use Rattle.joining_rule.specs.Rounds.{Bases, start, round, after, closingOf, blocksIn}
+use Rattle.joining_rule.proofs.Rounds.{monomials, nonempty}
 use Rattle.joining_rule.specs.Meaning.{TakesRounds}
 use Rattle.joining_rule.proofs.Rounds.{AllNumbered, round-extends, round-numbered, round-fewer, round-blocks, round-full, round-still, nonempty-few, start-numbered, start-blocks, after-numbered}
 use Rattle.joining_rule.proofs.Closing.{Moves, closing-ran, closing-state, after-rising}

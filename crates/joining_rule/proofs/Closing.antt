@@ -9,7 +9,8 @@ use native.Mathlib.Nat.{eq-or-lt-of-le}
 use native.Mathlib.Omega.{arith}
 use lib.ListN.{length}
 use Rattle.counting.proofs.Cases.{clash}
-use Rattle.joining_rule.specs.Sets.{Rising, In, member, insert}
+use Rattle.joining_rule.specs.Sets.{In, member, insert}
+use Rattle.joining_rule.proofs.Rising.{Rising}
 use Rattle.joining_rule.proofs.Elements.{insert-member, length-insert-new, insert-grows}
 use Rattle.joining_rule.proofs.Extending.{Extends}
 use Rattle.joining_rule.specs.Rounds.{Bases, State, Closing, start, round, after, sameState, closeFrom, closingOf}

@@ -10,7 +10,8 @@ use lib.Dec.{eqb, ltb}
 use lib.ListN.{length, getD}
 use borrow.Author.Tests.{eqb-true, eqb-false, eq-eqb, ne-eqb, ltb-true, ltb-false}
 use Rattle.counting.proofs.Cases.{clash}
-use Rattle.joining_rule.specs.Sets.{Above, Rising, In, member, insert}
+use Rattle.joining_rule.specs.Sets.{In, member, insert}
+use Rattle.joining_rule.proofs.Rising.{Above, Rising}
 
 pub either : (b : Bool) → cond b true true ≡ true
 either true = refl

@@ -7,7 +7,8 @@ use native.Mathlib.Nat.{le-refl, le-trans}
 use native.Mathlib.Omega.{arith}
 use lib.ListN.{length, getD}
 use lib.Dec.{eqb}
-use Rattle.joining_rule.specs.Sets.{insert, Rising, In}
+use Rattle.joining_rule.specs.Sets.{insert, In}
+use Rattle.joining_rule.proofs.Rising.{Rising}
 use Rattle.joining_rule.proofs.Elements.{insert-keeps, insert-rising, insert-grows, insert-same}
 use Rattle.counting.specs.Counting.{fromTo}
 use Rattle.counting.proofs.Steps.{fromTo-keeps}

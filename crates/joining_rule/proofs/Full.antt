@@ -8,7 +8,8 @@ use native.Mathlib.Omega.{arith}
 use lib.ListN.{length, getD}
 use lib.Dec.{eqb, ltb}
 use borrow.Author.Tests.{eqb-true, eq-eqb, ltb-true, ltb-false}
-use Rattle.joining_rule.specs.Sets.{Rising, In}
+use Rattle.joining_rule.specs.Sets.{In}
+use Rattle.joining_rule.proofs.Rising.{Rising}
 use Rattle.counting.proofs.Steps.{fromTo-fixed}
 use Rattle.joining_rule.specs.Extend.{addTerms, addPair, addRow, extend}
 use Rattle.joining_rule.proofs.FullSets.{FullAt, Full}

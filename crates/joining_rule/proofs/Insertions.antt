@@ -3,7 +3,8 @@ use mathlib.Core.Path.{_≡_, refl}
 use mathlib.Core.Logic.{⊎-elim}
 use mathlib.Core.List.{List, [], _∷_, _++_}
 use Prim.Native.Nat.{ℕ}
-use Rattle.joining_rule.specs.Sets.{Rising, In, insert, insertAll}
+use Rattle.joining_rule.specs.Sets.{In, insert, insertAll}
+use Rattle.joining_rule.proofs.Rising.{Rising}
 use Rattle.joining_rule.proofs.Elements.{not-nil, in-cons, in-here, in-there, in-insert, insert-in, insert-keeps, insert-rising}
 
 -- ---- every key of a list put in

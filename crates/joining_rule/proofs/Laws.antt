@@ -12,7 +12,6 @@ use lib.Dec.{eqb}
 use borrow.Author.Tests.{eqb-true, eq-eqb, ne-eqb}
 use Rattle.joining_rule.specs.Sets.{member}
 use Rattle.joining_rule.specs.Join.{linked, renamed, merged, joinPair}
-use Rattle.joining_rule.specs.Extend.{lowestFrom, blockCount}
 
 -- ---- a map in place
 
@@ -107,31 +106,3 @@ module _ (S T B L : List ℕ) (i k : ℕ) where
   pub join-apart : linked S T (getD B i 0 + getD B k 0) ≡ false → L ≡ joinPair S T B i k L
   unfolding joinPair
   join-apart e = rw e
-
--- ---- the number of blocks
-
-module _ (l : List ℕ) (i : ℕ) where
-  pub lowest-here : i < length l → getD l i 0 ≡ i → lowestFrom i (drop i l) ≡ 1 + lowestFrom (i + 1) (drop (i + 1) l)
-  unfolding lowestFrom
-  lowest-here h e = rw (add-one, drop-cons l i 0, lowestFrom, eq-eqb (getD l i 0) i e)
-
-  pub lowest-not : i < length l → (getD l i 0 ≡ i → ⊥) → lowestFrom i (drop i l) ≡ lowestFrom (i + 1) (drop (i + 1) l)
-  unfolding lowestFrom
-  lowest-not h e = rw (drop-cons l i 0 h, ne-eqb (getD l i 0) i e, add-one i) (omega arith)
-
-  pub lowest-done : length l ≤ i → lowestFrom i (drop i l) ≡ 0
-  unfolding lowestFrom
-  lowest-done h = rw (drop-of-length-le l h)
-
-lowest-few : (i : ℕ) (l : List ℕ) → lowestFrom i l ≤ length l
-unfolding lowestFrom
-lowest-few i [] = omega arith
-lowest-few i (x ∷ xs) = go (eqb x i) (lowest-few (suc i) xs)
-  where
-    go : (b : Bool) → lowestFrom (suc i) xs ≤ length xs → cond b 1 0 + lowestFrom (suc i) xs ≤ suc (length xs)
-    go true h = omega arith
-    go false h = omega arith
-
--- there are at most as many as there are indices
-pub blocks-few : (l : List ℕ) → blockCount l ≤ length l
-blocks-few l = lowest-few 0 l

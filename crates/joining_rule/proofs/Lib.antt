@@ -1,5 +1,7 @@
 pub mod FullSets
+pub mod Rising
 pub mod Elements
+pub mod Numbered
 pub mod Members
 pub mod Pairs
 pub mod Full

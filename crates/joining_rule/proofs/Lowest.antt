@@ -12,8 +12,8 @@ use borrow.Author.Tests.{eqb-true, eqb-false, eq-eqb, ne-eqb, leb-true, leb-fals
 use Rattle.counting.specs.Counting.{listed}
 use Rattle.counting.proofs.Listed.{listed-length, listed-at}
 use Rattle.joining_rule.specs.Join.{linked, renamed, merged, joinPair, join}
-use Rattle.joining_rule.specs.Extend.{lowestFrom, blockCount}
-use Rattle.joining_rule.specs.Numbered.{Numbered}
+use Rattle.joining_rule.specs.Sets.{different}
+use Rattle.joining_rule.proofs.Numbered.{Numbered, lowestFrom, different-lowest}
 use Rattle.joining_rule.proofs.Laws.{merged-same}
 use Rattle.joining_rule.proofs.Pairs.{pairs-keep}
 use Rattle.joining_rule.proofs.Labels.{inOne, InOne, merged-long, merged-at, two-low, other-same, in-one, pair-long}
@@ -35,14 +35,19 @@ all-lowest i (x ∷ xs) h =
     rw e (omega (arith, all-lowest (suc i) xs (λ y b. h (suc y) (omega arith) ∙ omega arith)))
 
 -- then there are as many blocks as indices
-pub singles-count : (n : ℕ) → blockCount (listed n (λ i. i)) ≡ n
-singles-count n = let e = listed-length n (λ i. i) in all-lowest 0 (listed n (λ i. i)) (λ x h. listed-at n (λ i. i) x 0 (omega arith) ∙ omega arith) ∙ e
+pub singles-count : (n : ℕ) → different (listed n (λ i. i)) ≡ n
+singles-count n =
+    let e = listed-length n (λ i. i) in
+    different-lowest (listed n (λ i. i)) (singles-numbered n) ∙ all-lowest 0 (listed n (λ i. i)) (λ x h. listed-at n (λ i. i) x 0 (omega arith) ∙ omega arith) ∙ e
 
 -- a basis that is not empty has a block
-pub blockCount-some : (L : List ℕ) → Numbered L → 0 < length L → 1 ≤ blockCount L
+some-lowest : (L : List ℕ) → Numbered L → 0 < length L → 1 ≤ lowestFrom 0 L
 unfolding lowestFrom
-blockCount-some [] n h = absurd (not-suc-le-zero h)
-blockCount-some (x ∷ xs) n h = let e : eqb x 0 ≡ true = eq-eqb x 0 (omega (arith, n .lowest 0 h)) in rw e (omega arith)
+some-lowest [] n h = absurd (not-suc-le-zero h)
+some-lowest (x ∷ xs) n h = let e : eqb x 0 ≡ true = eq-eqb x 0 (omega (arith, n .lowest 0 h)) in rw e (omega arith)
+
+pub some-block : (L : List ℕ) → Numbered L → 0 < length L → 1 ≤ different L
+some-block L n h = rw (different-lowest L n) (some-lowest L n h)
 
 -- ---- Block b renamed to a, where index a is not in block b: no index becomes the number of its block, and index b, where it was, is not any more
 
@@ -79,11 +84,11 @@ module _ (a b : ℕ) (ne : a ≡ b → ⊥) where
 
 pub record Falls (L L′ : List ℕ) : Type 0 where
   pub numbered : Numbered L′
-  pub less : blockCount L′ ≤ blockCount L
-  pub same : blockCount L′ ≡ blockCount L → L′ ≡ L
+  pub less : different L′ ≤ different L
+  pub same : different L′ ≡ different L → L′ ≡ L
 
 pub falls-refl : (L : List ℕ) → Numbered L → Falls L L
-falls-refl L n = record { numbered = n; less = le-refl (blockCount L); same = λ _. refl }
+falls-refl L n = record { numbered = n; less = le-refl (different L); same = λ _. refl }
 
 pub falls-trans : (L L′ L″ : List ℕ) → Falls L L′ → Falls L′ L″ → Falls L L″
 falls-trans L L′ L″ a b = record {
@@ -124,12 +129,13 @@ module _ (L : List ℕ) (n : Numbered L) (a b : ℕ) (ha : a < length L) (hb : b
       own x l (other p q) = merged-at a b L (getD L x 0) (omega (arith, n .lowest x l)) ∙ ap (inOne a b) (n .own x l) ∙ other-same a b (getD L x 0) p q
 
   -- one block fewer
-  merged-less : (a ≡ b → ⊥) → blockCount (merged a b L) < blockCount L
+  merged-less : (a ≡ b → ⊥) → different (merged a b L) < different L
   unfolding merged
   merged-less ne =
-      renamed-less (min a b) (max a b) (λ e. ne (omega arith)) 0 L
+      rw (different-lowest (merged a b L) merged-numbered, different-lowest L n)
+      (renamed-less (min a b) (max a b) (λ e. ne (omega arith)) 0 L
       (λ x l e q. let w : x ≡ min a b = omega arith in let u : getD L x 0 ≡ min a b = rw w lower-own in ne (omega arith))
-      (max a b) (omega arith) (omega arith) upper-own
+      (max a b) (omega arith) (omega arith) upper-own)
 
   two-falls : Falls L (merged a b L)
   two-falls = go (eqb a b) refl

@@ -1,18 +1,17 @@
 -- What the joining rule's result means: it is closed, it is least, and a block's number is its lowest index.
 use mathlib.Core.Path.{_≡_}
-use mathlib.Core.Bool.{Bool, true}
 use mathlib.Core.List.{List, []}
 use Prim.Native.Nat.{ℕ, _≤_, _<_}
 use native.Mathlib.Omega.{arith}
 use lib.ListN.{length, getD}
-use Rattle.joining_rule.specs.Sets.{Rising}
+use Rattle.joining_rule.proofs.Rising.{Rising}
 use Rattle.counting.proofs.Steps.{fromTo-keeps}
 use Rattle.joining_rule.proofs.Members.{linked-by}
 use Rattle.joining_rule.proofs.Least.{Equivalence, ClosedFor, Inside, Within, join-inside, extend-within, singles-inside}
 use Rattle.joining_rule.proofs.Joined.{Joined}
 use Rattle.joining_rule.proofs.Full.{full-any}
 use Rattle.joining_rule.specs.Rounds.{Bases, State, start, joinAll, extendAll, round, closingOf}
-use Rattle.joining_rule.specs.Meaning.{Closed, Other, Least, Lowest}
+use Rattle.joining_rule.specs.Meaning.{Closed, Other, Contained, Least, Lowest}
 use Rattle.joining_rule.proofs.Rounds.{after-keeps, round-labels, round-joined, start-labels}
 use Rattle.joining_rule.proofs.Closing.{closing-has, closing-shaped, closing-numbered, closing-full, closing-starts}
 use Rattle.joining_rule.proofs.Bound.{fuel-enough}
@@ -20,6 +19,14 @@ use Rattle.joining_rule.proofs.Bound.{fuel-enough}
 -- the block number of index i of basis j, in the closing from S₀
 abbrev pub labelOf : Bases → List ℕ → ℕ → ℕ → ℕ
 labelOf g S₀ j i = getD (getD (closingOf g S₀ .state .labels) j []) i 0
+
+-- "Least", among any other blocks and set: R and Q are predicates, with no test for them
+pub record LeastOfAny (g : Bases) (S₀ : List ℕ) (label : ℕ → ℕ → ℕ) (S : List ℕ) : Type 1 where
+  pub within : (R : ℕ → ℕ → ℕ → Type 0) (Q : ℕ → Type 0) → Other g S₀ R Q → Contained g label S R Q
+
+-- so among those that tests give
+pub least-tests : (g : Bases) (S₀ : List ℕ) (label : ℕ → ℕ → ℕ) (S : List ℕ) → LeastOfAny g S₀ label S → Least g S₀ label S
+least-tests g S₀ label S l = record { within = λ R Q o. l .within _ _ o }
 
 module _ (g : Bases) (S₀ : List ℕ) where
   -- ---- closed
@@ -57,25 +64,24 @@ module _ (g : Bases) (S₀ : List ℕ) where
     unfolding start
     start-within w = record { blocks = λ j h. rw (start-labels g S₀ j h) (singles-inside (R j) (eq j) (length (g .basis j))); set = w }
 
-    -- The closing is within any blocks R and any set Q that contain the start and are closed under the steps: R and Q are
-    -- predicates, with no test for them.
+    -- The closing is within any blocks R and any set Q that contain the start and are closed under the steps.
     pub closing-within : Within Q S₀ → AllWithin R Q (closingOf g S₀ .state)
     closing-within w =
         closing-has g S₀ (AllWithin R Q) (after-keeps g (AllWithin R Q) (λ s v. record { blocks = round-inside s v; set = round-set s v }) (start g S₀) (start-within w))
 
   -- "any other blocks and set that contain the start and are closed under these steps have unions of these blocks and contain this S"
-  pub closing-least : Least g S₀ (labelOf g S₀) (closingOf g S₀ .state .support)
-  closing-least = record { blocks = λ R Q o j i k h a b. within R Q o .blocks j h .at i k a b; set = λ R Q o. within R Q o .set .at }
-    where
-      within : (R : ℕ → ℕ → ℕ → Bool) (Q : ℕ → Bool) → Other g S₀ R Q → AllWithin (λ j i k. R j i k ≡ true) (λ x. Q x ≡ true) (closingOf g S₀ .state)
-      within R Q o =
-          closing-within (λ j i k. R j i k ≡ true) (λ x. Q x ≡ true)
-          (λ j. record { reflexive = o .reflexive j; symmetric = o .symmetric j; transitive = o .transitive j })
-          (λ j h. record {
-            joins = λ i k t a b m q. o .joins j i k t (record { basis = h; first = a; second = b; exponent = m }) q;
-            adds = λ i k t a b r m. o .adds j i k t (record { basis = h; first = a; second = b; exponent = m }) r;
-          })
-          (record { at = o .starts })
+  pub closing-least : LeastOfAny g S₀ (labelOf g S₀) (closingOf g S₀ .state .support)
+  closing-least = record {
+    within = λ R Q o.
+        let w = closing-within R Q
+        (λ j. record { reflexive = o .reflexive j; symmetric = o .symmetric j; transitive = o .transitive j })
+        (λ j h. record {
+          joins = λ i k t a b m q. o .joins j i k t (record { basis = h; first = a; second = b; exponent = m }) q;
+          adds = λ i k t a b r m. o .adds j i k t (record { basis = h; first = a; second = b; exponent = m }) r;
+        })
+        (record { at = o .starts }) in
+        record { blocks = λ j i k h a b. w .blocks j h .at i k a b; set = w .set .at };
+  }
 
   -- ---- the numbers
 

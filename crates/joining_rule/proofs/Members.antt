@@ -5,7 +5,8 @@ use mathlib.Core.Bool.{Bool, true, false, cond}
 use mathlib.Core.List.{List, [], _∷_}
 use Prim.Native.Nat.{ℕ, _+_}
 use Rattle.counting.proofs.Cases.{clash}
-use Rattle.joining_rule.specs.Sets.{Rising, In, member, insert}
+use Rattle.joining_rule.specs.Sets.{In, member, insert}
+use Rattle.joining_rule.proofs.Rising.{Rising}
 use Rattle.joining_rule.proofs.Elements.{either, not-nil, in-cons, in-here, in-there, in-insert, insert-in, insert-keeps, insert-member}
 use Rattle.joining_rule.specs.Join.{linked}
 use Rattle.joining_rule.specs.Extend.{addTerms}

@@ -1,18 +1,20 @@
 -- Closed, least and numbered by lowest indices: there is one such result, and the closing is it.
 use mathlib.Core.Path.{_≡_, refl, sym, _∙_}
 use mathlib.Core.Logic.{⊎-elim}
+use mathlib.Core.Bool.{true}
 use mathlib.Core.List.{List, [], _∷_}
 use Prim.Native.Nat.{ℕ, _≤_, _<_}
 use native.Mathlib.Omega.{arith}
 use lib.ListN.{length}
 use lib.Dec.{eqb}
 use borrow.Author.Tests.{eqb-true, eq-eqb}
-use Rattle.joining_rule.specs.Sets.{Above, Rising, In, member}
+use Rattle.joining_rule.specs.Sets.{In, member}
+use Rattle.joining_rule.proofs.Rising.{Above, Rising}
 use Rattle.joining_rule.proofs.Elements.{above-in, not-nil, in-cons, in-here, in-there}
 use Rattle.joining_rule.specs.Rounds.{Bases, closingOf}
-use Rattle.joining_rule.specs.Meaning.{Closed, Other, Least, Lowest}
+use Rattle.joining_rule.specs.Meaning.{Closed, Other, Contained, Least, Lowest}
 use Rattle.joining_rule.proofs.Closing.{closing-rising}
-use Rattle.joining_rule.proofs.Meaning.{labelOf, closing-closed, closing-least, closing-lowest}
+use Rattle.joining_rule.proofs.Meaning.{LeastOfAny, least-tests, labelOf, closing-closed, closing-least, closing-lowest}
 
 -- ---- rising lists with the same elements are the same
 
@@ -36,7 +38,8 @@ rising-same (x ∷ xs) (y ∷ ys) r s f g =
 -- ---- what is closed is one of the others
 
 module _ (g : Bases) (S₀ : List ℕ) where
-  pub closed-other : (label : ℕ → ℕ → ℕ) (S : List ℕ) → Closed g S₀ label S → Other g S₀ (λ j i k. eqb (label j i) (label j k)) (λ x. member x S)
+  -- as tests
+  pub closed-other : (label : ℕ → ℕ → ℕ) (S : List ℕ) → Closed g S₀ label S → Other g S₀ (λ j i k. eqb (label j i) (label j k) ≡ true) (λ x. In x S)
   closed-other label S c = record {
     reflexive = λ j i. eq-eqb (label j i) (label j i) refl;
     symmetric = λ j i k e. eq-eqb (label j k) (label j i) (sym (eqb-true (label j i) (label j k) e));
@@ -48,25 +51,34 @@ module _ (g : Bases) (S₀ : List ℕ) where
 
   -- a least result has its blocks within a closed one's, and its set within that one's
   module _ (label label′ : ℕ → ℕ → ℕ) (S S′ : List ℕ) (least : Least g S₀ label S) (closed : Closed g S₀ label′ S′) where
-    blocks-in : (j i k : ℕ) → j < 9 → i < length (g .basis j) → k < length (g .basis j) → label j i ≡ label j k → label′ j i ≡ label′ j k
-    blocks-in j i k h a b e = eqb-true (label′ j i) (label′ j k) (least .blocks _ _ (closed-other label′ S′ closed) j i k h a b e)
-
-    set-in : (x : ℕ) → In x S → In x S′
-    set-in = least .set _ _ (closed-other label′ S′ closed)
+    least-contained : Contained g label S (λ j i k. label′ j i ≡ label′ j k) (λ x. In x S′)
+    least-contained =
+        let w = least .within (λ j i k. eqb (label′ j i) (label′ j k)) (λ x. member x S′) (closed-other label′ S′ closed) in
+        record { blocks = λ j i k h a b e. eqb-true (label′ j i) (label′ j k) (w .blocks j i k h a b e); set = w .set }
 
     -- so its numbers are no lower
     number-le : Lowest g label → Lowest g label′ → (j i : ℕ) → j < 9 → i < length (g .basis j) → label′ j i ≤ label j i
     number-le n n′ j i h b =
-        omega (arith, n′ .lowest j (label j i) h (n .within j i h b), blocks-in j (label j i) i h (n .within j i h b) b (n .own j i h b))
+        omega (arith, n′ .lowest j (label j i) h (n .within j i h b), least-contained .blocks j (label j i) i h (n .within j i h b) b (n .own j i h b))
 
-  -- The closing is the one result that is closed, least and numbered by lowest indices.
-  pub closing-only : Rising S₀ → ((j : ℕ) → length (g .basis j) ≤ 64) → (label : ℕ → ℕ → ℕ) (S : List ℕ) → Closed g S₀ label S → Least g S₀ label S → Lowest g label → Rising S
-      → ((j i : ℕ) → j < 9 → i < length (g .basis j) → label j i ≡ labelOf g S₀ j i) × (S ≡ closingOf g S₀ .state .support)
-  closing-only rising sizes label S c l n r =
-      let c′ = closing-closed g S₀ rising sizes in
-      let l′ = closing-least g S₀ in
-      let n′ = closing-lowest g S₀ in
-      let S′ = closingOf g S₀ .state .support in (
-        (λ j i h b. omega (arith, number-le label (labelOf g S₀) S S′ l c′ n n′ j i h b, number-le (labelOf g S₀) label S′ S l′ c n′ n j i h b)),
-        rising-same S S′ r (closing-rising g S₀ rising) (set-in label (labelOf g S₀) S S′ l c′) (set-in (labelOf g S₀) label S′ S l′ c),
-      )
+  module _ (rising : Rising S₀) (sizes : (j : ℕ) → length (g .basis j) ≤ 64) (label : ℕ → ℕ → ℕ) (S : List ℕ) where
+    -- What is least among the blocks and sets that tests give is least among any: it is within the closing, which tests give.
+    pub least-of-any : Least g S₀ label S → LeastOfAny g S₀ label S
+    least-of-any l = record {
+      within = λ R Q o.
+          let u = least-contained label (labelOf g S₀) S (closingOf g S₀ .state .support) l (closing-closed g S₀ rising sizes) in
+          let v = closing-least g S₀ .within R Q o in
+          record { blocks = λ j i k h a b e. v .blocks j i k h a b (u .blocks j i k h a b e); set = λ x m. v .set x (u .set x m) };
+    }
+
+    -- The closing is the one result that is closed, least and numbered by lowest indices.
+    pub closing-only : Closed g S₀ label S → Least g S₀ label S → Lowest g label → Rising S
+        → ((j i : ℕ) → j < 9 → i < length (g .basis j) → label j i ≡ labelOf g S₀ j i) × (S ≡ closingOf g S₀ .state .support)
+    closing-only c l n r =
+        let c′ = closing-closed g S₀ rising sizes in
+        let l′ = least-tests _ _ _ _ (closing-least g S₀) in
+        let n′ = closing-lowest g S₀ in
+        let S′ = closingOf g S₀ .state .support in (
+          (λ j i h b. omega (arith, number-le label (labelOf g S₀) S S′ l c′ n n′ j i h b, number-le (labelOf g S₀) label S′ S l′ c n′ n j i h b)),
+          rising-same S S′ r (closing-rising g S₀ rising) (least-contained label (labelOf g S₀) S S′ l c′ .set) (least-contained (labelOf g S₀) label S′ S l′ c .set),
+        )

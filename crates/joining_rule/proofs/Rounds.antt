@@ -9,21 +9,28 @@ use native.Mathlib.Omega.{arith}
 use lib.ListN.{length, getD}
 use lib.Dec.{ltb}
 use borrow.Author.Tests.{ltb-true}
-use Rattle.joining_rule.specs.Sets.{Rising, In}
-use Rattle.counting.specs.Counting.{listed}
+use Rattle.joining_rule.specs.Sets.{In, different}
+use Rattle.joining_rule.proofs.Rising.{Rising}
+use Rattle.counting.specs.Counting.{listed, sumTo}
 use Rattle.counting.proofs.Steps.{fromTo-keeps, fromTo-fixed, fromTo-reaches}
 use Rattle.counting.proofs.Listed.{listed-length, listed-at, listed-same, listed-all}
 use Rattle.counting.proofs.Sums.{sumTo-le, sumTo-same, sumTo-equal}
 use Rattle.joining_rule.specs.Join.{join}
-use Rattle.joining_rule.specs.Extend.{blockCount}
 use Rattle.joining_rule.proofs.Extending.{Extends, extends-refl, extends-trans, fromTo-extends, extend-extends}
 use Rattle.joining_rule.proofs.Labels.{join-long}
-use Rattle.joining_rule.specs.Numbered.{Numbered}
-use Rattle.joining_rule.proofs.Lowest.{Falls, join-falls, blockCount-some, singles-numbered, singles-count}
+use Rattle.joining_rule.proofs.Numbered.{Numbered}
+use Rattle.joining_rule.proofs.Lowest.{Falls, join-falls, some-block, singles-numbered, singles-count}
 use Rattle.joining_rule.proofs.Joined.{Joined, join-joined}
 use Rattle.joining_rule.proofs.FullSets.{Full}
 use Rattle.joining_rule.proofs.Full.{extend-keeps, extend-full, extend-done}
-use Rattle.joining_rule.specs.Rounds.{Bases, State, singles, start, joinAll, extendAll, round, after, blocksIn, monomials, nonempty}
+use Rattle.joining_rule.specs.Rounds.{Bases, State, singles, start, joinAll, extendAll, round, after, blocksIn}
+
+-- N, the number of monomials of all bases, and B, the number of bases that have one
+unfoldable pub monomials : Bases → ℕ
+monomials g = sumTo 9 (λ j. length (g .basis j))
+
+unfoldable pub nonempty : Bases → ℕ
+nonempty g = sumTo 9 (λ j. cond (ltb 0 (length (g .basis j))) 1 0)
 
 -- nine lists of block numbers, one for each index of a basis
 pub record Shaped (g : Bases) (L : List (List ℕ)) : Type 0 where
@@ -141,8 +148,8 @@ module _ (g : Bases) where
   unfolding nonempty blocksIn
   nonempty-few L n = sumTo-le 9 _ _ (λ j h. go j h (ltb 0 (length (g .basis j))) refl)
     where
-      go : (j : ℕ) → j < 9 → (b : Bool) → ltb 0 (length (g .basis j)) ≡ b → cond b 1 0 ≤ blockCount (getD L j [])
-      go j h true e = blockCount-some (getD L j []) (n .at j h) (rw (n .shape .long j h) (ltb-true 0 (length (g .basis j)) e))
+      go : (j : ℕ) → j < 9 → (b : Bool) → ltb 0 (length (g .basis j)) ≡ b → cond b 1 0 ≤ different (getD L j [])
+      go j h true e = some-block (getD L j []) (n .at j h) (rw (n .shape .long j h) (ltb-true 0 (length (g .basis j)) e))
       go j h false e = zero-le
 
   module _ (S : List ℕ) where

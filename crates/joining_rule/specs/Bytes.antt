@@ -4,9 +4,13 @@ use Prim.Native.Nat.{ℕ, _+_, _*_, _/_, _%_}
 use lib.ListN.{getD}
 use Rattle.counting.specs.Counting.{listed}
 
+-- "576 bytes out": 64 for each of the nine bases
+abbrev pub blockByteCount : ℕ
+blockByteCount = 576
+
 -- "byte 64j + i gets the block number of index i in basis j, all others 255"
 unfoldable pub blockBytes : List (List ℕ) → List ℕ
-blockBytes L = listed 576 (λ x. getD (getD L (x / 64) []) (x % 64) 255)
+blockBytes L = listed blockByteCount (λ x. getD (getD L (x / 64) []) (x % 64) 255)
 
 -- the block number of index i in basis j that the bytes tell
 abbrev pub blockAt : List ℕ → ℕ → ℕ → ℕ

@@ -1,7 +1,7 @@
 -- The second half of a round, for one basis: S, T, B and L are as in Join.antt.
 use mathlib.Core.Bool.{cond}
 use mathlib.Core.List.{List, [], _∷_}
-use Prim.Native.Nat.{ℕ, suc, _+_}
+use Prim.Native.Nat.{ℕ, _+_}
 use lib.Dec.{eqb}
 use lib.ListN.{length, getD}
 use Rattle.joining_rule.specs.Sets.{insert}
@@ -23,12 +23,3 @@ addRow T B L i S = fromTo i (length B) (addPair T B L i) S
 -- every pair in turn
 unfoldable pub extend : List ℕ → List ℕ → List ℕ → List ℕ → List ℕ
 extend T B L S = fromTo 0 (length B) (addRow T B L) S
-
--- how many indices are the lowest of their block, where the first index is i
-unfoldable pub lowestFrom : ℕ → List ℕ → ℕ
-lowestFrom i [] = 0
-lowestFrom i (x ∷ xs) = cond (eqb x i) 1 0 + lowestFrom (suc i) xs
-
--- the number of blocks of one basis
-abbrev pub blockCount : List ℕ → ℕ
-blockCount L = lowestFrom 0 L

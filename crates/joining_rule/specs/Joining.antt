@@ -36,9 +36,13 @@ closing p = Rounds.closingOf (basesOf p) (startSet p)
 abbrev pub closedSupport : Problem → List ℕ
 closedSupport p = closing p .state .support
 
--- refusal 7: "The closed S with the zero exponent added may have at most 2,048 members"
+-- "The closed S with the zero exponent added may have at most 2,048 members"
+abbrev pub mostKeys : ℕ
+mostKeys = 2048
+
+-- refusal 7: "closed S with zero above 2,048"
 unfoldable pub tooLarge : Problem → Bool
-tooLarge p = ltb 2048 (length (closedWithZero (closing p)))
+tooLarge p = ltb mostKeys (length (closedWithZero (closing p)))
 
 -- the number of blocks, over all bases
 unfoldable pub blockTotal : Problem → ℕ

@@ -1,7 +1,6 @@
 pub mod Sets
 pub mod Join
 pub mod Extend
-pub mod Numbered
 pub mod Rounds
 pub mod Meaning
 pub mod Bytes

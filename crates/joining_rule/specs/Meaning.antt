@@ -25,21 +25,28 @@ pub record Closed (g : Bases) (S₀ : List ℕ) (label : ℕ → ℕ → ℕ) (S
   pub joins : (j i k t : ℕ) → Pair g j i k t → In (sumOf g j i k t) S → label j i ≡ label j k
   pub adds : (j i k t : ℕ) → Pair g j i k t → label j i ≡ label j k → In (sumOf g j i k t) S
 
--- "any other blocks and set that contain the start and are closed under these steps", as tests: R j i k where i and k
--- of basis j are in one block, Q x where x is in the set
-pub record Other (g : Bases) (S₀ : List ℕ) (R : ℕ → ℕ → ℕ → Bool) (Q : ℕ → Bool) : Type 0 where
-  pub reflexive : (j i : ℕ) → R j i i ≡ true
-  pub symmetric : (j i k : ℕ) → R j i k ≡ true → R j k i ≡ true
-  pub transitive : (j i k l : ℕ) → R j i k ≡ true → R j k l ≡ true → R j i l ≡ true
-  pub starts : (x : ℕ) → In x S₀ → Q x ≡ true
-  pub joins : (j i k t : ℕ) → Pair g j i k t → Q (sumOf g j i k t) ≡ true → R j i k ≡ true
-  pub adds : (j i k t : ℕ) → Pair g j i k t → R j i k ≡ true → Q (sumOf g j i k t) ≡ true
+-- "any other blocks and set that contain the start and are closed under these steps": R j i k where i and k of basis j
+-- are in one block, Q x where x is in the set
+pub record Other (g : Bases) (S₀ : List ℕ) (R : ℕ → ℕ → ℕ → Type 0) (Q : ℕ → Type 0) : Type 0 where
+  pub reflexive : (j i : ℕ) → R j i i
+  pub symmetric : (j i k : ℕ) → R j i k → R j k i
+  pub transitive : (j i k l : ℕ) → R j i k → R j k l → R j i l
+  pub starts : (x : ℕ) → In x S₀ → Q x
+  pub joins : (j i k t : ℕ) → Pair g j i k t → Q (sumOf g j i k t) → R j i k
+  pub adds : (j i k t : ℕ) → Pair g j i k t → R j i k → Q (sumOf g j i k t)
 
 -- ".. have unions of these blocks and contain this S"
+pub record Contained (g : Bases) (label : ℕ → ℕ → ℕ) (S : List ℕ) (R : ℕ → ℕ → ℕ → Type 0) (Q : ℕ → Type 0)
+    : Type 0 where
+  pub blocks : (j i k : ℕ) → j < 9 → i < length (g .basis j) → k < length (g .basis j) → label j i ≡ label j k → R j i k
+  pub set : (x : ℕ) → In x S → Q x
+
+-- "Least": contained in every other blocks and set that tests give. A contract's clause cannot speak of all relations;
+-- proofs/Meaning.antt has the same for any relation and any set (`LeastOfAny`, `closing-least`), and proofs/Only.antt
+-- that what is least by this definition is so among all of them (`least-of-any`).
 pub record Least (g : Bases) (S₀ : List ℕ) (label : ℕ → ℕ → ℕ) (S : List ℕ) : Type 0 where
-  pub blocks : (R : ℕ → ℕ → ℕ → Bool) (Q : ℕ → Bool) → Other g S₀ R Q → (j i k : ℕ) → j < 9 → i < length (g .basis j)
-      → k < length (g .basis j) → label j i ≡ label j k → R j i k ≡ true
-  pub set : (R : ℕ → ℕ → ℕ → Bool) (Q : ℕ → Bool) → Other g S₀ R Q → (x : ℕ) → In x S → Q x ≡ true
+  pub within : (R : ℕ → ℕ → ℕ → Bool) (Q : ℕ → Bool) → Other g S₀ (λ j i k. R j i k ≡ true) (λ x. Q x ≡ true)
+      → Contained g label S (λ j i k. R j i k ≡ true) (λ x. Q x ≡ true)
 
 -- "A block's number is its lowest index"
 pub record Lowest (g : Bases) (label : ℕ → ℕ → ℕ) : Type 0 where

@@ -2,12 +2,12 @@
 use mathlib.Core.Bool.{Bool, true, false, cond, _&&_}
 use mathlib.Core.List.{List, [], _∷_}
 use Prim.Native.Nat.{ℕ, zero, suc, _+_}
-use lib.Dec.{eqb, ltb}
+use lib.Dec.{eqb}
 use lib.ListN.{length, getD}
 use Rattle.counting.specs.Counting.{listed, fromTo, sumTo}
 use Rattle.joining_rule.specs.Join.{join}
-use Rattle.joining_rule.specs.Extend.{extend, blockCount}
-use Rattle.joining_rule.specs.Sets.{insert}
+use Rattle.joining_rule.specs.Extend.{extend}
+use Rattle.joining_rule.specs.Sets.{different, insert}
 
 -- the bases 0 to 8, each with the exponents of its multiplier g_j
 pub record Bases : Type 0 where
@@ -82,13 +82,6 @@ closingOf g S = closeFrom g 578 (start g S) 0
 abbrev pub closedWithZero : Closing → List ℕ
 closedWithZero o = insert 0 (o .state .support)
 
--- the number of blocks of all bases
+-- the number of blocks of all bases: a basis has as many as its indices have different block numbers
 unfoldable pub blocksIn : List (List ℕ) → ℕ
-blocksIn L = sumTo 9 (λ j. blockCount (getD L j []))
-
--- N, the number of monomials of all bases, and B, the number of bases that have one
-unfoldable pub monomials : Bases → ℕ
-monomials g = sumTo 9 (λ j. length (g .basis j))
-
-unfoldable pub nonempty : Bases → ℕ
-nonempty g = sumTo 9 (λ j. cond (ltb 0 (length (g .basis j))) 1 0)
+blocksIn L = sumTo 9 (λ j. different (getD L j []))

@@ -9,7 +9,8 @@ use native.Mathlib.Omega.{arith}
 use lib.ListN.{length, getD, take, set, length-set}
 use lib.Seq.{length-take-le, getD-take, take-suc, take-suc-set, take-set-le, drop-set-lt}
 use Rattle.counting.proofs.Cases.{clash}
-use Rattle.joining_rule.specs.Sets.{Rising, In, member, insert, insertAll}
+use Rattle.joining_rule.specs.Sets.{In, member, insert, insertAll}
+use Rattle.joining_rule.proofs.Rising.{Rising}
 use Rattle.key_set.specs.Table.{keysIn, Holds, Finds, Indexed, Grown, Stored}
 use Rattle.key_set.specs.declared.Found.{Found}
 use Rattle.key_set.specs.declared.Found.the-variants.{At, Nowhere}

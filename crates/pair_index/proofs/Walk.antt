@@ -9,7 +9,7 @@ use native.Mathlib.Omega.{arith}
 use lib.Dec.{ltb}
 use lib.ListN.{length, getD}
 use borrow.Author.Tests.{ltb-true, ltb-false}
-use Rattle.joining_rule.specs.Numbered.{Numbered}
+use Rattle.joining_rule.proofs.Numbered.{Numbered}
 use Rattle.pair_index.specs.Index.{lastPairOf, meets, AllPaired}
 use Rattle.pair_index.specs.Fresh.{Together, Joins, Two, WithSum}
 use Rattle.pair_index.proofs.Joins.{joins-same, joins-then, joins-as}

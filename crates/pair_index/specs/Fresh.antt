@@ -6,7 +6,7 @@ use mathlib.Core.List.{List}
 use Prim.Native.Nat.{ℕ, _+_, _<_}
 use lib.ListN.{length, getD}
 use Rattle.joining_rule.specs.Sets.{In}
-use Rattle.joining_rule.specs.Numbered.{Numbered}
+use Rattle.joining_rule.proofs.Numbered.{Numbered}
 
 -- the indices x and y are in one block
 pub record Together (L : List ℕ) (x y : ℕ) : Type 0 where

@@ -6,7 +6,7 @@ ghost use mathlib.Core.Path.{_≡_};
 ghost use mathlib.Core.List.{[], _∷_};
 ghost use Prim.Native.Nat.{_+_, _*_, _%_, _<_};
 ghost use lib.ListN.{length};
-ghost use Rattle.joining_rule.specs.Numbered.{Numbered};
+ghost use Rattle.joining_rule.proofs.Numbered.{Numbered};
 ghost use Rattle.pair_index.specs.Index.{Paired, Small, AllPaired};
 ghost use Rattle.pair_index.specs.Fresh.{Joins, Two, WithSum, Through, Blocks};
 

@@ -6,7 +6,8 @@ use native.Mathlib.Omega.{arith}
 use lib.IntN.{ℤ}
 use Rattle.polynomial.specs.Monomial.{degreeOf, degree}
 use Rattle.polynomial.specs.Terms.{Term}
-use Rattle.polynomial.specs.Algebra.{scale, shift, _⊗_, Keys}
+use Rattle.polynomial.specs.Algebra.{scale, shift, _⊗_}
+use Rattle.polynomial.proofs.Keys.{Keys}
 
 -- ---- monomials
 module _ (A : ℕ → Type 0) where

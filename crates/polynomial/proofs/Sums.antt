@@ -11,7 +11,8 @@ use lib.ListN.{length}
 use lib.IntN.{ℤ, pos, negsuc, _+ℤ_, _*ℤ_, +ℤ-idl, +ℤ-assoc, *ℤ-zero, zero-*ℤ}
 use Rattle.integers.proofs.Ring.{view, diffs, ⊖-eq, *ℤ-assoc, *ℤ-+ℤ, to-zero, from-zero}
 use Rattle.polynomial.specs.Terms.{Term}
-use Rattle.polynomial.specs.Algebra.{sum, match, coefficient, scale, shift, _⊗_, Keys}
+use Rattle.polynomial.specs.Algebra.{sum, match, coefficient, scale, shift, _⊗_}
+use Rattle.polynomial.proofs.Keys.{Keys}
 
 -- ---- the operations
 module _ (m : ℕ → ℤ) where

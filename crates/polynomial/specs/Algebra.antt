@@ -32,8 +32,3 @@ infixl 70 _⊗_
 abbrev pub _⊗_ : List Term → List Term → List Term
 [] ⊗ Q = []
 (s ∷ P) ⊗ Q = shift s Q ++ (P ⊗ Q)
-
--- every key of a polynomial has a property
-abbrev pub Keys : (ℕ → Type 0) → List Term → Type 0
-Keys A [] = Unit {0}
-Keys A (t ∷ P) = A (t .key) × Keys A P

@@ -1,8 +1,12 @@
 -- Monomials in eight variables. A monomial is its key, the sum of e_i × 256^(i−1) over its exponents e_1 .. e_8.
 use mathlib.Core.Bool.{Bool, true, false, cond}
 use mathlib.Core.List.{List, [], _∷_}
-use Prim.Native.Nat.{ℕ, zero, suc, _+_, _/_, _%_, _^_}
+use Prim.Native.Nat.{ℕ, zero, suc, _+_, _-_, _/_, _%_, _^_}
 use lib.Dec.{eqb}
+
+-- e_i, the exponent of variable i
+unfoldable pub exponent : ℕ → ℕ → ℕ
+exponent i k = k / 256 ^ (i - 1) % 256
 
 -- the sum of the first n exponents of a key
 unfoldable pub degreeOf : ℕ → ℕ → ℕ

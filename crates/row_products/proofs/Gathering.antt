@@ -16,7 +16,8 @@ use Rattle.counting.proofs.Listed.{listed-at, listed-length, same-or-not}
 use Rattle.format.specs.Operands.{number}
 use Rattle.polynomial.specs.Terms.{Term, term}
 use Rattle.problem_reader.specs.TermArrays.{termsIn}
-use Rattle.polynomial.specs.Algebra.{sum, match, coefficient, _⊗_, Keys}
+use Rattle.polynomial.specs.Algebra.{sum, match, coefficient, _⊗_}
+use Rattle.polynomial.proofs.Keys.{Keys}
 use Rattle.polynomial.proofs.Products.{keys-append, keys-scale, keys-⊗, keys-map}
 use Rattle.format.specs.All.{All}
 use Rattle.certificate_reader.specs.Kept.{Within}

@@ -13,7 +13,8 @@ use borrow.Author.Tests.{eqb-true, eq-eqb, ne-eqb, ltb-true, ltb-false}
 use Rattle.integers.proofs.Ring.{+ℤ-left-comm}
 use Rattle.counting.specs.Counting.{listed}
 use Rattle.polynomial.specs.Terms.{Term, term}
-use Rattle.polynomial.specs.Algebra.{sum, match, coefficient, scale, _⊗_, Keys}
+use Rattle.polynomial.specs.Algebra.{sum, match, coefficient, scale, _⊗_}
+use Rattle.polynomial.proofs.Keys.{Keys}
 use Rattle.polynomial.proofs.Sums.{sum-append, sum-scale, sum-⊗, same-sums, coefficient-append, coefficient-none}
 use Rattle.polynomial.proofs.Products.{keys-append, keys-scale, keys-⊗, keys-map}
 use Rattle.format.specs.ProblemRules.{Problem}

@@ -13,7 +13,8 @@ use borrow.Author.Tests.{eq-eqb, ne-eqb, leb-true, leb-false, lt-ltb, le-ltb}
 use Rattle.integers.proofs.Ring.{view, diffs, ⊖-eq}
 use Rattle.counting.specs.Counting.{listed}
 use Rattle.polynomial.specs.Terms.{Term, term}
-use Rattle.polynomial.specs.Algebra.{sum, match, coefficient, _⊗_, Keys}
+use Rattle.polynomial.specs.Algebra.{sum, match, coefficient, _⊗_}
+use Rattle.polynomial.proofs.Keys.{Keys}
 use Rattle.polynomial.proofs.Sums.{sum-append, sum-scale, sum-⊗}
 use Rattle.format.specs.ProblemRules.{Problem}
 use Rattle.format.specs.ProblemBases.{basisOf, multiplier}

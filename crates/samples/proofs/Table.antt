@@ -6,19 +6,19 @@ use Prim.Native.Nat.{ℕ}
 use lib.ListN.{take, drop}
 use Rattle.counting.specs.Counting.{listed, fromTo, sumTo}
 use Rattle.format.specs.Operands.{number, signed}
-use Rattle.format.specs.Commands.{firstRefusal, run, readWhole}
+use Rattle.format.specs.Commands.{Outcome, refused, given, firstRefusal, run, readWhole}
 use Rattle.polynomial.specs.Monomial.{degreeOf, degree, within, among}
 use Rattle.polynomial.specs.Terms.{keysOf}
 use Rattle.format.specs.ProblemLayout.{problemCommand}
-use Rattle.format.specs.ProblemRules.{appendAt, fitting, problemApplied, problemRefusalAt, problemNext, readProblem}
+use Rattle.format.specs.ProblemRules.{appendAt, fitting, problemApplied, problemRefusalAt, problemNext, readProblem, Problem}
 use Rattle.format.specs.ProblemBases.{basisOf, multiplierOf, multiplier}
-use Rattle.joining_rule.specs.Sets.{member, insert, insertAll}
+use Rattle.joining_rule.specs.Sets.{member, different, insert, insertAll}
 use Rattle.joining_rule.specs.Join.{linked, merged, joinPair, join}
-use Rattle.joining_rule.specs.Extend.{addTerms, addPair, extend, lowestFrom}
-use Rattle.joining_rule.specs.Rounds.{singles, start, joinAll, extendAll, round, same, sameAll, sameState, closeFrom, blocksIn}
+use Rattle.joining_rule.specs.Extend.{addTerms, addPair, extend}
+use Rattle.joining_rule.specs.Rounds.{State, singles, start, joinAll, extendAll, round, after, same, sameAll, sameState, closeFrom, blocksIn}
 use Rattle.joining_rule.specs.Rounds as Rounds
 use Rattle.joining_rule.specs.Bytes.{blockBytes}
-use Rattle.joining_rule.specs.Joining.{startFrom, startSet, closing, tooLarge, blockTotal}
+use Rattle.joining_rule.specs.Joining.{basesOf, startFrom, startSet, closing, tooLarge, blockTotal}
 use Rattle.calls.specs.Refusals.{noRefusal, problemRefusal, certificateRefusal}
 use Rattle.calls.specs.Blocks.{refusedBlocks, blocksOf, blocksVerdict, bytesOf, bytesLeft}
 use Rattle.calls.specs.declared.BlocksVerdict.{BlocksVerdict}
@@ -56,8 +56,33 @@ pub samples :
     ∷ found 2 2 (0 ∷ 0 ∷ 255 ∷ []) (0 ∷ [])
     ∷ record { verdict = refusedBlocks 2 0; zero = 7 ∷ 7 ∷ 7 ∷ []; one = 7 ∷ [] }
     ∷ []
-unfolding listed fromTo sumTo number signed firstRefusal run readWhole degreeOf degree within among keysOf problemCommand appendAt fitting problemApplied problemRefusalAt problemNext readProblem basisOf multiplier multiplierOf member insert linked merged joinPair join addTerms addPair extend lowestFrom singles start joinAll extendAll round same sameAll sameState closeFrom blocksIn Rounds.closingOf blockBytes insertAll startFrom startSet closing tooLarge blockTotal blocksOf blocksVerdict bytesOf bytesLeft
+unfolding listed fromTo sumTo number signed firstRefusal run readWhole degreeOf degree within among keysOf problemCommand appendAt fitting problemApplied problemRefusalAt problemNext readProblem basisOf multiplier multiplierOf member insert linked merged joinPair join addTerms addPair extend different singles start joinAll extendAll round same sameAll sameState closeFrom blocksIn Rounds.closingOf blockBytes insertAll startFrom startSet closing tooLarge blockTotal blocksOf blocksVerdict bytesOf bytesLeft
 samples = refl
+
+-- ---- the rounds of E
+
+-- the blocks and S after k rounds
+abbrev stateAfter : ℕ → Outcome Problem → State
+stateAfter k (refused number place) = record { labels = []; support = [] }
+stateAfter k (given p) = after (basesOf p) (start (basesOf p) (startSet p)) k
+
+-- the block numbers of the bases 0 and 1, and S
+abbrev twoBases : List ℕ → List ℕ → List ℕ → State
+twoBases zero one S = record { labels = zero ∷ one ∷ [] ∷ [] ∷ [] ∷ [] ∷ [] ∷ [] ∷ [] ∷ []; support = S }
+
+-- "Nothing joins in round 1, but S gains 3; 3 rounds, and 1 with x³ is one block": the start; after round 1
+-- every block is single as before, and S is the start with 3 added; then the other two rounds
+pub rounds-E :
+    map (λ k. stateAfter k (readProblem problemE)) (0 ∷ 1 ∷ 2 ∷ 3 ∷ [])
+    ≡ twoBases (0 ∷ 1 ∷ []) (0 ∷ []) (0 ∷ 1 ∷ 6 ∷ [])
+    ∷ twoBases (0 ∷ 1 ∷ []) (0 ∷ []) (0 ∷ 1 ∷ 3 ∷ 6 ∷ [])
+    ∷ twoBases (0 ∷ 0 ∷ []) (0 ∷ []) (0 ∷ 1 ∷ 3 ∷ 6 ∷ [])
+    ∷ twoBases (0 ∷ 0 ∷ []) (0 ∷ []) (0 ∷ 1 ∷ 3 ∷ 6 ∷ [])
+    ∷ []
+unfolding listed fromTo number signed firstRefusal run readWhole degreeOf degree within among keysOf problemCommand appendAt fitting problemApplied problemRefusalAt problemNext readProblem basisOf multiplier multiplierOf member insert linked merged joinPair join addTerms addPair extend singles start joinAll extendAll round after insertAll startFrom startSet
+rounds-E = refl
+
+-- ---- certificates
 
 -- a lower bound p/1 that is accepted
 abbrev accepted : ℤ → ℕ → CheckVerdict
@@ -79,7 +104,7 @@ pub checks :
     ∷ refusedCheck (certificateRefusal 1 2 0 0)
     ∷ refusedCheck (problemRefusal 2 0)
     ∷ []
-unfolding listed fromTo sumTo number signed firstRefusal run readWhole degreeOf degree within among keysOf problemCommand appendAt fitting problemApplied problemRefusalAt problemNext readProblem basisOf multiplier multiplierOf member insert linked merged joinPair join addTerms addPair extend lowestFrom singles start joinAll extendAll round same sameAll sameState closeFrom blocksIn Rounds.closingOf insertAll startFrom startSet closing tooLarge CertificateLayout.certificateCommand shapeOf progressOf progressVerdict Certificate.certificateRefusalAt Certificate.certificateApplied Certificate.certificateNext readCertificate coefficient square squares claimOf blockOf firstOutside rowSplit splitBy firstDifference comparedKeys differenceKey judgeRead judge checkOf checkVerdict
+unfolding listed fromTo sumTo number signed firstRefusal run readWhole degreeOf degree within among keysOf problemCommand appendAt fitting problemApplied problemRefusalAt problemNext readProblem basisOf multiplier multiplierOf member insert linked merged joinPair join addTerms addPair extend different singles start joinAll extendAll round same sameAll sameState closeFrom blocksIn Rounds.closingOf insertAll startFrom startSet closing tooLarge CertificateLayout.certificateCommand shapeOf progressOf progressVerdict Certificate.certificateRefusalAt Certificate.certificateApplied Certificate.certificateNext readCertificate coefficient square squares claimOf blockOf firstOutside rowSplit splitBy firstDifference comparedKeys differenceKey judgeRead judge checkOf checkVerdict
 checks = refl
 
 -- F: bounds −1 and 1, gap 2, 2 rounds; two lower ones: 10 in the second stream; the certificates turned: 10 in the first
@@ -96,5 +121,5 @@ pub pairs :
     ∷ refusedPair (certificateRefusal 2 2 0 0)
     ∷ refusedPair (problemRefusal 1 0)
     ∷ []
-unfolding listed fromTo sumTo number signed firstRefusal run readWhole degreeOf degree within among keysOf problemCommand appendAt fitting problemApplied problemRefusalAt problemNext readProblem basisOf multiplier multiplierOf member insert linked merged joinPair join addTerms addPair extend lowestFrom singles start joinAll extendAll round same sameAll sameState closeFrom blocksIn Rounds.closingOf insertAll startFrom startSet closing tooLarge CertificateLayout.certificateCommand shapeOf progressOf progressVerdict Certificate.certificateRefusalAt Certificate.certificateApplied Certificate.certificateNext readCertificate coefficient square squares claimOf blockOf firstOutside rowSplit splitBy firstDifference comparedKeys differenceKey judgeRead judge pairSides pairOf pairVerdict
+unfolding listed fromTo sumTo number signed firstRefusal run readWhole degreeOf degree within among keysOf problemCommand appendAt fitting problemApplied problemRefusalAt problemNext readProblem basisOf multiplier multiplierOf member insert linked merged joinPair join addTerms addPair extend different singles start joinAll extendAll round same sameAll sameState closeFrom blocksIn Rounds.closingOf insertAll startFrom startSet closing tooLarge CertificateLayout.certificateCommand shapeOf progressOf progressVerdict Certificate.certificateRefusalAt Certificate.certificateApplied Certificate.certificateNext readCertificate coefficient square squares claimOf blockOf firstOutside rowSplit splitBy firstDifference comparedKeys differenceKey judgeRead judge pairSides pairOf pairVerdict
 pairs = refl

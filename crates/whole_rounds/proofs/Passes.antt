@@ -14,12 +14,12 @@ use Rattle.counting.proofs.Listed.{listed-length, listed-same, listed-at, liste
 use Rattle.counting.proofs.Steps.{fromTo-reaches}
 use Rattle.key_set.specs.Table.{keysIn, Grown, Stored}
 use Rattle.joining_rule.specs.Join.{join}
-use Rattle.joining_rule.specs.Extend.{extend, blockCount}
+use Rattle.joining_rule.specs.Extend.{extend}
 use Rattle.joining_rule.proofs.FullSets.{Full}
 use Rattle.half_rounds.specs.Filled.{Filled}
 use Rattle.pair_index.specs.Fresh.{Joins, Through, Blocks}
 use Rattle.joining_rule.proofs.Labels.{join-long}
-use Rattle.joining_rule.proofs.Laws.{blocks-few}
+use Rattle.joining_rule.proofs.Numbered.{lowestFrom, lowest-few}
 use Rattle.joining_rule.proofs.Full.{extend-full}
 use Rattle.joining_rule.proofs.Extending.{Extends, fromTo-extends, extend-extends, full-keeps}
 use Rattle.half_rounds.proofs.Growth.{filled-keeps}
@@ -214,15 +214,15 @@ module _ (keys sizes exponents counts : List ℕ) (p : Arrays keys sizes exponen
 
 -- ---- the number of blocks
 
-module _ (sizes l : List ℕ) (s : Sizes sizes) (j : ℕ) (h : j < 9) (r : ℕ) (e : r ≡ blockCount (take (64 * j + getD sizes j 0 - 64 * j) (drop (64 * j) l))) where
-  pub counted-at : r ≡ blockCount (getD (labelsIn sizes l) j [])
+module _ (sizes l : List ℕ) (s : Sizes sizes) (j : ℕ) (h : j < 9) (r : ℕ) (e : r ≡ lowestFrom 0 (take (64 * j + getD sizes j 0 - 64 * j) (drop (64 * j) l))) where
+  pub counted-at : r ≡ lowestFrom 0 (getD (labelsIn sizes l) j [])
   counted-at = rw (labels-at sizes l j h) (rw (add-sub-cancel-left (64 * j) (getD sizes j 0)) at e)
 
   pub counted-few : length l ≡ 576 → r ≤ 64
   counted-few k =
       let z = s .small j in
       let n : length (take (64 * j + getD sizes j 0 - 64 * j) (drop (64 * j) l)) ≡ getD sizes j 0 = taken-long (64 * j) (getD sizes j 0) l (omega arith) in
-      omega (arith, blocks-few (take (64 * j + getD sizes j 0 - 64 * j) (drop (64 * j) l)))
+      omega (arith, lowest-few 0 (take (64 * j + getD sizes j 0 - 64 * j) (drop (64 * j) l)))
 
 pub sum-more : (f : ℕ → ℕ) (n : ℕ) → sumTo (n + 1) f ≡ sumTo n f + f n
 unfolding sumTo

@@ -20,7 +20,7 @@ pub record Sizes (sizes : List ℕ) : Type 0 where
   pub nine : length sizes ≡ 9
   pub small : Bounded 64 sizes
 
--- nine bases and their multipliers, of at most 32 terms, within the limits of blocks.specs.Limits
+-- nine bases and their multipliers, of at most 32 terms, within the limits of Limits.antt of half_rounds
 pub record Arrays (keys sizes exponents counts : List ℕ) : Type 0 where
   pub sized : Sizes sizes
   pub keys-long : length keys ≡ 576

@@ -10,7 +10,8 @@ ghost use mathlib.Core.Bool.{true, false, cond};
 ghost use Rattle.counting.specs.Counting.{listed, sumTo};
 ghost use Rattle.key_set.specs.Table.{keysIn, Holds, Stored};
 ghost use Rattle.half_rounds.specs.Ruled.{Present};
-ghost use Rattle.joining_rule.specs.Rounds.{joinAll, extendAll, same, closingOf, blocksIn};
+ghost use Rattle.joining_rule.specs.Rounds.{joinAll, extendAll, same, closingOf};
+ghost use Rattle.joining_rule.proofs.Numbered.{lowestIn};
 ghost use Rattle.joining_rule.specs.Bytes.{blockBytes};
 ghost use Rattle.whole_rounds.specs.Parts.{part, basesIn, labelsIn};
 ghost use Rattle.whole_rounds.specs.Arrays.{Sizes, joinAt, extendAt, JoiningAll, JoiningFresh, JoiningAt, JoiningSince, FreshAt, roundFrom, ExtendingAll, RoundAsks, Rounded, Starting, Settled};
@@ -761,10 +762,10 @@ pub fn close(
     }
 }
 
-// The number of blocks of all bases.
+// How many indices of all bases are their own block's number.
 pub fn count(labels: &[u8], sizes: &[usize]) -> usize
     requires { ⌜ Sizes (now sizes) × (length (now labels) ≡ 576) ⌝ }
-    ensures { λ r. ⌜ r ≡ blocksIn (labelsIn (now (sizes .entry)) (now (labels .entry))) ⌝ }
+    ensures { λ r. ⌜ r ≡ lowestIn (labelsIn (now (sizes .entry)) (now (labels .entry))) ⌝ }
 {
     let mut n = 0;
     let mut j = 0;

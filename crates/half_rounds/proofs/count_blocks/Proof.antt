@@ -1,17 +1,16 @@
--- `half_rounds::count_blocks` meets its contract: the count so far, with what the indices from i on add, is the number of blocks.
+-- `half_rounds::count_blocks` meets its contract: the count so far, with what the indices from i on add, is that of all.
 use borrow.Author.Needs.{needs}
 use native.Mathlib.Omega.{arith}
 use mathlib.Core.Logic.{⊎-elim}
 use mathlib.Core.Path.{_≡_}
 use Prim.Native.Nat.{_+_, _-_, _≤_}
 use lib.ListN.{length, drop}
-use Rattle.joining_rule.specs.Extend.{lowestFrom, blockCount}
-use Rattle.joining_rule.proofs.Laws.{lowest-here, lowest-not, lowest-done}
+use Rattle.joining_rule.proofs.Numbered.{lowestFrom, lowest-here, lowest-not, lowest-done}
 use Rattle.half_rounds.proofs.count_blocks.Statement.{statement}
 use Rattle.half_rounds.proofs.count_blocks.Tie as tie
 
 abbrev Inv-loop : tie.InvT-loop
-Inv-loop labels n₀ i₀ n i = (i ≤ length labels) × (n ≤ i) × (n + lowestFrom i (drop i labels) ≡ blockCount labels)
+Inv-loop labels n₀ i₀ n i = (i ≤ length labels) × (n ≤ i) × (n + lowestFrom i (drop i labels) ≡ lowestFrom 0 labels)
 
 abbrev μ-loop : tie.MeasureT-loop
 μ-loop labels n₀ i₀ n i = length labels - i

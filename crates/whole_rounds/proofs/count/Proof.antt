@@ -6,15 +6,14 @@ use mathlib.Core.List.{[]}
 use Prim.Native.Nat.{_-_, _*_, _≤_}
 use lib.ListN.{getD}
 use Rattle.counting.specs.Counting.{sumTo}
-use Rattle.joining_rule.specs.Extend.{blockCount}
-use Rattle.joining_rule.specs.Rounds.{blocksIn}
+use Rattle.joining_rule.proofs.Numbered.{lowestFrom, lowestIn}
 use Rattle.whole_rounds.specs.Parts.{labelsIn}
 use Rattle.whole_rounds.proofs.Passes.{counted-at, counted-few, sum-more}
 use Rattle.whole_rounds.proofs.count.Statement.{statement}
 use Rattle.whole_rounds.proofs.count.Tie as tie
 
 abbrev Inv-loop : tie.InvT-loop
-Inv-loop labels sizes n₀ j₀ n j = (j ≤ 9) × (n ≤ 64 * j) × (n ≡ sumTo j (λ j. blockCount (getD (labelsIn sizes labels) j [])))
+Inv-loop labels sizes n₀ j₀ n j = (j ≤ 9) × (n ≤ 64 * j) × (n ≡ sumTo j (λ j. lowestFrom 0 (getD (labelsIn sizes labels) j [])))
 
 abbrev μ-loop : tie.MeasureT-loop
 μ-loop labels sizes n₀ j₀ n j = 9 - j
@@ -65,15 +64,15 @@ loop-again c =
     let s = l .before .before .before in
     let e = counted-at _ _ (s .pre .0) (l .loop .j) (omega arith) _ (c .count-blocks .ensures) in
     let f = counted-few _ _ (s .pre .0) (l .loop .j) (omega arith) _ (c .count-blocks .ensures) (s .pre .1) in
-    (omega arith, omega arith, omega (arith, sum-more (λ j. blockCount (getD (labelsIn (s .args .sizes .now) (s .args .labels .now)) j [])) (l .loop .j)))
+    (omega arith, omega arith, omega (arith, sum-more (λ j. lowestFrom 0 (getD (labelsIn (s .args .sizes .now) (s .args .labels .now)) j [])) (l .loop .j)))
 
 returns : tie.Need-returns Inv-loop μ-loop
-unfolding blocksIn
+unfolding lowestIn
 returns c =
     let l = c .before in
     let s = l .before .before .before in
     let e : l .loop .j ≡ 9 = omega arith in
-    l .loop .inv .2 ∙ ap (λ n. sumTo n (λ j. blockCount (getD (labelsIn (s .args .sizes .now) (s .args .labels .now)) j []))) e
+    l .loop .inv .2 ∙ ap (λ n. sumTo n (λ j. lowestFrom 0 (getD (labelsIn (s .args .sizes .now) (s .args .labels .now)) j []))) e
 
 pub count-spec : {M : Type 1} → statement M
 count-spec =
