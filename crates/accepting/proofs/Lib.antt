@@ -4,4 +4,5 @@ pub mod Blocks
 pub mod Difference
 pub mod Fits
 pub mod Accepted
+pub mod Empty
 pub mod Worked
