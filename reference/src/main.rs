@@ -1,30 +1,19 @@
-//! Second exact implementation of the rules of document 01, set against the proved one.
+//! A second exact implementation of the rules of document 01, plain and slow, set against the proved
+//! one; a fast one as a baseline for speed; and a generator of cases for both.
 
-mod answer;
-mod certificate;
+mod baseline;
 mod generate;
-mod identity;
-mod joining;
 mod monomial;
-mod pairs;
-mod parity;
-mod partition;
-#[cfg(test)]
 mod plain;
-mod problem;
 mod records;
 mod refusal;
-mod stream;
-mod sums;
-mod table;
-mod timing;
 mod vectors;
 
 use std::io;
 use std::path::Path;
 use std::process::ExitCode;
 
-const USAGE: &str = "usage: reference replay | generate KINDS SEED COUNT | corpus KINDS
+const USAGE: &str = "usage: reference replay | baseline | generate KINDS SEED COUNT | corpus KINDS
                  | changes NAME | refusals | folders DIR | vectors DIR
                  | workload NAME | time";
 
@@ -43,7 +32,11 @@ fn main() -> ExitCode {
 
 fn run(arguments: &[&str]) -> io::Result<ExitCode> {
     match arguments {
-        ["replay"] => records::replay()?,
+        ["replay"] => records::replay(plain::answer)?,
+        ["baseline"] => {
+            let mut checker = baseline::Checker::default();
+            records::replay(|record| checker.answer(record))?;
+        }
         ["generate", kinds, seed, count] if generate::are_kinds(kinds) => {
             let (Ok(seed), Ok(count)) = (seed.parse(), count.parse()) else {
                 return Ok(usage());
@@ -68,7 +61,7 @@ fn run(arguments: &[&str]) -> io::Result<ExitCode> {
         }
         ["folders", directory] => vectors::write(Path::new(directory))?,
         ["refusals"] => generate::refusals::print(),
-        ["time"] => timing::run(),
+        ["time"] => baseline::timing::run(),
         _ => return Ok(usage()),
     }
     Ok(ExitCode::SUCCESS)

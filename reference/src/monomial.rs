@@ -21,6 +21,11 @@ impl Monomial {
         self.0[variables..].iter().all(|&exponent| exponent == 0)
     }
 
+    /// The product of two monomials, whose exponents add up.
+    pub fn times(&self, other: &Monomial) -> Monomial {
+        Monomial(std::array::from_fn(|i| self.0[i] + other.0[i]))
+    }
+
     /// "A monomial's key is the sum of e_i x 256^(i-1)".
     ///
     /// Degrees stay at most 32 after the reader, so the key of a product is the sum of the keys.

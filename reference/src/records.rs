@@ -1,8 +1,8 @@
-//! Records: a kind byte, three lengths and three byte runs.
+//! Records: a kind byte, the lengths of the kind's byte runs, and the runs.
 
+use std::fmt::Write as _;
 use std::io::{self, BufReader, BufWriter, Read, Write};
 
-use crate::answer::Checker;
 use crate::refusal::Refusal;
 
 /// Longest byte run of a record.
@@ -12,13 +12,20 @@ pub const BLOCKS: u8 = b'b';
 pub const CHECK: u8 = b'c';
 pub const PAIR: u8 = b'p';
 
-const HEAD: usize = 13;
+/// The number of runs of a kind: problem, first certificate and second certificate for the calls of
+/// document 01. There is none for a byte that is no kind.
+fn run_count(kind: u8) -> Option<usize> {
+    match kind {
+        BLOCKS | CHECK | PAIR => Some(3),
+        _ => None,
+    }
+}
 
-/// One call with its byte runs: problem, first certificate, second certificate.
+/// One call with its byte runs.
 #[derive(Clone, Debug, PartialEq, Eq)]
 pub struct Record {
     pub kind: u8,
-    pub runs: [Vec<u8>; 3],
+    pub runs: Vec<Vec<u8>>,
 }
 
 impl Record {
@@ -26,7 +33,7 @@ impl Record {
     pub fn blocks(problem: Vec<u8>) -> Self {
         Record {
             kind: BLOCKS,
-            runs: [problem, Vec::new(), Vec::new()],
+            runs: vec![problem, Vec::new(), Vec::new()],
         }
     }
 
@@ -34,7 +41,7 @@ impl Record {
     pub fn check(problem: Vec<u8>, certificate: Vec<u8>) -> Self {
         Record {
             kind: CHECK,
-            runs: [problem, certificate, Vec::new()],
+            runs: vec![problem, certificate, Vec::new()],
         }
     }
 
@@ -42,7 +49,7 @@ impl Record {
     pub fn pair(problem: Vec<u8>, first: Vec<u8>, second: Vec<u8>) -> Self {
         Record {
             kind: PAIR,
-            runs: [problem, first, second],
+            runs: vec![problem, first, second],
         }
     }
 
@@ -54,40 +61,6 @@ impl Record {
         }
         self.runs.iter().try_for_each(|run| out.write_all(run))
     }
-
-    /// The line that answers the record.
-    pub fn answer(&self, checker: &mut Checker) -> String {
-        let [problem, first, second] = &self.runs;
-        match self.kind {
-            BLOCKS => line(checker.blocks(problem)),
-            CHECK => line(checker.check(problem, first)),
-            _ => line(checker.pair(problem, first, second)),
-        }
-    }
-
-    /// The refusal of the record, when it is refused.
-    pub fn refusal(&self, checker: &mut Checker) -> Option<Refusal> {
-        let [problem, first, second] = &self.runs;
-        match self.kind {
-            BLOCKS => checker.blocks(problem).err(),
-            CHECK => checker.check(problem, first).err(),
-            _ => checker.pair(problem, first, second).err(),
-        }
-    }
-
-    /// Answers the record without telling; the count of accepted ones keeps the work alive.
-    pub fn run(&self, checker: &mut Checker) -> bool {
-        let [problem, first, second] = &self.runs;
-        match self.kind {
-            BLOCKS => std::hint::black_box(checker.blocks(problem)).is_ok(),
-            CHECK => std::hint::black_box(checker.check(problem, first)).is_ok(),
-            _ => std::hint::black_box(checker.pair(problem, first, second)).is_ok(),
-        }
-    }
-}
-
-fn line<A: ToString, R: ToString>(answer: Result<A, R>) -> String {
-    answer.map_or_else(|refusal| refusal.to_string(), |answer| answer.to_string())
 }
 
 /// The records that are read; they end before one that is cut, too long or of unknown kind.
@@ -97,23 +70,29 @@ impl<R: Read> Iterator for Records<R> {
     type Item = Record;
 
     fn next(&mut self) -> Option<Record> {
-        let mut head = [0; HEAD];
-        self.0.read_exact(&mut head).ok()?;
-        let kind = head[0];
-        if ![BLOCKS, CHECK, PAIR].contains(&kind) {
+        let [kind] = self.take()?;
+        let lengths = (0..run_count(kind)?).map(|_| self.take().map(u32::from_le_bytes));
+        let lengths: Vec<u32> = lengths.collect::<Option<_>>()?;
+        let runs = lengths.into_iter().map(|length| self.run(length as usize));
+        let runs = runs.collect::<Option<_>>()?;
+        Some(Record { kind, runs })
+    }
+}
+
+impl<R: Read> Records<R> {
+    fn take<const N: usize>(&mut self) -> Option<[u8; N]> {
+        let mut bytes = [0; N];
+        self.0.read_exact(&mut bytes).ok()?;
+        Some(bytes)
+    }
+
+    fn run(&mut self, length: usize) -> Option<Vec<u8>> {
+        if length > RUN {
             return None;
         }
-        let mut runs: [Vec<u8>; 3] = Default::default();
-        for (place, run) in runs.iter_mut().enumerate() {
-            let length = head[1 + 4 * place..][..4].try_into().ok()?;
-            let length = u32::from_le_bytes(length) as usize;
-            if length > RUN {
-                return None;
-            }
-            run.resize(length, 0);
-            self.0.read_exact(run).ok()?;
-        }
-        Some(Record { kind, runs })
+        let mut run = vec![0; length];
+        self.0.read_exact(&mut run).ok()?;
+        Some(run)
     }
 }
 
@@ -122,12 +101,14 @@ pub fn input() -> impl Iterator<Item = Record> {
     Records(BufReader::with_capacity(1 << 16, io::stdin().lock()))
 }
 
-/// Answers the records of the standard input, a line for each.
-pub fn replay() -> io::Result<()> {
+/// Answers the records of the standard input, a line for each: what `answer` says, or its refusal.
+pub fn replay(mut answer: impl FnMut(&Record) -> Result<String, Refusal>) -> io::Result<()> {
     let mut out = BufWriter::with_capacity(1 << 16, io::stdout().lock());
-    let mut checker = Checker::default();
     for record in input() {
-        writeln!(out, "{}", record.answer(&mut checker))?;
+        match answer(&record) {
+            Ok(line) => writeln!(out, "{line}")?,
+            Err(refusal) => writeln!(out, "{refusal}")?,
+        }
     }
     out.flush()
 }
@@ -139,4 +120,13 @@ pub fn write_all(records: impl IntoIterator<Item = Record>) -> io::Result<()> {
         record.write(&mut out)?;
     }
     out.flush()
+}
+
+/// Bytes as lower-case hexadecimal digits, two for each.
+pub fn hexadecimal(bytes: &[u8]) -> String {
+    let mut digits = String::new();
+    for byte in bytes {
+        write!(digits, "{byte:02x}").expect("a string takes all");
+    }
+    digits
 }

@@ -1,5 +1,7 @@
 //! Refusals: number, stream, place and key, as in the table of document 01.
 
+use std::fmt::{self, Display};
+
 /// Which of the lent byte runs a refusal speaks of.
 pub const PROBLEM: u8 = 0;
 /// The first (or only) certificate.
@@ -44,5 +46,17 @@ impl Refusal {
             place,
             key: 0,
         }
+    }
+}
+
+impl Display for Refusal {
+    fn fmt(&self, out: &mut fmt::Formatter) -> fmt::Result {
+        let Refusal {
+            number,
+            stream,
+            place,
+            key,
+        } = self;
+        write!(out, "refused {number} {stream} {place} {key}")
     }
 }

@@ -4,8 +4,8 @@ use std::fs;
 use std::io;
 use std::path::{Path, PathBuf};
 
-use crate::answer::Checker;
-use crate::records::{input, PAIR, RUN};
+use crate::plain;
+use crate::records::{hexadecimal, input, PAIR, RUN};
 
 /// The names of the three streams of a stored case.
 const STREAMS: [&str; 3] = ["problem.bin", "low.bin", "high.bin"];
@@ -17,10 +17,9 @@ pub fn run(directory: &Path) -> io::Result<bool> {
         .collect::<io::Result<_>>()?;
     folders.retain(|folder| folder.is_dir());
     folders.sort();
-    let mut checker = Checker::default();
     let mut agree = 0;
     for folder in &folders {
-        match difference(&mut checker, folder)? {
+        match difference(folder)? {
             None => agree += 1,
             Some(file) => println!("{}: {file} differs", folder.display()),
         }
@@ -32,13 +31,12 @@ pub fn run(directory: &Path) -> io::Result<bool> {
 /// Writes each pair of the standard input as a stored case, in the folders 1, 2 and so on of
 /// `directory`.
 pub fn write(directory: &Path) -> io::Result<()> {
-    let mut checker = Checker::default();
     let pairs = input().filter(|record| record.kind == PAIR);
     for (place, record) in pairs.enumerate() {
         let folder = directory.join((place + 1).to_string());
         fs::create_dir_all(&folder)?;
-        let [problem, low, high] = &record.runs;
-        let expected = gapcheck(&mut checker, problem, low, high);
+        let [problem, low, high] = [0, 1, 2].map(|place| record.runs[place].as_slice());
+        let expected = gapcheck(problem, low, high);
         for (name, bytes) in STREAMS.iter().zip(&record.runs) {
             fs::write(folder.join(name), bytes)?;
         }
@@ -48,12 +46,12 @@ pub fn write(directory: &Path) -> io::Result<()> {
 }
 
 /// The first file of a folder that differs from the answer.
-fn difference(checker: &mut Checker, folder: &Path) -> io::Result<Option<&'static str>> {
+fn difference(folder: &Path) -> io::Result<Option<&'static str>> {
     let [problem, low, high] = STREAMS.map(|name| folder.join(name));
     let (problem, low, high) = (stream(&problem)?, stream(&low)?, stream(&high)?);
     let answers = [
-        ("expected", gapcheck(checker, &problem, &low, &high)),
-        ("blocks.txt", blocks(checker, &problem)),
+        ("expected", gapcheck(&problem, &low, &high)),
+        ("blocks.txt", blocks(&problem)),
     ];
     for (name, answer) in answers {
         match fs::read(folder.join(name)) {
@@ -77,8 +75,8 @@ fn stream(path: &Path) -> io::Result<Vec<u8>> {
 }
 
 /// The output of gapcheck.
-fn gapcheck(checker: &mut Checker, problem: &[u8], low: &[u8], high: &[u8]) -> String {
-    match checker.pair(problem, low, high) {
+fn gapcheck(problem: &[u8], low: &[u8], high: &[u8]) -> String {
+    match plain::pair(problem, low, high) {
         Ok(pair) => format!(
             "lower {}\nupper {}\ngap {}\nrounds {}\n",
             pair.lower, pair.upper, pair.gap, pair.rounds
@@ -88,13 +86,13 @@ fn gapcheck(checker: &mut Checker, problem: &[u8], low: &[u8], high: &[u8]) -> S
 }
 
 /// The blocks call as the stored cases tell it.
-fn blocks(checker: &mut Checker, problem: &[u8]) -> String {
-    match checker.blocks(problem) {
+fn blocks(problem: &[u8]) -> String {
+    match plain::blocks(problem) {
         Ok(blocks) => format!(
             "blocks {}\nrounds {}\n{}\n",
             blocks.count,
             blocks.rounds,
-            blocks.hex()
+            hexadecimal(&blocks.bytes)
         ),
         Err(refusal) => format!("{refusal}\n"),
     }

@@ -3,13 +3,12 @@
 use crate::generate::broken::{self, broken};
 use crate::generate::cascade::{cascade, longest, Plan};
 use crate::generate::damage::{self, damaged};
-use crate::generate::draft::Draft;
+use crate::generate::draft::{Draft, SUPPORT_MEMBERS};
 use crate::generate::limits;
 use crate::generate::problems;
 use crate::generate::rng::Rng;
 use crate::generate::samples;
 use crate::generate::support;
-use crate::joining::SUPPORT_MEMBERS;
 
 /// Streams of a few bytes.
 const TINY: [&[u8]; 20] = [

@@ -2,10 +2,9 @@
 
 use std::collections::BTreeSet;
 
-use crate::answer::Checker;
-use crate::generate::draft::{random_monomial, Draft};
+use crate::baseline::Checker;
+use crate::generate::draft::{random_monomial, Draft, SUPPORT_MEMBERS};
 use crate::generate::rng::Rng;
-use crate::joining::SUPPORT_MEMBERS;
 use crate::monomial::{divides, Monomial};
 
 /// What a cascade may use.

@@ -3,6 +3,11 @@
 use crate::generate::rng::Rng;
 use crate::monomial::{Monomial, VARIABLES};
 
+/// "The closed S with the zero exponent added may have at most 2,048 members."
+pub const SUPPORT_MEMBERS: usize = 2_048;
+/// "at most 128 rows"
+pub const ROWS: usize = 128;
+
 /// The commands of a problem, one function for each.
 pub fn variables(count: u8) -> Vec<u8> {
     vec![0x01, count]
@@ -70,7 +75,7 @@ pub fn power(variable: usize, exponent: u8) -> Monomial {
 
 /// The product of two monomials.
 pub fn product(first: Monomial, second: Monomial) -> Monomial {
-    Monomial(std::array::from_fn(|i| first.0[i] + second.0[i]))
+    first.times(&second)
 }
 
 /// A random monomial of degree at most `degree` in the first `variables`.

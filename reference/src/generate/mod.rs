@@ -84,21 +84,17 @@ fn special(kind: u8) -> Vec<Record> {
 #[cfg(test)]
 mod tests {
     use super::*;
-    use crate::answer::Checker;
+    use crate::plain::answer;
     use std::collections::BTreeSet;
 
     /// The refusals of a corpus, as number and stream.
     fn refusals(kinds: &str) -> BTreeSet<(u8, u8)> {
-        let checker = &mut Checker::default();
-        let mut all = BTreeSet::new();
-        for record in corpus(kinds) {
-            let line = record.answer(checker);
-            let mut words = line.split(' ').skip_while(|&word| word != "refused");
-            if let (Some(number), Some(stream)) = (words.nth(1), words.next()) {
-                all.insert((number.parse().unwrap(), stream.parse().unwrap()));
-            }
-        }
-        all
+        let refusals = corpus(kinds)
+            .into_iter()
+            .filter_map(|record| answer(&record).err());
+        refusals
+            .map(|refusal| (refusal.number, refusal.stream))
+            .collect()
     }
 
     #[test]

@@ -1,7 +1,7 @@
 //! Every stream that is one change away from an accepted pair: all truncations, and all changes of
 //! a single byte to the values asked for.
 
-use crate::answer::Checker;
+use crate::baseline::Checker;
 use crate::generate::accepted::case;
 use crate::generate::certificates::plain;
 use crate::generate::rng::Rng;
@@ -49,9 +49,10 @@ fn two_decks() -> Runs {
 fn made() -> Runs {
     let (rng, checker) = (&mut Rng::new(4), &mut Checker::default());
     let records = (0..TRIES).map(|_| plain(PAIR, &case(rng)));
-    let accepted = records.filter(|record| record.run(checker));
+    let accepted = records.filter(|record| checker.accepts(record));
     let longest = accepted.max_by_key(|record| record.runs.concat().len());
-    longest.expect("most are accepted").runs
+    let runs = longest.expect("most are accepted").runs;
+    runs.try_into().expect("a pair has three runs")
 }
 
 /// All other values.
@@ -81,7 +82,8 @@ fn around(runs: Runs, stream: usize, values: Values) -> impl Iterator<Item = Rec
             0 => Record::blocks(runs[0].clone()),
             _ => Record::check(runs[0].clone(), runs[stream].clone()),
         };
-        [Record { kind: PAIR, runs }, alone]
+        let [problem, first, second] = runs;
+        [Record::pair(problem, first, second), alone]
     })
 }
 
@@ -98,11 +100,13 @@ fn changed(bytes: &[u8], place: usize, values: Values) -> Vec<Vec<u8>> {
 #[cfg(test)]
 mod tests {
     use super::*;
+    use crate::plain::answer;
 
     #[test]
     fn the_pairs_are_accepted() {
         for runs in [case_f(), two_decks(), made()] {
-            assert!(Record { kind: PAIR, runs }.run(&mut Checker::default()));
+            let [problem, first, second] = runs;
+            assert!(answer(&Record::pair(problem, first, second)).is_ok());
         }
     }
 

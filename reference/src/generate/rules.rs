@@ -1,6 +1,5 @@
 //! Certificates with a command that breaks a rule.
 
-use crate::certificate::ROWS;
 use crate::generate::draft::*;
 use crate::generate::rng::Rng;
 

@@ -153,18 +153,14 @@ pub fn pairs() -> Vec<Record> {
 #[cfg(test)]
 mod tests {
     use super::*;
-    use crate::answer::Checker;
+    use crate::plain::{self, line};
 
     /// The count, the rounds and the first block numbers of basis 0.
     fn blocks(draft: Draft, first: &[u8]) -> (usize, usize) {
-        let blocks = Checker::default().blocks(&draft.bytes()).unwrap();
+        let blocks = plain::blocks(&draft.bytes()).unwrap();
         assert_eq!(&blocks.bytes[..first.len()], first);
         assert_eq!(blocks.bytes[first.len()], 255);
         (blocks.count, blocks.rounds)
-    }
-
-    fn line(record: &Record) -> String {
-        record.answer(&mut Checker::default())
     }
 
     #[test]
@@ -178,10 +174,10 @@ mod tests {
 
     #[test]
     fn case_h_is_full_and_no_more() {
-        let blocks = Checker::default().blocks(&h().bytes()).unwrap();
+        let blocks = plain::blocks(&h().bytes()).unwrap();
         assert_eq!((blocks.count, blocks.rounds), (64, 2));
-        let refusal = Checker::default().blocks(&h_with_objective().bytes());
-        assert_eq!(refusal.unwrap_err().to_string(), "refused 7 0 0 0");
+        let refused = line(&Record::blocks(h_with_objective().bytes()));
+        assert_eq!(refused, "refused 7 0 0 0");
     }
 
     #[test]

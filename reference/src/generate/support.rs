@@ -1,19 +1,15 @@
 //! Problems whose closed S has a given number of members.
 
-use crate::generate::draft::{power, product, Draft};
+use crate::baseline::Checker;
+use crate::generate::draft::{power, product, Draft, SUPPORT_MEMBERS};
 use crate::generate::problems::{grid, monomials};
 use crate::generate::rng::Rng;
 use crate::generate::samples::subsets;
-use crate::joining::{Closure, SUPPORT_MEMBERS};
 use crate::monomial::Monomial;
-use crate::problem::Problem;
 
 /// How many members the closed S with zero has, when at most 2,048.
 pub fn members(draft: &Draft) -> Option<usize> {
-    let (mut problem, mut closure) = (Problem::default(), Closure::default());
-    problem.read(&draft.bytes()).ok()?;
-    closure.close(&problem).ok()?;
-    Some(closure.support().len())
+    Checker::default().members(&draft.bytes()).ok()
 }
 
 /// Case H with other counts: nothing joins, and S is all t + 2b and the objective.

@@ -1,12 +1,13 @@
 //! The workloads whose time is taken.
 
-use crate::answer::Checker;
+use crate::baseline::Checker;
 use crate::generate::accepted::Case;
 use crate::generate::blocks::long_plan;
 use crate::generate::boxed::boxed;
 use crate::generate::cascade::longest;
 use crate::generate::certificates::{plain, with_damage};
 use crate::generate::damage::{self, damaged};
+use crate::generate::draft::{DraftCertificate, DraftRow, ROWS};
 use crate::generate::largest::largest;
 use crate::generate::problems;
 use crate::generate::rng::Rng;
@@ -22,6 +23,7 @@ pub fn workload(name: &str) -> Option<Vec<Record>> {
         "typical-blocks" => typical_blocks(rng, 20_000),
         "largest-blocks" => largest_blocks(rng, 48),
         "rounds-blocks" => rounds_blocks(rng, 16),
+        "rounds-check" => rounds_check(rng, 16),
         "h-blocks" => vec![Record::blocks(samples::h().bytes()); 100],
         "damaged-blocks" => damaged_blocks(rng, 20_000),
         "typical-pairs" => typical_pairs(rng, 5_000),
@@ -66,6 +68,26 @@ fn rounds_blocks(rng: &mut Rng, count: usize) -> Vec<Record> {
     (0..count).map(|_| record()).collect()
 }
 
+/// Problems of many rounds with 128 rows of one entry each, on the bases in turn. Each row is in one
+/// block, so that all of the check is gone through; the identity is false.
+fn rounds_check(rng: &mut Rng, count: usize) -> Vec<Record> {
+    let plan = long_plan();
+    let mut record = || {
+        let problem = longest(rng, &plan, 4);
+        let filled = (0..problem.bases.len()).filter(|&j| !problem.bases[j].is_empty());
+        let row = |j| DraftRow::new(j, 1, &[(problem.bases[j].len() as u8 - 1, 1)]);
+        let certificate = DraftCertificate {
+            side: 0,
+            denominator: 1,
+            p: 0,
+            q: 1,
+            rows: filled.cycle().take(ROWS).map(row).collect(),
+        };
+        Record::check(problem.bytes(), certificate.bytes())
+    };
+    (0..count).map(|_| record()).collect()
+}
+
 fn damaged_blocks(rng: &mut Rng, count: usize) -> Vec<Record> {
     let checker = &mut Checker::default();
     let mut record = || {
@@ -82,7 +104,7 @@ fn typical_case(rng: &mut Rng, checker: &mut Checker) -> Case {
         let turned = rng.once_in(2);
         let case = boxed(rng, turned);
         let record = plain(PAIR, &case);
-        if record.run(checker) {
+        if checker.accepts(&record) {
             return case;
         }
     }

@@ -188,9 +188,9 @@ fn square(z: &Entries, u: &Entries, weight: i32, up: usize, down: usize) -> [Dra
 #[cfg(test)]
 mod tests {
     use super::*;
-    use crate::answer::Checker;
     use crate::generate::certificates::plain;
     use crate::generate::support::members;
+    use crate::plain::line;
     use crate::records::PAIR;
 
     #[test]
@@ -209,7 +209,7 @@ mod tests {
                 assert!(rows.windows(2).all(|two| two[0].basis != two[1].basis));
             }
             assert_eq!(members(problem), Some(2_048));
-            let line = plain(PAIR, &case).answer(&mut Checker::default());
+            let line = line(&plain(PAIR, &case));
             assert!(line.starts_with("pair "), "{line}");
         }
     }

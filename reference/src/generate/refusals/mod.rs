@@ -139,15 +139,14 @@ fn calls(stream: u8) -> &'static [u8] {
 #[cfg(test)]
 mod tests {
     use super::*;
-    use crate::answer::Checker;
+    use crate::plain::answer;
     use std::collections::BTreeSet;
 
     #[test]
     fn the_reference_gives_what_is_written_down() {
-        let checker = &mut Checker::default();
         for case in cases() {
             for &call in case.calls {
-                let refusal = case.record(call).refusal(checker);
+                let refusal = answer(&case.record(call)).err();
                 let (number, name) = (case.expected.number, case.name);
                 assert_eq!(refusal, Some(case.expected), "{number}: {name}");
             }

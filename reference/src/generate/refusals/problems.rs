@@ -5,7 +5,6 @@ use crate::generate::draft::*;
 use crate::generate::rng::Rng;
 use crate::generate::samples;
 use crate::generate::support::like_h;
-use crate::joining::SUPPORT_MEMBERS;
 use crate::refusal::{Refusal, PROBLEM};
 
 const ORDER: &str = "each checked 3, 2, 4, 5, 6";

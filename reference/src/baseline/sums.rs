@@ -1,6 +1,6 @@
 //! Sums b + b' of one basis, with the places of t + b + b' in S.
 
-use crate::table::KeyTable;
+use super::table::KeyTable;
 
 /// The sums of one basis, each once.
 #[derive(Default)]

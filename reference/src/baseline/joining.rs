@@ -1,13 +1,13 @@
 //! The joining rule: blocks, support set S and the number of rounds.
 
+use super::pairs::Pairs;
+use super::parity::{parity, Parities, Shifts};
+use super::partition::{bits, Partition};
+use super::problem::{Problem, BASES, BASIS};
+use super::sums::Sums;
+use super::table::KeyTable;
 use crate::monomial::divides;
-use crate::pairs::Pairs;
-use crate::parity::{parity, Parities, Shifts};
-use crate::partition::{bits, Partition};
-use crate::problem::{Problem, BASES, BASIS};
 use crate::refusal::{Refusal, PROBLEM, SUPPORT};
-use crate::sums::Sums;
-use crate::table::KeyTable;
 
 /// "The closed S with the zero exponent added may have at most 2,048 members."
 pub const SUPPORT_MEMBERS: usize = 2_048;

@@ -1,12 +1,30 @@
-//! The calls of document 01 and the lines that tell their answers.
+//! The baseline for speed: the rules of document 01 by the same design as the proved calls, with
+//! keys in tables, partitions, parities and sums by indices.
+//!
+//! What it answers is evidence of little, as it may err where the proved calls' design errs; the
+//! plain version is there for the answers. The tests hold the two to each other.
+
+mod certificate;
+mod identity;
+mod joining;
+mod pairs;
+mod parity;
+mod partition;
+mod problem;
+mod stream;
+mod sums;
+mod table;
+pub mod timing;
 
 use std::fmt::{self, Display};
+use std::hint::black_box;
 
-use crate::certificate::{Certificate, LOWER, UPPER};
-use crate::identity::Identity;
-use crate::joining::Closure;
-use crate::problem::{Problem, BASES, BASIS};
+use crate::records::{hexadecimal, Record, BLOCKS, CHECK, PAIR};
 use crate::refusal::{Refusal, FIRST, SECOND, SIDES};
+use certificate::{Certificate, LOWER, UPPER};
+use identity::Identity;
+use joining::Closure;
+use problem::{Problem, BASES, BASIS};
 
 /// "Blocks (problem, 576 bytes out)".
 pub const BLOCK_BYTES: usize = BASES * BASIS;
@@ -70,6 +88,32 @@ pub struct Checker {
 }
 
 impl Checker {
+    /// What a record asks for: the line that answers it, or its refusal.
+    pub fn answer(&mut self, record: &Record) -> Result<String, Refusal> {
+        let run = |place: usize| record.runs[place].as_slice();
+        match record.kind {
+            BLOCKS => self.blocks(run(0)).map(|verdict| verdict.to_string()),
+            CHECK => self
+                .check(run(0), run(1))
+                .map(|verdict| verdict.to_string()),
+            PAIR => self
+                .pair(run(0), run(1), run(2))
+                .map(|verdict| verdict.to_string()),
+            other => unreachable!("the baseline has no call {other}"),
+        }
+    }
+
+    /// Answers a record without telling what; whether it is accepted keeps the work alive.
+    pub fn accepts(&mut self, record: &Record) -> bool {
+        let run = |place: usize| record.runs[place].as_slice();
+        match record.kind {
+            BLOCKS => black_box(self.blocks(run(0))).is_ok(),
+            CHECK => black_box(self.check(run(0), run(1))).is_ok(),
+            PAIR => black_box(self.pair(run(0), run(1), run(2))).is_ok(),
+            other => unreachable!("the baseline has no call {other}"),
+        }
+    }
+
     /// Blocks (problem).
     pub fn blocks(&mut self, problem: &[u8]) -> Result<Blocks, Refusal> {
         self.close(problem)?;
@@ -111,6 +155,12 @@ impl Checker {
         })
     }
 
+    /// How many members the closed S with zero has.
+    pub fn members(&mut self, problem: &[u8]) -> Result<usize, Refusal> {
+        self.close(problem)?;
+        Ok(self.closure.support().len())
+    }
+
     /// Reads and closes a problem.
     fn close(&mut self, problem: &[u8]) -> Result<(), Refusal> {
         self.problem.read(problem)?;
@@ -138,17 +188,8 @@ impl Checker {
 impl Display for Blocks {
     fn fmt(&self, out: &mut fmt::Formatter) -> fmt::Result {
         let Blocks { count, rounds, .. } = self;
-        write!(out, "blocks {count} rounds {rounds} {}", self.hex())
-    }
-}
-
-impl Blocks {
-    /// The 576 bytes as lower-case hexadecimal digits.
-    pub fn hex(&self) -> String {
-        let digits = self.bytes.iter().flat_map(|byte| [byte >> 4, byte & 15]);
-        digits
-            .map(|digit| char::from(b"0123456789abcdef"[usize::from(digit)]))
-            .collect()
+        let digits = hexadecimal(&self.bytes);
+        write!(out, "blocks {count} rounds {rounds} {digits}")
     }
 }
 
@@ -172,17 +213,5 @@ impl Display for Pair {
             rounds,
         } = self;
         write!(out, "pair {lower} {upper} gap {gap} rounds {rounds}")
-    }
-}
-
-impl Display for Refusal {
-    fn fmt(&self, out: &mut fmt::Formatter) -> fmt::Result {
-        let Refusal {
-            number,
-            stream,
-            place,
-            key,
-        } = self;
-        write!(out, "refused {number} {stream} {place} {key}")
     }
 }

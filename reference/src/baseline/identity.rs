@@ -6,10 +6,10 @@
 //! 32 terms x 2^15 times that, below 2^83; the left side is below 2^16 x 2^16 x 2^32. So the
 //! squares fit in 64 signed bits and the sums in 128.
 
-use crate::certificate::{Certificate, Entry, LOWER};
-use crate::joining::Closure;
-use crate::partition::bits;
-use crate::problem::{Problem, BASIS};
+use super::certificate::{Certificate, Entry, LOWER};
+use super::joining::Closure;
+use super::partition::bits;
+use super::problem::{Problem, BASIS};
 use crate::refusal::{Refusal, IDENTITY};
 
 /// The sum over the rows of one basis of w x l x l', for the indices i and i' >= i of l and l'.

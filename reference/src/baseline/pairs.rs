@@ -1,8 +1,8 @@
 //! The pairs of a basis by their sums, for joining by the members of S that came last.
 
-use crate::partition::Partition;
-use crate::problem::BASIS;
-use crate::table::KeyTable;
+use super::partition::Partition;
+use super::problem::BASIS;
+use super::table::KeyTable;
 
 /// Pairs i < k are held as 64i + k.
 const PAIRS: usize = BASIS * BASIS;

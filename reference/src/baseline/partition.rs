@@ -1,6 +1,6 @@
 //! The blocks of one basis.
 
-use crate::problem::BASIS;
+use super::problem::BASIS;
 
 /// The blocks of one basis.
 pub struct Partition {

@@ -1,7 +1,7 @@
 //! The problem and its reader ("Problem commands").
 
+use super::stream::{Operands, Stream};
 use crate::refusal::{Refusal, COUNT, OPERAND, PROBLEM, REPEATED};
-use crate::stream::{Operands, Stream};
 
 /// Most constraints of a problem.
 pub const CONSTRAINTS: usize = 8;

@@ -1,8 +1,8 @@
-//! The time per record.
+//! The baseline's time per record.
 
 use std::time::{Duration, Instant};
 
-use crate::answer::Checker;
+use super::Checker;
 use crate::records::{input, Record};
 
 /// Answers the records of the standard input again and again for about a second, and prints the
@@ -14,7 +14,7 @@ pub fn run() {
     let begun = Instant::now();
     while begun.elapsed() < Duration::from_secs(1) {
         let turn = Instant::now();
-        let accepted = records.iter().filter(|record| record.run(&mut checker));
+        let accepted = records.iter().filter(|record| checker.accepts(record));
         std::hint::black_box(accepted.count());
         best = best.min(turn.elapsed().as_nanos() as f64 / records.len() as f64);
     }

@@ -1,9 +1,9 @@
 //! The certificate and its reader ("Certificate commands"), and the blocks of its rows.
 
-use crate::joining::Closure;
-use crate::problem::Problem;
+use super::joining::Closure;
+use super::problem::Problem;
+use super::stream::Stream;
 use crate::refusal::{Refusal, BLOCKS, COUNT, OPERAND, REPEATED};
-use crate::stream::Stream;
 
 /// Most rows of a certificate.
 pub const ROWS: usize = 128;

@@ -3,7 +3,7 @@
 //! The parity of t + b + b' is that of t and of b + b' together, so a sum whose parity no member
 //! of S has is not in S.
 
-use crate::problem::CONSTRAINT_TERMS;
+use super::problem::CONSTRAINT_TERMS;
 
 /// The lowest bits of the eight exponents of a key.
 pub fn parity(key: u64) -> u8 {

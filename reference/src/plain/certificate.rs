@@ -1,0 +1,177 @@
+//! "Certificate commands": the certificate and its reader.
+
+use super::problem::Problem;
+use super::stream::{read, Operands, Reader};
+use crate::refusal::Refusal;
+
+/// "side 0 lower, 1 upper"
+pub const LOWER: u8 = 0;
+pub const UPPER: u8 = 1;
+
+/// A certificate.
+#[derive(Default)]
+pub struct Certificate {
+    pub side: u8,
+    pub d: u16,
+    pub p: i32,
+    pub q: u16,
+    pub rows: Vec<Row>,
+}
+
+/// A row on a basis.
+pub struct Row {
+    pub basis: usize,
+    pub weight: i32,
+    pub entries: Vec<Entry>,
+}
+
+/// A factor on a basis index, and the place of its command.
+pub struct Entry {
+    pub index: usize,
+    pub factor: i32,
+    pub place: usize,
+}
+
+impl Certificate {
+    /// Reads a certificate stream for a problem; `stream` is the number of its refusals.
+    pub fn read(bytes: &[u8], stream: u8, problem: &Problem) -> Result<Certificate, Refusal> {
+        let certificate = Certificate::default();
+        let nothing = Reading {
+            problem,
+            certificate,
+        };
+        read(nothing, bytes, stream).map(|all| all.certificate)
+    }
+}
+
+/// What has been read of a certificate for a problem.
+struct Reading<'a> {
+    problem: &'a Problem,
+    certificate: Certificate,
+}
+
+impl Reading<'_> {
+    /// The row begun last.
+    fn last(&self) -> &Row {
+        let last = self.certificate.rows.last();
+        last.expect("an entry before any row is misplaced")
+    }
+}
+
+/// The certificate commands with their operands.
+enum Command {
+    /// 10 side(u8) D(u16) p(i32) q(u16)
+    Bound { side: u8, d: u16, p: i32, q: u16 },
+    /// 11 j(u8) w(u16)
+    Row { j: u8, w: u16 },
+    /// 12 i(u8) l(i16)
+    Entry { i: u8, l: i16 },
+    /// 13
+    End,
+}
+
+impl Reader for Reading<'_> {
+    type Command = Command;
+    const END: u8 = 0x13;
+
+    fn may_stand(&self, command: u8, before: Option<u8>) -> bool {
+        match command {
+            // "First, and only first."
+            0x10 => before.is_none(),
+            // ".. and a 12 before any row, is misplaced."
+            0x12 => before.is_some() && !self.certificate.rows.is_empty(),
+            0x11 | 0x13 => before.is_some(),
+            _ => false,
+        }
+    }
+
+    fn width(command: u8) -> usize {
+        match command {
+            0x10 => 1 + 2 + 4 + 2,
+            0x11 => 1 + 2,
+            0x12 => 1 + 2,
+            _ => 0,
+        }
+    }
+
+    fn parse(command: u8, mut operands: Operands) -> Command {
+        match command {
+            0x10 => Command::Bound {
+                side: operands.u8(),
+                d: operands.u16(),
+                p: operands.i32(),
+                q: operands.u16(),
+            },
+            0x11 => Command::Row {
+                j: operands.u8(),
+                w: operands.u16(),
+            },
+            0x12 => Command::Entry {
+                i: operands.u8(),
+                l: operands.i16(),
+            },
+            _ => Command::End,
+        }
+    }
+
+    fn keeps_rules(&self, command: &Command) -> bool {
+        match *command {
+            // "side 0 lower, 1 upper; D and q at least 1"
+            Command::Bound { side, d, q, .. } => side <= UPPER && d >= 1 && q >= 1,
+            // "on basis j, 0 or a constraint of the problem, with weight w at least 1"
+            Command::Row { j, w } => usize::from(j) < self.problem.bases.len() && w >= 1,
+            // "less than the basis's length"; "Coefficients and factors are never 0."
+            Command::Entry { i, l } => {
+                usize::from(i) < self.problem.bases[self.last().basis].len() && l != 0
+            }
+            Command::End => true,
+        }
+    }
+
+    /// "Indices rise within a row."
+    fn repeats(&self, command: &Command) -> bool {
+        match *command {
+            Command::Entry { i, .. } => {
+                let before = self.last().entries.last();
+                before.is_some_and(|before| before.index >= usize::from(i))
+            }
+            _ => false,
+        }
+    }
+
+    /// "at most 128 rows"
+    fn one_too_many(&self, command: &Command) -> bool {
+        matches!(command, Command::Row { .. }) && self.certificate.rows.len() == 128
+    }
+
+    fn take(&mut self, command: Command, place: usize) {
+        let certificate = &mut self.certificate;
+        match command {
+            Command::Bound { side, d, p, q } => {
+                let rows = Vec::new();
+                *certificate = Certificate {
+                    side,
+                    d,
+                    p,
+                    q,
+                    rows,
+                };
+            }
+            Command::Row { j, w } => certificate.rows.push(Row {
+                basis: usize::from(j),
+                weight: i32::from(w),
+                entries: Vec::new(),
+            }),
+            Command::Entry { i, l } => {
+                let last = certificate.rows.last_mut();
+                let last = last.expect("an entry before any row is misplaced");
+                last.entries.push(Entry {
+                    index: usize::from(i),
+                    factor: i32::from(l),
+                    place,
+                });
+            }
+            Command::End => {}
+        }
+    }
+}

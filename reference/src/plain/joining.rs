@@ -1,0 +1,117 @@
+//! "Joining rule": blocks, S and the number of rounds.
+
+use std::collections::BTreeSet;
+
+use super::problem::{monomials, Problem};
+use crate::monomial::Monomial;
+
+/// What the rounds lead to.
+pub struct Joined {
+    /// The block number of index i in basis j: "A block's number is its lowest index."
+    pub blocks: Vec<Vec<usize>>,
+    /// S.
+    pub support: BTreeSet<Monomial>,
+    pub rounds: usize,
+}
+
+/// "The closed S with the zero exponent added may have at most 2,048 members."
+const MEMBERS: usize = 2_048;
+
+impl Joined {
+    /// The rounds of a problem. They end early where S is too large, as S only grows.
+    pub fn of(problem: &Problem) -> Joined {
+        Joined::by(problem, Joined::round)
+    }
+
+    /// "Rounds repeat until one changes neither a block nor S; that one counts too."
+    pub fn by(problem: &Problem, round: fn(&mut Joined, &Problem)) -> Joined {
+        let mut joined = start(problem);
+        loop {
+            let before = (joined.blocks.clone(), joined.support.len());
+            round(&mut joined, problem);
+            joined.rounds += 1;
+            let after = (joined.blocks.clone(), joined.support.len());
+            if before == after || joined.is_too_large() {
+                return joined;
+            }
+        }
+    }
+
+    /// Whether S with the zero exponent has too many members.
+    pub fn is_too_large(&self) -> bool {
+        let zero = usize::from(!self.support.contains(&Monomial::ONE));
+        self.support.len() + zero > MEMBERS
+    }
+
+    /// The number of blocks of all bases.
+    pub fn count(&self) -> usize {
+        let first = |&(index, &block): &(usize, &usize)| index == block;
+        let basis = |blocks: &Vec<usize>| blocks.iter().enumerate().filter(first).count();
+        self.blocks.iter().map(basis).sum()
+    }
+
+    /// One round: all bases join by the same S, and then all add to it.
+    fn round(&mut self, problem: &Problem) {
+        for j in 0..problem.bases.len() {
+            self.join(problem, j);
+        }
+        for j in 0..problem.bases.len() {
+            self.add(problem, j);
+        }
+    }
+
+    /// Another rule, for the tests: each basis adds to S before the next one joins.
+    #[cfg(test)]
+    pub fn round_basis_by_basis(&mut self, problem: &Problem) {
+        for j in 0..problem.bases.len() {
+            self.join(problem, j);
+            self.add(problem, j);
+        }
+    }
+
+    /// "put b and b' of basis j in one block when some exponent t of g_j has t + b + b' in S, and
+    /// complete connected components"
+    fn join(&mut self, problem: &Problem, j: usize) {
+        let (basis, exponents) = (&problem.bases[j], problem.exponents(j));
+        for (i, b) in basis.iter().enumerate() {
+            for (k, c) in basis.iter().enumerate().take(i) {
+                let in_support = |t: &Monomial| self.support.contains(&t.times(b).times(c));
+                let (low, high) = (self.blocks[j][k], self.blocks[j][i]);
+                if low != high && exponents.iter().any(in_support) {
+                    let number = low.min(high);
+                    let joined = self.blocks[j].iter_mut();
+                    let joined = joined.filter(|block| [low, high].contains(block));
+                    joined.for_each(|block| *block = number);
+                }
+            }
+        }
+    }
+
+    /// "add to S every t + b + b' with b, b' in one block of the same j (b = b' included) and t an
+    /// exponent of g_j"
+    fn add(&mut self, problem: &Problem, j: usize) {
+        let (basis, exponents) = (&problem.bases[j], problem.exponents(j));
+        for (i, b) in basis.iter().enumerate() {
+            for (k, c) in basis.iter().enumerate().take(i + 1) {
+                if self.blocks[j][i] == self.blocks[j][k] {
+                    let sums = exponents.iter().map(|t| t.times(b).times(c));
+                    self.support.extend(sums);
+                }
+            }
+        }
+    }
+}
+
+/// "S starts as all exponents of the objective and constraints, and 2b for each b in basis 0. Every
+/// basis starts as single blocks."
+fn start(problem: &Problem) -> Joined {
+    let objective = monomials(&problem.objective);
+    let constraints = problem.constraints.iter().flat_map(monomials);
+    let doubled = problem.bases[0].iter().map(|b| b.times(b));
+    let single = |basis: &Vec<Monomial>| (0..basis.len()).collect();
+    Joined {
+        blocks: problem.bases.iter().map(single).collect(),
+        support: objective.chain(constraints).chain(doubled).collect(),
+        rounds: 0,
+    }
+}

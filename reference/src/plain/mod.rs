@@ -1,0 +1,37 @@
+//! The rules of document 01, plainly: from its words alone and in its order, with exponents as they
+//! are sent, sets, graph search and exact whole numbers, and nothing for speed.
+//!
+//! The answers of this version are those that the proved calls are held to. It shares no code with
+//! the baseline but monomials and the four fields of a refusal.
+
+mod accepting;
+mod calls;
+mod certificate;
+mod joining;
+mod lines;
+mod polynomial;
+mod problem;
+mod stream;
+#[cfg(test)]
+mod tests;
+
+pub use calls::{blocks, pair};
+
+use crate::records::{Record, BLOCKS, CHECK, PAIR};
+use crate::refusal::Refusal;
+
+/// What a record asks for: the line that answers it, or its refusal.
+pub fn answer(record: &Record) -> Result<String, Refusal> {
+    let run = |place: usize| record.runs[place].as_slice();
+    match record.kind {
+        BLOCKS => blocks(run(0)).map(|verdict| verdict.to_string()),
+        CHECK => calls::check(run(0), run(1)).map(|verdict| verdict.to_string()),
+        PAIR => pair(run(0), run(1), run(2)).map(|verdict| verdict.to_string()),
+        other => unreachable!("no record has the kind {other}"),
+    }
+}
+
+/// The line that answers a record.
+pub fn line(record: &Record) -> String {
+    answer(record).unwrap_or_else(|refusal| refusal.to_string())
+}

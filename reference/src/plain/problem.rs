@@ -1,0 +1,178 @@
+//! "Problem commands": the problem and its reader.
+
+use super::polynomial::Polynomial;
+use super::stream::{read, Operands, Reader};
+use crate::monomial::Monomial;
+use crate::refusal::{Refusal, PROBLEM};
+
+/// Monomials with their coefficients, in the order sent.
+pub type Terms = Vec<(Monomial, i32)>;
+
+/// A problem.
+#[derive(Default)]
+pub struct Problem {
+    /// The number of variables, n.
+    pub variables: usize,
+    pub objective: Terms,
+    /// Constraint j at place j - 1: "Constraints are numbered from 1."
+    pub constraints: Vec<Terms>,
+    /// Basis 0 and the basis of each constraint.
+    pub bases: Vec<Vec<Monomial>>,
+}
+
+impl Problem {
+    /// Reads a problem stream.
+    pub fn read(bytes: &[u8]) -> Result<Problem, Refusal> {
+        let nothing = Problem {
+            bases: vec![Vec::new()],
+            ..Problem::default()
+        };
+        read(nothing, bytes, PROBLEM)
+    }
+
+    /// "g_0 = 1 and g_j is constraint j."
+    pub fn multiplier(&self, j: usize) -> Polynomial {
+        match j {
+            0 => Polynomial::constant(1),
+            _ => Polynomial::of(&self.constraints[j - 1]),
+        }
+    }
+
+    /// The exponents t of g_j.
+    pub fn exponents(&self, j: usize) -> Vec<Monomial> {
+        match j {
+            0 => vec![Monomial::ONE],
+            _ => monomials(&self.constraints[j - 1]).collect(),
+        }
+    }
+
+    /// "Exponents of variables above n are 0", and a total degree of at most `degree`.
+    fn allows(&self, monomial: &Monomial, degree: u32) -> bool {
+        monomial.within(self.variables) && monomial.degree() <= degree
+    }
+}
+
+/// The monomials of a polynomial, in the order sent.
+pub fn monomials(terms: &Terms) -> impl Iterator<Item = Monomial> + '_ {
+    terms.iter().map(|&(monomial, _)| monomial)
+}
+
+/// Whether a polynomial has the monomial.
+fn has(terms: &Terms, monomial: &Monomial) -> bool {
+    monomials(terms).any(|other| other == *monomial)
+}
+
+/// The problem commands with their operands.
+pub enum Command {
+    /// 01 n(u8)
+    Variables(u8),
+    /// 02 E c(i32)
+    ObjectiveTerm(Monomial, i32),
+    /// 03
+    Constraint,
+    /// 04 E c(i16)
+    ConstraintTerm(Monomial, i16),
+    /// 05 j(u8) E
+    BasisMonomial(u8, Monomial),
+    /// 06
+    End,
+}
+
+use Command::*;
+
+impl Reader for Problem {
+    type Command = Command;
+    const END: u8 = 0x06;
+
+    fn may_stand(&self, command: u8, before: Option<u8>) -> bool {
+        match command {
+            // "First, and only first."
+            0x01 => before.is_none(),
+            // "A 04 before any 03 .. is misplaced."
+            0x04 => before.is_some() && !self.constraints.is_empty(),
+            0x02 | 0x03 | 0x05 | 0x06 => before.is_some(),
+            _ => false,
+        }
+    }
+
+    fn width(command: u8) -> usize {
+        match command {
+            0x01 => 1,
+            0x02 => 8 + 4,
+            0x04 => 8 + 2,
+            0x05 => 1 + 8,
+            _ => 0,
+        }
+    }
+
+    fn parse(command: u8, mut operands: Operands) -> Command {
+        match command {
+            0x01 => Variables(operands.u8()),
+            0x02 => ObjectiveTerm(operands.monomial(), operands.i32()),
+            0x03 => Constraint,
+            0x04 => ConstraintTerm(operands.monomial(), operands.i16()),
+            0x05 => BasisMonomial(operands.u8(), operands.monomial()),
+            _ => End,
+        }
+    }
+
+    fn keeps_rules(&self, command: &Command) -> bool {
+        match command {
+            // "number of variables, 1 to 8"
+            Variables(n) => (1..=8).contains(n),
+            // "total degree at most 32"; "Coefficients and factors are never 0."
+            ObjectiveTerm(monomial, c) => self.allows(monomial, 32) && *c != 0,
+            // "degree at most 16"
+            ConstraintTerm(monomial, c) => self.allows(monomial, 16) && *c != 0,
+            // "degree at most 8"; "j is 0 or a constraint already begun."
+            BasisMonomial(j, monomial) => {
+                usize::from(*j) <= self.constraints.len() && self.allows(monomial, 8)
+            }
+            Constraint | End => true,
+        }
+    }
+
+    /// "A polynomial or a basis has no monomial twice."
+    fn repeats(&self, command: &Command) -> bool {
+        match command {
+            ObjectiveTerm(monomial, _) => has(&self.objective, monomial),
+            ConstraintTerm(monomial, _) => {
+                self.constraints.last().is_some_and(|g| has(g, monomial))
+            }
+            BasisMonomial(j, monomial) => self.bases[usize::from(*j)].contains(monomial),
+            Variables(_) | Constraint | End => false,
+        }
+    }
+
+    fn one_too_many(&self, command: &Command) -> bool {
+        match command {
+            // "at most 256"
+            ObjectiveTerm(..) => self.objective.len() == 256,
+            // "begins the next constraint, at most 8"
+            Constraint => self.constraints.len() == 8,
+            // "at most 32 each"
+            ConstraintTerm(..) => self.constraints.last().is_some_and(|g| g.len() == 32),
+            // "at most 64 each"
+            BasisMonomial(j, _) => self.bases[usize::from(*j)].len() == 64,
+            Variables(_) | End => false,
+        }
+    }
+
+    fn take(&mut self, command: Command, _place: usize) {
+        match command {
+            Variables(n) => self.variables = usize::from(n),
+            ObjectiveTerm(monomial, c) => self.objective.push((monomial, c)),
+            Constraint => {
+                self.constraints.push(Vec::new());
+                self.bases.push(Vec::new());
+            }
+            ConstraintTerm(monomial, c) => {
+                let last = self.constraints.last_mut();
+                let last = last.expect("a 04 before any 03 is misplaced");
+                last.push((monomial, i32::from(c)));
+            }
+            BasisMonomial(j, monomial) => self.bases[usize::from(j)].push(monomial),
+            End => {}
+        }
+    }
+}

@@ -1,0 +1,83 @@
+//! What the plain version says of the corpus.
+
+use super::accepting::difference;
+use super::answer;
+use super::certificate::Certificate;
+use super::joining::Joined;
+use super::problem::Problem;
+use crate::baseline::Checker;
+use crate::generate::corpus;
+use crate::records::Record;
+use crate::refusal::IDENTITY;
+
+#[test]
+fn the_baseline_answers_alike() {
+    let checker = &mut Checker::default();
+    for record in corpus("bcp") {
+        assert_eq!(checker.answer(&record), answer(&record));
+    }
+}
+
+/// The problems of the blocks calls that can be read.
+fn problems() -> impl Iterator<Item = Problem> {
+    let records = corpus("b").into_iter();
+    records.filter_map(|record| Problem::read(&record.runs[0]).ok())
+}
+
+/// "the rounds are at most N - B + 2": N commands 05 with B different j.
+#[test]
+fn rounds_are_few() {
+    let mut closed = 0;
+    for problem in problems() {
+        let sizes: Vec<usize> = problem.bases.iter().map(Vec::len).collect();
+        let n: usize = sizes.iter().sum();
+        let b = sizes.iter().filter(|&&size| size > 0).count();
+        assert!(Joined::of(&problem).rounds <= n - b + 2);
+        closed += 1;
+    }
+    assert!(closed > 1_000, "{closed} problems");
+}
+
+/// A rule by which each basis adds to S before the next one joins has other rounds.
+#[test]
+fn the_corpus_tells_whether_all_bases_join_by_the_same_s() {
+    let tells = |problem: &Problem| {
+        let rounds = Joined::of(problem).rounds;
+        rounds < 30 && rounds != Joined::by(problem, Joined::round_basis_by_basis).rounds
+    };
+    let telling = problems().filter(tells).take(50).count();
+    assert_eq!(telling, 50);
+}
+
+/// The difference of the two sides of a record that is refused with 9, where it is one at a single
+/// monomial, and the stream that is refused.
+fn single_difference(record: &Record) -> Option<(u8, i128)> {
+    let refusal = answer(record).err()?;
+    if refusal.number != IDENTITY {
+        return None;
+    }
+    let stream = refusal.stream;
+    let problem = Problem::read(&record.runs[0]).unwrap();
+    let certificate = &record.runs[usize::from(stream)];
+    let certificate = Certificate::read(certificate, stream, &problem).unwrap();
+    let difference = difference(&certificate, &problem);
+    let mut differing = difference.coefficients();
+    let (_, first) = differing.next()?;
+    differing.next().is_none().then_some((stream, first))
+}
+
+/// A sum that is kept in 32, 60 or 64 bits would pass these for equal.
+#[test]
+fn the_corpus_has_differences_that_narrow_sums_miss() {
+    for (kind, streams) in [("c", 1..=1), ("p", 1..=2)] {
+        let records = corpus(kind);
+        let found: Vec<(u8, i128)> = records.iter().filter_map(single_difference).collect();
+        for stream in streams {
+            for zeros in [32..60, 60..64, 64..128] {
+                let fitting =
+                    |&(s, d): &(u8, i128)| s == stream && zeros.contains(&d.trailing_zeros());
+                assert!(found.iter().any(fitting), "{kind}, {stream}, {zeros:?}");
+            }
+        }
+    }
+}
