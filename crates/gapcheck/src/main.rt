@@ -17,8 +17,8 @@ fn write_help() -> bool {
 usage: gapcheck [PROBLEM [LOW [HIGH]]]
        gapcheck --help
 
-Three files are read, each to at most 65,536 bytes. A file that is not named is that of
-the current folder in brackets. A missing file is an empty stream.
+Three files are read, each to at most 65,536 bytes. Where one is not named, the file in
+brackets of the current folder is. A missing file is an empty stream.
 
   PROBLEM  the polynomial, the constraints and the bases  [problem.bin]
   LOW      the certificate of the lower bound             [low.bin]
@@ -40,7 +40,8 @@ STREAM is 0 for PROBLEM, 1 for LOW and 2 for HIGH, and PLACE an offset in it. KE
 or the monomial at which the identity fails. README.md says what each NUMBER means and
 what to do about it.
 
-Messages on files and arguments go to standard error. The exit status is 0 in all cases.
+Messages on files and arguments go to standard error. The exit status is 0 whatever the
+answer.
 ",
     )
 }
