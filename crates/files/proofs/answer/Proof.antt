@@ -60,12 +60,15 @@ returns c =
     let part1 = part2 .before .before .before in
     let read3 = part1 .before .before .before in
     let read2 = read3 .before .before .before in
-    let read1 = read2 .before .before .before in (
+    let read1 = read2 .before .before .before in
+    let one = read1 .read-stream in
+    let two = read2 .read-stream2 in
+    let three = read3 .read-stream3 in (
       c .answer-to .ensures ∙ same-streams (part1 .cut .ensures) (part2 .cut2 .ensures) (part3 .cut3 .ensures),
       (
-        at-most (read1 .read-stream .result) (read1 .read-stream .last .1 .1 .0) (read1 .read-stream .ensures) (omega arith),
-        at-most (read2 .read-stream2 .result) (read2 .read-stream2 .last .1 .1 .0) (read2 .read-stream2 .ensures) (omega arith),
-        at-most (read3 .read-stream3 .result) (read3 .read-stream3 .last .1 .1 .0) (read3 .read-stream3 .ensures) (omega arith),
+        at-most (one .result) (one .last .1 .1 .0) (one .ensures) (omega arith),
+        at-most (two .result) (two .last .1 .1 .0) (two .ensures) (omega arith),
+        at-most (three .result) (three .last .1 .1 .0) (three .ensures) (omega arith),
       ),
     )
 
