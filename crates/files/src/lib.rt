@@ -1,33 +1,22 @@
 // The pair on three files, each to at most 65,536 bytes: problem.bin, low.bin and high.bin of the working folder, or
-// those that the program's arguments name.
+// those that the program's arguments name. `answer_to` decides, on three streams. All else here moves bytes: of a read
+// the kit's contracts say how many bytes were put into a buffer at most, and not which. So that the streams are the
+// contents of the files is not proved but tested, by the programs' stored runs and by `tools/messages`.
+mod messages;
+
 ghost use mathlib.Core.Path.{_≡_};
+ghost use Prim.Native.Nat.{_≤_};
+ghost use lib.ListN.{length, take};
 ghost use Rattle.lines.specs.Texts.{textOf};
-ghost use Rattle.lines.specs.Answers.{answerTo, Answers};
+ghost use Rattle.lines.specs.Answers.{answerTo};
 use lines::Text;
 
-// The bytes of a file, at the start of the buffer, and how many. A missing file is an empty stream, and so is one that
-// cannot be opened, which is said on standard error.
-fn read_file(path: &[u8], bytes: &mut [u8]) -> usize {
-    let fd = os::open_read(path);
-    if fd < 0 {
-        if os::errno() != libc::ENOENT {
-            os::fail(path);
-        }
-        return 0;
-    }
-    let n = io::read_full(fd, bytes);
-    libc::close(fd);
-    n
-}
-
-// The bytes of the file that argument i names, or of another where there is no such argument.
-fn read_stream(i: usize, other: &[u8], bytes: &mut [u8]) -> usize {
-    if os::arg_count() <= i {
-        return read_file(other, bytes);
-    }
-    let mut path = io::buffer();
-    let n = os::arg(i, &mut path);
-    read_file(&path[..n], bytes)
+// An answer, and how many bytes of each buffer were its streams.
+pub struct Answered {
+    pub text: Text,
+    pub problem: usize,
+    pub low: usize,
+    pub high: usize,
 }
 
 // The text for three streams.
@@ -41,19 +30,79 @@ pub fn answer_to(problem: &[u8], low: &[u8], high: &[u8]) -> Text
     text::pair_lines(v)
 }
 
-// The text for the three files.
-pub fn answer() -> Text
-    ensures { λ t. ⌜ Answers (textOf t) ⌝ }
+// Whether a file was read to its end, or the buffer is full. A read stops where the file ends and where it fails; one
+// more answers 0 at an end and less after a failure.
+fn is_whole(fd: i32, path: &[u8], n: usize, room: usize) -> bool {
+    if n < room {
+        let mut next = [0u8; 1];
+        if libc::read(fd, &mut next) < 0 {
+            messages::not_read(path);
+            return false;
+        }
+    } else if 65536 < libc::lseek(fd, 0, libc::SEEK_END) {
+        messages::longer(path);
+    }
+    true
+}
+
+// The bytes of a file, at the start of the buffer, and how many. A missing file is an empty stream, and so is one that
+// cannot be read; standard error says which.
+fn read_file(path: &[u8], bytes: &mut [u8]) -> usize
+    ensures { λ n. ⌜ n ≤ length (now (bytes .exit)) ⌝ }
 {
-    let mut problem = io::large_buffer();
-    let mut low = io::large_buffer();
-    let mut high = io::large_buffer();
-    let a = read_stream(1, b"problem.bin", &mut problem);
-    let b = read_stream(2, b"low.bin", &mut low);
-    let c = read_stream(3, b"high.bin", &mut high);
-    answer_to(
-        text::cut(&problem, a),
-        text::cut(&low, b),
-        text::cut(&high, c),
-    )
+    let fd = os::open_read(path);
+    if fd < 0 {
+        messages::not_opened(path);
+        return 0;
+    }
+    let n = io::read_full(fd, bytes);
+    let whole = is_whole(fd, path, n, bytes.len());
+    libc::close(fd);
+    if whole { n } else { 0 }
+}
+
+// The bytes of the file that argument i names, or of another where there is no such argument. With no argument at all
+// the other is the usual one, and nothing is said.
+fn read_stream(i: usize, other: &[u8], bytes: &mut [u8]) -> usize
+    ensures { λ n. ⌜ n ≤ length (now (bytes .exit)) ⌝ }
+{
+    let count = os::arg_count();
+    if count <= i {
+        if 1 < count {
+            messages::left_out(i, other);
+        }
+        return read_file(other, bytes);
+    }
+    let mut path = io::buffer();
+    let n = os::arg(i, &mut path);
+    if os::errno() != 0 {
+        messages::no_path(i);
+        return 0;
+    }
+    read_file(&path[..n], bytes)
+}
+
+// The text for the three files, which are read into the buffers: the text for the bytes at the start of each buffer as
+// it is left, as many as are returned.
+pub fn answer(problem: &mut [u8; 65536], low: &mut [u8; 65536], high: &mut [u8; 65536]) -> Answered
+    ensures text { λ r. ⌜
+        textOf (r .text)
+        ≡ answerTo (take (r .problem) (now (problem .exit))) (take (r .low) (now (low .exit)))
+        (take (r .high) (now (high .exit)))
+        ⌝ }
+    ensures lengths { λ r. ⌜ (r .problem ≤ 65536) × (r .low ≤ 65536) × (r .high ≤ 65536) ⌝ }
+{
+    if 4 < os::arg_count() {
+        messages::more_arguments();
+    }
+    let a = read_stream(1, b"problem.bin", problem);
+    let b = read_stream(2, b"low.bin", low);
+    let c = read_stream(3, b"high.bin", high);
+    let text = answer_to(text::cut(problem, a), text::cut(low, b), text::cut(high, c));
+    Answered {
+        text,
+        problem: a,
+        low: b,
+        high: c,
+    }
 }

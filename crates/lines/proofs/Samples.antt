@@ -8,7 +8,13 @@ use Rattle.calls.specs.Pair.{refusedPair}
 use Rattle.lines.specs.Lines.{ascii, decimal, signedDecimal, ratio, refusalLine, pairWords, pairLines}
 
 abbrev pub caseF : PairVerdict
-caseF = record { refusal = noRefusal; lower = fraction (negsuc 0) 1; upper = fraction (pos 1) 1; gap = fraction (pos 2) 1; rounds = 2 }
+caseF = record {
+  refusal = noRefusal;
+  lower = fraction (negsuc 0) 1;
+  upper = fraction (pos 1) 1;
+  gap = fraction (pos 2) 1;
+  rounds = 2;
+}
 
 pub lines-of-F : pairLines caseF ≡ ascii "lower -1/1\nupper 1/1\ngap 2/1\nrounds 2\n"
 unfolding pairWords ratio signedDecimal decimal refusalLine

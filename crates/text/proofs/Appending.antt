@@ -12,13 +12,18 @@ use Rattle.text.specs.Appending.{Appended}
 pub appended-none : (a : List ℕ) (at : ℕ) → Appended a at [] a at
 appended-none a at = record { ends = omega arith; bytes = sym (append-nil (take at a)) }
 
-pub appended-byte : {a s b : List ℕ} {at e : ℕ} (x : ℕ) → Appended a at s b e → e < length b → Appended a at (s ++ (x ∷ [])) (set b e x) (e + 1)
+pub appended-byte :
+    {a s b : List ℕ} {at e : ℕ} (x : ℕ) → Appended a at s b e → e < length b
+    → Appended a at (s ++ (x ∷ [])) (set b e x) (e + 1)
 appended-byte {a} {s} {b} {at} {e} x p h = record {
   ends = simp length-append (omega (arith, p .ends));
-  bytes = rw (add-one, take-suc-set) (ap (λ (l : List ℕ). l ++ (x ∷ [])) (p .bytes) ∙ append-assoc (take at a) s (x ∷ []));
+  bytes =
+      rw (add-one, take-suc-set)
+      (ap (λ (l : List ℕ). l ++ (x ∷ [])) (p .bytes) ∙ append-assoc (take at a) s (x ∷ []));
 }
 
-pub appended-text : {a s b t d : List ℕ} {at e f : ℕ} → Appended a at s b e → Appended b e t d f → Appended a at (s ++ t) d f
+pub appended-text :
+    {a s b t d : List ℕ} {at e f : ℕ} → Appended a at s b e → Appended b e t d f → Appended a at (s ++ t) d f
 appended-text {a} {s} {b} {t} {d} {at} p q = record {
   ends = simp length-append (omega (arith, p .ends, q .ends));
   bytes = q .bytes ∙ ap (λ (l : List ℕ). l ++ t) (p .bytes) ∙ append-assoc (take at a) s t;

@@ -33,7 +33,8 @@ fewest-decimal n (suc (suc k)) h =
     let e : suc (suc k) - 1 ≡ suc k = omega arith in
     let least = rw e at (h .2 (omega arith)) in
     ap (λ (l : List ℕ). l ++ (glyph (n % 10) ∷ []))
-    (digits-leading k n (n / 10) (omega arith) (omega (arith, h .1, pow-suc 10 (suc k))) (omega (arith, least, pow-suc 10 k)))
+    (digits-leading k n (n / 10) (omega arith) (omega (arith, h .1, pow-suc 10 (suc k)))
+    (omega (arith, least, pow-suc 10 k)))
 
 -- a number of 64 bits has at most 20 digits
 pub fewest-short : (n r : ℕ) → n < 2 ^ 64 → Fewest 10 1 n r → r ≤ 20

@@ -8,10 +8,13 @@ use lib.Seq.{take-suc}
 use Rattle.io.specs.Digits.{glyph}
 use Rattle.lines.specs.Lines.{hexadecimal}
 
-hexadecimal-byte : (s : List ℕ) (b : ℕ) → hexadecimal (s ++ (b ∷ [])) ≡ hexadecimal s ++ (glyph (b / 16) ∷ []) ++ (glyph (b % 16) ∷ [])
+hexadecimal-byte :
+    (s : List ℕ) (b : ℕ)
+    → hexadecimal (s ++ (b ∷ [])) ≡ hexadecimal s ++ (glyph (b / 16) ∷ []) ++ (glyph (b % 16) ∷ [])
 hexadecimal-byte [] b = refl
 hexadecimal-byte (x ∷ s) b = ap (λ (l : List ℕ). glyph (x / 16) ∷ (glyph (x % 16) ∷ l)) (hexadecimal-byte s b)
 
 pub hexadecimal-more : (s : List ℕ) (i : ℕ) → i < length s
-    → hexadecimal (take (i + 1) s) ≡ hexadecimal (take i s) ++ (glyph (getD s i 0 / 16) ∷ []) ++ (glyph (getD s i 0 % 16) ∷ [])
+    → hexadecimal (take (i + 1) s)
+    ≡ hexadecimal (take i s) ++ (glyph (getD s i 0 / 16) ∷ []) ++ (glyph (getD s i 0 % 16) ∷ [])
 hexadecimal-more s i h = rw (add-one i, take-suc s i 0 h) (hexadecimal-byte (take i s) (getD s i 0))

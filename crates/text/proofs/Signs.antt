@@ -19,7 +19,12 @@ pub record Turned (n : ℤ) : Type 0 where
 
 pub turned : (n : ℤ) → ltZ n (pos 0) ≡ true → SFits w64 n → Turned n
 turned (pos a) t f = absurd (omega (arith, ltb-true a 0 t))
-turned (negsuc k) t f = record { value = k; less = rw (le-ltb (suc k) 1 (omega arith)) (ap pos (omega arith)); size = omega arith; fits = record { sfits = f .sfits } }
+turned (negsuc k) t f = record {
+  value = k;
+  less = rw (le-ltb (suc k) 1 (omega arith)) (ap pos (omega arith));
+  size = omega arith;
+  fits = record { sfits = f .sfits };
+}
 
 pub not-below : (n : ℤ) → ltZ n (pos 0) ≡ false → n ≡ pos (natAbs n)
 not-below (pos a) t = refl

@@ -13,7 +13,8 @@ use Rattle.text.proofs.append.Statement.{statement}
 use Rattle.text.proofs.append.Tie as tie
 
 abbrev Inv-loop : tie.InvT-loop
-Inv-loop out₀ at text i₀ out i = (i ≤ length text) × (length out ≡ length out₀) × Appended out₀ at (take i text) out (at + i)
+Inv-loop out₀ at text i₀ out i =
+    (i ≤ length text) × (length out ≡ length out₀) × Appended out₀ at (take i text) out (at + i)
 
 abbrev μ-loop : tie.MeasureT-loop
 μ-loop out₀ at text i₀ out i = length text - i
@@ -41,7 +42,12 @@ loop-again c =
     let a = c .before .before in
     let v = a .loop .inv in
     let s = a .before in
-    (omega arith, simp length-set (v .1), rw (← add-assoc, add-one (a .loop .i), take-suc (s .args .text .now) (a .loop .i) 0 (omega arith)) (appended-byte (getD (s .args .text .now) (a .loop .i) 0) (v .2) (omega arith)))
+    let text = s .args .text .now in
+    let i = a .loop .i in (
+      omega arith,
+      simp length-set (v .1),
+      rw (← add-assoc, add-one i, take-suc text i 0 (omega arith)) (appended-byte (getD text i 0) (v .2) (omega arith)),
+    )
 
 add-result : tie.Need-add-result Inv-loop μ-loop
 add-result c = search needs

@@ -13,7 +13,11 @@ use Rattle.text.proofs.append_hexadecimal.Statement.{statement}
 use Rattle.text.proofs.append_hexadecimal.Tie as tie
 
 abbrev Inv-loop : tie.InvT-loop
-Inv-loop out₀ at bytes end₀ i₀ out end i = (i ≤ length bytes) × (length out ≡ length out₀) × (end ≡ at + 2 * i) × Appended out₀ at (hexadecimal (take i bytes)) out end
+Inv-loop out₀ at bytes end₀ i₀ out end i =
+    (i ≤ length bytes)
+    × (length out ≡ length out₀)
+    × (end ≡ at + 2 * i)
+    × Appended out₀ at (hexadecimal (take i bytes)) out end
 
 abbrev μ-loop : tie.MeasureT-loop
 μ-loop out₀ at bytes end₀ i₀ out end i = length bytes - i
@@ -58,8 +62,12 @@ loop-again c =
     let first = appended-byte (d .digit .result) (v .3) (omega arith) in
     let both = appended-byte (c .digit2 .result) first (simp length-set (omega arith)) in
     let two : a .loop .end + 1 + 1 ≡ a .loop .end + 2 = omega arith in
-    let more = hexadecimal-more (s .args .bytes .now) (a .loop .i) (omega arith) in
-    (omega arith, simp length-set (v .1), omega arith, rw (more, ← d .digit .ensures, ← c .digit2 .ensures) (rw two at both))
+    let more = hexadecimal-more (s .args .bytes .now) (a .loop .i) (omega arith) in (
+      omega arith,
+      simp length-set (v .1),
+      omega arith,
+      rw (more, ← d .digit .ensures, ← c .digit2 .ensures) (rw two at both),
+    )
 
 same-length : tie.Need-same-length Inv-loop μ-loop
 same-length c = search needs

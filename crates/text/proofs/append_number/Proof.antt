@@ -9,7 +9,9 @@ use Rattle.text.proofs.append_number.Statement.{statement}
 use Rattle.text.proofs.append_number.Tie as tie
 
 short : (c : tie.After-decimal) → c .decimal .result ≤ 20
-short c = let s = c .before .before .before in fewest-short (s .args .n) (c .decimal .result) (s .fits .n .fits) (c .decimal .ensures .1 .0)
+short c =
+    let s = c .before .before .before in
+    fewest-short (s .args .n) (c .decimal .result) (s .fits .n .fits) (c .decimal .ensures .1 .0)
 
 decimal-requires : tie.Need-decimal-requires
 decimal-requires c κs = search needs
@@ -24,7 +26,12 @@ append-requires : tie.Need-append-requires
 append-requires c κs =
     let d = c .before .before in
     let s = d .before .before .before in
-    omega (arith, s .pre, short d, length-take-le (d .decimal .result) (d .decimal .last .1 .0) (d .decimal .ensures .0 .0))
+    omega (
+      arith,
+      s .pre,
+      short d,
+      length-take-le (d .decimal .result) (d .decimal .last .1 .0) (d .decimal .ensures .0 .0),
+    )
 
 same-length : tie.Need-same-length
 same-length c = search needs
@@ -34,8 +41,16 @@ returns c =
     let a = c .before .before in
     let d = a .before .before .before in
     let s = d .before .before .before in
-    let e = d .decimal .ensures .1 .1 ∙ fewest-decimal (s .args .n) (d .decimal .result) (d .decimal .ensures .1 .0) in
-    (rw e at (a .append .ensures), omega (arith, short d, a .append .ensures .ends, length-take-le (d .decimal .result) (d .decimal .last .1 .0) (d .decimal .ensures .0 .0)))
+    let fewest = fewest-decimal (s .args .n) (d .decimal .result) (d .decimal .ensures .1 .0) in
+    let e = d .decimal .ensures .1 .1 ∙ fewest in (
+      rw e at (a .append .ensures),
+      omega (
+        arith,
+        short d,
+        a .append .ensures .ends,
+        length-take-le (d .decimal .result) (d .decimal .last .1 .0) (d .decimal .ensures .0 .0),
+      ),
+    )
 
 pub append-number-spec : {M : Type 1} → statement M
 append-number-spec =

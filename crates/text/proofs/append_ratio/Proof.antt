@@ -33,8 +33,10 @@ returns c =
     let p1 = c .before .before in
     let p2 = p1 .before .before .before .before in
     let p3 = p2 .before .before .before .before .before in
-    let n = simp (numerator (p3 .before)) at (p3 .append-signed .ensures .0) in
-    (appended-text (appended-text n (p2 .append .ensures)) (p1 .append-number .ensures .0), omega (arith, p3 .append-signed .ensures .1, p2 .append .ensures .ends, p1 .append-number .ensures .1))
+    let n = simp (numerator (p3 .before)) at (p3 .append-signed .ensures .0) in (
+      appended-text (appended-text n (p2 .append .ensures)) (p1 .append-number .ensures .0),
+      omega (arith, p3 .append-signed .ensures .1, p2 .append .ensures .ends, p1 .append-number .ensures .1),
+    )
 
 pub append-ratio-spec : {M : Type 1} → statement M
 append-ratio-spec =

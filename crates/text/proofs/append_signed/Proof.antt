@@ -31,7 +31,10 @@ returns c =
     let t = p .before .before .before in
     let s = t .before .before in
     let e = simp (toZ-ofZ (s .fits .n)) at (t .if1 .taken) in
-    (rw e (appended-text (p .append .ensures) (rw (simp (toZ-ofZ (s .fits .n)) at (m .magnitude .ensures)) at (a .append-number .ensures .0))), omega (arith, p .append .ensures .ends, a .append-number .ensures .1))
+    let size = simp (toZ-ofZ (s .fits .n)) at (m .magnitude .ensures) in (
+      rw e (appended-text (p .append .ensures) (rw size at (a .append-number .ensures .0))),
+      omega (arith, p .append .ensures .ends, a .append-number .ensures .1),
+    )
 
 magnitude-requires-2 : tie.Need-magnitude-requires-2
 magnitude-requires-2 c κs = search needs
@@ -50,7 +53,8 @@ returns-2 c =
     let t = m .before .before in
     let s = t .before .before in
     let e = simp (toZ-ofZ (s .fits .n)) at (t .if1 .left) in
-    (rw e (rw (simp (toZ-ofZ (s .fits .n)) at (m .magnitude2 .ensures)) at (a .append-number2 .ensures .0)), omega (arith, a .append-number2 .ensures .1))
+    let size = simp (toZ-ofZ (s .fits .n)) at (m .magnitude2 .ensures) in
+    (rw e (rw size at (a .append-number2 .ensures .0)), omega (arith, a .append-number2 .ensures .1))
 
 pub append-signed-spec : {M : Type 1} → statement M
 append-signed-spec =

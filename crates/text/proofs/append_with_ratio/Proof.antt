@@ -17,8 +17,10 @@ same-length c = search needs
 returns : tie.Need-returns
 returns c =
     let p1 = c .before .before in
-    let p2 = p1 .before .before .before .before in
-    (appended-text (p2 .append .ensures) (p1 .append-ratio .ensures .0), omega (arith, p2 .append .ensures .ends, p1 .append-ratio .ensures .1))
+    let p2 = p1 .before .before .before .before in (
+      appended-text (p2 .append .ensures) (p1 .append-ratio .ensures .0),
+      omega (arith, p2 .append .ensures .ends, p1 .append-ratio .ensures .1),
+    )
 
 pub append-with-ratio-spec : {M : Type 1} → statement M
 append-with-ratio-spec =

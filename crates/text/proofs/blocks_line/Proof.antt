@@ -67,7 +67,9 @@ returns-2 c =
     let p5 = p4 .before .before .before .before in
     let t = p5 .before .before .before in
     let s = t .before .before .before in
-    rw (le-ltb 0 (s .args .v .refusal .number) (t .if1 .left)) (appended-text (appended-text (appended-text (appended-text (p5 .append-with-number .ensures .0) (p4 .append-with-number2 .ensures .0)) (p3 .append .ensures)) (p2 .append-hexadecimal .ensures .0)) (p1 .append2 .ensures) .bytes)
+    let two = appended-text (p5 .append-with-number .ensures .0) (p4 .append-with-number2 .ensures .0) in
+    let four = appended-text (appended-text two (p3 .append .ensures)) (p2 .append-hexadecimal .ensures .0) in
+    rw (le-ltb 0 (s .args .v .refusal .number) (t .if1 .left)) (appended-text four (p1 .append2 .ensures) .bytes)
 
 pub blocks-line-spec : {M : Type 1} → statement M
 blocks-line-spec =

@@ -60,7 +60,9 @@ returns-2 c =
     let p4 = p3 .before .before .before .before in
     let t = p4 .before .before .before in
     let s = t .before .before .before in
-    rw (le-ltb 0 (s .args .v .refusal .number) (t .if1 .left)) (appended-text (appended-text (appended-text (p4 .append-with-number .ensures .0) (p3 .append-with-ratio .ensures .0)) (p2 .append-with-number2 .ensures .0)) (p1 .append .ensures) .bytes)
+    let two = appended-text (p4 .append-with-number .ensures .0) (p3 .append-with-ratio .ensures .0) in
+    let three = appended-text two (p2 .append-with-number2 .ensures .0) in
+    rw (le-ltb 0 (s .args .v .refusal .number) (t .if1 .left)) (appended-text three (p1 .append .ensures) .bytes)
 
 pub check-line-spec : {M : Type 1} → statement M
 check-line-spec =

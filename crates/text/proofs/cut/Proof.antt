@@ -7,7 +7,9 @@ use Rattle.text.proofs.cut.Statement.{statement}
 use Rattle.text.proofs.cut.Tie as tie
 
 slice-aggregate-result : tie.Need-slice-aggregate-result
-slice-aggregate-result c = let s = c .before .before in sym (length-take-le (s .args .n) (s .args .bytes .now) (c .before .if1 .taken))
+slice-aggregate-result c =
+    let s = c .before .before in
+    sym (length-take-le (s .args .n) (s .args .bytes .now) (c .before .if1 .taken))
 
 returns : tie.Need-returns
 returns c = search needs

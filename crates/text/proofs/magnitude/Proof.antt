@@ -20,16 +20,22 @@ sub-result : tie.Need-sub-result
 sub-result c = let w = below c in simp (toZ-ofZ (c .before .fits .n), w .less) (w .fits)
 
 cast-result : tie.Need-cast-result
-cast-result c = let w = below c in simp (toZ-ofZ (c .before .fits .n), w .less, toZ-ofZ (w .fits)) (omega (arith, w .fits .sfits))
+cast-result c =
+    let w = below c in
+    simp (toZ-ofZ (c .before .fits .n), w .less, toZ-ofZ (w .fits)) (omega (arith, w .fits .sfits))
 
 add-result : tie.Need-add-result
-add-result c = let w = below c in simp (toZ-ofZ (c .before .fits .n), w .less, toZ-ofZ (w .fits)) (omega (arith, w .fits .sfits))
+add-result c =
+    let w = below c in
+    simp (toZ-ofZ (c .before .fits .n), w .less, toZ-ofZ (w .fits)) (omega (arith, w .fits .sfits))
 
 returns : tie.Need-returns
 returns c = let w = below c in simp (toZ-ofZ (c .before .fits .n), w .less, toZ-ofZ (w .fits)) (sym (w .size))
 
 cast-result-2 : tie.Need-cast-result-2
-cast-result-2 c = let s = c .before in simp (toZ-ofZ (s .fits .n)) (rw (above c) (omega (arith, s .fits .n .sfits, ap mag (above c))))
+cast-result-2 c =
+    let s = c .before in
+    simp (toZ-ofZ (s .fits .n)) (rw (above c) (omega (arith, s .fits .n .sfits, ap mag (above c))))
 
 returns-2 : tie.Need-returns-2
 returns-2 c = search needs

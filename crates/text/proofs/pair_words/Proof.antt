@@ -13,7 +13,8 @@ returns : tie.Need-returns
 unfolding pairWords
 returns c =
     let t = c .before in
-    rw (lt-ltb 0 (t .before .before .before .before .before .before .before .args .v .refusal .number) (t .if1 .taken)) (c .refusal-line .ensures)
+    let s = t .before .before .before .before .before .before .before in
+    rw (lt-ltb 0 (s .args .v .refusal .number) (t .if1 .taken)) (c .refusal-line .ensures)
 
 slice-aggregate-append-with-ratio : tie.Need-slice-aggregate-append-with-ratio
 slice-aggregate-append-with-ratio c = search needs
@@ -58,7 +59,10 @@ returns-2 c =
     let p5 = p4 .before .before .before in
     let t = p5 .before .before in
     let s = t .before .before .before .before .before .before .before in
-    rw (le-ltb 0 (s .args .v .refusal .number) (t .if1 .left)) (appended-text (appended-text (appended-text (appended-text (p5 .append-with-ratio .ensures .0) (p4 .append-with-ratio2 .ensures .0)) (p3 .append-with-ratio3 .ensures .0)) (p2 .append-with-number .ensures .0)) (p1 .append .ensures) .bytes)
+    let two = appended-text (p5 .append-with-ratio .ensures .0) (p4 .append-with-ratio2 .ensures .0) in
+    let three = appended-text two (p3 .append-with-ratio3 .ensures .0) in
+    let four = appended-text three (p2 .append-with-number .ensures .0) in
+    rw (le-ltb 0 (s .args .v .refusal .number) (t .if1 .left)) (appended-text four (p1 .append .ensures) .bytes)
 
 pub pair-words-spec : {M : Type 1} → statement M
 pair-words-spec =

@@ -64,7 +64,10 @@ returns c =
     let p3 = p2 .before .before .before .before in
     let p4 = p3 .before .before .before .before in
     let p5 = p4 .before .before .before .before .before in
-    appended-text (appended-text (appended-text (appended-text (p5 .append-with-number .ensures .0) (p4 .append-with-number2 .ensures .0)) (p3 .append-with-number3 .ensures .0)) (p2 .append-with-number4 .ensures .0)) (p1 .append .ensures) .bytes
+    let two = appended-text (p5 .append-with-number .ensures .0) (p4 .append-with-number2 .ensures .0) in
+    let three = appended-text two (p3 .append-with-number3 .ensures .0) in
+    let four = appended-text three (p2 .append-with-number4 .ensures .0) in
+    appended-text four (p1 .append .ensures) .bytes
 
 pub refusal-line-spec : {M : Type 1} → statement M
 refusal-line-spec =

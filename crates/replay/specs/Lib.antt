@@ -1,0 +1,2 @@
+-- The line for a record.
+pub mod Records

@@ -1,0 +1,26 @@
+-- The line that answers a record. The tables and the 576 bytes are long enough, and the bytes are 0 before the call.
+use mathlib.Core.Bool.{false, cond}
+use mathlib.Core.List.{List, []}
+use Prim.Native.Nat.{ℕ}
+use lib.Dec.{eqb}
+use lib.ListN.{replicate}
+use Rattle.calls.specs.Blocks.{blocksVerdict, bytesLeft}
+use Rattle.calls.specs.Check.{checkVerdict}
+use Rattle.calls.specs.Pair.{pairVerdict}
+use Rattle.lines.specs.Lines.{blocksLine, checkLine, pairLine}
+
+abbrev pub blocksAnswer : List ℕ → List ℕ
+blocksAnswer problem = blocksLine (blocksVerdict false problem) (bytesLeft false problem (replicate 576 0))
+
+abbrev pub checkAnswer : List ℕ → List ℕ → List ℕ
+checkAnswer problem certificate = checkLine (checkVerdict false problem certificate)
+
+abbrev pub pairAnswer : List ℕ → List ℕ → List ℕ → List ℕ
+pairAnswer problem first second = pairLine (pairVerdict false problem first second)
+
+-- by the kind: b, c, p, or another, which is not answered
+unfoldable pub recordAnswer : ℕ → List ℕ → List ℕ → List ℕ → List ℕ
+recordAnswer kind problem first second =
+    cond (eqb kind 0x62) (blocksAnswer problem)
+    (cond (eqb kind 0x63) (checkAnswer problem first)
+    (cond (eqb kind 0x70) (pairAnswer problem first second) []))
