@@ -2,6 +2,5 @@ pub mod Reach
 pub mod Bounds
 pub mod Blocks
 pub mod Difference
-pub mod Fits
 pub mod Accepted
 pub mod Worked

@@ -6,4 +6,3 @@ pub mod ProblemBases
 pub mod ProblemLimits
 pub mod CertificateLayout
 pub mod CertificateRules
-pub mod CertificateLimits
