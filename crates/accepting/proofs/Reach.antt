@@ -70,7 +70,7 @@ module _ (p : Problem) where
       let L = combination B (r .entries) in
       let G = multiplier p (r .basis) in
       let S = closedSupport p in
-      keys-scale _ (r .weight) (L ⊗ L ⊗ G) (keys-⊗ _ (L ⊗ L) G (keys-⊗ (λ s. Keys (λ t. In (s + t) S) G) L L
+      keys-scale _ _ (L ⊗ L ⊗ G) (keys-⊗ _ (L ⊗ L) G (keys-⊗ (λ s. Keys (λ t. In (s + t) S) G) L L
       (keys-combination _ B (r .entries) (all-both _ _ _ (λ e ei eb. keys-combination (λ c. Keys (λ t. In (getD B (e .index) 0 + c + t) S) G) B (r .entries)
       (all-both _ _ _ (λ d di db. multiplier-keys _ (r .basis) (λ t m. sum-in (r .basis) h (e .index) (d .index) t ei di (eb ∙ sym db) m)) (r .entries) (f .indices) (o .entries)))
       (r .entries) (f .indices) (o .entries)))))

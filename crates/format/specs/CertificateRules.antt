@@ -21,6 +21,7 @@ pub record Entry : Type 0 where
   pub factor : ℤ
   pub place : ℕ
 
+-- a row: weight w, a whole number, on basis j, with its entries
 pub record Row : Type 0 where
   pub basis : ℕ
   pub weight : ℤ
