@@ -29,6 +29,10 @@ combination-degree : (B : List ℕ) → All (λ k. degree k ≤ 8) B → (es : L
 combination-degree B h [] = tt
 combination-degree B h (e ∷ es) = (all-at _ B (e .index) 0 h (unfold degree degreeOf in lit≤ tt), combination-degree B h es)
 
+-- rows with weights at least 0
+abbrev pub Weighted : List Row → Type 0
+Weighted rs = All (λ (r : Row). pos 0 ≤ℤ r .weight) rs
+
 -- the two sides' claims as differences
 lower-form : (q x v s : ℤ) → q *ℤ v +ℤ negℤ x *ℤ s ≡ q *ℤ v -ℤ x *ℤ s
 lower-form q x v s = rw negℤ-*ℤ
@@ -65,23 +69,23 @@ module _ (p : Problem) (limits : Limits p) where
     -- the value of w × (sum of l × b)² × g_j, scaled by c^32 = c^8 × c^8 × c^16
     pub square-value : (r : Row)
         → let L = combination (basisOf p (r .basis)) (r .entries) in
-        value a 32 (square p r) ≡ pos (r .weight) *ℤ (value a 8 L *ℤ value a 8 L *ℤ value a 16 (multiplier p (r .basis)))
+        value a 32 (square p r) ≡ r .weight *ℤ (value a 8 L *ℤ value a 8 L *ℤ value a 16 (multiplier p (r .basis)))
     unfolding square
     square-value r =
         let L = combination (basisOf p (r .basis)) (r .entries) in
         let G = multiplier p (r .basis) in
         let v : Degree 8 L = row-degree (r .basis) (r .entries) in
-        value-scale a 32 (pos (r .weight)) (L ⊗ L ⊗ G)
-        ∙ ap (λ z. pos (r .weight) *ℤ z) (value-⊗ a few 16 16 (lit≤ tt) (L ⊗ L) G (degree-⊗ 8 8 (lit≤ tt) L L v v) (multiplier-degree (r .basis))
+        value-scale a 32 (r .weight) (L ⊗ L ⊗ G)
+        ∙ ap (λ z. r .weight *ℤ z) (value-⊗ a few 16 16 (lit≤ tt) (L ⊗ L) G (degree-⊗ 8 8 (lit≤ tt) L L v v) (multiplier-degree (r .basis))
         ∙ ap (λ z. z *ℤ value a 16 G) (value-⊗ a few 8 8 (lit≤ tt) L L v v))
 
     -- each weighted square times g_j is at least 0, and so is their sum T
-    pub squares-nonneg : (rs : List Row) → pos 0 ≤ℤ value a 32 (squares p rs)
-    unfolding squares
-    squares-nonneg [] = unfold value in nonneg-pos 0
-    squares-nonneg (r ∷ rs) =
+    pub squares-nonneg : (rs : List Row) → Weighted rs → pos 0 ≤ℤ value a 32 (squares p rs)
+    unfolding squares All
+    squares-nonneg [] w = unfold value in nonneg-pos 0
+    squares-nonneg (r ∷ rs) w =
         rw (value-append a 32 (square p r) (squares p rs), square-value r)
-        (nonneg-+ (nonneg-* (nonneg-pos (r .weight)) (nonneg-* (nonneg-square (value a 8 (combination (basisOf p (r .basis)) (r .entries)))) (multiplier-nonneg (r .basis)))) (squares-nonneg rs))
+        (nonneg-+ (nonneg-* (w .0) (nonneg-* (nonneg-square (value a 8 (combination (basisOf p (r .basis)) (r .entries)))) (multiplier-nonneg (r .basis)))) (squares-nonneg rs (w .1)))
 
     -- the claim's value: D × (q × V − p × c^32), and for side 1 with both signs turned
     claim-value : (h : Header) → value a 32 (claim p h) ≡ pos (h .scale) *ℤ (turned (h .side) (pos (h .q)) *ℤ objectiveValue p a +ℤ turned (h .side) (negℤ (h .p)) *ℤ pos (objectiveScale a))
@@ -89,24 +93,24 @@ module _ (p : Problem) (limits : Limits p) where
     claim-value h = simp (value-scale, value-append, value-constant)
 
     -- by the identity it is T's, so at least 0; D is at least 1
-    claim-nonneg : (c : Certificate) → 1 ≤ c .header .scale → Identity p c
+    claim-nonneg : (c : Certificate) → 1 ≤ c .header .scale → Weighted (c .rows) → Identity p c
         → pos 0 ≤ℤ (turned (c .header .side) (pos (c .header .q)) *ℤ objectiveValue p a +ℤ turned (c .header .side) (negℤ (c .header .p)) *ℤ pos (objectiveScale a))
     unfolding Identity
-    claim-nonneg c d e =
+    claim-nonneg c d w e =
         nonneg-cancel (c .header .scale) _ d (subst (λ z. pos 0 ≤ℤ z)
-        (sym (same-values a 32 (claim p (c .header)) (squares p (c .rows)) e) ∙ claim-value (c .header)) (squares-nonneg (c .rows)))
+        (sym (same-values a 32 (claim p (c .header)) (squares p (c .rows)) e) ∙ claim-value (c .header)) (squares-nonneg (c .rows) w))
 
   -- ---- the bounds
-  module _ (c : Certificate) (scaled : 1 ≤ c .header .scale) (identity : Identity p c) where
+  module _ (c : Certificate) (scaled : 1 ≤ c .header .scale) (weighted : Weighted (c .rows)) (identity : Identity p c) where
     -- side 0: "p/q ≤ value is p × c^32 ≤ q × V", at every allowed point
     pub identity-below : c .header .side ≡ 0 → BoundedBelow p (c .header .p) (c .header .q)
     unfolding BoundedBelow
-    identity-below s a h = ≤ℤ-of-sub _ _ (rw (s, lower-form) at (claim-nonneg a h c scaled identity))
+    identity-below s a h = ≤ℤ-of-sub _ _ (rw (s, lower-form) at (claim-nonneg a h c scaled weighted identity))
 
     -- side 1: "value ≤ P/Q is Q × V ≤ P × c^32", at every allowed point
     pub identity-above : c .header .side ≡ 1 → BoundedAbove p (c .header .p) (c .header .q)
     unfolding BoundedAbove
-    identity-above s a h = ≤ℤ-of-sub _ _ (rw (s, upper-form) at (claim-nonneg a h c scaled identity))
+    identity-above s a h = ≤ℤ-of-sub _ _ (rw (s, upper-form) at (claim-nonneg a h c scaled weighted identity))
 
 -- ---- "Its gap is (P × q − p × Q)/(Q × q)": the values at two allowed points are at most that apart
 pub bounds-gap : (p : Problem) (x X : ℤ) (q Q : ℕ) → BoundedBelow p x q → BoundedAbove p X Q → WithinGap p (X *ℤ pos q -ℤ x *ℤ pos Q) (Q * q)

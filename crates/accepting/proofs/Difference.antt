@@ -15,9 +15,11 @@ use Rattle.format.specs.ProblemRules.{Problem}
 use Rattle.format.proofs.WithinLimits.{Limits}
 use Rattle.joining_rule.specs.Sets.{In, member}
 use Rattle.joining_rule.proofs.Rising.{Rising}
+use Rattle.format.specs.ProblemLimits.{All}
+use Rattle.format.proofs.CertificateLimits.{SoundRow}
 use Rattle.joining_rule.proofs.Elements.{in-cons, not-nil, above-in}
 use Rattle.format.specs.CertificateRules.{Certificate}
-use Rattle.accepting.specs.Identity.{squares, claim, Identity, KeepsBlocks, RowsFit}
+use Rattle.accepting.specs.Identity.{squares, claim, Identity, KeepsBlocks}
 use Rattle.accepting.specs.Judgement.{sameNumber, firstDifference, comparedKeys, differenceKey, Smallest}
 use Rattle.accepting.proofs.Reach.{compared-rising, claim-outside, squares-outside}
 
@@ -90,9 +92,9 @@ module _ (p : Problem) (c : Certificate) where
   unfolding differenceKey Identity
   identity-none e = same-none (claim p (c .header)) (squares p (c .rows)) e (comparedKeys p)
 
-  module _ (limits : Limits p) (fits : RowsFit p (c .rows)) (blocks : KeepsBlocks p (c .rows)) where
+  module _ (limits : Limits p) (sound : All (SoundRow p) (c .rows)) (blocks : KeepsBlocks p (c .rows)) where
     both-none : (k : ℕ) → (In k (comparedKeys p) → ⊥) → coefficient k (claim p (c .header)) ≡ coefficient k (squares p (c .rows))
-    both-none k f = claim-outside p (c .header) k f ∙ sym (squares-outside p limits (c .rows) fits blocks k f)
+    both-none k f = claim-outside p (c .header) k f ∙ sym (squares-outside p limits (c .rows) sound blocks k f)
 
     -- "Equality is per monomial": where the test finds no key, the coefficients are equal at every key, also those not compared
     pub none-identity : differenceKey p c ≡ none → Identity p c

@@ -2,7 +2,6 @@ pub mod Reach
 pub mod Bounds
 pub mod Blocks
 pub mod Difference
-pub mod Fits
 pub mod Accepted
 pub mod Empty
 pub mod Worked

@@ -18,6 +18,7 @@ use Rattle.format.specs.All.{All}
 use Rattle.format.proofs.WithinLimits.{Limits}
 use Rattle.joining_rule.specs.Sets.{In, insertAll}
 use Rattle.joining_rule.proofs.Rising.{Rising}
+use Rattle.format.proofs.CertificateLimits.{SoundRow}
 use Rattle.joining_rule.proofs.Elements.{in-here, in-there, insert-in, insert-keeps, insert-rising}
 use Rattle.joining_rule.proofs.Insertions.{insertAll-in}
 use Rattle.joining_rule.proofs.Extending.{fromTo-extends}
@@ -27,7 +28,7 @@ use Rattle.joining_rule.specs.Joining.{basesOf, multiples, startFrom, startSet,
 use Rattle.joining_rule.proofs.Start.{insertAll-extends, start-rising}
 use Rattle.format.specs.CertificateRules.{Entry, Row}
 use Rattle.format.specs.declared.certificate.Header.{Header}
-use Rattle.accepting.specs.Identity.{combination, square, squares, turned, claimOf, claim, blockOf, OneBlock, KeepsBlocks, RowFits, RowsFit}
+use Rattle.accepting.specs.Identity.{combination, square, squares, turned, claimOf, claim, blockOf, OneBlock, KeepsBlocks}
 use Rattle.accepting.specs.Judgement.{comparedKeys}
 
 -- ---- the monomials of a polynomial, as a list
@@ -65,21 +66,21 @@ module _ (p : Problem) where
   sum-in j h i k t hi hk e m =
       rw (add-comm (getD (basisOf p j) i 0 + getD (basisOf p j) k 0) t) (full-any _ _ _ _ (closing-full (basesOf p) (startSet p) .at j h) i k t hi hk e m)
 
-  row-reach : (r : Row) → r .basis < 9 → RowFits p r → OneBlock p r → Keys (λ k. In k (closedSupport p)) (square p r)
+  row-reach : (r : Row) → r .basis < 9 → SoundRow p r → OneBlock p r → Keys (λ k. In k (closedSupport p)) (square p r)
   unfolding square
   row-reach r h f o =
       let B = basisOf p (r .basis) in
       let L = combination B (r .entries) in
       let G = multiplier p (r .basis) in
       let S = closedSupport p in
-      keys-scale _ (pos (r .weight)) (L ⊗ L ⊗ G) (keys-⊗ _ (L ⊗ L) G (keys-⊗ (λ s. Keys (λ t. In (s + t) S) G) L L
+      keys-scale _ _ (L ⊗ L ⊗ G) (keys-⊗ _ (L ⊗ L) G (keys-⊗ (λ s. Keys (λ t. In (s + t) S) G) L L
       (keys-combination _ B (r .entries) (all-both _ _ _ (λ e ei eb. keys-combination (λ c. Keys (λ t. In (getD B (e .index) 0 + c + t) S) G) B (r .entries)
       (all-both _ _ _ (λ d di db. multiplier-keys _ (r .basis) (λ t m. sum-in (r .basis) h (e .index) (d .index) t ei di (eb ∙ sym db) m)) (r .entries) (f .indices) (o .entries)))
       (r .entries) (f .indices) (o .entries)))))
 
   module _ (limits : Limits p) where
     -- rows that keep to blocks have no monomial outside the closed S
-    pub squares-reach : (rs : List Row) → RowsFit p rs → KeepsBlocks p rs → Keys (λ k. In k (closedSupport p)) (squares p rs)
+    pub squares-reach : (rs : List Row) → All (SoundRow p) rs → KeepsBlocks p rs → Keys (λ k. In k (closedSupport p)) (squares p rs)
     unfolding squares All
     squares-reach [] f o = tt
     squares-reach (r ∷ rs) f o =
@@ -110,6 +111,6 @@ module _ (p : Problem) where
   pub claim-outside : (h : Header) (k : ℕ) → (In k (comparedKeys p) → ⊥) → coefficient k (claim p h) ≡ pos 0
   claim-outside h k f = coefficient-none (λ k. In k (comparedKeys p)) k (claim p h) (claim-reach h) f
 
-  pub squares-outside : Limits p → (rs : List Row) → RowsFit p rs → KeepsBlocks p rs → (k : ℕ) → (In k (comparedKeys p) → ⊥) → coefficient k (squares p rs) ≡ pos 0
+  pub squares-outside : Limits p → (rs : List Row) → All (SoundRow p) rs → KeepsBlocks p rs → (k : ℕ) → (In k (comparedKeys p) → ⊥) → coefficient k (squares p rs) ≡ pos 0
   unfolding comparedKeys
   squares-outside limits rs f o k g = coefficient-none (λ k. In k (closedSupport p)) k (squares p rs) (squares-reach limits rs f o) (λ m. g (insert-keeps k 0 (closedSupport p) m))

@@ -7,6 +7,7 @@ use lib.Dec.{lit≤}
 use lib.ListN.{getD, replicate}
 use lib.IntN.{ℤ, pos, negsuc, pow, one}
 use Rattle.counting.proofs.Cases.{clash}
+use Rattle.integers.proofs.Ring.{nonneg-pos}
 use Rattle.polynomial.specs.Monomial.{degreeOf, degree, within, among}
 use Rattle.polynomial.specs.Terms.{Term, term, keysOf}
 use Rattle.polynomial.specs.Algebra.{coefficient}
@@ -62,7 +63,7 @@ entry i l at = record { index = i; factor = l; place = at }
 abbrev pub lowF : Certificate
 lowF = record {
   header = record { side = 0; scale = 2; p = negsuc 0; q = 1 };
-  rows = record { basis = 0; weight = 1; entries = entry 0 (pos 1) 14 ∷ entry 1 (pos 1) 18 ∷ [] } ∷ record { basis = 1; weight = 1; entries = entry 0 (pos 1) 26 ∷ [] } ∷ [];
+  rows = record { basis = 0; weight = pos 1; entries = entry 0 (pos 1) 14 ∷ entry 1 (pos 1) 18 ∷ [] } ∷ record { basis = 1; weight = pos 1; entries = entry 0 (pos 1) 26 ∷ [] } ∷ [];
 }
 
 -- the left side is 2 + 2x; on the right 1 + 2x + x² and 1 − x² add up to the same, the cross product 1 × x counted twice
@@ -112,4 +113,5 @@ limitsF = record {
 
 -- so x is at least −1 wherever 1 − x² is at least 0
 pub boundF : BoundedBelow problemF (negsuc 0) 1
-boundF = identity-below problemF limitsF lowF (lit≤ tt) identityF refl
+unfolding All
+boundF = identity-below problemF limitsF lowF (lit≤ tt) (nonneg-pos 1, (nonneg-pos 1, tt)) identityF refl

@@ -1,9 +1,9 @@
 -- The identity that a certificate claims, and the blocks that its rows keep to.
 use mathlib.Core.Path.{_≡_}
 use mathlib.Core.List.{List, [], _∷_, _++_}
-use Prim.Native.Nat.{ℕ, zero, suc, _≤_, _<_}
+use Prim.Native.Nat.{ℕ, zero, suc}
 use lib.IntN.{ℤ, pos, negℤ}
-use lib.ListN.{length, getD}
+use lib.ListN.{getD}
 use Rattle.polynomial.specs.Terms.{Term, term}
 use Rattle.polynomial.specs.Algebra.{coefficient, scale, _⊗_}
 use Rattle.format.specs.ProblemRules.{Problem}
@@ -22,7 +22,7 @@ combination B (e ∷ es) = term (getD B (e .index) 0) (e .factor) ∷ combinatio
 unfoldable pub square : Problem → Row → List Term
 square p r =
     let L = combination (basisOf p (r .basis)) (r .entries) in
-    scale (pos (r .weight)) (L ⊗ L ⊗ multiplier p (r .basis))
+    scale (r .weight) (L ⊗ L ⊗ multiplier p (r .basis))
 
 -- T, "the sum over rows"
 unfoldable pub squares : Problem → List Row → List Term
@@ -58,12 +58,3 @@ pub record OneBlock (p : Problem) (r : Row) : Type 0 where
 
 abbrev pub KeepsBlocks : Problem → List Row → Type 0
 KeepsBlocks p rs = All (OneBlock p) rs
-
--- the rows are on bases of the problem: "on basis j, 0 or a constraint of the problem", with indices "less than the
--- basis's length"
-pub record RowFits (p : Problem) (r : Row) : Type 0 where
-  pub basis : r .basis ≤ length (p .constraints)
-  pub indices : All (λ (e : Entry). e .index < length (basisOf p (r .basis))) (r .entries)
-
-abbrev pub RowsFit : Problem → List Row → Type 0
-RowsFit p rs = All (RowFits p) rs

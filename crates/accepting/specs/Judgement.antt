@@ -12,7 +12,7 @@ use Rattle.polynomial.specs.Terms.{Term}
 use Rattle.polynomial.specs.Algebra.{coefficient}
 use Rattle.format.specs.ProblemRules.{Problem}
 use Rattle.joining_rule.specs.Joining.{closing}
-use Rattle.format.specs.CertificateRules.{Entry, Row, Certificate, shapeOf, readCertificate}
+use Rattle.format.specs.CertificateRules.{Entry, Row, Certificate, readCertificate}
 use Rattle.accepting.specs.Identity.{squares, claim, blockOf, Identity, KeepsBlocks}
 use Rattle.joining_rule.specs.Rounds.{closedWithZero}
 
@@ -85,11 +85,11 @@ judgeOutcome p (Stream.refused number place) = refused number place 0
 judgeOutcome p (Stream.given c) = judgeRead p c
 
 unfoldable pub judge : Problem → List ℕ → Judgement
-judge p s = judgeOutcome p (readCertificate (shapeOf p) s)
+judge p s = judgeOutcome p (readCertificate p s)
 
 -- what accepting means: the stream gives the certificate, each row is in one block, and the identity holds
 pub record Accepted (p : Problem) (s : List ℕ) (c : Certificate) : Type 0 where
-  pub read : readCertificate (shapeOf p) s ≡ Stream.given c
+  pub read : readCertificate p s ≡ Stream.given c
   pub blocks : KeepsBlocks p (c .rows)
   pub identity : Identity p c
 

@@ -15,14 +15,13 @@ use Rattle.format.specs.ProblemRules.{Problem, readProblem}
 use Rattle.format.proofs.ProblemLimits.{read-limits}
 use Rattle.format.specs.ProblemRules as Rules
 use Rattle.joining_rule.specs.Joining.{closing, tooLarge}
-use Rattle.format.specs.CertificateRules.{Certificate, noCertificate, certificateLanguage, shapeOf, readCertificate}
-use Rattle.format.proofs.CertificateLimits.{read-sound}
+use Rattle.format.specs.CertificateRules.{Certificate, noCertificate, certificateLanguage, readCertificate}
 use Rattle.accepting.specs.Identity.{KeepsBlocks, Identity}
 use Rattle.accepting.specs.Judgement.{Judgement, judge, judgeRead, judgeOutcome, byBlocks, byIdentity, splitPlace, differenceKey}
 use Rattle.accepting.specs.Judgement as J
 use Rattle.accepting.specs.Bounds.{BoundedBelow, BoundedAbove, WithinGap}
-use Rattle.accepting.proofs.Accepted.{judge-accepted, accepted-judge}
-use Rattle.accepting.proofs.Bounds.{identity-below, identity-above, bounds-gap}
+use Rattle.accepting.proofs.Accepted.{judge-accepted, accepted-judge, accepted-below, accepted-above}
+use Rattle.accepting.proofs.Bounds.{bounds-gap}
 use Rattle.calls.specs.declared.CheckVerdict.{CheckVerdict}
 use Rattle.calls.specs.declared.PairVerdict.{PairVerdict}
 use Rattle.calls.specs.Refusals.{problemRefusal, certificateRefusal}
@@ -38,7 +37,7 @@ zero-not n h e = absurd (omega arith)
 module _ (p : Problem) (s : List ℕ) where
   judge-positive : (n place key : ℕ) → judge p s ≡ J.refused n place key → 0 < n
   unfolding judge readCertificate
-  judge-positive n place key h = go (readCertificate (shapeOf p) s) refl h
+  judge-positive n place key h = go (readCertificate p s) refl h
     where
       by-identity : (c : Certificate) (o : Option ℕ) → byIdentity c o ≡ J.refused n place key → 0 < n
       by-identity c (some k) h = let e : n ≡ 9 = cc in omega arith
@@ -48,13 +47,13 @@ module _ (p : Problem) (s : List ℕ) where
       by-blocks c (some at) d h = let e : n ≡ 8 = cc in omega arith
       by-blocks c none d h = by-identity c d h
 
-      go : (o : Outcome Certificate) → readCertificate (shapeOf p) s ≡ o → judgeOutcome p o ≡ J.refused n place key → 0 < n
-      go (Stream.refused m at) e h = let f : m ≡ n = cc in rw (← f) (read-positive (certificateLanguage (shapeOf p)) s noCertificate m at e)
+      go : (o : Outcome Certificate) → readCertificate p s ≡ o → judgeOutcome p o ≡ J.refused n place key → 0 < n
+      go (Stream.refused m at) e h = let f : m ≡ n = cc in rw (← f) (read-positive (certificateLanguage p) s noCertificate m at e)
       go (Stream.given c) e h = unfold judgeRead in by-blocks c (splitPlace p (c .rows)) (differenceKey p c) h
 
 -- two certificates that a stream gives are one
-given-once : (h : _) (s : List ℕ) (c d : Certificate) → readCertificate h s ≡ given c → readCertificate h s ≡ given d → c ≡ d
-given-once h s c d e f = cc
+given-once : (p : Problem) (s : List ℕ) (c d : Certificate) → readCertificate p s ≡ given c → readCertificate p s ≡ given d → c ≡ d
+given-once p s c d e f = cc
 
 -- ---- the check
 -- what is found where nothing is refused
@@ -88,7 +87,7 @@ module _ (short : Bool) (s t : List ℕ) where
     only = λ p c read given h.
         let k = checked p read h in
         let a = judge-accepted p (read-limits s p read) t (k .certificate) (k .judged) in
-        let e : k .certificate ≡ c = given-once (shapeOf p) t (k .certificate) c (a .read) given in
+        let e : k .certificate ≡ c = given-once p t (k .certificate) c (a .read) given in
         (subst (λ (x : Certificate). KeepsBlocks p (x .rows)) e (a .blocks), subst (λ (x : Certificate). Identity p x) e (a .identity));
     always = λ p c long read few given blocks identity. accepted-zero p read c long few (accepted-judge p t c (record { read = given; blocks = blocks; identity = identity }));
   }
@@ -182,14 +181,12 @@ module _ (short : Bool) (s low high : List ℕ) where
     below : pairVerdict short s low high .refusal .number ≡ 0 → BoundedBelow p (pairVerdict short s low high .lower .num) (pairVerdict short s low high .lower .den)
     below h =
         let k = paired h in
-        let c = hold k .first in
-        rw (k .verdict) (identity-below p (read-limits s p read) (k .first) (read-sound (shapeOf p) low (k .first) (c .read) .scale) (c .identity) (k .lower))
+        rw (k .verdict) (accepted-below p (read-limits s p read) low (k .first) (hold k .first) (k .lower))
 
     above : pairVerdict short s low high .refusal .number ≡ 0 → BoundedAbove p (pairVerdict short s low high .upper .num) (pairVerdict short s low high .upper .den)
     above h =
         let k = paired h in
-        let d = hold k .second in
-        rw (k .verdict) (identity-above p (read-limits s p read) (k .second) (read-sound (shapeOf p) high (k .second) (d .read) .scale) (d .identity) (k .upper))
+        rw (k .verdict) (accepted-above p (read-limits s p read) high (k .second) (hold k .second) (k .upper))
 
     gap : pairVerdict short s low high .refusal .number ≡ 0 → WithinGap p (pairVerdict short s low high .gap .num) (pairVerdict short s low high .gap .den)
     gap h =

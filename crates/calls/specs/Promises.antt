@@ -13,7 +13,7 @@ use Rattle.joining_rule.specs.Meaning.{Closed, Least, Lowest, TakesRounds}
 use Rattle.joining_rule.specs.Joining.{basesOf, startSet, closedSupport, tooLarge, closing}
 use Rattle.calls.specs.Fractions.{gapOf}
 use Rattle.calls.specs.declared.Fraction.{Fraction}
-use Rattle.format.specs.CertificateRules.{Certificate, shapeOf, readCertificate}
+use Rattle.format.specs.CertificateRules.{Certificate, readCertificate}
 use Rattle.accepting.specs.Identity.{KeepsBlocks, Identity}
 use Rattle.accepting.specs.Judgement as J
 use Rattle.accepting.specs.Bounds.{BoundedBelow, BoundedAbove, WithinGap}
@@ -59,10 +59,10 @@ pub record SevenExactly (s : List ℕ) (number : ℕ) : Type 0 where
 -- layouts is accepted exactly when its rows keep to those blocks and its weighted squares equal the polynomial
 -- identity, coefficient by coefficient"
 pub record AcceptedExactly (short : Bool) (s t : List ℕ) (number : ℕ) : Type 0 where
-  pub only : (p : Problem) (c : Certificate) → readProblem s ≡ given p → readCertificate (shapeOf p) t ≡ given c
+  pub only : (p : Problem) (c : Certificate) → readProblem s ≡ given p → readCertificate p t ≡ given c
       → number ≡ 0 → KeepsBlocks p (c .rows) × Identity p c
   pub always : (p : Problem) (c : Certificate) → short ≡ false → readProblem s ≡ given p → tooLarge p ≡ false
-      → readCertificate (shapeOf p) t ≡ given c → KeepsBlocks p (c .rows) → Identity p c → number ≡ 0
+      → readCertificate p t ≡ given c → KeepsBlocks p (c .rows) → Identity p c → number ≡ 0
 
 -- ---- the pair
 -- both certificates are accepted, "the first with side 0 and the second with side 1"

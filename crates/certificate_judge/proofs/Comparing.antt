@@ -16,7 +16,7 @@ use Rattle.problem_reader.proofs.Flattening.{basis-part}
 use Rattle.problem_reader.specs.declared.Multipliers.{Multipliers}
 use Rattle.whole_rounds.specs.Parts.{part}
 use Rattle.closure.proofs.Laid.{arrays}
-use Rattle.format.specs.CertificateRules.{Certificate, shapeOf, readCertificate}
+use Rattle.format.specs.CertificateRules.{Certificate, readCertificate}
 use Rattle.format.specs.declared.certificate.Header.{Header}
 use Rattle.identity_check.specs.Compare.{Zeroed, Comparable, Given, Untouched}
 use Rattle.certificate_judge.specs.Steps.{Compares, HeaderStands}
@@ -59,7 +59,7 @@ module _ (p : StoredProblem) (kept : Kept p) (n : ℕ) (table idx : List ℕ) (c
     comparable = record {
       flat = record { arrays = arrays p kept m flat; coefficients-long = flat .coefficients-length };
       rows = record {
-        shape = shapeOf (problemOf p);
+        problem = problemOf p;
         sizes-are = sizes-are p kept;
         rows = rows-of (problemOf p) (compares .limits) s (stands .certificate) (stands .read);
       };
@@ -70,7 +70,7 @@ module _ (p : StoredProblem) (kept : Kept p) (n : ℕ) (table idx : List ℕ) (c
     headerIn (given c) = c .header
     headerIn (refused number place) = t
 
-    pub compared : (c : Certificate) → readCertificate (shapeOf (problemOf p)) s ≡ given c → Given (problemOf p) c s t (p .keys) (m .keys) (m .coefficients) (record { sizes = p .sizes; counts = m .counts }) (p .objective) table n
+    pub compared : (c : Certificate) → readCertificate (problemOf p) s ≡ given c → Given (problemOf p) c s t (p .keys) (m .keys) (m .coefficients) (record { sizes = p .sizes; counts = m .counts }) (p .objective) table n
     compared c e = record {
       limits = compares .limits;
       read = e;

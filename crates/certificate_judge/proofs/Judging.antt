@@ -16,12 +16,11 @@ use Rattle.problem_reader.specs.Stored.{problemOf, constraintsOf, basesHeld, Ke
 use Rattle.problem_reader.specs.declared.StoredProblem.{StoredProblem}
 use Rattle.key_set.specs.Table.{keysIn}
 use Rattle.closure.specs.declared.Joined.{Joined}
-use Rattle.format.specs.CertificateRules.{Certificate, noCertificate, shapeOf, readCertificate}
-use Rattle.certificate_reader.specs.Kept.{headerOutcome, headerOutcomeOf}
+use Rattle.format.specs.CertificateRules.{Certificate, noCertificate, readCertificate}
+use Rattle.certificate_reader.specs.Kept.{shapeOf, headerOutcome, headerOutcomeOf}
 use Rattle.format.specs.declared.certificate.Header.{Header}
-use Rattle.format.specs.declared.certificate.Shape.{Shape}
+use Rattle.certificate_reader.specs.declared.Shape.{Shape}
 use Rattle.certificate_reader.specs.declared.Reading.{Reading}
-use Rattle.certificate_reader.proofs.Shapes.{shape-within}
 use Rattle.certificate_reader.proofs.Walk.{chain-read}
 use Rattle.accepting.specs.Judgement.{Judgement, judge, judgeRead, byBlocks, byIdentity, splitPlace, differenceKey, comparedKeys}
 use Rattle.accepting.specs.Judgement as J
@@ -99,7 +98,7 @@ module _ (r : Reading) (o : Outcome Certificate) (e : headerOutcomeOf r ≡ head
     unfolding headerOutcomeOf
     stood = rw (eq-eqb (r .number) 0 h) at e
 
-    pub certificate-given : (P : Problem) (s : List ℕ) → readCertificate (shapeOf P) s ≡ o → HeaderStands P s (r .header)
+    pub certificate-given : (P : Problem) (s : List ℕ) → readCertificate P s ≡ o → HeaderStands P s (r .header)
     unfolding headerOutcome
     certificate-given P s q = go o q stood
       where
@@ -107,17 +106,17 @@ module _ (r : Reading) (o : Outcome Certificate) (e : headerOutcomeOf r ≡ head
         headerIn (given t) = t
         headerIn (refused n at) = r .header
 
-        go : (o : Outcome Certificate) → readCertificate (shapeOf P) s ≡ o → given (r .header) ≡ headerOutcome o → HeaderStands P s (r .header)
+        go : (o : Outcome Certificate) → readCertificate P s ≡ o → given (r .header) ≡ headerOutcome o → HeaderStands P s (r .header)
         go (given c) q f = record { certificate = c; read = q; header-is = ap headerIn f }
         go (refused n at) q f = absurd (let z : _≡_ {A = ℕ} 1 0 = ap isGiven f in omega arith)
 
 -- ---- the walks over the rows
-module _ (P : Problem) (limits : Limits P) (s : List ℕ) (c : Certificate) (read : readCertificate (shapeOf P) s ≡ given c) where
-  pub rows-of : Rows (shapeOf P) s
-  rows-of = record { within = shape-within P limits; chain = chain-read (shapeOf P) (shape-within P limits) s c read }
+module _ (P : Problem) (limits : Limits P) (s : List ℕ) (c : Certificate) (read : readCertificate P s ≡ given c) where
+  pub rows-of : Rows P s
+  rows-of = record { limits = limits; chain = chain-read P limits s c read }
 
   pub walkable : Walkable s
-  walkable = record { shape = shapeOf P; rows = rows-of }
+  walkable = record { problem = P; rows = rows-of }
 
 -- ---- the judgement
 abbrev fromPlace : Place → Judgement → Judgement
@@ -125,11 +124,11 @@ fromPlace (Place.At at) j = J.refused 8 at 0
 fromPlace Place.Nowhere j = j
 
 module _ (P : Problem) (s : List ℕ) where
-  pub judge-refused : (stream n at : ℕ) → readCertificate (shapeOf P) s ≡ refused n at → Judged.Refused (certificateRefusal stream n at 0) ≡ judgedOf stream (judge P s)
+  pub judge-refused : (stream n at : ℕ) → readCertificate P s ≡ refused n at → Judged.Refused (certificateRefusal stream n at 0) ≡ judgedOf stream (judge P s)
   unfolding judge
   judge-refused stream n at e = rw e refl
 
-  module _ (c : Certificate) (e : readCertificate (shapeOf P) s ≡ given c) (stream : ℕ) where
+  module _ (c : Certificate) (e : readCertificate P s ≡ given c) (stream : ℕ) where
     by-blocks : (o : Option ℕ) (j : Judgement) → byBlocks o j ≡ fromPlace (placeOf o) j
     by-blocks (some at) j = refl
     by-blocks none j = refl

@@ -13,7 +13,7 @@ use Rattle.joining_rule.specs.Joining.{closing}
 use Rattle.closure.specs.Tables.{ClosureLeft}
 use Rattle.closure.specs.declared.Joined.{Joined}
 use Rattle.key_set.specs.Table.{keysIn, Holds, Indexed}
-use Rattle.format.specs.CertificateRules.{Certificate, shapeOf, readCertificate}
+use Rattle.format.specs.CertificateRules.{Certificate, readCertificate}
 use Rattle.format.specs.declared.certificate.Header.{Header}
 use Rattle.accepting.specs.Judgement.{Judgement, comparedKeys}
 use Rattle.accepting.specs.Judgement as J
@@ -42,7 +42,7 @@ pub record Compares (p : Problem) (n : ℕ) (table idx : List ℕ) : Type 0 wher
 -- the stream gives a certificate with this header
 pub record HeaderStands (p : Problem) (s : List ℕ) (header : Header) : Type 0 where
   pub certificate : Certificate
-  pub read : readCertificate (shapeOf p) s ≡ given certificate
+  pub read : readCertificate p s ≡ given certificate
   pub header-is : header ≡ certificate .header
 
 -- what is kept of a judgement: a refusal of this stream, or the header

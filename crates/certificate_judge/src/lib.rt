@@ -7,7 +7,7 @@ ghost use lib.ListN.{length, drop, replicate};
 ghost use lib.IntN.{pos};
 ghost use Rattle.problem_reader.specs.Stored.{problemOf, Kept};
 ghost use Rattle.format.specs.Commands.{given};
-ghost use Rattle.format.specs.CertificateRules.{Certificate, shapeOf, readCertificate};
+ghost use Rattle.format.specs.CertificateRules.{Certificate, readCertificate};
 ghost use Rattle.accepting.specs.Judgement as J;
 ghost use Rattle.row_products.specs.Outer.{Below};
 ghost use Rattle.identity_check.specs.Compare.{differenceOf, Untouched};
@@ -15,9 +15,9 @@ ghost use Rattle.certificate_judge.specs.declared.Judged.the-variants as
 ghost use Rattle.calls.specs.Refusals.{problemRefusal, certificateRefusal};
 ghost use Rattle.certificate_judge.specs.Steps.{JoinedProblem, Compares, HeaderStands, judgedOf, judgedFrom};
 use calls::Refusal;
+use certificate_reader::Shape;
 use closure::Joined;
 use format::certificate::Header;
-use format::certificate::Shape;
 use identity_check::Difference;
 use identity_check::Lengths;
 use problem_reader::StoredProblem;
@@ -77,7 +77,7 @@ fn difference(
         × (2048 ≤ length (now low))
         ⌝ }
     ensures { λ r. ⌜
-        ((c : Certificate) → readCertificate (shapeOf (problemOf p)) (now (s .entry)) ≡ given c
+        ((c : Certificate) → readCertificate (problemOf p) (now (s .entry)) ≡ given c
         → r ≡ differenceOf (J.differenceKey (problemOf p) c))
         × Untouched (now (high .entry)) (now (high .exit))
         × Untouched (now (low .entry)) (now (low .exit))

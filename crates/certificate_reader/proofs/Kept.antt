@@ -12,33 +12,22 @@ use Rattle.counting.proofs.Cases.{and-left, and-right}
 use Rattle.format.specs.Commands.{refused, given}
 use Rattle.format.specs.Operands.{number}
 use Rattle.format.proofs.Run.{Left, left-start, left-end, left-refused, left-extra, left-given, left-next}
+use Rattle.format.specs.ProblemRules.{Problem}
+use Rattle.format.specs.ProblemLimits.{Limits}
 use Rattle.format.specs.declared.certificate.Command.{Command}
 use Rattle.format.specs.declared.certificate.Command.the-variants as C
-use Rattle.format.specs.declared.certificate.Shape.{Shape}
 use Rattle.format.specs.declared.certificate.Header.{Header}
-use Rattle.format.specs.declared.certificate.Progress.{Progress}
 use Rattle.format.specs.CertificateLayout.{certificateSize, certificateDecoded}
-use Rattle.format.specs.CertificateRules.{Entry, Row, Certificate, noHeader, noCertificate, lastRow, progressOf, certificatePlaced, certificateApplied, certificateCommandAt, certificateInstructionAt, progressVerdict, certificateRefusalAt, certificateNext, certificateLanguage, readCertificate}
-use Rattle.certificate_reader.specs.Kept.{noProgress, headerOutcome, headed, advanced, Within, ProgressWithin}
-use Rattle.format.proofs.CertificateChecks.{last-append, last-set, floor-more, Passed, passed, taken-size, taken-whole}
-
--- and the progress after it keeps its limits
-module _ (h : Shape) (g : Progress) (s : List ℕ) (at : ℕ) (v : progressVerdict h g s at ≡ 0) where
-  pub bounded-next : Within h → ProgressWithin g → ProgressWithin (advanced g (certificateInstructionAt s at))
-  bounded-next w b = go (certificateCommandAt s at) (passed h g s at v)
-    where
-      go : (k : Command) → Passed h g s at k → ProgressWithin (advanced g (certificateDecoded k s at))
-      go C.Header p = b
-      go C.Row p =
-          let j = leb-true _ (h .constraints) (and-left _ _ (p .allowed)) in
-          record { rows = let r = leb-false 128 (g .rows) (p .full) in omega arith; basis = let n = w .constraints in omega arith }
-      go C.Entry p = record { rows = b .rows; basis = b .basis }
-      go C.End p = b
-      go C.Unknown p = b
+use Rattle.format.specs.CertificateRules.{Certificate, noHeader, noCertificate, lastRow, mostRows, certificatePlaced, certificateApplied, certificateCommandAt, certificateInstructionAt, certificateRefusalAt, certificateNext, certificateLanguage, readCertificate}
+use Rattle.format.proofs.CertificateChecks.{last-append, last-set, Passed, passed, taken-size, taken-whole}
+use Rattle.certificate_reader.specs.declared.Shape.{Shape}
+use Rattle.certificate_reader.specs.declared.Progress.{Progress}
+use Rattle.certificate_reader.specs.Kept.{shapeOf, progressOf, noProgress, headerOutcome, headed, advanced, ProgressWithin}
+use Rattle.certificate_reader.proofs.Shapes.{rows-are, floor-more}
 
 -- the header and the progress of what has been read after a command
 module _ (c : Certificate) (s : List ℕ) (at : ℕ) where
-  pub next-header : certificateNext c s at .header ≡ headed (c .header) (certificateInstructionAt s at)
+  next-header : certificateNext c s at .header ≡ headed (c .header) (certificateInstructionAt s at)
   unfolding certificateNext certificateApplied
   next-header = go (certificateCommandAt s at)
     where
@@ -49,7 +38,7 @@ module _ (c : Certificate) (s : List ℕ) (at : ℕ) where
       go C.End = refl
       go C.Unknown = refl
 
-  pub applied-progress : (k : Command) → certificatePlaced (progressOf c) at k ≡ true → progressOf (certificateApplied c (certificateDecoded k s at) at) ≡ advanced (progressOf c) (certificateDecoded k s at)
+  applied-progress : (k : Command) → certificatePlaced c at k ≡ true → progressOf (certificateApplied c (certificateDecoded k s at) at) ≡ advanced (progressOf c) (certificateDecoded k s at)
   unfolding certificateApplied progressOf
   applied-progress C.Header p = refl
   applied-progress C.Row p = rw (last-append (c .rows), length-append (c .rows))
@@ -59,21 +48,26 @@ module _ (c : Certificate) (s : List ℕ) (at : ℕ) where
   applied-progress C.End p = refl
   applied-progress C.Unknown p = refl
 
-  pub next-progress : certificatePlaced (progressOf c) at (certificateCommandAt s at) ≡ true → progressOf (certificateNext c s at) ≡ advanced (progressOf c) (certificateInstructionAt s at)
+  next-progress : certificatePlaced c at (certificateCommandAt s at) ≡ true → progressOf (certificateNext c s at) ≡ advanced (progressOf c) (certificateInstructionAt s at)
   unfolding certificateNext
   next-progress p = applied-progress (certificateCommandAt s at) p
 
--- ---- what the reader's loop keeps: there is a certificate, read so far, whose header and progress are at hand
-pub record Held (h : Shape) (s : List ℕ) (t : Header) (g : Progress) (at : ℕ) : Type 0 where
+-- ---- what the reader's loop keeps, read against the problem p: from the command at the offset at on, the rules give what they give for
+-- the whole stream s; of the certificate read so far, the header t and the progress g are at hand
+pub record Held (p : Problem) (s : List ℕ) (t : Header) (g : Progress) (at : ℕ) : Type 0 where
   pub read : Certificate
   pub header : t ≡ read .header
   pub progress : g ≡ progressOf read
   pub bounded : ProgressWithin g
   pub inside : at ≤ length s
-  pub left : Left (certificateLanguage h) s (readCertificate h s) read at
+  pub left : Left (certificateLanguage p) s (readCertificate p s) read at
 
-module _ (h : Shape) (s : List ℕ) where
-  pub held-start : Held h s noHeader noProgress 0
+-- the same for every problem of the shape h
+abbrev pub HeldFor : Shape → List ℕ → Header → Progress → ℕ → Type 0
+HeldFor h s t g at = (p : Problem) → Limits p → h ≡ shapeOf p → Held p s t g at
+
+module _ (p : Problem) (s : List ℕ) where
+  pub held-start : Held p s noHeader noProgress 0
   unfolding readCertificate progressOf
   held-start = record {
     read = noCertificate;
@@ -81,50 +75,56 @@ module _ (h : Shape) (s : List ℕ) where
     progress = refl;
     bounded = record { rows = omega arith; basis = omega arith };
     inside = omega arith;
-    left = left-start (certificateLanguage h) s noCertificate;
+    left = left-start (certificateLanguage p) s noCertificate;
   }
 
-  module _ (t : Header) (g : Progress) (at : ℕ) (k : Held h s t g at) where
-    same-verdict : progressVerdict h g s at ≡ certificateRefusalAt h (k .read) s at
-    unfolding certificateRefusalAt
-    same-verdict = ap (λ (x : Progress). progressVerdict h x s at) (k .progress)
-
+  module _ (t : Header) (g : Progress) (at : ℕ) (k : Held p s t g at) where
     -- the stream ends here
-    pub held-end : length s ≤ at → refused 2 at ≡ headerOutcome (readCertificate h s)
+    pub held-end : length s ≤ at → refused 2 at ≡ headerOutcome (readCertificate p s)
     unfolding headerOutcome
     held-end e =
         let i = k .inside in
         let z : at ≡ length s = omega arith in
-        rw z (ap headerOutcome (left-end (certificateLanguage h) s _ (k .read) at (k .left) e))
+        rw z (ap headerOutcome (left-end (certificateLanguage p) s _ (k .read) at (k .left) e))
 
     module _ (e : at < length s) where
-      pub held-refused : (v : ℕ) → v ≡ progressVerdict h g s at → 0 < v → refused v at ≡ headerOutcome (readCertificate h s)
+      pub held-refused : (v : ℕ) → v ≡ certificateRefusalAt p (k .read) s at → 0 < v → refused v at ≡ headerOutcome (readCertificate p s)
       unfolding headerOutcome
-      held-refused v q p =
-          let z : v ≡ certificateRefusalAt h (k .read) s at = q ∙ same-verdict in
-          rw z (ap headerOutcome (left-refused (certificateLanguage h) s _ (k .read) at (k .left) e (rw z at p)))
+      held-refused v z o = rw z (ap headerOutcome (left-refused (certificateLanguage p) s _ (k .read) at (k .left) e (rw z at o)))
 
-      module _ (v : progressVerdict h g s at ≡ 0) where
-        none : certificateRefusalAt h (k .read) s at ≡ 0
-        none = sym same-verdict ∙ v
-
+      module _ (v : certificateRefusalAt p (k .read) s at ≡ 0) where
         -- the end command
-        pub held-extra : getD s at 0 ≡ 0x13 → at + 1 < length s → refused 2 (at + 1) ≡ headerOutcome (readCertificate h s)
+        pub held-extra : getD s at 0 ≡ 0x13 → at + 1 < length s → refused 2 (at + 1) ≡ headerOutcome (readCertificate p s)
         unfolding headerOutcome
-        held-extra b m = ap headerOutcome (left-extra (certificateLanguage h) s _ (k .read) at (k .left) e none b m)
+        held-extra b m = ap headerOutcome (left-extra (certificateLanguage p) s _ (k .read) at (k .left) e v b m)
 
-        pub held-given : getD s at 0 ≡ 0x13 → length s ≤ at + 1 → given t ≡ headerOutcome (readCertificate h s)
+        pub held-given : getD s at 0 ≡ 0x13 → length s ≤ at + 1 → given t ≡ headerOutcome (readCertificate p s)
         unfolding headerOutcome
-        held-given b m = rw (k .header) (ap headerOutcome (left-given (certificateLanguage h) s _ (k .read) at (k .left) e none b m))
+        held-given b m = rw (k .header) (ap headerOutcome (left-given (certificateLanguage p) s _ (k .read) at (k .left) e v b m))
 
-        pub held-next : Within h → (getD s at 0 ≡ 0x13 → ⊥) → Held h s (headed t (certificateInstructionAt s at)) (advanced g (certificateInstructionAt s at)) (at + certificateSize (certificateCommandAt s at))
-        held-next w b = record {
+        -- the progress keeps its limits
+        bounded-next : Limits p → ProgressWithin (advanced g (certificateInstructionAt s at))
+        bounded-next l = go (certificateCommandAt s at) (passed p (k .read) s at v)
+          where
+            go : (i : Command) → Passed p (k .read) s at i → ProgressWithin (advanced g (certificateDecoded i s at))
+            go C.Header h = k .bounded
+            go C.Row h =
+                let j = leb-true _ (length (p .constraints)) (and-left _ _ (h .allowed)) in
+                let r = leb-false mostRows (length (k .read .rows)) (h .full) in
+                let n = rows-are (k .read) g (k .progress) in
+                record { rows = omega arith; basis = let m = l .constraints in omega arith }
+            go C.Entry h = record { rows = k .bounded .rows; basis = k .bounded .basis }
+            go C.End h = k .bounded
+            go C.Unknown h = k .bounded
+
+        pub held-next : Limits p → (getD s at 0 ≡ 0x13 → ⊥) → Held p s (headed t (certificateInstructionAt s at)) (advanced g (certificateInstructionAt s at)) (at + certificateSize (certificateCommandAt s at))
+        held-next l b = record {
           read = certificateNext (k .read) s at;
           header = ap (λ (x : Header). headed x (certificateInstructionAt s at)) (k .header) ∙ sym (next-header (k .read) s at);
           progress =
               ap (λ (x : Progress). advanced x (certificateInstructionAt s at)) (k .progress)
-              ∙ sym (next-progress (k .read) s at (rw (k .progress) at (passed h g s at v .placed)));
-          bounded = bounded-next h g s at v w (k .bounded);
-          inside = taken-whole h g s at v;
-          left = left-next (certificateLanguage h) s _ (k .read) at (k .left) e none b (taken-size h g s at v);
+              ∙ sym (next-progress (k .read) s at (passed p (k .read) s at v .placed));
+          bounded = bounded-next l;
+          inside = taken-whole p (k .read) s at v;
+          left = left-next (certificateLanguage p) s _ (k .read) at (k .left) e v b (taken-size p (k .read) s at v);
         }

@@ -5,8 +5,8 @@ use mathlib.Core.Bool.{Bool, true, false, cond, _&&_}
 use Prim.Native.Nat.{ℕ, zero, suc, _+_, _-_, _*_, _≤_, _<_}
 use native.Mathlib.Omega.{arith}
 use lib.Dec.{eqb, leb, ltb}
-use lib.ListN.{length, getD, set, length-set}
-use borrow.Author.Tests.{le-leb, leb-true, leb-false, ltb-true, ltb-false, eq-eqb, ne-eqb, eqb-true}
+use lib.ListN.{length, getD, set, length-append, length-set}
+use borrow.Author.Tests.{le-leb, leb-true, leb-false, ltb-true, not-false, eq-eqb, ne-eqb, eqb-true}
 use Rattle.counting.proofs.Cases.{and-left, and-right}
 use Rattle.counting.specs.Counting.{listed}
 use Rattle.counting.proofs.Listed.{listed-same, listed-first}
@@ -15,13 +15,15 @@ use Rattle.format.specs.Operands.{number, signed}
 use Rattle.format.proofs.Run.{Taken, read-induction}
 use Rattle.format.specs.declared.certificate.Command.{Command}
 use Rattle.format.specs.declared.certificate.Command.the-variants as C
-use Rattle.format.specs.declared.certificate.Shape.{Shape}
+use Rattle.format.specs.ProblemRules.{Problem}
+use Rattle.format.specs.ProblemBases.{basisOf}
+use Rattle.format.specs.ProblemLimits.{Limits}
 use Rattle.format.specs.CertificateLayout.{certificateCommand, certificateSize, certificateDecoded}
-use Rattle.format.specs.CertificateRules.{Entry, Row, Certificate, noCertificate, noRow, lastRow, progressOf, certificatePlaced, withEntry, certificateApplied, certificateCommandAt, certificateRefusalAt, certificateNext, certificateLanguage, readCertificate}
-use Rattle.certificate_reader.specs.Kept.{Within}
+use Rattle.format.specs.CertificateRules.{Entry, Row, Certificate, noCertificate, noRow, lastRow, mostRows, withEntry, certificateApplied, certificateCommandAt, certificateRefusalAt, certificateNext, certificateLanguage, readCertificate}
+use Rattle.certificate_reader.specs.Kept.{floorOf}
 use Rattle.certificate_reader.specs.Rows.{stands, entryCount, entryAt, rowAt, afterRow, rowsFrom, rowsOf}
-use Rattle.format.proofs.CertificateChecks.{Passed, passed}
-use Rattle.certificate_reader.proofs.Kept.{applied-progress}
+use Rattle.format.proofs.CertificateChecks.{last-set, Passed, passed}
+use Rattle.certificate_reader.proofs.Shapes.{basis-few, floor-low, floor-more}
 
 -- ---- rows that grow: the entries es join the last of them, and the rows after it follow
 abbrev withEntries : Row → List Entry → Row
@@ -134,15 +136,11 @@ module _ (s : List ℕ) (at : ℕ) where
       rw (one-entry m t) (listed-first n (entryAt s at) ∙ cc (here, there))
 
 -- ---- from a command on
-begun : (a : Certificate) → 0 < progressOf a .rows → 0 < length (a .rows)
-unfolding progressOf
-begun a r = r
-
-module _ (h : Shape) (w : Within h) (s : List ℕ) where
+module _ (p : Problem) (limits : Limits p) (s : List ℕ) where
   -- what the stream gives has the rows read before an offset, with the entries and then the rows that stand there. As indices rise
   -- below 64 and no more than 128 rows begin, the counts m and n never cut it short
   abbrev Rest : Certificate → ℕ → Certificate → Type 0
-  Rest a at b = (n m : ℕ) → 128 ≤ n + progressOf a .rows → (0 < progressOf a .rows → 64 ≤ m + progressOf a .floor)
+  Rest a at b = (n m : ℕ) → mostRows ≤ n + length (a .rows) → (0 < length (a .rows) → 64 ≤ m + floorOf (lastRow (a .rows) .entries))
       → b .rows ≡ grown (a .rows) (entriesFrom m s at) (rowsFrom n s (at + 4 * entryCount m s at))
 
   rest-end : (a : Certificate) (at : ℕ) → getD s at 0 ≡ 0x13 → Rest a at a
@@ -152,70 +150,71 @@ module _ (h : Shape) (w : Within h) (s : List ℕ) where
       let y : at + 4 * entryCount m s at ≡ at = omega arith in
       rw (y, z, no-row s at n (stands-other s at 0x13 0x11 e (λ d. omega arith))) (sym (grown-none (a .rows)))
 
-  rest-row : (a b : Certificate) (at : ℕ) → Passed h (progressOf a) s at C.Row → getD s at 0 ≡ 0x11 → Rest (certificateApplied a (certificateDecoded C.Row s at) at) (at + 4) b → Rest a at b
+  rest-row : (a b : Certificate) (at : ℕ) → Passed p a s at C.Row → getD s at 0 ≡ 0x11 → Rest (certificateApplied a (certificateDecoded C.Row s at) at) (at + 4) b → Rest a at b
   unfolding listed certificateApplied rowAt afterRow
-  rest-row a b at p e f zero m hn hm = absurd (omega (arith, leb-false 128 (progressOf a .rows) (p .full)))
-  rest-row a b at p e f (suc n) m hn hm =
-      let g = applied-progress a s at C.Row (p .placed) in
+  rest-row a b at h e f zero m hn hm = absurd (omega (arith, leb-false mostRows (length (a .rows)) (h .full)))
+  rest-row a b at h e f (suc n) m hn hm =
       let z = no-entry s at m (stands-other s at 0x11 0x12 e (λ d. omega arith)) in
       let y : at + 4 * entryCount m s at ≡ at = omega arith in
-      rw (y, z, one-row s at n (stands-here s at 0x11 (leb-true _ _ (p .whole)) e))
-      (f n 64 (rw g (omega arith)) (λ _. omega arith) ∙ grown-row (a .rows) _ _ _)
+      rw (y, z, one-row s at n (stands-here s at 0x11 (leb-true _ _ (h .whole)) e))
+      (f n 64 (rw (length-append (a .rows)) (omega arith)) (λ _. omega arith) ∙ grown-row (a .rows) _ _ _)
 
-  rest-entry : (a b : Certificate) (at : ℕ) → Passed h (progressOf a) s at C.Entry → getD s at 0 ≡ 0x12 → Rest (certificateApplied a (certificateDecoded C.Entry s at) at) (at + 4) b → Rest a at b
+  rest-entry : (a b : Certificate) (at : ℕ) → Passed p a s at C.Entry → getD s at 0 ≡ 0x12 → Rest (certificateApplied a (certificateDecoded C.Entry s at) at) (at + 4) b → Rest a at b
   unfolding certificateApplied
-  rest-entry a b at p e f n m hn hm = go m (hm r)
+  rest-entry a b at h e f n m hn hm = go m (hm r)
     where
-      r : 0 < progressOf a .rows
-      r = ltb-true 0 (progressOf a .rows) (and-right (ltb 0 at) _ (p .placed))
+      r : 0 < length (a .rows)
+      r = ltb-true 0 (length (a .rows)) (and-right (ltb 0 at) _ (h .placed))
 
-      go : (m : ℕ) → 64 ≤ m + progressOf a .floor → b .rows ≡ grown (a .rows) (entriesFrom m s at) (rowsFrom n s (at + 4 * entryCount m s at))
+      low : floorOf (lastRow (a .rows) .entries) ≤ number 1 s (at + 1)
+      low = floor-low (lastRow (a .rows) .entries) (number 1 s (at + 1)) (not-false _ (h .repeated))
+
+      go : (m : ℕ) → 64 ≤ m + floorOf (lastRow (a .rows) .entries) → b .rows ≡ grown (a .rows) (entriesFrom m s at) (rowsFrom n s (at + 4 * entryCount m s at))
       go zero hm =
-          let i = ltb-true (number 1 s (at + 1)) (getD (h .sizes) (progressOf a .basis) 0) (and-left _ _ (p .allowed)) in
-          absurd (omega (arith, ltb-false (number 1 s (at + 1)) (progressOf a .floor) (p .repeated), w .sizes (progressOf a .basis)))
+          let j = lastRow (a .rows) .basis in
+          let i = ltb-true (number 1 s (at + 1)) (length (basisOf p j)) (and-left _ _ (h .allowed)) in
+          absurd (omega (arith, low, basis-few p limits j))
       go (suc m) hm =
-          let g = applied-progress a s at C.Entry (p .placed) in
-          let t = stands-here s at 0x12 (leb-true _ _ (p .whole)) e in
+          let t = stands-here s at 0x12 (leb-true _ _ (h .whole)) e in
           let x = one-entry s at m t in
           let y : at + 4 * entryCount (suc m) s at ≡ at + 4 + 4 * entryCount m s (at + 4) = omega arith in
           rw (y, first-entry s at m t)
-          (f n m (rw g hn) (λ _. rw g (omega (arith, ltb-false (number 1 s (at + 1)) (progressOf a .floor) (p .repeated)))) ∙ grown-entry (a .rows) _ _ _ (begun a r))
+          (f n m (rw (length-set (a .rows)) hn) (λ _. rw (last-set (a .rows) _ r, floor-more (lastRow (a .rows) .entries)) (omega (arith, low))) ∙ grown-entry (a .rows) _ _ _ r)
 
   -- a command after the first
-  rest-more : (a b : Certificate) (at : ℕ) → 0 < at → (k : Command) → ByteIs k (getD s at 0) → (getD s at 0 ≡ 0x13 → ⊥) → Passed h (progressOf a) s at k
+  rest-more : (a b : Certificate) (at : ℕ) → 0 < at → (k : Command) → ByteIs k (getD s at 0) → (getD s at 0 ≡ 0x13 → ⊥) → Passed p a s at k
       → Rest (certificateApplied a (certificateDecoded k s at) at) (at + certificateSize k) b → Rest a at b
-  rest-more a b at z C.Header e d p f = absurd (let q = eqb-true at 0 (p .placed) in omega arith)
-  rest-more a b at z C.Row e d p f = rest-row a b at p e f
-  rest-more a b at z C.Entry e d p f = rest-entry a b at p e f
-  rest-more a b at z C.End e d p f = absurd (d e)
-  rest-more a b at z C.Unknown e d p f = absurd (let q : _≡_ {A = ℕ} 0 1 = let x = p .placed in cc in omega arith)
+  rest-more a b at z C.Header e d h f = absurd (let q = eqb-true at 0 (h .placed) in omega arith)
+  rest-more a b at z C.Row e d h f = rest-row a b at h e f
+  rest-more a b at z C.Entry e d h f = rest-entry a b at h e f
+  rest-more a b at z C.End e d h f = absurd (d e)
+  rest-more a b at z C.Unknown e d h f = absurd (let q : _≡_ {A = ℕ} 0 1 = let x = h .placed in cc in omega arith)
 
   -- the first command is the header
-  rest-first : (a b : Certificate) (at : ℕ) → at ≡ 0 → a ≡ noCertificate → (k : Command) → Passed h (progressOf a) s at k
+  rest-first : (a b : Certificate) (at : ℕ) → at ≡ 0 → a ≡ noCertificate → (k : Command) → Passed p a s at k
       → (0 < at + certificateSize k → Rest (certificateApplied a (certificateDecoded k s at) at) (at + certificateSize k) b) → Rest noCertificate 10 b
-  unfolding certificateApplied progressOf
-  rest-first a b at z q C.Header p f = rw (z, q) at (f (omega arith))
-  rest-first a b at z q C.Row p f = absurd (let x = ltb-true 0 at (p .placed) in omega arith)
-  rest-first a b at z q C.Entry p f = absurd (let x = ltb-true 0 at (and-left _ _ (p .placed)) in omega arith)
-  rest-first a b at z q C.End p f = absurd (let x = ltb-true 0 at (p .placed) in omega arith)
-  rest-first a b at z q C.Unknown p f = absurd (let x : _≡_ {A = ℕ} 0 1 = let y = p .placed in cc in omega arith)
+  unfolding certificateApplied
+  rest-first a b at z q C.Header h f = rw (z, q) at (f (omega arith))
+  rest-first a b at z q C.Row h f = absurd (let x = ltb-true 0 at (h .placed) in omega arith)
+  rest-first a b at z q C.Entry h f = absurd (let x = ltb-true 0 at (and-left _ _ (h .placed)) in omega arith)
+  rest-first a b at z q C.End h f = absurd (let x = ltb-true 0 at (h .placed) in omega arith)
+  rest-first a b at z q C.Unknown h f = absurd (let x : _≡_ {A = ℕ} 0 1 = let y = h .placed in cc in omega arith)
 
   record Follows (a : Certificate) (at : ℕ) (b : Certificate) : Type 0 where
     first : at ≡ 0 → a ≡ noCertificate → Rest noCertificate 10 b
     later : 0 < at → Rest a at b
 
-  passing : (a : Certificate) (at : ℕ) → Taken (certificateLanguage h) s a at → Passed h (progressOf a) s at (certificateCommandAt s at)
-  unfolding certificateRefusalAt
-  passing a at t = passed h (progressOf a) s at (t .passed)
+  passing : (a : Certificate) (at : ℕ) → Taken (certificateLanguage p) s a at → Passed p a s at (certificateCommandAt s at)
+  passing a at t = passed p a s at (t .passed)
 
-  follows-end : (a : Certificate) (at : ℕ) → Taken (certificateLanguage h) s a at → getD s at 0 ≡ 0x13 → Follows a at a
+  follows-end : (a : Certificate) (at : ℕ) → Taken (certificateLanguage p) s a at → getD s at 0 ≡ 0x13 → Follows a at a
   unfolding certificateCommand
   follows-end a at t e = record {
     first = λ z q. absurd (let p = rw e at (passing a at t) in let x = ltb-true 0 at (p .placed) in omega arith);
     later = λ _. rest-end a at e;
   }
 
-  follows-more : (a b : Certificate) (at : ℕ) → Taken (certificateLanguage h) s a at → (getD s at 0 ≡ 0x13 → ⊥) → Follows (certificateNext a s at) (at + certificateSize (certificateCommandAt s at)) b → Follows a at b
+  follows-more : (a b : Certificate) (at : ℕ) → Taken (certificateLanguage p) s a at → (getD s at 0 ≡ 0x13 → ⊥) → Follows (certificateNext a s at) (at + certificateSize (certificateCommandAt s at)) b → Follows a at b
   unfolding certificateNext
   follows-more a b at t d f = record {
     first = λ z q. rest-first a b at z q (certificateCommandAt s at) (passing a at t) (f .later);
@@ -223,12 +222,12 @@ module _ (h : Shape) (w : Within h) (s : List ℕ) where
   }
 
   -- however many rows are asked for above 128
-  pub rows-again : (c : Certificate) → readCertificate h s ≡ given c → (n : ℕ) → 128 ≤ n → rowsFrom n s 10 ≡ c .rows
-  unfolding readCertificate entryCount grown progressOf
+  pub rows-again : (c : Certificate) → readCertificate p s ≡ given c → (n : ℕ) → mostRows ≤ n → rowsFrom n s 10 ≡ c .rows
+  unfolding readCertificate entryCount grown
   rows-again c e n l =
-      sym (read-induction (certificateLanguage h) s (λ a at cs b. Follows a at b) follows-end (λ a b at cs. follows-more a b at) noCertificate c e .first refl refl n 0 (omega arith) (λ z. absurd (omega arith)))
+      sym (read-induction (certificateLanguage p) s (λ a at cs b. Follows a at b) follows-end (λ a b at cs. follows-more a b at) noCertificate c e .first refl refl n 0 (omega arith) (λ z. absurd (omega arith)))
 
 -- the rows read again are all the rows that were validated
-pub rows-read : (h : Shape) → Within h → (s : List ℕ) (c : Certificate) → readCertificate h s ≡ given c → rowsOf s ≡ c .rows
+pub rows-read : (p : Problem) → Limits p → (s : List ℕ) (c : Certificate) → readCertificate p s ≡ given c → rowsOf s ≡ c .rows
 unfolding rowsOf
-rows-read h w s c e = rows-again h w s c e 128 (omega arith)
+rows-read p l s c e = rows-again p l s c e mostRows (omega arith)

@@ -1,33 +1,74 @@
--- The shape of a problem within its limits keeps those that the reader asks.
-use mathlib.Core.Path.{_≡_, refl}
-use mathlib.Core.List.{[]}
-use mathlib.Core.Bool.{Bool, true, false}
-use Prim.Native.Nat.{ℕ, _≤_}
+-- The shape of a problem and the progress of a certificate hold what the checks of a command ask.
+use mathlib.Core.Path.{_≡_, refl, ap, sym, _∙_}
+use mathlib.Core.List.{List, [], _∷_, _++_}
+use mathlib.Core.Bool.{Bool, true, false, not}
+use Prim.Native.Nat.{ℕ, suc, _≤_}
 use native.Mathlib.Omega.{arith}
-use lib.Dec.{ltb}
-use lib.ListN.{length, getD, List·getD-eq-default}
-use borrow.Author.Tests.{ltb-true, ltb-false}
-use Rattle.counting.specs.Counting.{listed}
-use Rattle.counting.proofs.Listed.{listed-length, listed-at}
+use lib.Dec.{leb, ltb}
+use lib.ListN.{length, getD}
+use borrow.Author.Tests.{le-leb, leb-true, leb-false, lt-ltb, le-ltb}
+use Rattle.counting.proofs.Listed.{listed-at}
 use Rattle.format.specs.ProblemRules.{Problem}
 use Rattle.format.specs.ProblemBases.{basisOf}
 use Rattle.format.proofs.WithinLimits.{Monomials, Limits as ProblemLimits}
+use Rattle.format.specs.ProblemLimits.{Limits}
 use Rattle.format.proofs.ProblemLimits.{all-at, monomials-none}
-use Rattle.format.specs.CertificateLayout.{certificateSize}
-use Rattle.format.specs.CertificateRules.{shapeOf}
-use Rattle.certificate_reader.specs.Kept.{Within}
+use Rattle.format.specs.CertificateRules.{Entry, Certificate, lastRow, rises}
+use Rattle.certificate_reader.specs.declared.Shape.{Shape}
+use Rattle.certificate_reader.specs.declared.Progress.{Progress}
+use Rattle.certificate_reader.specs.Kept.{shapeOf, floorOf, progressOf}
 
--- ---- the shape of a problem within its limits
-pub shape-within : (p : Problem) → ProblemLimits p → Within (shapeOf p)
-unfolding shapeOf basisOf
-shape-within p l = record { constraints = l .constraints; sizes = λ j. go j (ltb j 9) refl }
+-- ---- the bases of a problem within its limits
+pub basis-few : (p : Problem) → Limits p → (j : ℕ) → length (basisOf p j) ≤ 64
+unfolding basisOf
+basis-few p l j = all-at (Monomials (p .variables) 8 64) (p .bases) j [] (l .members) (monomials-none (p .variables) 8 64) .count
+
+pub size-at : (p : Problem) (j : ℕ) → j ≤ 8 → getD (shapeOf p .sizes) j 0 ≡ length (basisOf p j)
+unfolding shapeOf
+size-at p j h = listed-at 9 (λ j. length (basisOf p j)) j 0 (omega arith)
+
+-- ---- "Indices rise within a row": an index rises exactly where it is at least the least that may follow
+rises-floor : (es : List Entry) (i : ℕ) → rises es i ≡ leb (floorOf es) i
+rises-floor [] i = sym (le-leb 0 i (omega arith))
+rises-floor (e ∷ []) i = refl
+rises-floor (e ∷ f ∷ es) i = rises-floor (f ∷ es) i
+
+pub floor-low : (es : List Entry) (i : ℕ) → rises es i ≡ true → floorOf es ≤ i
+floor-low es i h = leb-true _ _ (sym (rises-floor es i) ∙ h)
+
+pub not-rising : (es : List Entry) (i : ℕ) → ltb i (floorOf es) ≡ not (rises es i)
+not-rising es i = rw (rises-floor es i) (go (leb (floorOf es) i) refl)
   where
-    sized : (j : ℕ) → length (getD (p .bases) j []) ≤ 64
-    sized j = all-at (Monomials (p .variables) 8 64) (p .bases) j [] (l .members) (monomials-none (p .variables) 8 64) .count
+    go : (b : Bool) → leb (floorOf es) i ≡ b → ltb i (floorOf es) ≡ not b
+    go true e = le-ltb i (floorOf es) (leb-true _ _ e)
+    go false e = lt-ltb i (floorOf es) (leb-false _ _ e)
 
-    go : (j : ℕ) (b : Bool) → ltb j 9 ≡ b → getD (listed 9 (λ (i : ℕ). length (getD (p .bases) i []))) j 0 ≤ 64
-    go j true e = rw (listed-at 9 (λ (i : ℕ). length (getD (p .bases) i [])) j 0 (ltb-true j 9 e)) (sized j)
-    go j false e =
-        let n = listed-length 9 (λ (i : ℕ). length (getD (p .bases) i [])) in
-        let b = ltb-false j 9 e in
-        rw (List·getD-eq-default (listed 9 (λ (i : ℕ). length (getD (p .bases) i []))) 0 {n = j} (omega arith)) (omega arith)
+pub floor-more : (es : List Entry) (e : Entry) → floorOf (es ++ (e ∷ [])) ≡ suc (e .index)
+floor-more [] e = refl
+floor-more (x ∷ []) e = refl
+floor-more (x ∷ y ∷ es) e = floor-more (y ∷ es) e
+
+-- ---- what stands for a problem and a certificate
+module _ (c : Certificate) (g : Progress) (e : g ≡ progressOf c) where
+  pub rows-are : g .rows ≡ length (c .rows)
+  unfolding progressOf
+  rows-are = ap (λ (x : Progress). x .rows) e
+
+  pub basis-is : g .basis ≡ lastRow (c .rows) .basis
+  unfolding progressOf
+  basis-is = ap (λ (x : Progress). x .basis) e
+
+  pub floor-is : g .floor ≡ floorOf (lastRow (c .rows) .entries)
+  unfolding progressOf
+  floor-is = ap (λ (x : Progress). x .floor) e
+
+  pub index-repeated : (i : ℕ) → ltb i (g .floor) ≡ not (rises (lastRow (c .rows) .entries) i)
+  index-repeated i = ap (ltb i) floor-is ∙ not-rising (lastRow (c .rows) .entries) i
+
+  module _ (p : Problem) (h : Shape) (f : h ≡ shapeOf p) where
+    pub constraints-are : h .constraints ≡ length (p .constraints)
+    unfolding shapeOf
+    constraints-are = ap (λ (x : Shape). x .constraints) f
+
+    pub size-is : g .basis ≤ 8 → getD (h .sizes) (g .basis) 0 ≡ length (basisOf p (lastRow (c .rows) .basis))
+    size-is l = rw (f, size-at p (g .basis) l) (ap (λ (j : ℕ). length (basisOf p j)) basis-is)

@@ -1,9 +1,9 @@
 -- Laws of a row that is read off the bytes into arrays: where a command stands, the count of the entries, one entry more.
-use mathlib.Core.Path.{_≡_, refl, _∙_}
+use mathlib.Core.Path.{_≡_, refl, ap, _∙_}
 use mathlib.Core.List.{List}
 use mathlib.Core.Logic.{⊎-elim}
 use mathlib.Core.Bool.{Bool, true, false, cond}
-use Prim.Native.Nat.{ℕ, suc, _+_, _-_, _*_, _^_, _≤_, _<_}
+use Prim.Native.Nat.{ℕ, zero, suc, _+_, _-_, _*_, _^_, _≤_, _<_}
 use native.Mathlib.Nat.{eq-or-lt-of-le}
 use native.Mathlib.Omega.{arith}
 use lib.Dec.{leb, eqb, ltb}
@@ -17,8 +17,9 @@ use Rattle.counting.proofs.Cases.{and-left, and-right}
 use Rattle.counting.specs.Counting.{listed}
 use Rattle.counting.proofs.Listed.{listed-same}
 use Rattle.format.specs.Operands.{number, signed}
+use Rattle.certificate_reader.specs.declared.RowHead.{RowHead}
 use Rattle.certificate_reader.specs.declared.StoredRow.{StoredRow}
-use Rattle.certificate_reader.specs.Rows.{stands, entryCount, entryAt, rowAt, afterRow, storedEntry, rowOf, HoldsRow}
+use Rattle.certificate_reader.specs.Rows.{stands, entryCount, entryAt, rowAt, afterRow, headAt, storedEntry, rowOf, HoldsRow}
 
 -- ---- whether a command stands at an offset
 module _ (b : ℕ) (s : List ℕ) (at : ℕ) where
@@ -38,7 +39,8 @@ module _ (b : ℕ) (s : List ℕ) (at : ℕ) where
   unfolding stands
   stands-is h = eqb-true _ _ (and-right (leb (at + 4) (length s)) _ h)
 
--- ---- the count of the entries: n are counted, up to 64, and the rest is as the definition has it
+-- ---- the loop of `count_at`: from the offset at of the stream s on, n entries are counted, up to 64, and those after them are as the
+-- definition counts them
 pub record Counted (s : List ℕ) (at n : ℕ) : Type 0 where
   pub few : n ≤ 64
   pub within : at + 4 * n ≤ length s
@@ -77,6 +79,45 @@ module _ (s : List ℕ) (at n : ℕ) (k : Counted s at n) where
         let q = k .same in
         record { few = omega arith; within = omega arith; same = omega arith }
 
+-- ---- the head of a row
+module _ (s : List ℕ) where
+  entries-few : (n at : ℕ) → entryCount n s at ≤ n
+  unfolding entryCount
+  entries-few zero at = omega arith
+  entries-few (suc n) at = go (stands 0x12 s at) (entries-few n (at + 4))
+    where
+      go : (b : Bool) → entryCount n s (at + 4) ≤ n → cond b (suc (entryCount n s (at + 4))) 0 ≤ suc n
+      go true f = omega arith
+      go false f = omega arith
+
+  entries-within : (n at : ℕ) → at ≤ length s → at + 4 * entryCount n s at ≤ length s
+  unfolding entryCount
+  entries-within zero at l = omega arith
+  entries-within (suc n) at l = go (entries-within n (at + 4)) (stands 0x12 s at) refl
+    where
+      go : (at + 4 ≤ length s → at + 4 + 4 * entryCount n s (at + 4) ≤ length s) → (b : Bool) → stands 0x12 s at ≡ b → at + 4 * cond b (suc (entryCount n s (at + 4))) 0 ≤ length s
+      go f true e = omega (arith, f (stands-within 0x12 s at e))
+      go f false e = omega arith
+
+module _ (s : List ℕ) (at : ℕ) (head : RowHead) (e : head ≡ headAt s at) where
+  pub head-basis : head .basis ≡ number 1 s (at + 1)
+  unfolding headAt
+  head-basis = ap (λ (x : RowHead). x .basis) e
+
+  pub head-count : head .count ≡ entryCount 64 s (at + 4)
+  unfolding headAt
+  head-count = ap (λ (x : RowHead). x .count) e
+
+  pub head-next : head .next ≡ afterRow s at
+  unfolding headAt
+  head-next = ap (λ (x : RowHead). x .next) e
+
+  pub head-few : head .count ≤ 64
+  head-few = rw head-count (entries-few s 64 (at + 4))
+
+  pub head-within : stands 0x11 s at ≡ true → at + 4 + 4 * head .count ≤ length s
+  head-within t = rw head-count (entries-within s 64 (at + 4) (stands-within 0x11 s at t))
+
 -- ---- a factor fits 16 bits
 pub signed-fits : (x : ℕ) → x < 256 ^ 2 → SFits w16 (signed 15 x)
 unfolding signed
@@ -89,7 +130,7 @@ signed-fits x h = go (ltb x (2 ^ 15)) refl
         let l : x < 2 ^ 16 = omega arith in
         rw (lt-ltb x (2 ^ 16) l) (record { sfits = omega arith })
 
--- ---- the arrays: the first i of a row's entries are stored
+-- ---- the loop of `row_at`: the arrays is and ls hold the first i of the count entries that begin at the offset here of the stream s
 pub record Filled (s : List ℕ) (here count : ℕ) (is : List ℕ) (ls : List ℤ) (i : ℕ) : Type 0 where
   pub within : i ≤ count
   pub few : count ≤ 64
@@ -123,13 +164,12 @@ filled-more s here count is ls i x y h p e f =
 
 -- all entries stored, with the other operands, are the row that is defined
 pub filled-row : (s : List ℕ) (at : ℕ) (r : StoredRow) → Filled s (at + 4) (r .count) (r .indices) (r .factors) (r .count) → r .count ≡ entryCount 64 s (at + 4)
-    → r .basis ≡ number 1 s (at + 1) → r .weight ≡ number 2 s (at + 2) → r .next ≡ at + 4 + 4 * r .count → HoldsRow s at r
-unfolding rowOf rowAt afterRow entryAt
-filled-row s at r h e b w x =
+    → r .basis ≡ number 1 s (at + 1) → r .weight ≡ number 2 s (at + 2) → HoldsRow s at r
+unfolding rowOf rowAt entryAt
+filled-row s at r h e b w =
     let q : listed (r .count) (storedEntry r (at + 4)) ≡ listed (r .count) (entryAt s (at + 4)) = listed-same (r .count) _ _ (λ i p. rw (h .indices i p, h .factors i p)) in
     record {
       row = rw (b, w, q, e);
-      next = rw (← e) x;
       few = h .few;
       long-indices = h .long-indices;
       long-factors = h .long-factors;

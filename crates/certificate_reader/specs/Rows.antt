@@ -1,4 +1,4 @@
--- The rows of a certificate stream, read off its bytes again: after the header, at most 128 rows of at most 64 entries.
+-- The rows of a certificate stream, read off its bytes again: after the header, rows of at most 64 entries.
 use mathlib.Core.Path.{_≡_}
 use mathlib.Core.Bool.{Bool, true, false, cond, _&&_}
 use mathlib.Core.List.{List, [], _∷_}
@@ -8,10 +8,11 @@ use lib.IntN.{pos}
 use lib.ListN.{length, getD}
 use Rattle.counting.specs.Counting.{listed}
 use Rattle.format.specs.Operands.{number, signed}
-use Rattle.format.specs.declared.certificate.Shape.{Shape}
+use Rattle.format.specs.ProblemRules.{Problem}
+use Rattle.format.specs.CertificateRules.{Entry, Row, mostRows}
+use Rattle.format.proofs.CertificateLimits.{SoundRow}
+use Rattle.certificate_reader.specs.declared.RowHead.{RowHead}
 use Rattle.certificate_reader.specs.declared.StoredRow.{StoredRow}
-use Rattle.format.specs.CertificateRules.{Entry, Row}
-use Rattle.format.specs.CertificateLimits.{SoundRow}
 
 -- whether a whole command of four bytes stands at an offset, with the byte b
 unfoldable pub stands : ℕ → List ℕ → ℕ → Bool
@@ -34,12 +35,15 @@ entryAt s at i = record {
 unfoldable pub rowAt : List ℕ → ℕ → Row
 rowAt s at = record {
   basis = number 1 s (at + 1);
-  weight = number 2 s (at + 2);
+  weight = pos (number 2 s (at + 2));
   entries = listed (entryCount 64 s (at + 4)) (entryAt s (at + 4));
 }
 
 unfoldable pub afterRow : List ℕ → ℕ → ℕ
 afterRow s at = at + 4 + 4 * entryCount 64 s (at + 4)
+
+unfoldable pub headAt : List ℕ → ℕ → RowHead
+headAt s at = record { basis = number 1 s (at + 1); count = entryCount 64 s (at + 4); next = afterRow s at }
 
 -- the rows from an offset on, up to n
 unfoldable pub rowsFrom : ℕ → List ℕ → ℕ → List Row
@@ -47,7 +51,7 @@ rowsFrom zero s at = []
 rowsFrom (suc n) s at = cond (stands 0x11 s at) (rowAt s at ∷ rowsFrom n s (afterRow s at)) []
 
 unfoldable pub rowsOf : List ℕ → List Row
-rowsOf s = rowsFrom 128 s 10
+rowsOf s = rowsFrom mostRows s 10
 
 -- ---- a row in arrays
 -- entry i of the arrays, and the row that they hold, whose entries begin at an offset
@@ -55,18 +59,17 @@ abbrev pub storedEntry : StoredRow → ℕ → ℕ → Entry
 storedEntry r at i = record { index = getD (r .indices) i 0; factor = getD (r .factors) i (pos 0); place = at + 4 * i }
 
 unfoldable pub rowOf : StoredRow → ℕ → Row
-rowOf r at = record { basis = r .basis; weight = r .weight; entries = listed (r .count) (storedEntry r at) }
+rowOf r at = record { basis = r .basis; weight = pos (r .weight); entries = listed (r .count) (storedEntry r at) }
 
 -- the arrays hold the row that begins at an offset
 pub record HoldsRow (s : List ℕ) (at : ℕ) (r : StoredRow) : Type 0 where
   pub row : rowOf r (at + 4) ≡ rowAt s at
-  pub next : r .next ≡ afterRow s at
   pub few : r .count ≤ 64
   pub long-indices : length (r .indices) ≡ 64
   pub long-factors : length (r .factors) ≡ 64
 
 -- ---- what a walk over the rows needs: from an offset on there are at most n, and each keeps the limits
-pub data Chain (h : Shape) (s : List ℕ) : ℕ → ℕ → Type 0 where
-  done : {n at : ℕ} → stands 0x11 s at ≡ false → Chain h s n at
-  more : {n at : ℕ} → stands 0x11 s at ≡ true → SoundRow h (rowAt s at) → Chain h s n (afterRow s at)
-      → Chain h s (suc n) at
+pub data Chain (p : Problem) (s : List ℕ) : ℕ → ℕ → Type 0 where
+  done : {n at : ℕ} → stands 0x11 s at ≡ false → Chain p s n at
+  more : {n at : ℕ} → stands 0x11 s at ≡ true → SoundRow p (rowAt s at) → Chain p s n (afterRow s at)
+      → Chain p s (suc n) at

@@ -4,15 +4,32 @@ ghost use mathlib.Core.Bool.{true};
 ghost use Prim.Native.Nat.{_+_, _*_, _≤_, _<_};
 ghost use lib.ListN.{length};
 ghost use Rattle.format.specs.Operands.{number, signed};
+ghost use Rattle.format.specs.ProblemRules.{Problem};
+ghost use Rattle.format.specs.ProblemLimits.{Limits};
 ghost use Rattle.format.specs.CertificateLayout.{certificateCommand, certificateSize, certificateDecoded};
-ghost use Rattle.format.specs.CertificateRules.{noHeader, certificatePlaced, certificateOperandsFit, certificateRepeated, certificateFull, progressVerdict, readCertificate};
-ghost use Rattle.certificate_reader.specs.Kept.{noProgress, headerOutcome, headerOutcomeOf, headed, advanced, Within, ProgressWithin};
-ghost use Rattle.certificate_reader.specs.Rows.{stands, entryCount, HoldsRow, rowAt, afterRow};
+ghost use Rattle.format.specs.CertificateRules.{Certificate, noHeader};
+ghost use Rattle.format.specs.CertificateRules.{certificatePlaced, certificateOperandsFit, certificateRepeated};
+ghost use Rattle.format.specs.CertificateRules.{certificateFull, certificateRefusalAt, readCertificate};
+ghost use Rattle.certificate_reader.specs.Kept.{shapeOf, progressOf, ProblemShape, ProgressWithin};
+ghost use Rattle.certificate_reader.specs.Kept.{noProgress, headed, advanced, headerOutcome, headerOutcomeOf};
+ghost use Rattle.certificate_reader.specs.Rows.{stands, entryCount, headAt, HoldsRow};
 use format::certificate::Command;
 use format::certificate::Header;
 use format::certificate::Instruction;
-use format::certificate::Progress;
-use format::certificate::Shape;
+
+// What a certificate is read against: how many constraints the problem has, and the length of each basis.
+pub struct Shape {
+    pub constraints: usize,
+    pub sizes: [usize; 9],
+}
+
+// What the checks of a command look at: how many rows have begun, the basis of the row begun last, and the least index
+// that its next entry may have.
+pub struct Progress {
+    pub rows: usize,
+    pub basis: usize,
+    pub floor: usize,
+}
 
 // Before the first command.
 fn no_header() -> Header
@@ -43,14 +60,20 @@ pub struct Reading {
     pub header: Header,
 }
 
-// A row in arrays, of which the first `count` places are used, and the offset of the command after it.
+// What a walk needs of a row: its basis, how many entries it has, and the offset of the command after it.
+pub struct RowHead {
+    pub basis: usize,
+    pub count: usize,
+    pub next: usize,
+}
+
+// A row in arrays, of which the first `count` places are used.
 pub struct StoredRow {
     pub basis: usize,
     pub weight: u16,
     pub indices: [u8; 64],
     pub factors: [i16; 64],
     pub count: usize,
-    pub next: usize,
 }
 
 fn command_of(byte: u8) -> Command
@@ -79,7 +102,7 @@ fn size_of(command: Command) -> usize
 
 // Whether a command may stand at an offset.
 fn is_placed(g: Progress, at: usize, command: Command) -> bool
-    ensures { λ r. ⌜ r ≡ certificatePlaced g at command ⌝ }
+    ensures { λ r. ⌜ ((c : Certificate) → g ≡ progressOf c → r ≡ certificatePlaced c at command) ⌝ }
 {
     match command {
         Command::Header => at == 0,
@@ -124,7 +147,9 @@ fn decode_at(command: Command, s: &[u8], at: usize) -> Instruction
 // Whether a command's operands keep their rules.
 fn is_allowed(h: Shape, g: Progress, i: Instruction) -> bool
     requires { ⌜ ProgressWithin g ⌝ }
-    ensures { λ r. ⌜ r ≡ certificateOperandsFit h g i ⌝ }
+    ensures { λ r. ⌜
+        ((p : Problem) (c : Certificate) → h ≡ shapeOf p → g ≡ progressOf c → r ≡ certificateOperandsFit p c i)
+        ⌝ }
 {
     match i {
         Instruction::Header(side, d, _, q) => side <= 1 && (1 <= d && 1 <= q),
@@ -139,7 +164,7 @@ fn is_allowed(h: Shape, g: Progress, i: Instruction) -> bool
 
 // Whether an entry's index does not rise.
 fn is_repeated(g: Progress, i: Instruction) -> bool
-    ensures { λ r. ⌜ r ≡ certificateRepeated g i ⌝ }
+    ensures { λ r. ⌜ ((c : Certificate) → g ≡ progressOf c → r ≡ certificateRepeated c i) ⌝ }
 {
     match i {
         Instruction::Header(_, _, _, _) => false,
@@ -151,7 +176,7 @@ fn is_repeated(g: Progress, i: Instruction) -> bool
 
 // Whether a row is one too many.
 fn is_full(g: Progress, i: Instruction) -> bool
-    ensures { λ r. ⌜ r ≡ certificateFull g i ⌝ }
+    ensures { λ r. ⌜ ((c : Certificate) → g ≡ progressOf c → r ≡ certificateFull c i) ⌝ }
 {
     match i {
         Instruction::Header(_, _, _, _) => false,
@@ -164,7 +189,10 @@ fn is_full(g: Progress, i: Instruction) -> bool
 // The number of the refusal that the command at an offset meets, or 0.
 fn verdict_at(h: Shape, g: Progress, s: &[u8], at: usize) -> u8
     requires { ⌜ ProgressWithin g × (at < length (now s)) ⌝ }
-    ensures { λ r. ⌜ r ≡ progressVerdict h g (now (s .entry)) at ⌝ }
+    ensures { λ r. ⌜
+        ((p : Problem) (c : Certificate) → h ≡ shapeOf p → g ≡ progressOf c
+        → r ≡ certificateRefusalAt p c (now (s .entry)) at)
+        ⌝ }
 {
     let command = command_of(s[at]);
     if !is_placed(g, at, command) {
@@ -232,8 +260,11 @@ fn progress_after(g: Progress, i: Instruction) -> Progress
 
 // Reads a certificate stream command by command. Of the rows it keeps what the next check needs.
 pub fn validate(h: Shape, s: &[u8]) -> Reading
-    requires { ⌜ Within h ⌝ }
-    ensures { λ r. ⌜ headerOutcomeOf r ≡ headerOutcome (readCertificate h (now (s .entry))) ⌝ }
+    requires { ⌜ ProblemShape h ⌝ }
+    ensures { λ r. ⌜
+        ((p : Problem) → Limits p → h ≡ shapeOf p
+        → headerOutcomeOf r ≡ headerOutcome (readCertificate p (now (s .entry))))
+        ⌝ }
 {
     let mut header = no_header();
     let mut progress = no_progress();
@@ -306,30 +337,27 @@ fn factor_at(s: &[u8], at: usize) -> i16
     operand_reader::signed16(operand_reader::number_at(s, at, 2)) as i16
 }
 
-// What a walk needs of a row that it steps over: its basis, and the offset of the command after it.
-pub struct RowHead {
-    pub basis: usize,
-    pub next: usize,
-}
-
+// The head of the row that begins at an offset: the step of every walk over the rows.
 pub fn head_at(s: &[u8], at: usize) -> RowHead
     requires { ⌜ stands 0x11 (now s) at ≡ true ⌝ }
-    ensures { λ r. ⌜ (r .basis ≡ rowAt (now (s .entry)) at .basis) × (r .next ≡ afterRow (now (s .entry)) at) ⌝ }
-{
-    let here = at + 4;
-    RowHead {
-        basis: operand_reader::number_at(s, at + 1, 1) as usize,
-        next: here + 4 * count_at(s, here),
-    }
-}
-
-// The row that begins at an offset.
-pub fn row_at(s: &[u8], at: usize) -> StoredRow
-    requires { ⌜ stands 0x11 (now s) at ≡ true ⌝ }
-    ensures { λ r. ⌜ HoldsRow (now (s .entry)) at r ⌝ }
+    ensures { λ r. ⌜ r ≡ headAt (now (s .entry)) at ⌝ }
 {
     let here = at + 4;
     let count = count_at(s, here);
+    RowHead {
+        basis: operand_reader::number_at(s, at + 1, 1) as usize,
+        count,
+        next: here + 4 * count,
+    }
+}
+
+// The row that begins at an offset, with this head.
+pub fn row_at(s: &[u8], at: usize, head: RowHead) -> StoredRow
+    requires { ⌜ (stands 0x11 (now s) at ≡ true) × (head ≡ headAt (now s) at) ⌝ }
+    ensures { λ r. ⌜ HoldsRow (now (s .entry)) at r ⌝ }
+{
+    let here = at + 4;
+    let count = head.count;
     let mut indices: [u8; 64] = [0; 64];
     let mut factors: [i16; 64] = [0; 64];
     let mut i = 0;
@@ -339,11 +367,10 @@ pub fn row_at(s: &[u8], at: usize) -> StoredRow
         i += 1;
     }
     StoredRow {
-        basis: operand_reader::number_at(s, at + 1, 1) as usize,
+        basis: head.basis,
         weight: operand_reader::number_at(s, at + 2, 2) as u16,
         indices,
         factors,
         count,
-        next: here + 4 * count,
     }
 }

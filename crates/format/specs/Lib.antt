@@ -9,4 +9,3 @@ pub mod ProblemBases
 pub mod ProblemCounts
 pub mod CertificateLayout
 pub mod CertificateRules
-pub mod CertificateLimits

@@ -1,4 +1,4 @@
-// The commands of the certificate stream, and what is kept of it while it is read.
+// The commands of the certificate stream, and its header.
 
 pub enum Command {
     Header,
@@ -16,24 +16,10 @@ pub enum Instruction {
     End,
 }
 
-// What a certificate is read against: how many constraints the problem has, and the length of each basis.
-pub struct Shape {
-    pub constraints: usize,
-    pub sizes: [usize; 9],
-}
-
 // What the first command states: the side (0 lower, 1 upper), D, and the bound p/q.
 pub struct Header {
     pub side: usize,
     pub scale: u16,
     pub p: i32,
     pub q: u16,
-}
-
-// What the checks of a command look at: how many rows have begun, the basis of the row begun last, and the least index
-// that its next entry may have.
-pub struct Progress {
-    pub rows: usize,
-    pub basis: usize,
-    pub floor: usize,
 }

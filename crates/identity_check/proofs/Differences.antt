@@ -24,10 +24,9 @@ use Rattle.key_set.specs.Table.{keysIn, Holds, Indexed}
 use Rattle.joining_rule.proofs.Elements.{not-nil, in-here, in-there, in-cons, above-in}
 use Rattle.key_set.proofs.Keys.{keys-rising, keys-at, at-keys}
 use Rattle.wide_sums.specs.Sums.{valueAt}
-use Rattle.format.specs.CertificateRules.{Row, Certificate, shapeOf}
+use Rattle.format.specs.CertificateRules.{Row, Certificate}
 use Rattle.certificate_reader.specs.Rows.{rowsOf}
 use Rattle.format.specs.declared.certificate.Header.{Header}
-use Rattle.certificate_reader.proofs.Shapes.{shape-within}
 use Rattle.certificate_reader.proofs.Rows.{rows-read}
 use Rattle.accepting.specs.Identity.{squares, claim, claimOf}
 use Rattle.accepting.specs.Judgement.{sameNumber, firstDifference, differenceKey}
@@ -155,7 +154,7 @@ module _ (p : Problem) (c : Certificate) (s : List ℕ) (header : Header) (keys 
     claim-is k = rw (given .objective-is, given .header-is)
 
     squares-are : (k : ℕ) → m .sums k ≡ coefficient k (squares p (c .rows))
-    squares-are k = m .are p stands k ∙ ap (λ (rs : List Row). coefficient k (squares p rs)) (rows-read (shapeOf p) (shape-within p (given .limits)) s c (given .read))
+    squares-are k = m .are p stands k ∙ ap (λ (rs : List Row). coefficient k (squares p rs)) (rows-read p (given .limits) s c (given .read))
 
     sum-is : (q : ℕ) → q < n → valueAt hi₂ lo₂ q ≡ negℤ (coefficient (getD table q 0) (claim p (c .header))) +ℤ coefficient (getD table q 0) (squares p (c .rows))
     sum-is q b =

@@ -16,7 +16,7 @@ use Rattle.problem_reader.specs.Flat.{Flat}
 use Rattle.key_set.specs.Table.{keysIn, Holds}
 use Rattle.wide_sums.specs.Sums.{valueAt}
 use Rattle.whole_rounds.specs.Parts.{part}
-use Rattle.format.specs.CertificateRules.{Certificate, shapeOf, readCertificate}
+use Rattle.format.specs.CertificateRules.{Certificate, readCertificate}
 use Rattle.format.specs.declared.certificate.Header.{Header}
 use Rattle.accepting.specs.Judgement.{comparedKeys}
 use Rattle.row_products.specs.Gather.{ShapedRows}
@@ -61,7 +61,7 @@ pub record Comparable (s keys exponents : List ℕ) (coefficients : List ℤ) (l
 pub record Given (p : Problem) (c : Certificate) (s : List ℕ) (header : Header) (keys exponents : List ℕ)
     (coefficients : List ℤ) (l : Lengths) (objective : Objective) (table : List ℕ) (n : ℕ) : Type 0 where
   pub limits : Limits p
-  pub read : readCertificate (shapeOf p) s ≡ given c
+  pub read : readCertificate p s ≡ given c
   pub header-is : header ≡ c .header
   pub bases : (j : ℕ) → j < 9 → part 64 (l .sizes) keys j ≡ basisOf p j
   pub multipliers : Flat p (record { keys = exponents; coefficients = coefficients; counts = l .counts })

@@ -20,18 +20,18 @@ use Rattle.joining_rule.specs.Bytes.{blockBytes, blockAt}
 use Rattle.joining_rule.proofs.Bytes.{byte-at}
 use Rattle.joining_rule.proofs.Closing.{closing-shaped}
 use Rattle.joining_rule.specs.Joining.{basesOf, startSet, closing}
-use Rattle.certificate_reader.specs.Kept.{Within}
-use Rattle.format.specs.CertificateRules.{Entry, Row, Certificate, shapeOf, readCertificate}
-use Rattle.certificate_reader.specs.Rows.{stands, afterRow, rowsFrom, rowsOf, storedEntry, rowOf, HoldsRow, Chain}
-use Rattle.format.specs.declared.certificate.Shape.{Shape}
+use Rattle.format.specs.CertificateRules.{Entry, Row, Certificate, mostRows, readCertificate}
+use Rattle.certificate_reader.specs.Rows.{stands, afterRow, headAt, rowsFrom, rowsOf, storedEntry, rowOf, HoldsRow, Chain}
+use Rattle.certificate_reader.specs.declared.RowHead.{RowHead}
 use Rattle.certificate_reader.specs.declared.StoredRow.{StoredRow}
-use Rattle.certificate_reader.proofs.Shapes.{shape-within}
+use Rattle.certificate_reader.proofs.Shapes.{basis-few}
+use Rattle.certificate_reader.proofs.Stored.{head-next}
 use Rattle.certificate_reader.proofs.Rows.{no-row, one-row, rows-read}
 use Rattle.certificate_reader.proofs.Walk.{onward, holds-sound, sound-basis, sound-index}
-use Rattle.accepting.specs.Identity.{blockOf, RowsFit}
+use Rattle.accepting.specs.Identity.{blockOf}
 use Rattle.accepting.specs.Judgement.{firstOutside, rowSplit, orElse, splitBy, splitPlace}
 use Rattle.format.proofs.All.{all-map}
-use Rattle.accepting.proofs.Fits.{read-fits}
+use Rattle.format.proofs.CertificateLimits.{SoundRow, read-sound}
 use Rattle.row_blocks.specs.declared.Place.the-variants.{At, Nowhere}
 use Rattle.row_blocks.specs.Places.{placeOf, Walkable, RowIndexed}
 
@@ -114,16 +114,16 @@ place-none none e = refl
 
 -- ---- the walk over the rows: those from here on give the answer
 pub record Splitting (s labels : List ℕ) (at : ℕ) : Type 0 where
-  pub shape : Shape
-  pub within : Within shape
+  pub problem : Problem
+  pub limits : Limits problem
   pub left : ℕ
-  pub chain : Chain shape s left at
+  pub chain : Chain problem s left at
   pub same : splitBy (blockAt labels) (rowsFrom left s at) ≡ splitBy (blockAt labels) (rowsOf s)
 
 module _ (s labels : List ℕ) where
   pub splitting-start : Walkable s → Splitting s labels 10
   unfolding rowsOf
-  splitting-start w = record { shape = w .shape; within = w .rows .within; left = 128; chain = w .rows .chain; same = refl }
+  splitting-start w = record { problem = w .problem; limits = w .rows .limits; left = mostRows; chain = w .rows .chain; same = refl }
 
   module _ (at : ℕ) (k : Splitting s labels at) where
     pub splitting-end : stands 0x11 s at ≡ false → splitBy (blockAt labels) (rowsOf s) ≡ none
@@ -134,14 +134,14 @@ module _ (s labels : List ℕ) where
       pub splitting-indexed : length labels ≡ 576 → RowIndexed r labels
       splitting-indexed n =
           let o = onward (k .chain) t in
-          let sound = holds-sound s at r q (k .shape) (o .row) in
-          let b = sound-basis (k .shape) r (at + 4) sound in
-          let w = k .within in
+          let sound = holds-sound s at r q (k .problem) (o .row) in
+          let b = sound-basis (k .problem) r (at + 4) sound in
+          let w = k .limits .constraints in
           record {
             few = q .few;
             long = q .long-indices;
             within = omega arith;
-            indices = λ i h. omega (arith, sound-index (k .shape) r (at + 4) sound i h, w .sizes (r .basis));
+            indices = λ i h. omega (arith, sound-index (k .problem) r (at + 4) sound i h, basis-few (k .problem) (k .limits) (r .basis));
           }
 
       abbrev here : Option ℕ
@@ -154,11 +154,11 @@ module _ (s labels : List ℕ) where
       pub splitting-found : (x : ℕ) → here ≡ some x → splitBy (blockAt labels) (rowsOf s) ≡ some x
       splitting-found x e = let o = onward (k .chain) t in sym (rw e at (next (o .left) (o .one-less)))
 
-      pub splitting-more : here ≡ none → Splitting s labels (r .next)
-      splitting-more e =
+      pub splitting-more : (head : RowHead) → head ≡ headAt s at → here ≡ none → Splitting s labels (head .next)
+      splitting-more head f e =
           let o = onward (k .chain) t in
-          rw (q .next)
-          record { shape = k .shape; within = k .within; left = o .left; chain = o .rest; same = rw e at (next (o .left) (o .one-less)) }
+          rw (head-next s at head f)
+          record { problem = k .problem; limits = k .limits; left = o .left; chain = o .rest; same = rw e at (next (o .left) (o .one-less)) }
 
 -- ---- the bytes are the problem's block numbers
 row-same : (b b′ : ℕ → ℕ) (es : List Entry) → All (λ (e : Entry). b (e .index) ≡ b′ (e .index)) es → rowSplit b es ≡ rowSplit b′ es
@@ -171,17 +171,14 @@ row-same b b′ (e ∷ es) h = rw (h .0) (others es (h .1))
     others (x ∷ es) k = rw (k .0, others es (k .1))
 
 module _ (p : Problem) (limits : Limits p) where
-  shape : Within (shapeOf p)
-  shape = shape-within p limits
-
   block-is : (j i : ℕ) → j < 9 → i < length (basisOf p j) → blockAt (blockBytes (closing p .state .labels)) j i ≡ blockOf p j i
-  unfolding blockOf closing shapeOf
+  unfolding blockOf closing
   block-is j i h b =
       let n = closing-shaped (basesOf p) (startSet p) .long j h in
-      let z : length (basisOf p j) ≤ 64 = rw (← listed-at 9 (λ j. length (basisOf p j)) j 0 h) (shape .sizes j) in
+      let z = basis-few p limits j in
       byte-at (closing p .state .labels) j i h (omega arith) (omega arith)
 
-  rows-same : (rs : List Row) → RowsFit p rs → splitBy (blockAt (blockBytes (closing p .state .labels))) rs ≡ splitPlace p rs
+  rows-same : (rs : List Row) → All (SoundRow p) rs → splitBy (blockAt (blockBytes (closing p .state .labels))) rs ≡ splitPlace p rs
   unfolding splitBy All
   rows-same [] f = refl
   rows-same (r ∷ rs) f =
@@ -192,5 +189,5 @@ module _ (p : Problem) (limits : Limits p) where
       rw (e, rows-same rs (f .1))
 
   -- what the walk decides by the bytes is refusal 8
-  pub split-is : (s labels : List ℕ) (c : Certificate) → readCertificate (shapeOf p) s ≡ given c → labels ≡ blockBytes (closing p .state .labels) → splitBy (blockAt labels) (rowsOf s) ≡ splitPlace p (c .rows)
-  split-is s labels c e q = rw (q, rows-read (shapeOf p) shape s c e) (rows-same (c .rows) (read-fits p limits s c e))
+  pub split-is : (s labels : List ℕ) (c : Certificate) → readCertificate p s ≡ given c → labels ≡ blockBytes (closing p .state .labels) → splitBy (blockAt labels) (rowsOf s) ≡ splitPlace p (c .rows)
+  split-is s labels c e q = rw (q, rows-read p limits s c e) (rows-same (c .rows) (read-sound p s c e .rows))

@@ -4,9 +4,10 @@ use mathlib.Core.List.{List}
 use mathlib.Core.Option.{Option, none, some}
 use Prim.Native.Nat.{ℕ, _+_, _*_, _≤_, _<_}
 use lib.ListN.{length, getD}
-use Rattle.certificate_reader.specs.Kept.{Within}
+use Rattle.format.specs.ProblemRules.{Problem}
+use Rattle.format.specs.ProblemLimits.{Limits}
+use Rattle.format.specs.CertificateRules.{mostRows}
 use Rattle.certificate_reader.specs.Rows.{Chain}
-use Rattle.format.specs.declared.certificate.Shape.{Shape}
 use Rattle.certificate_reader.specs.declared.StoredRow.{StoredRow}
 use Rattle.row_blocks.specs.declared.Place.{Place}
 use Rattle.row_blocks.specs.declared.Place.the-variants.{At, Nowhere}
@@ -16,14 +17,14 @@ abbrev pub placeOf : Option ℕ → Place
 placeOf (some x) = At x
 placeOf none = Nowhere
 
--- ---- what a walk over the rows of a stream needs: there are at most 128, each within the limits of the shape
-pub record Rows (h : Shape) (s : List ℕ) : Type 0 where
-  pub within : Within h
-  pub chain : Chain h s 128 10
+-- ---- what a walk over the rows of a stream needs: each keeps its limits against a problem within its own
+pub record Rows (p : Problem) (s : List ℕ) : Type 0 where
+  pub limits : Limits p
+  pub chain : Chain p s mostRows 10
 
 pub record Walkable (s : List ℕ) : Type 0 where
-  pub shape : Shape
-  pub rows : Rows shape s
+  pub problem : Problem
+  pub rows : Rows problem s
 
 -- a row in arrays, each of whose indices has a block number
 pub record RowIndexed (r : StoredRow) (labels : List ℕ) : Type 0 where

@@ -8,7 +8,7 @@ ghost use Rattle.format.specs.ProblemRules.{Problem};
 ghost use Rattle.format.proofs.WithinLimits.{Limits};
 ghost use Rattle.joining_rule.specs.Bytes.{blockBytes, blockAt};
 ghost use Rattle.joining_rule.specs.Joining.{closing};
-ghost use Rattle.format.specs.CertificateRules.{Certificate, shapeOf, readCertificate};
+ghost use Rattle.format.specs.CertificateRules.{Certificate, readCertificate};
 ghost use Rattle.certificate_reader.specs.Rows.{rowOf};
 ghost use Rattle.accepting.specs.Judgement.{rowSplit, splitPlace};
 ghost use Rattle.row_blocks.specs.Places.{placeOf, Walkable, RowIndexed};
@@ -48,18 +48,19 @@ fn row_split(row: certificate_reader::StoredRow, labels: &[u8], at: usize) -> Pl
 pub fn split_place(s: &[u8], labels: &[u8]) -> Place
     requires { ⌜ Walkable (now s) × (length (now labels) ≡ 576) ⌝ }
     ensures { λ r. ⌜
-        ((p : Problem) (c : Certificate) → Limits p → readCertificate (shapeOf p) (now (s .entry)) ≡ given c
+        ((p : Problem) (c : Certificate) → Limits p → readCertificate p (now (s .entry)) ≡ given c
         → now (labels .entry) ≡ blockBytes (closing p .state .labels) → r ≡ placeOf (splitPlace p (c .rows)))
         ⌝ }
 {
     let mut at = 10;
     while certificate_reader::stands_at(0x11, s, at) {
-        let row = certificate_reader::row_at(s, at);
+        let head = certificate_reader::head_at(s, at);
+        let row = certificate_reader::row_at(s, at, head);
         let found = row_split(row, labels, at + 4);
         if let Place::At(place) = found {
             return Place::At(place);
         }
-        at = row.next;
+        at = head.next;
     }
     Place::Nowhere
 }

@@ -20,15 +20,17 @@ use Rattle.polynomial.specs.Algebra.{sum, match, coefficient, _⊗_}
 use Rattle.polynomial.proofs.Keys.{Keys}
 use Rattle.polynomial.proofs.Products.{keys-append, keys-scale, keys-⊗, keys-map}
 use Rattle.format.specs.All.{All}
-use Rattle.certificate_reader.specs.Kept.{Within}
-use Rattle.format.specs.CertificateLimits.{IndicesRise, SoundRow}
-use Rattle.format.specs.CertificateRules.{Entry, Row}
+use Rattle.format.specs.CertificateRules.{Entry, Row, mostRows}
+use Rattle.format.specs.ProblemRules.{Problem}
+use Rattle.format.specs.ProblemBases.{basisOf}
+use Rattle.format.specs.ProblemLimits.{Limits}
+use Rattle.format.proofs.CertificateLimits.{IndicesRise, SoundRow}
 use Rattle.certificate_reader.specs.Rows.{stands, entryCount, entryAt, rowAt, afterRow, rowsFrom, rowsOf, storedEntry, rowOf, HoldsRow, Chain, done, more}
-use Rattle.format.specs.declared.certificate.Shape.{Shape}
 use Rattle.certificate_reader.specs.declared.StoredRow.{StoredRow}
+use Rattle.certificate_reader.proofs.Shapes.{basis-few, size-at}
 use Rattle.certificate_reader.proofs.Stored.{signed-fits}
 use Rattle.certificate_reader.proofs.Rows.{no-row, one-row}
-use Rattle.certificate_reader.proofs.Walk.{Onward, onward, holds-entries, holds-weight, holds-count, holds-sound, sound-basis, sound-index}
+use Rattle.certificate_reader.proofs.Walk.{Onward, onward, holds-entries, holds-weight, holds-count, holds-sound, sound-index}
 use Rattle.row_products.specs.Gram.{factors, rekeyed, outer, gram, upper, rowsOn}
 use Rattle.accepting.proofs.Reach.{all-both}
 use Rattle.row_products.proofs.Halves.{sum-alike, sum-zeros}
@@ -121,12 +123,12 @@ number-low : (s : List ℕ) → ((i : ℕ) → getD s i 0 < 256) → (at : ℕ) 
 unfolding number
 number-low s b at = omega (arith, b at, b (at + 1))
 
-module _ (h : Shape) (within : Within h) (s : List ℕ) (bytes : (i : ℕ) → getD s i 0 < 256) (at : ℕ) (r : StoredRow) (q : HoldsRow s at r) (sound : SoundRow h (rowAt s at)) where
+module _ (p : Problem) (limits : Limits p) (s : List ℕ) (bytes : (i : ℕ) → getD s i 0 < 256) (at : ℕ) (r : StoredRow) (q : HoldsRow s at r) (sound : SoundRow p (rowAt s at)) where
   abbrev here : ℕ → Entry
   here = storedEntry r (at + 4)
 
-  stored-sound : SoundRow h (rowOf r (at + 4))
-  stored-sound = holds-sound s at r q h sound
+  stored-sound : SoundRow p (rowOf r (at + 4))
+  stored-sound = holds-sound s at r q p sound
 
   stored-rising : IndicesRise (listed (r .count) here)
   unfolding rowOf
@@ -152,13 +154,10 @@ module _ (h : Shape) (within : Within h) (s : List ℕ) (bytes : (i : ℕ) → g
   pub row-entries : Entries (r .indices) (r .factors) (r .count)
   row-entries = record {
     few = q .few;
-    indices-low = λ k b. omega (arith, sound-index h r (at + 4) stored-sound k b, within .sizes (r .basis));
+    indices-low = λ k b. omega (arith, sound-index p r (at + 4) stored-sound k b, basis-few p limits (r .basis));
     rising = index-rising;
     factors-small = factor-small;
   }
-
-  pub row-basis : r .basis < 9
-  row-basis = omega (arith, sound-basis h r (at + 4) stored-sound, within .constraints)
 
 -- ---- the products of rows with low indices are at low indices
 module _ (m : ℕ) where
@@ -178,7 +177,7 @@ module _ (m : ℕ) where
     outer-framed r h =
         let F = factors (r .entries) in
         let b = factors-low (r .entries) h in
-        keys-scale _ (pos (r .weight)) (rekeyed (λ i. 64 * i) F ⊗ F)
+        keys-scale _ (r .weight) (rekeyed (λ i. 64 * i) F ⊗ F)
         (keys-⊗ _ (rekeyed (λ i. 64 * i) F) F (keys-rekeyed _ (λ i. 64 * i) F (keys-map _ _ (λ i l. keys-map _ _ (λ i′ l′. (omega arith, omega arith)) F b) F b)))
 
     pub gram-framed : (rs : List Row) → All Low rs → Keys Framing (gram rs)
@@ -187,37 +186,42 @@ module _ (m : ℕ) where
     gram-framed (r ∷ rs) h = keys-append _ (outer r) (gram rs) (outer-framed r (h .0)) (gram-framed rs (h .1))
 
 -- ---- the rows of a stream keep the limits
-chain-sound : {h : Shape} {s : List ℕ} {n at : ℕ} → Chain h s n at → All (SoundRow h) (rowsFrom n s at)
+chain-sound : {p : Problem} {s : List ℕ} {n at : ℕ} → Chain p s n at → All (SoundRow p) (rowsFrom n s at)
 unfolding All
 chain-sound {s = s} {n = n} {at = at} (done f) = rw (no-row s at n f) tt
 chain-sound {s = s} {at = at} (more {n} t r c) = rw (one-row s at n t) (r, chain-sound c)
 
 module _ {sizes s : List ℕ} (w : ShapedRows sizes s) where
-  sound : All (SoundRow (w .shape)) (rowsOf s)
+  sound : All (SoundRow (w .problem)) (rowsOf s)
   unfolding rowsOf
   sound = chain-sound (w .rows .chain)
 
   pub on-bases : All (λ (r : Row). r .basis < 9) (rowsOf s)
-  on-bases = all-map _ _ (λ (r : Row) q. omega (arith, q .basis, w .rows .within .constraints)) (rowsOf s) sound
+  on-bases = all-map _ _ (λ (r : Row) q. omega (arith, q .basis, w .rows .limits .constraints)) (rowsOf s) sound
 
   -- those on basis j have its indices
   pub on-low : (j : ℕ) → All (Low (getD sizes j 0)) (rowsOn j (rowsOf s))
   on-low j =
-      all-both _ _ _ (λ (r : Row) e q. rw (e, w .sizes-are) at (q .indices)) (rowsOn j (rowsOf s)) (rows-on j (rowsOf s)) (rows-all _ j (rowsOf s) sound)
+      all-both _ _ _ (λ (r : Row) e q. low r e q) (rowsOn j (rowsOf s)) (rows-on j (rowsOf s)) (rows-all _ j (rowsOf s) sound)
+    where
+      low : (r : Row) → r .basis ≡ j → SoundRow (w .problem) r → Low (getD sizes j 0) r
+      low r e q =
+          let n : length (basisOf (w .problem) j) ≡ getD sizes j 0 = rw (← w .sizes-are) (sym (size-at (w .problem) j (omega (arith, q .basis, w .rows .limits .constraints)))) in
+          rw (e, n) at (q .indices)
 
 pub zero-below : (g : List ℤ) → Below 0 g → (x : ℕ) → x < 4096 → getD g x (pos 0) ≡ pos 0
 zero-below g b x h = abs-zero _ (omega (arith, b .small x h))
 
 -- ---- the walk for basis j: the table of sums holds the products of the rows on it so far
 pub record Gathering (s : List ℕ) (j at : ℕ) (g : List ℤ) : Type 0 where
-  pub shape : Shape
-  pub within : Within shape
+  pub problem : Problem
+  pub limits : Limits problem
   pub left : ℕ
-  pub few : left ≤ 128
-  pub chain : Chain shape s left at
+  pub few : left ≤ mostRows
+  pub chain : Chain problem s left at
   pub run : List Row
   pub holds : (x : ℕ) → x < 4096 → getD g x (pos 0) ≡ upper x (coefficient x (gram run))
-  pub below : Below ((128 - left) * rowUnit) g
+  pub below : Below ((mostRows - left) * rowUnit) g
   pub same : run ++ rowsOn j (rowsFrom left s at) ≡ rowsOn j (rowsOf s)
 
 module _ {s : List ℕ} {j : ℕ} where
@@ -225,9 +229,9 @@ module _ {s : List ℕ} {j : ℕ} where
   unfolding gram coefficient rowsOf
   gathering-start {g} z w =
       record {
-        shape = w .shape;
-        within = w .rows .within;
-        left = 128;
+        problem = w .problem;
+        limits = w .rows .limits;
+        left = mostRows;
         few = omega arith;
         chain = w .rows .chain;
         run = [];
@@ -248,7 +252,7 @@ module _ {s : List ℕ} {j : ℕ} where
 
     -- one row more
     module _ (t : stands 0x11 s at ≡ true) where
-      abbrev o : Onward (w .shape) s (w .left) at
+      abbrev o : Onward (w .problem) s (w .left) at
       o = onward (w .chain) t
 
       rows-left : rowsFrom (w .left) s at ≡ rowAt s at ∷ rowsFrom (o .left) s (afterRow s at)
@@ -258,8 +262,8 @@ module _ {s : List ℕ} {j : ℕ} where
       unfolding rowsOn
       gathering-other f =
           record {
-            shape = w .shape;
-            within = w .within;
+            problem = w .problem;
+            limits = w .limits;
             left = o .left;
             few = omega (arith, w .few, o .one-less);
             chain = o .rest;
@@ -271,7 +275,7 @@ module _ {s : List ℕ} {j : ℕ} where
 
       module _ (bytes : (i : ℕ) → getD s i 0 < 256) (r : StoredRow) (q : HoldsRow s at r) where
         pub gathering-entries : Entries (r .indices) (r .factors) (r .count)
-        gathering-entries = row-entries (w .shape) (w .within) s bytes at r q (o .row)
+        gathering-entries = row-entries (w .problem) (w .limits) s bytes at r q (o .row)
 
         pub gathering-below : Below (2 ^ 53) g
         gathering-below = small
@@ -281,8 +285,8 @@ module _ {s : List ℕ} {j : ℕ} where
 
         row-low : All (λ (e : Entry). e .index < 64) (rowOf r (at + 4) .entries)
         row-low =
-            let h = holds-sound s at r q (w .shape) (o .row) in
-            all-map _ _ (λ (e : Entry) b. omega (arith, w .within .sizes (rowOf r (at + 4) .basis))) (rowOf r (at + 4) .entries) (h .indices)
+            let h = holds-sound s at r q (w .problem) (o .row) in
+            all-map _ _ (λ (e : Entry) b. omega (arith, basis-few (w .problem) (w .limits) (rowOf r (at + 4) .basis))) (rowOf r (at + 4) .entries) (h .indices)
 
         weight-low : r .weight < 2 ^ 16
         weight-low = rw (holds-weight s at r q) (number-low s bytes (at + 2))
@@ -298,8 +302,8 @@ module _ {s : List ℕ} {j : ℕ} where
         unfolding rowsOn
         gathering-row {g₂} e d =
             record {
-              shape = w .shape;
-              within = w .within;
+              problem = w .problem;
+              limits = w .limits;
               left = o .left;
               few = omega (arith, w .few, o .one-less);
               chain = o .rest;

@@ -51,7 +51,7 @@ outer-keys : (r : Row) → All (λ (e : Entry). e .index < 64) (r .entries) → 
 outer-keys r h =
     let F = factors (r .entries) in
     let b = factors-small (r .entries) h in
-    keys-scale _ (pos (r .weight)) (rekeyed (λ i. 64 * i) F ⊗ F)
+    keys-scale _ (r .weight) (rekeyed (λ i. 64 * i) F ⊗ F)
     (keys-⊗ _ (rekeyed (λ i. 64 * i) F) F (keys-rekeyed _ (λ i. 64 * i) F (keys-map _ _ (λ i l. keys-map _ _ (λ i′ l′. omega arith) F b) F b)))
 
 gram-keys : (rs : List Row) → All (λ (r : Row). All (λ (e : Entry). e .index < 64) (r .entries)) rs → Keys (λ n. n < 4096) (gram rs)
@@ -96,21 +96,21 @@ module _ (p : Problem) (j : ℕ) where
 
   module _ (m : ℕ → ℤ) where
     -- a weighted square times g_j, as a sum over two entries
-    square-sum : (w : ℕ) (es : List Entry)
+    square-sum : (w : ℤ) (es : List Entry)
         → let L = combination (basisOf p j) es in
-        sum m (scale (pos w) (L ⊗ L ⊗ multiplier p j)) ≡ pos w *ℤ sum (λ i. sum (λ i′. under m (getD (basisOf p j) i 0 + getD (basisOf p j) i′ 0)) (factors es)) (factors es)
+        sum m (scale w (L ⊗ L ⊗ multiplier p j)) ≡ w *ℤ sum (λ i. sum (λ i′. under m (getD (basisOf p j) i 0 + getD (basisOf p j) i′ 0)) (factors es)) (factors es)
     square-sum w es =
         let L = rekeyed (λ i. getD (basisOf p j) i 0) (factors es) in
-        rw (combination-factors (basisOf p j) es, sum-scale m (pos w) (L ⊗ L ⊗ multiplier p j), sum-⊗ m (L ⊗ L) (multiplier p j), sum-⊗ (under m) L L) (simp sum-rekeyed)
+        rw (combination-factors (basisOf p j) es, sum-scale m w (L ⊗ L ⊗ multiplier p j), sum-⊗ m (L ⊗ L) (multiplier p j), sum-⊗ (under m) L L) (simp sum-rekeyed)
 
     -- the row's products, each under what its place gives, are the same sum
     outer-sum : (r : Row) → All (λ (e : Entry). e .index < 64) (r .entries)
-        → sum (at m) (outer r) ≡ pos (r .weight) *ℤ sum (λ i. sum (λ i′. under m (getD (basisOf p j) i 0 + getD (basisOf p j) i′ 0)) (factors (r .entries))) (factors (r .entries))
+        → sum (at m) (outer r) ≡ r .weight *ℤ sum (λ i. sum (λ i′. under m (getD (basisOf p j) i 0 + getD (basisOf p j) i′ 0)) (factors (r .entries))) (factors (r .entries))
     outer-sum r h =
         let F = factors (r .entries) in
         let small = factors-small (r .entries) h in
-        sum-scale (at m) (pos (r .weight)) (rekeyed (λ i. 64 * i) F ⊗ F)
-        ∙ ap (λ (z : ℤ). pos (r .weight) *ℤ z) (sum-⊗ (at m) (rekeyed (λ i. 64 * i) F) F ∙ sum-rekeyed _ (λ i. 64 * i) F
+        sum-scale (at m) (r .weight) (rekeyed (λ i. 64 * i) F ⊗ F)
+        ∙ ap (λ (z : ℤ). r .weight *ℤ z) (sum-⊗ (at m) (rekeyed (λ i. 64 * i) F) F ∙ sum-rekeyed _ (λ i. 64 * i) F
         ∙ sum-same (λ i. i < 64) _ _ (λ i _. sum-same (λ i. i < 64) _ _ (λ i′ b. ap (under m) (place-key i i′ b)) F small) F small)
 
     row-gram : (r : Row) → r .basis ≡ j → All (λ (e : Entry). e .index < 64) (r .entries) → sum m (square p r) ≡ sum (at m) (outer r)
@@ -134,11 +134,11 @@ module _ (p : Problem) (j : ℕ) where
 
 -- ---- what the two loops add up
 -- a row adds w × l × l' at the place of each two entries
-pub outer-coefficient : (n : ℕ) (r : Row) → coefficient n (outer r) ≡ pos (r .weight) *ℤ sum (λ i. sum (λ i′. match n (64 * i + i′)) (factors (r .entries))) (factors (r .entries))
+pub outer-coefficient : (n : ℕ) (r : Row) → coefficient n (outer r) ≡ r .weight *ℤ sum (λ i. sum (λ i′. match n (64 * i + i′)) (factors (r .entries))) (factors (r .entries))
 unfolding coefficient
 outer-coefficient n r =
     let F = factors (r .entries) in
-    rw (sum-scale (match n) (pos (r .weight)) (rekeyed (λ i. 64 * i) F ⊗ F), sum-⊗ (match n) (rekeyed (λ i. 64 * i) F) F, sum-rekeyed (λ j. sum (λ k. match n (j + k)) F) (λ i. 64 * i) F)
+    rw (sum-scale (match n) (r .weight) (rekeyed (λ i. 64 * i) F ⊗ F), sum-⊗ (match n) (rekeyed (λ i. 64 * i) F) F, sum-rekeyed (λ j. sum (λ k. match n (j + k)) F) (λ i. 64 * i) F)
 
 -- one row more at the end
 pub gram-more : (n : ℕ) (rs : List Row) (r : Row) → coefficient n (gram (rs ++ (r ∷ []))) ≡ coefficient n (gram rs) +ℤ coefficient n (outer r)

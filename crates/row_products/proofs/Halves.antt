@@ -114,11 +114,11 @@ module _ (M : ℕ → ℤ) (symmetric : (i k : ℕ) → i < 64 → k < 64 → M 
   abbrev half : ℕ → ℤ
   half n = upper n (times n) *ℤ M n
 
-  outer-pairs : (m : ℕ → ℤ) (r : Row) → sum m (outer r) ≡ pos (r .weight) *ℤ pairs (λ i k. m (64 * i + k)) (factors (r .entries))
+  outer-pairs : (m : ℕ → ℤ) (r : Row) → sum m (outer r) ≡ r .weight *ℤ pairs (λ i k. m (64 * i + k)) (factors (r .entries))
   outer-pairs m r =
       let F = factors (r .entries) in
-      sum-scale m (pos (r .weight)) (rekeyed (λ i. 64 * i) F ⊗ F)
-      ∙ ap (λ (z : ℤ). pos (r .weight) *ℤ z) (sum-⊗ m (rekeyed (λ i. 64 * i) F) F ∙ sum-rekeyed _ (λ i. 64 * i) F)
+      sum-scale m (r .weight) (rekeyed (λ i. 64 * i) F ⊗ F)
+      ∙ ap (λ (z : ℤ). r .weight *ℤ z) (sum-⊗ m (rekeyed (λ i. 64 * i) F) F ∙ sum-rekeyed _ (λ i. 64 * i) F)
 
   half-at : (i k : ℕ) → k < 64 → weight i k *ℤ M (64 * i + k) ≡ half (64 * i + k)
   half-at i k h =
@@ -131,7 +131,7 @@ module _ (M : ℕ → ℤ) (symmetric : (i k : ℕ) → i < 64 → k < 64 → M 
       let F = factors (r .entries) in
       let low = factors-small (r .entries) h in
       outer-pairs M r
-      ∙ ap (λ (z : ℤ). pos (r .weight) *ℤ z)
+      ∙ ap (λ (z : ℤ). r .weight *ℤ z)
       (halved (λ i k. M (64 * i + k)) symmetric F low ∙ sum-alike _ _ (λ i. sum-same (λ i. i < 64) _ _ (λ k b. half-at i k b) F low) F)
       ∙ sym (outer-pairs half r)
 

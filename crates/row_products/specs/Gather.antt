@@ -6,16 +6,17 @@ use lib.IntN.{ℤ, pos}
 use lib.ListN.{getD}
 use Rattle.polynomial.specs.Algebra.{coefficient}
 use Rattle.certificate_reader.specs.Rows.{rowsOf}
-use Rattle.format.specs.declared.certificate.Shape.{Shape}
+use Rattle.format.specs.ProblemRules.{Problem}
+use Rattle.certificate_reader.specs.Kept.{shapeOf}
 use Rattle.row_products.specs.Gram.{gram, upper, rowsOn}
 use Rattle.row_blocks.specs.Places.{Rows}
 use Rattle.row_products.specs.Outer.{Below}
 
--- the rows of a stream keep the limits of a shape with these sizes
+-- the rows of a stream keep their limits against a problem whose bases have these lengths
 pub record ShapedRows (sizes s : List ℕ) : Type 0 where
-  pub shape : Shape
-  pub sizes-are : shape .sizes ≡ sizes
-  pub rows : Rows shape s
+  pub problem : Problem
+  pub sizes-are : shapeOf problem .sizes ≡ sizes
+  pub rows : Rows problem s
 
 -- the table of sums holds the upper half of the products of the rows on basis j
 pub record Gathered (s : List ℕ) (j : ℕ) (g : List ℤ) : Type 0 where

@@ -27,7 +27,7 @@ rekeyed f (t ∷ P) = term (f (t .key)) (t .coefficient) ∷ rekeyed f P
 
 -- w × l × l' for each two entries of a row, at its place
 abbrev pub outer : Row → List Term
-outer r = scale (pos (r .weight)) (rekeyed (λ i. 64 * i) (factors (r .entries)) ⊗ factors (r .entries))
+outer r = scale (r .weight) (rekeyed (λ i. 64 * i) (factors (r .entries)) ⊗ factors (r .entries))
 
 -- the Gram matrix of some rows: the products of all of them
 unfoldable pub gram : List Row → List Term

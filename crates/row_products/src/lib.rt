@@ -76,7 +76,7 @@ pub fn add_basis_rows(g: &mut [i64; 4096], s: &[u8], j: usize)
     while certificate_reader::stands_at(0x11, s, at) {
         let head = certificate_reader::head_at(s, at);
         if head.basis == j {
-            let row = certificate_reader::row_at(s, at);
+            let row = certificate_reader::row_at(s, at, head);
             add_outer(g, row);
         }
         at = head.next;

@@ -6,9 +6,8 @@ use lib.ListN.{length}
 use Rattle.format.specs.ProblemRules.{Problem}
 use Rattle.problem_reader.specs.Stored.{problemOf}
 use Rattle.joining_rule.proofs.Bytes.{bytes-long}
-use Rattle.format.specs.CertificateRules.{shapeOf, readCertificate}
+use Rattle.format.specs.CertificateRules.{readCertificate}
 use Rattle.certificate_reader.specs.Kept.{headerOutcome, headerOutcomeOf}
-use Rattle.format.specs.declared.certificate.Shape.{Shape}
 use Rattle.certificate_judge.specs.Steps.{HeaderStands}
 use Rattle.certificate_judge.proofs.Judging.{shape-is, joins-compare, certificate-refused, certificate-given, walkable, judge-refused, judge-split, judge-compared}
 use Rattle.certificate_judge.proofs.judge.Statement.{statement}
@@ -21,17 +20,19 @@ P s = problemOf (s .args .p)
 labels-long : (s : tie.Start) → length (s .args .j .labels) ≡ 576
 labels-long s = let h = s .pre .0 in rw (h .joining .labels (h .few)) (bytes-long _)
 
--- the reading is against the shape of the problem
-read-as : (c : tie.After-validate) → let s = c .before .before .before .before .before in headerOutcomeOf (c .validate .result) ≡ headerOutcome (readCertificate (shapeOf (P s)) (s .args .s .now))
+-- the reading is against the problem
+read-as : (c : tie.After-validate) → let s = c .before .before .before .before .before in headerOutcomeOf (c .validate .result) ≡ headerOutcome (readCertificate (P s) (s .args .s .now))
 read-as c =
     let s = c .before .before .before .before .before in
-    c .validate .ensures ∙ ap (λ (h : Shape). headerOutcome (readCertificate h (s .args .s .now))) (sym (shape-is (s .args .p) (s .pre .0 .kept)))
+    c .validate .ensures (P s) (s .pre .0 .limits) (sym (shape-is (s .args .p) (s .pre .0 .kept)))
 
 stands : (c : tie.Else1) → let s = c .before .before .before .before .before .before in HeaderStands (P s) (s .args .s .now) (c .before .validate .result .header)
 stands c = certificate-given _ _ (read-as (c .before)) (omega (arith, c .if1 .left)) _ _ refl
 
 validate-requires : tie.Need-validate-requires
-validate-requires c κs = search needs
+validate-requires c κs =
+    let s = c .before .before .before .before in
+    record { problem = P s; limits = s .pre .0 .limits; is = sym (shape-is (s .args .p) (s .pre .0 .kept)) }
 
 refuse-requires : tie.Need-refuse-requires
 refuse-requires c κs = search needs

@@ -1,9 +1,9 @@
 -- `head_at`: the basis stands after the row's command, and the entries are counted.
 use mathlib.Core.Path.{ap}
-use Prim.Native.Nat.{ℕ, _+_, _*_, _≤_}
+use Prim.Native.Nat.{_+_, _≤_}
 use native.Mathlib.Omega.{arith}
 use lib.ListN.{length}
-use Rattle.certificate_reader.specs.Rows.{rowAt, afterRow}
+use Rattle.certificate_reader.specs.Rows.{afterRow, headAt}
 use Rattle.certificate_reader.proofs.Stored.{stands-within}
 use Rattle.certificate_reader.proofs.head_at.Statement.{statement}
 use Rattle.certificate_reader.proofs.head_at.Tie as tie
@@ -15,26 +15,26 @@ whole c = stands-within 17 (c .before .args .s .now) (c .before .args .at) (c .b
 add-here : tie.Need-add-here
 add-here c = let w = whole c in omega arith
 
+count-at-requires : tie.Need-count-at-requires
+count-at-requires c κs = let w = whole c in omega arith
+
 add-number-at : tie.Need-add-number-at
-add-number-at c = let w = whole c in omega arith
+add-number-at c = let w = whole (c .before) in omega arith
 
 number-at-requires : tie.Need-number-at-requires
-number-at-requires c κs = let w = whole c in omega arith
-
-count-at-requires : tie.Need-count-at-requires
-count-at-requires c κs = let w = whole (c .before) in omega arith
+number-at-requires c κs = let w = whole (c .before) in omega arith
 
 mul-t8 : tie.Need-mul-t8
-mul-t8 c = let q = c .count-at .ensures .1 in omega arith
+mul-t8 c = let q = c .before .count-at .ensures .1 in omega arith
 
 add-t9 : tie.Need-add-t9
-add-t9 c = let q = c .count-at .ensures .2 in omega arith
+add-t9 c = let q = c .before .count-at .ensures .2 in omega arith
 
 returns : tie.Need-returns
-unfolding rowAt afterRow
-returns c = let a = c .before .before .before .args in (c .before .number-at .ensures .0, ap (λ (n : ℕ). a .at + 4 + 4 * n) (c .count-at .ensures .0))
+unfolding headAt afterRow
+returns c = rw (c .number-at .ensures .0, c .before .count-at .ensures .0)
 
 pub head-at-spec : {M : Type 1} → statement M
 head-at-spec =
     tie.close
-    (tie.spec add-here add-number-at number-at-requires count-at-requires mul-t8 add-t9 returns)
+    (tie.spec add-here count-at-requires add-number-at number-at-requires mul-t8 add-t9 returns)

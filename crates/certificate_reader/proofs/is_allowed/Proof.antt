@@ -4,6 +4,7 @@ use mir.Syntax.{w32}
 use mir.Val.{toZ, ofZ}
 use borrow.Author.Tests.{le-leb, lt-leb, lt-ltb, le-ltb}
 use borrow.Author.Needs.{needs}
+use Rattle.certificate_reader.proofs.Shapes.{constraints-are, size-is}
 use Rattle.certificate_reader.proofs.is_allowed.Statement.{statement}
 use Rattle.certificate_reader.proofs.is_allowed.Tie as tie
 
@@ -35,28 +36,35 @@ enum-told : tie.Need-enum-told
 enum-told c = search needs
 
 returns : tie.Need-returns
-returns c = let g = c .before .before .before .i .given in rw (g .1, le-leb (g .0 .0) 1 (c .before .if1 .taken), le-leb 1 (g .0 .1 .0) (c .if2 .taken))
+returns c = λ p k e f. let g = c .before .before .before .i .given in rw (g .1, le-leb (g .0 .0) 1 (c .before .if1 .taken), le-leb 1 (g .0 .1 .0) (c .if2 .taken))
 
 returns-2 : tie.Need-returns-2
-returns-2 c = let g = c .before .before .before .i .given in rw (g .1, le-leb (g .0 .0) 1 (c .before .if1 .taken), lt-leb 1 (g .0 .1 .0) (c .if2 .left))
+returns-2 c = λ p k e f. let g = c .before .before .before .i .given in rw (g .1, le-leb (g .0 .0) 1 (c .before .if1 .taken), lt-leb 1 (g .0 .1 .0) (c .if2 .left))
 
 returns-3 : tie.Need-returns-3
-returns-3 c = let g = c .before .before .i .given in rw (g .1, lt-leb (g .0 .0) 1 (c .if1 .left))
+returns-3 c = λ p k e f. let g = c .before .before .i .given in rw (g .1, lt-leb (g .0 .0) 1 (c .if1 .left))
 
 returns-4 : tie.Need-returns-4
-returns-4 c = let g = c .before .before .i2 .given in rw (g .1, le-leb (g .0 .0) _ (c .if3 .taken))
+returns-4 c = λ p k e f. let g = c .before .before .i2 .given in let n = constraints-are k _ f p _ e in rw (g .1, ← n, le-leb (g .0 .0) _ (c .if3 .taken))
 
 returns-5 : tie.Need-returns-5
-returns-5 c = let g = c .before .before .i2 .given in rw (g .1, lt-leb (g .0 .0) _ (c .if3 .left))
+returns-5 c = λ p k e f. let g = c .before .before .i2 .given in let n = constraints-are k _ f p _ e in rw (g .1, ← n, lt-leb (g .0 .0) _ (c .if3 .left))
 
 returns-6 : tie.Need-returns-6
-returns-6 c = let g = c .before .before .before .before .i3 .given in let e : toZ w32 (ofZ w32 (g .0 .1 .0)) ≡ g .0 .1 .0 = search needs in rw (g .1, lt-ltb (g .0 .0) _ (c .before .if4 .taken), c .is-nonzero .ensures, e)
+returns-6 c = λ p k e f.
+    let g = c .before .before .before .before .i3 .given in
+    let n = size-is k _ f p _ e (c .before .before .before .before .before .before .pre .basis) in
+    let l : toZ w32 (ofZ w32 (g .0 .1 .0)) ≡ g .0 .1 .0 = search needs in
+    rw (g .1, ← n, lt-ltb (g .0 .0) _ (c .before .if4 .taken), c .is-nonzero .ensures, l)
 
 returns-7 : tie.Need-returns-7
-returns-7 c = let g = c .before .before .before .i3 .given in rw (g .1, le-ltb (g .0 .0) _ (c .if4 .left))
+returns-7 c = λ p k e f.
+    let g = c .before .before .before .i3 .given in
+    let n = size-is k _ f p _ e (c .before .before .before .before .before .pre .basis) in
+    rw (g .1, ← n, le-ltb (g .0 .0) _ (c .if4 .left))
 
 returns-8 : tie.Need-returns-8
-returns-8 c = search needs
+returns-8 c = λ p k e f. search needs
 
 pub is-allowed-spec : {M : Type 1} → statement M
 is-allowed-spec =

@@ -1,5 +1,6 @@
 -- `is_full`: a test for each command.
 use borrow.Author.Needs.{needs}
+use Rattle.certificate_reader.proofs.Shapes.{rows-are}
 use Rattle.certificate_reader.proofs.is_full.Statement.{statement}
 use Rattle.certificate_reader.proofs.is_full.Tie as tie
 
@@ -16,16 +17,16 @@ enum-told-4 : tie.Need-enum-told-4
 enum-told-4 c = search needs
 
 returns : tie.Need-returns
-returns c = search needs
+returns c = λ k e. search needs
 
 returns-2 : tie.Need-returns-2
-returns-2 c = rw (c .before .enum-told2 .given .1)
+returns-2 c = λ k e. rw (c .before .enum-told2 .given .1, rows-are k _ e)
 
 returns-3 : tie.Need-returns-3
-returns-3 c = search needs
+returns-3 c = λ k e. search needs
 
 returns-4 : tie.Need-returns-4
-returns-4 c = search needs
+returns-4 c = λ k e. search needs
 
 pub is-full-spec : {M : Type 1} → statement M
 is-full-spec =

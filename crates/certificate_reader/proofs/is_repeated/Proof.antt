@@ -1,5 +1,6 @@
 -- `is_repeated`: a test for each command.
 use borrow.Author.Needs.{needs}
+use Rattle.certificate_reader.proofs.Shapes.{index-repeated}
 use Rattle.certificate_reader.proofs.is_repeated.Statement.{statement}
 use Rattle.certificate_reader.proofs.is_repeated.Tie as tie
 
@@ -19,16 +20,16 @@ enum-told-3 : tie.Need-enum-told-3
 enum-told-3 c = search needs
 
 returns : tie.Need-returns
-returns c = search needs
+returns c = λ k e. search needs
 
 returns-2 : tie.Need-returns-2
-returns-2 c = search needs
+returns-2 c = λ k e. search needs
 
 returns-3 : tie.Need-returns-3
-returns-3 c = rw (c .before .before .i .given .1)
+returns-3 c = λ k e. rw (c .before .before .i .given .1) (index-repeated k _ e _)
 
 returns-4 : tie.Need-returns-4
-returns-4 c = search needs
+returns-4 c = λ k e. search needs
 
 pub is-repeated-spec : {M : Type 1} → statement M
 is-repeated-spec =

@@ -1,20 +1,23 @@
--- `validate`: what the loop keeps is the header and the progress of the certificate read so far.
+-- `validate`: what the loop keeps is the header and the progress of the certificate read so far, against every problem of the shape.
 use mathlib.Core.Path.{_≡_, ap, _∙_}
+use mathlib.Core.List.{List}
 use Prim.Native.Nat.{ℕ, _-_}
 use native.Mathlib.Omega.{arith}
 use lib.ListN.{length}
 use borrow.Author.Tests.{ne-eqb}
 use borrow.Author.Needs.{needs}
 use Rattle.format.specs.CertificateLayout.{certificateCommand, certificateSize}
-use Rattle.format.specs.CertificateRules.{certificateCommandAt, certificateInstructionAt, progressVerdict}
-use Rattle.certificate_reader.specs.Kept.{headerOutcomeOf}
-use Rattle.certificate_reader.proofs.Kept.{Held, held-start, held-end, held-refused, held-extra, held-given, held-next}
+use Rattle.format.specs.ProblemRules.{Problem}
+use Rattle.format.specs.ProblemLimits.{Limits}
+use Rattle.format.specs.CertificateRules.{certificateCommandAt, certificateInstructionAt, certificateRefusalAt}
+use Rattle.certificate_reader.specs.Kept.{shapeOf, headerOutcomeOf}
+use Rattle.certificate_reader.proofs.Kept.{Held, HeldFor, held-start, held-end, held-refused, held-extra, held-given, held-next}
 use Rattle.format.proofs.CertificateChecks.{taken-size, taken-whole}
 use Rattle.certificate_reader.proofs.validate.Statement.{statement}
 use Rattle.certificate_reader.proofs.validate.Tie as tie
 
 abbrev Inv-loop : tie.InvT-loop
-Inv-loop h s header₀ progress₀ at₀ header progress at = Held h s header progress at
+Inv-loop h s header₀ progress₀ at₀ header progress at = HeldFor h s header progress at
 
 abbrev μ-loop : tie.MeasureT-loop
 μ-loop h s header₀ progress₀ at₀ header progress at = length s - at
@@ -25,27 +28,44 @@ no-header-requires c κs = search needs
 no-progress-requires : tie.Need-no-progress-requires Inv-loop μ-loop
 no-progress-requires c κs = search needs
 
+-- ---- the problem that the caller has, and what the loop keeps against it
+module _ (l : tie.At-loop Inv-loop μ-loop) where
+  abbrev start : tie.Start Inv-loop μ-loop
+  start = l .before .before .before .before
+
+  abbrev s : List ℕ
+  s = start .args .s .now
+
+  held : Held (start .pre .problem) s (l .loop .header) (l .loop .progress) (l .loop .at)
+  held = l .loop .inv (start .pre .problem) (start .pre .limits) (start .pre .is)
+
 loop-holds : tie.Need-loop-holds Inv-loop μ-loop
-loop-holds c =
-    let a = c .before .before .before .args in
-    rw (c .before .no-header .ensures, c .no-progress .ensures) (held-start (a .h) (a .s .now))
+loop-holds c = λ p limits e. rw (c .before .no-header .ensures, c .no-progress .ensures) (held-start p (c .before .before .before .args .s .now))
 
 verdict-at-requires : tie.Need-verdict-at-requires Inv-loop μ-loop
-verdict-at-requires c κs = (c .before .loop .inv .bounded, omega arith)
+verdict-at-requires c κs = (held (c .before) .bounded, omega arith)
 
 returns : tie.Need-returns Inv-loop μ-loop
 unfolding headerOutcomeOf
-returns c =
+returns c = λ p limits e.
     let l = c .before .before .before in
-    let a = l .before .before .before .before .args in
+    let k = l .loop .inv p limits e in
     rw (ne-eqb (c .before .verdict-at .result) 0 (λ e. omega arith))
-    (held-refused (a .h) (a .s .now) _ _ (l .loop .at) (l .loop .inv) (omega arith) _ (c .before .verdict-at .ensures) (omega arith))
+    (held-refused p (s l) _ _ (l .loop .at) k (omega arith) _ (c .before .verdict-at .ensures p (k .read) e (k .progress)) (omega arith))
 
 -- past the checks
-none : (c : tie.Else1 Inv-loop μ-loop) → let l = c .before .before .before in let a = l .before .before .before .before .args in progressVerdict (a .h) (l .loop .progress) (a .s .now) (l .loop .at) ≡ 0
-none c = let v = c .before .verdict-at .ensures in omega arith
+module _ (c : tie.Else1 Inv-loop μ-loop) where
+  abbrev here : tie.At-loop Inv-loop μ-loop
+  here = c .before .before .before
 
-length-is : (c : tie.After-size-of Inv-loop μ-loop) → let l = c .before .before .before .before .before .before in c .size-of .result ≡ certificateSize (certificateCommandAt (l .before .before .before .before .args .s .now) (l .loop .at))
+  none : (p : Problem) (limits : Limits p) (e : start here .args .h ≡ shapeOf p) → certificateRefusalAt p (here .loop .inv p limits e .read) (s here) (here .loop .at) ≡ 0
+  none p limits e = let k = here .loop .inv p limits e in let v = c .before .verdict-at .ensures p (k .read) e (k .progress) in omega arith
+
+  taken : certificateRefusalAt (start here .pre .problem) (held here .read) (s here) (here .loop .at) ≡ 0
+  unfolding held
+  taken = none (start here .pre .problem) (start here .pre .limits) (start here .pre .is)
+
+length-is : (c : tie.After-size-of Inv-loop μ-loop) → let l = c .before .before .before .before .before .before in c .size-of .result ≡ certificateSize (certificateCommandAt (s l) (l .loop .at))
 length-is c = c .size-of .ensures .0 ∙ ap certificateSize (c .before .command-of .ensures)
 
 shared-slice-read-byte : tie.Need-shared-slice-read-byte Inv-loop μ-loop
@@ -62,60 +82,56 @@ add-next c = let k = c .size-of .ensures .1 in omega arith
 
 returns-2 : tie.Need-returns-2 Inv-loop μ-loop
 unfolding headerOutcomeOf certificateCommand
-returns-2 c =
-    let l = c .before .before .before .before .before .before .before .before in
-    let a = l .before .before .before .before .args in
+returns-2 c = λ p limits e.
+    let i = c .before .before .before .before .before in
+    let l = here i in
     let b = c .before .if2 .taken in
     let k : c .before .before .size-of .result ≡ 1 = length-is (c .before .before) ∙ ap (λ (x : ℕ). certificateSize (certificateCommand x)) b in
-    rw k (held-extra (a .h) (a .s .now) _ _ (l .loop .at) (l .loop .inv) (omega arith) (none (c .before .before .before .before .before)) b (omega arith))
+    rw k (held-extra p (s l) _ _ (l .loop .at) (l .loop .inv p limits e) (omega arith) (none i p limits e) b (omega arith))
 
 returns-3 : tie.Need-returns-3 Inv-loop μ-loop
 unfolding headerOutcomeOf certificateCommand
-returns-3 c =
-    let l = c .before .before .before .before .before .before .before .before in
-    let a = l .before .before .before .before .args in
+returns-3 c = λ p limits e.
+    let i = c .before .before .before .before .before in
+    let l = here i in
     let b = c .before .if2 .taken in
     let k : c .before .before .size-of .result ≡ 1 = length-is (c .before .before) ∙ ap (λ (x : ℕ). certificateSize (certificateCommand x)) b in
-    held-given (a .h) (a .s .now) _ _ (l .loop .at) (l .loop .inv) (omega arith) (none (c .before .before .before .before .before)) b (omega arith)
+    held-given p (s l) _ _ (l .loop .at) (l .loop .inv p limits e) (omega arith) (none i p limits e) b (omega arith)
 
 decode-at-requires : tie.Need-decode-at-requires Inv-loop μ-loop
 decode-at-requires c κs =
-    let l = c .before .before .before .before .before .before .before in
-    let a = l .before .before .before .before .args in
+    let i = c .before .before .before .before in
     let k = length-is (c .before) in
     let e = c .before .size-of .ensures .0 in
-    omega (arith, taken-whole (a .h) (l .loop .progress) (a .s .now) (l .loop .at) (none (c .before .before .before .before)))
+    omega (arith, taken-whole _ _ _ _ (taken i))
 
 header-after-requires : tie.Need-header-after-requires Inv-loop μ-loop
 header-after-requires c κs = search needs
 
 progress-after-requires : tie.Need-progress-after-requires Inv-loop μ-loop
-progress-after-requires c κs = c .before .before .before .before .before .before .before .before .before .loop .inv .bounded
+progress-after-requires c κs = held (c .before .before .before .before .before .before .before .before .before) .bounded
 
 loop-less : tie.Need-loop-less Inv-loop μ-loop
 loop-less c =
     let e = c .before .before .before .before in
-    let l = e .before .before .before .before .before .before in
-    let a = l .before .before .before .before .args in
     let k = length-is e in
-    let n = none (e .before .before .before) in
-    omega (arith, taken-whole (a .h) (l .loop .progress) (a .s .now) (l .loop .at) n, taken-size (a .h) (l .loop .progress) (a .s .now) (l .loop .at) n)
+    let n = taken (e .before .before .before) in
+    omega (arith, taken-whole _ _ _ _ n, taken-size _ _ _ _ n)
 
 loop-again : tie.Need-loop-again Inv-loop μ-loop
-loop-again c =
+loop-again c = λ p limits h.
     let e = c .before .before .before .before in
-    let l = e .before .before .before .before .before .before in
-    let a = l .before .before .before .before .args in
-    let i : c .before .before .decode-at .result ≡ certificateInstructionAt (a .s .now) (l .loop .at) = rw (c .before .before .decode-at .ensures, e .before .command-of .ensures) in
-    rw (c .before .header-after .ensures, c .progress-after .ensures, i, length-is e)
-    (held-next (a .h) (a .s .now) _ _ (l .loop .at) (l .loop .inv) (omega arith) (none (e .before .before .before)) (l .before .before .before .before .pre) (c .before .before .before .if2 .left))
+    let i = e .before .before .before in
+    let l = here i in
+    let d : c .before .before .decode-at .result ≡ certificateInstructionAt (s l) (l .loop .at) = rw (c .before .before .decode-at .ensures, e .before .command-of .ensures) in
+    rw (c .before .header-after .ensures, c .progress-after .ensures, d, length-is e)
+    (held-next p (s l) _ _ (l .loop .at) (l .loop .inv p limits h) (omega arith) (none i p limits h) limits (c .before .before .before .if2 .left))
 
 returns-4 : tie.Need-returns-4 Inv-loop μ-loop
 unfolding headerOutcomeOf
-returns-4 c =
+returns-4 c = λ p limits e.
     let l = c .before in
-    let a = l .before .before .before .before .args in
-    held-end (a .h) (a .s .now) _ _ (l .loop .at) (l .loop .inv) (omega arith)
+    held-end p (s l) _ _ (l .loop .at) (l .loop .inv p limits e) (omega arith)
 
 pub validate-spec : {M : Type 1} → statement M
 validate-spec =

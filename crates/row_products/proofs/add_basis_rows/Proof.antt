@@ -5,8 +5,8 @@ use Prim.Native.Nat.{ℕ, _-_, _<_}
 use native.Mathlib.Omega.{arith}
 use borrow.Author.Needs.{needs}
 use lib.ListN.{length, getD}
-use Rattle.certificate_reader.specs.Rows.{stands}
-use Rattle.certificate_reader.proofs.Stored.{stands-within}
+use Rattle.certificate_reader.specs.Rows.{stands, rowAt, afterRow}
+use Rattle.certificate_reader.proofs.Stored.{stands-within, head-basis, head-next}
 use Rattle.certificate_reader.proofs.Walk.{after-more}
 use Rattle.row_products.proofs.Gathering.{Gathering, gathering-start, gathering-end, gathering-entries, gathering-below, gathering-row, gathering-other}
 use Rattle.row_products.proofs.add_basis_rows.Statement.{statement}
@@ -32,8 +32,15 @@ module _ (h : tie.After-head-at Inv-loop μ-loop) where
   standing : stands 0x11 (s .args .s .now) (l .loop .at) ≡ true
   standing = sym (h .before .before .stands-at .ensures) ∙ h .before .if1 .taken
 
+  next-is : h .head-at .result .next ≡ afterRow (s .args .s .now) (l .loop .at)
+  next-is = head-next _ _ _ (h .head-at .ensures)
+
+  basis-is : h .head-at .result .basis ≡ rowAt (s .args .s .now) (l .loop .at) .basis
+  unfolding rowAt
+  basis-is = head-basis _ _ _ (h .head-at .ensures)
+
   less : length (s .args .s .now) - h .head-at .result .next < length (s .args .s .now) - l .loop .at
-  less = let w = stands-within 0x11 _ _ standing in omega (arith, h .head-at .ensures .1, after-more (s .args .s .now) (l .loop .at))
+  less = let w = stands-within 0x11 _ _ standing in omega (arith, next-is, after-more (s .args .s .now) (l .loop .at))
 
 loop-holds : tie.Need-loop-holds Inv-loop μ-loop
 loop-holds c = gathering-start (c .before .pre .0) (c .before .pre .1)
@@ -45,7 +52,7 @@ head-at-requires : tie.Need-head-at-requires Inv-loop μ-loop
 head-at-requires c κs = sym (c .before .stands-at .ensures) ∙ c .if1 .taken
 
 row-at-requires : tie.Need-row-at-requires Inv-loop μ-loop
-row-at-requires c κs = standing (c .before .before)
+row-at-requires c κs = (standing (c .before .before), c .before .before .head-at .ensures)
 
 add-outer-requires : tie.Need-add-outer-requires Inv-loop μ-loop
 add-outer-requires c κs =
@@ -61,7 +68,7 @@ loop-again : tie.Need-loop-again Inv-loop μ-loop
 loop-again c =
     let r = c .before .before in
     let h = r .before .before .before in
-    rw (h .head-at .ensures .1) (gathering-row (l h .loop .inv) (standing h) (bytes h) _ (r .row-at .ensures) (sym (h .head-at .ensures .0) ∙ r .before .if2 .taken) (c .add-outer .ensures))
+    rw (next-is h) (gathering-row (l h .loop .inv) (standing h) (bytes h) _ (r .row-at .ensures) (sym (basis-is h) ∙ r .before .if2 .taken) (c .add-outer .ensures))
 
 loop-less-2 : tie.Need-loop-less-2 Inv-loop μ-loop
 loop-less-2 c = less (c .before .before)
@@ -69,7 +76,7 @@ loop-less-2 c = less (c .before .before)
 loop-again-2 : tie.Need-loop-again-2 Inv-loop μ-loop
 loop-again-2 c =
     let h = c .before .before in
-    rw (h .head-at .ensures .1) (gathering-other (l h .loop .inv) (standing h) (λ e. c .if2 .left (h .head-at .ensures .0 ∙ e)))
+    rw (next-is h) (gathering-other (l h .loop .inv) (standing h) (λ e. c .if2 .left (basis-is h ∙ e)))
 
 returns : tie.Need-returns Inv-loop μ-loop
 returns c = gathering-end (c .before .before .loop .inv) (sym (c .before .stands-at .ensures) ∙ c .if1 .left)
