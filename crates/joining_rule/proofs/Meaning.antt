@@ -74,12 +74,12 @@ module _ (g : Bases) (S₀ : List ℕ) where
   closing-least = record {
     within = λ R Q o.
         let w = closing-within R Q
-            (λ j. record { reflexive = o .reflexive j; symmetric = o .symmetric j; transitive = o .transitive j })
-            (λ j h. record {
-              joins = λ i k t a b m q. o .joins j i k t (record { basis = h; first = a; second = b; exponent = m }) q;
-              adds = λ i k t a b r m. o .adds j i k t (record { basis = h; first = a; second = b; exponent = m }) r;
-            })
-            (record { at = o .starts }) in
+        (λ j. record { reflexive = o .reflexive j; symmetric = o .symmetric j; transitive = o .transitive j })
+        (λ j h. record {
+          joins = λ i k t a b m q. o .joins j i k t (record { basis = h; first = a; second = b; exponent = m }) q;
+          adds = λ i k t a b r m. o .adds j i k t (record { basis = h; first = a; second = b; exponent = m }) r;
+        })
+        (record { at = o .starts }) in
         record { blocks = λ j i k h a b. w .blocks j h .at i k a b; set = w .set .at };
   }
 
