@@ -1,3 +1,6 @@
+pub mod Judged
+pub mod Ends
 pub mod Promised
-pub mod Accepting
+pub mod Checking
+pub mod Pairing
 pub mod Untouched

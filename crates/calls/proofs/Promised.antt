@@ -1,5 +1,5 @@
 -- What the definitions of the blocks call promise, in the buyer's terms: each clause of the contract, from the equations.
-use mathlib.Core.Path.{_≡_, refl, sym, _∙_}
+use mathlib.Core.Path.{_≡_, refl, sym, ap, _∙_}
 use mathlib.Core.Bool.{Bool, true, false, cond}
 use mathlib.Core.List.{List, [], _++_}
 use Prim.Native.Nat.{ℕ, suc, _+_, _-_, _*_, _≤_, _<_}
@@ -7,6 +7,9 @@ use native.Mathlib.Omega.{arith}
 use lib.Dec.{ltb}
 use lib.ListN.{length, getD, drop, List·getD-append}
 use borrow.Author.Tests.{ltb-true, lt-ltb}
+use Rattle.counting.specs.Counting.{listed, sumTo}
+use Rattle.counting.proofs.Listed.{listed-same, listed-all}
+use Rattle.counting.proofs.Sums.{sumTo-same}
 use Rattle.format.specs.Commands.{given}
 use Rattle.format.specs.ProblemRules.{Problem, readProblem}
 use Rattle.format.specs.ProblemBases.{basisOf}
@@ -15,20 +18,23 @@ use Rattle.format.specs.ProblemCounts.{memberCommands, basesNamed}
 use Rattle.format.proofs.ProblemLimits.{read-limits, all-at, monomials-none}
 use Rattle.format.proofs.ProblemCounts.{count-members, count-named}
 use Rattle.joining_rule.proofs.Rising.{Rising}
-use Rattle.joining_rule.specs.Rounds.{Bases, closedWithZero}
+use Rattle.joining_rule.specs.Sets.{different}
+use Rattle.joining_rule.specs.Rounds.{Bases, blocksIn, closedWithZero}
 use Rattle.joining_rule.proofs.Rounds.{monomials, nonempty}
-use Rattle.joining_rule.specs.Bytes.{blockBytes, blockAt}
+use Rattle.joining_rule.specs.Bytes.{blockByteCount, blockBytes, blockAt}
 use Rattle.joining_rule.specs.Meaning.{Pair, Closed, Least, Lowest, TakesRounds}
 use Rattle.joining_rule.proofs.Bytes.{bytes-long, byte-at}
 use Rattle.joining_rule.proofs.Closing.{closing-shaped}
 use Rattle.joining_rule.proofs.Bound.{few-rounds, closing-rounds}
 use Rattle.joining_rule.proofs.Meaning.{labelOf, closing-closed, closing-least, least-tests, closing-lowest}
-use Rattle.joining_rule.specs.Joining.{basesOf, startSet, closing, closedSupport, tooLarge, blockTotal}
+use Rattle.joining_rule.specs.Joining.{basesOf, startSet, closing, closedSupport, mostKeys, tooLarge, blockTotal}
 use Rattle.joining_rule.proofs.Start.{start-rising}
+use Rattle.calls.specs.declared.Refusal.{Refusal}
 use Rattle.calls.specs.declared.BlocksVerdict.{BlocksVerdict}
 use Rattle.calls.specs.Refusals.{noRefusal}
-use Rattle.calls.specs.Blocks.{refusedBlocks, blocksOf, blocksVerdict, bytesOf, bytesLeft}
-use Rattle.calls.specs.Promises.{BlocksClosed, BlocksLeast, BlocksLowest, RoundsTaken, FewRounds, SevenExactly}
+use Rattle.calls.specs.Blocks.{refusedBlocks, blocksOf, blocksRead, blocksVerdict, bytesOf, bytesLeft}
+use Rattle.calls.specs.Promises.{NumberedTo, BlocksClosed, BlocksLeast, BlocksLowest, BlocksCounted, RoundsTaken, FewRounds, SevenExactly}
+use Rattle.calls.proofs.Ends.{Ends, before, within, ends}
 
 -- ---- block numbers that agree at every index of a basis mean the same
 pub record Agree (g : Bases) (label label′ : ℕ → ℕ → ℕ) : Type 0 where
@@ -100,6 +106,17 @@ module _ (s : List ℕ) (p : Problem) (read : readProblem s ≡ given p) where
   unfolding closing
   promise-lowest rest = lowest-same _ (startSet p) _ _ (bytes-agree rest) (closing-lowest (basesOf p) (startSet p))
 
+  -- the bytes of a basis tell its block numbers
+  labels-told : (rest : List ℕ) (j : ℕ) → j < 9 → getD (closing p .state .labels) j [] ≡ listed (length (basisOf p j)) (blockAt (blockBytes (closing p .state .labels) ++ rest) j)
+  unfolding closing
+  labels-told rest j h =
+      let l = closing-shaped (basesOf p) (startSet p) .long j h in
+      sym (listed-all (getD (closing p .state .labels) j []) 0) ∙ rw l (listed-same (length (basisOf p j)) _ _ (λ i b. bytes-agree rest .at j i h b))
+
+  pub promise-counted : (rest : List ℕ) → blockTotal p ≡ sumTo 9 (λ j. different (listed (length (basisOf p j)) (blockAt (blockBytes (closing p .state .labels) ++ rest) j)))
+  unfolding blockTotal blocksIn
+  promise-counted rest = sumTo-same 9 _ _ (λ j h. ap different (labels-told rest j h))
+
   pub promise-rounds : TakesRounds (basesOf p) (startSet p) (closing p .rounds)
   unfolding closing
   promise-rounds = closing-rounds (basesOf p) (startSet p) rising small
@@ -109,10 +126,17 @@ module _ (s : List ℕ) (p : Problem) (read : readProblem s ≡ given p) where
   promise-few = rw (count-members s p read, count-named s p read) (few-rounds (basesOf p) (startSet p) rising)
 
 -- ---- from the verdict and the bytes to the clauses
+abbrev refuse : Refusal → BlocksVerdict
+refuse r = record { refusal = r; blocks = 0; rounds = 0 }
+
+abbrev answer : Problem → BlocksVerdict
+answer p = record { refusal = noRefusal; blocks = blockTotal p; rounds = closing p .rounds }
+
 -- what is found where nothing is refused
 record Found (short : Bool) (s out : List ℕ) (p : Problem) : Type 0 where
+  blocks : blocksVerdict short s .blocks ≡ blockTotal p
   rounds : blocksVerdict short s .rounds ≡ closing p .rounds
-  bytes : bytesLeft short s out ≡ blockBytes (closing p .state .labels) ++ drop 576 out
+  bytes : bytesLeft short s out ≡ blockBytes (closing p .state .labels) ++ drop blockByteCount out
 
 never : {X : Type 0} (n : ℕ) → suc n ≡ 0 → X
 never n e = absurd (omega arith)
@@ -122,40 +146,43 @@ module _ (short : Bool) (s out : List ℕ) (p : Problem) (read : readProblem s �
   unfolding blocksVerdict bytesLeft blocksOf bytesOf
   found h = go short (tooLarge p) refl (rw read at h)
     where
-      go : (b t : Bool) → tooLarge p ≡ t → cond b (refusedBlocks 1 0) (cond t (refusedBlocks 7 0) (record { refusal = noRefusal; blocks = blockTotal p; rounds = closing p .rounds })) .refusal .number ≡ 0 → Found b s out p
+      go : (b t : Bool) → tooLarge p ≡ t → cond b (refusedBlocks 1 0) (cond t (refusedBlocks 7 0) (answer p)) .refusal .number ≡ 0 → Found b s out p
       go true t e h = never 0 h
       go false true e h = never 6 h
-      go false false e h = record { rounds = rw (read, blocksOf, e); bytes = rw (read, bytesOf, e) }
+      go false false e h = record { blocks = rw (read, blocksOf, e); rounds = rw (read, blocksOf, e); bytes = rw (read, bytesOf, e) }
 
-  seven-only : blocksVerdict short s .refusal .number ≡ 7 → 2048 < length (closedWithZero (closing p))
+  seven-only : blocksVerdict short s .refusal .number ≡ 7 → mostKeys < length (closedWithZero (closing p))
   unfolding blocksVerdict blocksOf tooLarge
-  seven-only h = go short (ltb 2048 (length (closedWithZero (closing p)))) refl (rw read at h)
+  seven-only h = go short (ltb mostKeys (length (closedWithZero (closing p)))) refl (rw read at h)
     where
-      go : (b t : Bool) → ltb 2048 (length (closedWithZero (closing p))) ≡ t → cond b (refusedBlocks 1 0) (cond t (refusedBlocks 7 0) (record { refusal = noRefusal; blocks = blockTotal p; rounds = closing p .rounds })) .refusal .number ≡ 7 → 2048 < length (closedWithZero (closing p))
+      go : (b t : Bool) → ltb mostKeys (length (closedWithZero (closing p))) ≡ t → cond b (refusedBlocks 1 0) (cond t (refusedBlocks 7 0) (answer p)) .refusal .number ≡ 7 → mostKeys < length (closedWithZero (closing p))
       go true t e h = absurd (omega arith)
       go false true e h = ltb-true _ _ e
       go false false e h = absurd (omega arith)
 
-  seven-always : (blocksVerdict short s .refusal .number ≡ 1 → ⊥) → 2048 < length (closedWithZero (closing p)) → blocksVerdict short s .refusal .number ≡ 7
+  seven-always : (blocksVerdict short s .refusal .number ≡ 1 → ⊥) → mostKeys < length (closedWithZero (closing p)) → blocksVerdict short s .refusal .number ≡ 7
   unfolding blocksVerdict blocksOf tooLarge
   seven-always n h = rw read (go short (rw read at n))
     where
       go : (b : Bool) → (cond b (refusedBlocks 1 0) (blocksOf p) .refusal .number ≡ 1 → ⊥) → cond b (refusedBlocks 1 0) (blocksOf p) .refusal .number ≡ 7
       go true n = absurd (n refl)
-      go false n = rw (blocksOf, tooLarge, lt-ltb 2048 (length (closedWithZero (closing p))) h)
+      go false n = rw (blocksOf, tooLarge, lt-ltb mostKeys (length (closedWithZero (closing p))) h)
 
 module _ (short : Bool) (s out : List ℕ) where
   abbrev number : ℕ
   number = blocksVerdict short s .refusal .number
 
   clause-closed : BlocksClosed s number (bytesLeft short s out)
-  clause-closed p read h = rw (found short s out p read h .bytes) (promise-closed s p read (drop 576 out))
+  clause-closed p read h = rw (found short s out p read h .bytes) (promise-closed s p read (drop blockByteCount out))
 
   clause-least : BlocksLeast s number (bytesLeft short s out)
-  clause-least p read h = rw (found short s out p read h .bytes) (promise-least s p read (drop 576 out))
+  clause-least p read h = rw (found short s out p read h .bytes) (promise-least s p read (drop blockByteCount out))
 
   clause-lowest : BlocksLowest s number (bytesLeft short s out)
-  clause-lowest p read h = rw (found short s out p read h .bytes) (promise-lowest s p read (drop 576 out))
+  clause-lowest p read h = rw (found short s out p read h .bytes) (promise-lowest s p read (drop blockByteCount out))
+
+  clause-counted : BlocksCounted s number (bytesLeft short s out) (blocksVerdict short s .blocks)
+  clause-counted p read h = let f = found short s out p read h in f .blocks ∙ rw (f .bytes) (promise-counted s p read (drop blockByteCount out))
 
   clause-rounds : RoundsTaken s number (blocksVerdict short s .rounds)
   clause-rounds p read h = rw (found short s out p read h .rounds) (promise-rounds s p read)
@@ -166,7 +193,15 @@ module _ (short : Bool) (s out : List ℕ) where
   clause-seven : SevenExactly s number
   clause-seven = record { only = λ p read. seven-only short s out p read; always = λ p read. seven-always short s out p read }
 
+  clause-numbered : NumberedTo 7 number
+  unfolding blocksVerdict blocksOf
+  clause-numbered = go (ends refuse answer blocksRead (λ n place. refl) (λ p. refl) short s)
+    where
+      go : {v : BlocksVerdict} → Ends refuse answer blocksRead (λ n place. refl) (λ p. refl) short s v → v .refusal .number ≤ 7
+      go (before n place b e) = rw e (b .most)
+      go (within p r e) = rw e (omega arith)
+
   -- all of them, of a verdict and bytes that are the definitions'
   pub clauses : (v : BlocksVerdict) (bytes : List ℕ) → v ≡ blocksVerdict short s → bytes ≡ bytesLeft short s out
-      → BlocksClosed s (v .refusal .number) bytes × (BlocksLeast s (v .refusal .number) bytes × (BlocksLowest s (v .refusal .number) bytes × (RoundsTaken s (v .refusal .number) (v .rounds) × (FewRounds s (v .refusal .number) (v .rounds) × SevenExactly s (v .refusal .number)))))
-  clauses v bytes e f = rw (e, f) (clause-closed, (clause-least, (clause-lowest, (clause-rounds, (clause-few, clause-seven)))))
+      → NumberedTo 7 (v .refusal .number) × (BlocksClosed s (v .refusal .number) bytes × (BlocksLeast s (v .refusal .number) bytes × (BlocksLowest s (v .refusal .number) bytes × (BlocksCounted s (v .refusal .number) bytes (v .blocks) × (RoundsTaken s (v .refusal .number) (v .rounds) × (FewRounds s (v .refusal .number) (v .rounds) × SevenExactly s (v .refusal .number)))))))
+  clauses v bytes e f = rw (e, f) (clause-numbered, (clause-closed, (clause-least, (clause-lowest, (clause-counted, (clause-rounds, (clause-few, clause-seven)))))))

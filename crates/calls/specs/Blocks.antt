@@ -3,19 +3,18 @@ use mathlib.Core.Bool.{Bool, cond, _||_}
 use mathlib.Core.List.{List, _++_}
 use Prim.Native.Nat.{ℕ}
 use lib.Dec.{ltb}
-use lib.IntN.{ℤ}
 use lib.ListN.{length, drop}
 use Rattle.format.specs.Commands.{Outcome, refused, given}
 use Rattle.format.specs.ProblemRules.{Problem, readProblem}
-use Rattle.joining_rule.specs.Bytes.{blockBytes}
+use Rattle.joining_rule.specs.Bytes.{blockByteCount, blockBytes}
 use Rattle.joining_rule.specs.Joining.{closing, tooLarge, blockTotal}
-use Rattle.calls.specs.Tables.{tablesShort}
+use Rattle.calls.specs.Tables.{Tables, tablesShort}
 use Rattle.calls.specs.Refusals.{noRefusal, problemRefusal}
 use Rattle.calls.specs.declared.BlocksVerdict.{BlocksVerdict}
 
 -- ---- refusal 1: "a lent table or the 576 bytes is too short"
-unfoldable pub blocksShort : List ℕ → List ℕ → List ℤ → List ℕ → Bool
-blocksShort out keys high low = ltb (length out) 576 || tablesShort keys high low
+unfoldable pub blocksShort : List ℕ → Tables → Bool
+blocksShort out t = ltb (length out) blockByteCount || tablesShort t
 
 -- ---- the verdict: "A refusal .. returns number, stream .., place and key; all other fields are 0"
 abbrev pub refusedBlocks : ℕ → ℕ → BlocksVerdict
@@ -37,7 +36,7 @@ blocksVerdict short s = cond short (refusedBlocks 1 0) (blocksRead (readProblem 
 
 -- ---- the 576 bytes: "A refusal leaves the 576 bytes untouched", and bytes past them are untouched always
 unfoldable pub bytesOf : Problem → List ℕ → List ℕ
-bytesOf p out = cond (tooLarge p) out (blockBytes (closing p .state .labels) ++ drop 576 out)
+bytesOf p out = cond (tooLarge p) out (blockBytes (closing p .state .labels) ++ drop blockByteCount out)
 
 abbrev pub bytesRead : Outcome Problem → List ℕ → List ℕ
 bytesRead (refused number place) out = out

@@ -1,31 +1,46 @@
--- What the calls promise where nothing is refused, in the buyer's terms. s is the problem stream, number and rounds
--- what the call returns, bytes the 576 bytes at exit.
+-- What the calls promise, in the buyer's terms. s is the problem stream, and t, low and high are certificate streams;
+-- number, blocks and rounds are what the call returns, and bytes the 576 bytes at exit; short is true where something
+-- lent is too short.
 use mathlib.Core.Path.{_≡_}
 use mathlib.Core.Bool.{Bool, false}
 use mathlib.Core.List.{List}
+use mathlib.Core.Logic.{_⊎_}
 use Prim.Native.Nat.{ℕ, _+_, _≤_, _<_}
 use lib.ListN.{length}
+use Rattle.counting.specs.Counting.{listed, sumTo}
 use Rattle.format.specs.Commands.{given}
 use Rattle.format.specs.ProblemRules.{Problem, readProblem}
 use Rattle.format.specs.ProblemCounts.{memberCommands, basesNamed}
+use Rattle.format.specs.ProblemBases.{basisOf}
+use Rattle.joining_rule.specs.Sets.{different}
 use Rattle.joining_rule.specs.Bytes.{blockAt}
 use Rattle.joining_rule.specs.Meaning.{Closed, Least, Lowest, TakesRounds}
-use Rattle.joining_rule.specs.Joining.{basesOf, startSet, closedSupport, tooLarge, closing}
+use Rattle.joining_rule.specs.Joining.{basesOf, startSet, closing, closedSupport, mostKeys, tooLarge}
 use Rattle.calls.specs.Fractions.{gapOf}
 use Rattle.calls.specs.declared.Fraction.{Fraction}
 use Rattle.format.specs.CertificateRules.{Certificate, readCertificate}
-use Rattle.accepting.specs.Identity.{KeepsBlocks, Identity}
+use Rattle.accepting.specs.Identity.{KeepsBlocks, Identity, claim, squares}
 use Rattle.accepting.specs.Judgement as J
 use Rattle.accepting.specs.Bounds.{BoundedBelow, BoundedAbove, WithinGap}
 use Rattle.calls.specs.Check.{boundOf}
+use Rattle.calls.specs.declared.Refusal.{Refusal}
+use Rattle.calls.specs.declared.CheckVerdict.{CheckVerdict}
 use Rattle.calls.specs.declared.PairVerdict.{PairVerdict}
 use Rattle.joining_rule.specs.Rounds.{closedWithZero}
+
+-- ---- every call
+-- the number is 0, where nothing is refused, or one of the refusals 1 to last of document 01's ten. The last of the
+-- blocks call is 7, of the check 9 and of the pair 10: "1; the problem by commands, each checked 3, 2, 4, 5, 6; 7; the
+-- first certificate by commands likewise; 8 by rows; 9; the second certificate the same; 10"
+abbrev pub NumberedTo : ℕ → ℕ → Type 0
+NumberedTo last number = number ≤ last
 
 -- P holds of the problem that the stream gives, where nothing is refused
 abbrev pub WhereAccepted : List ℕ → ℕ → (Problem → Type 0) → Type 0
 WhereAccepted s number P = (p : Problem) → readProblem s ≡ given p → number ≡ 0 → P p
 
--- the blocks reported contain the start and are closed under the joining rule's steps
+-- ---- the blocks
+-- they contain the start and are closed under the joining rule's steps
 abbrev pub BlocksClosed : List ℕ → ℕ → List ℕ → Type 0
 BlocksClosed s number bytes =
     WhereAccepted s number (λ p. Closed (basesOf p) (startSet p) (blockAt bytes) (closedSupport p))
@@ -39,6 +54,12 @@ BlocksLeast s number bytes =
 abbrev pub BlocksLowest : List ℕ → ℕ → List ℕ → Type 0
 BlocksLowest s number bytes = WhereAccepted s number (λ p. Lowest (basesOf p) (blockAt bytes))
 
+-- "the number of blocks": of every basis, how many different block numbers the bytes tell of its indices
+abbrev pub BlocksCounted : List ℕ → ℕ → List ℕ → ℕ → Type 0
+BlocksCounted s number bytes blocks =
+    WhereAccepted s number
+    (λ p. blocks ≡ sumTo 9 (λ j. different (listed (length (basisOf p j)) (blockAt bytes j))))
+
 -- the rounds are exactly those that the joining rule takes
 abbrev pub RoundsTaken : List ℕ → ℕ → ℕ → Type 0
 RoundsTaken s number rounds = WhereAccepted s number (λ p. TakesRounds (basesOf p) (startSet p) rounds)
@@ -47,22 +68,68 @@ RoundsTaken s number rounds = WhereAccepted s number (λ p. TakesRounds (basesOf
 abbrev pub FewRounds : List ℕ → ℕ → ℕ → Type 0
 FewRounds s number rounds = WhereAccepted s number (λ p. rounds + basesNamed s ≤ memberCommands s + 2)
 
--- with tables that are long enough, refusal 7 is given exactly when the closed S with the zero exponent has more than
--- 2,048 members
+-- with tables that are long enough, refusal 7 is given exactly when "closed S with zero" is "above 2,048"
 pub record SevenExactly (s : List ℕ) (number : ℕ) : Type 0 where
-  pub only : (p : Problem) → readProblem s ≡ given p → number ≡ 7 → 2048 < length (closedWithZero (closing p))
-  pub always : (p : Problem) → readProblem s ≡ given p → (number ≡ 1 → ⊥) → 2048 < length (closedWithZero (closing p))
-      → number ≡ 7
+  pub only : (p : Problem) → readProblem s ≡ given p → number ≡ 7 → mostKeys < length (closedWithZero (closing p))
+  pub always : (p : Problem) → readProblem s ≡ given p → (number ≡ 1 → ⊥)
+      → mostKeys < length (closedWithZero (closing p)) → number ≡ 7
+
+-- ---- bounds and gap
+-- "at every rational point where all constraints are at least 0, p/q ≤ value ≤ P/Q"
+abbrev pub HoldsBelow : List ℕ → ℕ → Fraction → Type 0
+HoldsBelow s number f = WhereAccepted s number (λ p. BoundedBelow p (f .num) (f .den))
+
+abbrev pub HoldsAbove : List ℕ → ℕ → Fraction → Type 0
+HoldsAbove s number f = WhereAccepted s number (λ p. BoundedAbove p (f .num) (f .den))
+
+-- "any two such points have values no further apart than the gap"
+abbrev pub HoldsGap : List ℕ → ℕ → Fraction → Type 0
+HoldsGap s number f = WhereAccepted s number (λ p. WithinGap p (f .num) (f .den))
+
+-- ---- refusal 9: "identity false", where the stream gives a certificate whose rows keep to the blocks
+pub record IdentityFalse (p : Problem) (t : List ℕ) (c : Certificate) : Type 0 where
+  pub read : readCertificate p t ≡ given c
+  pub blocks : KeepsBlocks p (c .rows)
+  pub differs : Identity p c → ⊥
+
+-- "key is the smallest that differs"
+pub record DiffersAt (p : Problem) (t : List ℕ) (key : ℕ) : Type 0 where
+  pub certificate : Certificate
+  pub identity : IdentityFalse p t certificate
+  pub smallest : J.Smallest (claim p (certificate .header)) (squares p (certificate .rows)) key
+
+-- the stream gives a problem, and P holds of it
+pub record Reads (s : List ℕ) (P : Problem → Type 0) : Type 0 where
+  pub problem : Problem
+  pub read : readProblem s ≡ given problem
+  pub holds : P problem
+
+-- the stream gives a problem within its limits, and work tables have their full length
+pub record Within (short : Bool) (s : List ℕ) (p : Problem) : Type 0 where
+  pub long : short ≡ false
+  pub read : readProblem s ≡ given p
+  pub few : tooLarge p ≡ false
 
 -- ---- the check
--- for a problem within its limits and full-length work tables (short is false), "a certificate that reads by its
--- layouts is accepted exactly when its rows keep to those blocks and its weighted squares equal the polynomial
--- identity, coefficient by coefficient"
+-- for a problem within its limits and full-length work tables, "a certificate that reads by its layouts is accepted
+-- exactly when its rows keep to those blocks and its weighted squares equal the polynomial identity, coefficient by
+-- coefficient"
 pub record AcceptedExactly (short : Bool) (s t : List ℕ) (number : ℕ) : Type 0 where
   pub only : (p : Problem) (c : Certificate) → readProblem s ≡ given p → readCertificate p t ≡ given c
       → number ≡ 0 → KeepsBlocks p (c .rows) × Identity p c
-  pub always : (p : Problem) (c : Certificate) → short ≡ false → readProblem s ≡ given p → tooLarge p ≡ false
-      → readCertificate p t ≡ given c → KeepsBlocks p (c .rows) → Identity p c → number ≡ 0
+  pub always : (p : Problem) (c : Certificate) → Within short s p → readCertificate p t ≡ given c
+      → KeepsBlocks p (c .rows) → Identity p c → number ≡ 0
+
+-- refusal 9 is given exactly where the identity is false, with the smallest key that differs
+pub record CheckDiffers (short : Bool) (s t : List ℕ) (f : Refusal) : Type 0 where
+  pub only : f .number ≡ 9 → (f .stream ≡ 1) × Reads s (λ p. DiffersAt p t (f .key))
+  pub always : (p : Problem) (c : Certificate) → Within short s p → IdentityFalse p t c → f .number ≡ 9
+
+-- an accepted certificate's bound holds by its side: "side 0 lower, 1 upper"
+pub record HoldsBySide (s : List ℕ) (v : CheckVerdict) : Type 0 where
+  pub sides : v .side ≤ 1
+  pub lower : v .side ≡ 0 → HoldsBelow s (v .refusal .number) (v .bound)
+  pub upper : v .side ≡ 1 → HoldsAbove s (v .refusal .number) (v .bound)
 
 -- ---- the pair
 -- both certificates are accepted, "the first with side 0 and the second with side 1"
@@ -87,16 +154,22 @@ pub record Stated (s low high : List ℕ) (v : PairVerdict) : Type 0 where
 -- accepts exactly when both certificates are accepted, the first with side 0 and the second with side 1"
 pub record PairExactly (short : Bool) (s low high : List ℕ) (v : PairVerdict) : Type 0 where
   pub only : v .refusal .number ≡ 0 → Stated s low high v
-  pub always : (p : Problem) (c d : Certificate) → short ≡ false → readProblem s ≡ given p → tooLarge p ≡ false
-      → BothHold p low high c d → v .refusal .number ≡ 0
+  pub always : (p : Problem) (c d : Certificate) → Within short s p → BothHold p low high c d
+      → v .refusal .number ≡ 0
 
--- "at every rational point where all constraints are at least 0, p/q ≤ value ≤ P/Q"
-abbrev pub HoldsBelow : List ℕ → ℕ → Fraction → Type 0
-HoldsBelow s number f = WhereAccepted s number (λ p. BoundedBelow p (f .num) (f .den))
+-- the second certificate differs, after the first was accepted
+pub record SecondDiffers (p : Problem) (low high : List ℕ) (key : ℕ) : Type 0 where
+  pub first : Certificate
+  pub accepted : J.Accepted p low first
+  pub second : DiffersAt p high key
 
-abbrev pub HoldsAbove : List ℕ → ℕ → Fraction → Type 0
-HoldsAbove s number f = WhereAccepted s number (λ p. BoundedAbove p (f .num) (f .den))
-
--- "any two such points have values no further apart than the gap"
-abbrev pub HoldsGap : List ℕ → ℕ → Fraction → Type 0
-HoldsGap s number f = WhereAccepted s number (λ p. WithinGap p (f .num) (f .den))
+-- refusal 9 is given exactly where the first identity is false, or where the first certificate is accepted and the
+-- second identity is false
+pub record PairDiffers (short : Bool) (s low high : List ℕ) (f : Refusal) : Type 0 where
+  pub only : f .number ≡ 9
+      → ((f .stream ≡ 1) × Reads s (λ p. DiffersAt p low (f .key)))
+      ⊎ ((f .stream ≡ 2) × Reads s (λ p. SecondDiffers p low high (f .key)))
+  pub first : (p : Problem) (c : Certificate) → Within short s p → IdentityFalse p low c
+      → (f .number ≡ 9) × (f .stream ≡ 1)
+  pub second : (p : Problem) (c d : Certificate) → Within short s p → J.Accepted p low c → IdentityFalse p high d
+      → (f .number ≡ 9) × (f .stream ≡ 2)

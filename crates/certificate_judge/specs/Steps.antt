@@ -21,6 +21,7 @@ use Rattle.identity_check.specs.declared.Difference.{Difference}
 use Rattle.identity_check.specs.declared.Difference.the-variants as Difference
 use Rattle.certificate_judge.specs.declared.Judged.{Judged}
 use Rattle.certificate_judge.specs.declared.Judged.the-variants as Judged
+use Rattle.calls.specs.Tables.{tableLength}
 use Rattle.calls.specs.Refusals.{certificateRefusal}
 
 -- a problem within its limits, what the joining rule gives of it, and the compared keys in the table, with their index
@@ -28,7 +29,7 @@ pub record JoinedProblem (p : StoredProblem) (j : Joined) (keys idx : List ℕ) 
   pub kept : Kept p
   pub limits : Limits (problemOf p)
   pub few : j .full ≡ false
-  pub long : 2048 ≤ length keys
+  pub long : tableLength ≤ length keys
   pub before : List ℕ
   pub joining : ClosureLeft (closing (problemOf p)) before j keys idx
 

@@ -12,6 +12,7 @@ ghost use Rattle.accepting.specs.Judgement as J;
 ghost use Rattle.row_products.specs.Outer.{Below};
 ghost use Rattle.identity_check.specs.Compare.{differenceOf, Untouched};
 ghost use Rattle.certificate_judge.specs.declared.Judged.the-variants as Judged;
+ghost use Rattle.calls.specs.Tables.{tableLength};
 ghost use Rattle.calls.specs.Refusals.{problemRefusal, certificateRefusal};
 ghost use Rattle.certificate_judge.specs.Steps.{JoinedProblem, Compares, HeaderStands, judgedOf, judgedFrom};
 use calls::Refusal;
@@ -73,8 +74,8 @@ fn difference(
         × Compares (problemOf p) n (now table) (now index)
         × Below 0 (now g)
         × HeaderStands (problemOf p) (now s) header
-        × (2048 ≤ length (now high))
-        × (2048 ≤ length (now low))
+        × (tableLength ≤ length (now high))
+        × (tableLength ≤ length (now low))
         ⌝ }
     ensures { λ r. ⌜
         ((c : Certificate) → readCertificate (problemOf p) (now (s .entry)) ≡ given c
@@ -152,13 +153,13 @@ pub fn judge(
     requires { ⌜
         JoinedProblem p j (now keys) (now index)
         × Below 0 (now g)
-        × (2048 ≤ length (now high))
-        × (2048 ≤ length (now low))
+        × (tableLength ≤ length (now high))
+        × (tableLength ≤ length (now low))
         ⌝ }
     ensures { λ r. ⌜
         (r ≡ judgedOf stream (J.judge (problemOf p) (now (s .entry))))
-        × (drop 2048 (now (high .exit)) ≡ drop 2048 (now (high .entry)))
-        × (drop 2048 (now (low .exit)) ≡ drop 2048 (now (low .entry)))
+        × (drop tableLength (now (high .exit)) ≡ drop tableLength (now (high .entry)))
+        × (drop tableLength (now (low .exit)) ≡ drop tableLength (now (low .entry)))
         × Below 0 (now (g .exit))
         ⌝ }
 {

@@ -8,10 +8,10 @@ use lib.IntN.{ℤ, pos}
 use lib.ListN.{length, drop, replicate}
 use borrow.Author.Tests.{lt-ltb, le-ltb, ltb-false}
 use Rattle.counting.proofs.Cases.{clash}
-use Rattle.calls.specs.Tables.{tablesShort, tableLeft}
-use Rattle.checker.specs.Tables.{Long, Cleared}
+use Rattle.calls.specs.Tables.{tableLength, Tables, tablesShort, tableLeft, TablesLeft}
+use Rattle.joining_rule.specs.Bytes.{blockByteCount}
 use Rattle.calls.specs.Blocks.{blocksShort}
-use Rattle.checker.specs.Steps.{Rest}
+use Rattle.checker.specs.Tables.{Long, Rest}
 
 or-left : (a b : Bool) → (a || b) ≡ false → a ≡ false
 or-left true b h = h
@@ -21,35 +21,33 @@ or-right : (a b : Bool) → (a || b) ≡ false → b ≡ false
 or-right true b h = clash (cc)
 or-right false b h = h
 
-module _ (keys : List ℕ) (high : List ℤ) (low : List ℕ) where
-  pub tables-long : tablesShort keys high low ≡ false → Long keys high low
+module _ (t : Tables) where
+  pub tables-long : tablesShort t ≡ false → Long t
   tables-long h =
-      let r = or-right (ltb (length keys) 2048) _ h in
+      let r = or-right (ltb (length (t .keys)) tableLength) _ h in
       record {
-        keys = ltb-false _ _ (or-left (ltb (length keys) 2048) _ h);
-        high = ltb-false _ _ (or-left (ltb (length high) 2048) _ r);
-        low = ltb-false _ _ (or-right (ltb (length high) 2048) _ r);
+        keys = ltb-false _ _ (or-left (ltb (length (t .keys)) tableLength) _ h);
+        high = ltb-false _ _ (or-left (ltb (length (t .high)) tableLength) _ r);
+        low = ltb-false _ _ (or-right (ltb (length (t .high)) tableLength) _ r);
       }
 
+  -- refusal 1 writes nothing
+  pub tables-kept : TablesLeft true t t
+  tables-kept = record { keys = refl; high = refl; low = refl }
+
   module _ (out : List ℕ) where
-    pub out-short : length out < 576 → blocksShort out keys high low ≡ true
+    pub out-short : length out < blockByteCount → blocksShort out t ≡ true
     unfolding blocksShort
-    out-short h = rw (lt-ltb (length out) 576 h)
+    out-short h = rw (lt-ltb (length out) blockByteCount h)
 
-    pub out-long : (b : Bool) → 576 ≤ length out → tablesShort keys high low ≡ b → blocksShort out keys high low ≡ b
+    pub out-long : (b : Bool) → blockByteCount ≤ length out → tablesShort t ≡ b → blocksShort out t ≡ b
     unfolding blocksShort
-    out-long b h e = rw (le-ltb (length out) 576 h) e
+    out-long b h e = rw (le-ltb (length out) blockByteCount h) e
 
--- a table that was changed before place 2,048 only, and then cleared
-table-cleared : {A : Type 0} (zero : A) (t t₁ t₂ : List A) → drop 2048 t₁ ≡ drop 2048 t → t₂ ≡ replicate 2048 zero ++ drop 2048 t₁ → t₂ ≡ tableLeft false zero t
-unfolding tableLeft
-table-cleared zero t t₁ t₂ e f = f ∙ ap (λ (l : List _). replicate 2048 zero ++ l) e
-
-pub tables-cleared : {k k₁ k₂ l l₁ l₂ : List ℕ} {h h₁ h₂ : List ℤ} → Rest k h l k₁ h₁ l₁ → Cleared k₁ h₁ l₁ k₂ h₂ l₂
-    → (k₂ ≡ tableLeft false 0 k) × (h₂ ≡ tableLeft false (pos 0) h) × (l₂ ≡ tableLeft false 0 l)
-tables-cleared {k} {k₁} {k₂} {l} {l₁} {l₂} {h} {h₁} {h₂} r c = (table-cleared 0 k k₁ k₂ (r .keys) (c .keys), table-cleared (pos 0) h h₁ h₂ (r .high) (c .high), table-cleared 0 l l₁ l₂ (r .low) (c .low))
-
--- refusal 1 writes nothing
-pub table-kept : {A : Type 0} (zero : A) (t : List A) → t ≡ tableLeft true zero t
-unfolding tableLeft
-table-kept zero t = refl
+-- tables that were changed before place 2,048 only, and then cleared
+pub tables-cleared : {t t₁ t₂ : Tables} → Rest t t₁ → TablesLeft false t₁ t₂ → TablesLeft false t t₂
+tables-cleared r c = record {
+  keys = c .keys ∙ ap (λ (l : List ℕ). replicate tableLength 0 ++ l) (r .keys);
+  high = c .high ∙ ap (λ (l : List ℤ). replicate tableLength (pos 0) ++ l) (r .high);
+  low = c .low ∙ ap (λ (l : List ℕ). replicate tableLength 0 ++ l) (r .low);
+}

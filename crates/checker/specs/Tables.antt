@@ -1,18 +1,17 @@
 -- The work tables within a call.
 use mathlib.Core.Path.{_≡_}
-use mathlib.Core.List.{List, _++_}
-use Prim.Native.Nat.{ℕ, _≤_}
-use lib.IntN.{ℤ, pos}
-use lib.ListN.{length, drop, replicate}
+use Prim.Native.Nat.{_≤_}
+use lib.ListN.{length, drop}
+use Rattle.calls.specs.Tables.{tableLength, Tables}
 
 -- every work table is long enough
-pub record Long (k : List ℕ) (h : List ℤ) (l : List ℕ) : Type 0 where
-  pub keys : 2048 ≤ length k
-  pub high : 2048 ≤ length h
-  pub low : 2048 ≤ length l
+pub record Long (t : Tables) : Type 0 where
+  pub keys : tableLength ≤ length (t .keys)
+  pub high : tableLength ≤ length (t .high)
+  pub low : tableLength ≤ length (t .low)
 
--- every work table is cleared
-pub record Cleared (k : List ℕ) (h : List ℤ) (l : List ℕ) (k′ : List ℕ) (h′ : List ℤ) (l′ : List ℕ) : Type 0 where
-  pub keys : k′ ≡ replicate 2048 0 ++ drop 2048 k
-  pub high : h′ ≡ replicate 2048 (pos 0) ++ drop 2048 h
-  pub low : l′ ≡ replicate 2048 0 ++ drop 2048 l
+-- "extra length .. is untouched"
+pub record Rest (lent left : Tables) : Type 0 where
+  pub keys : drop tableLength (left .keys) ≡ drop tableLength (lent .keys)
+  pub high : drop tableLength (left .high) ≡ drop tableLength (lent .high)
+  pub low : drop tableLength (left .low) ≡ drop tableLength (lent .low)

@@ -1,19 +1,20 @@
 // The public calls: the blocks of a problem, the check of one certificate and the pair of two. What they share is in
 // `certificate_judge`.
 ghost use mathlib.Core.Path.{_≡_};
-ghost use mathlib.Core.Bool.{_||_};
+ghost use mathlib.Core.Bool.{false, _||_};
 ghost use mathlib.Core.List.{_++_};
 ghost use Prim.Native.Nat.{_≤_};
 ghost use lib.Dec.{ltb};
 ghost use lib.ListN.{length, drop};
-ghost use lib.IntN.{pos};
 ghost use Rattle.format.specs.ProblemRules.{readProblem};
 ghost use Rattle.problem_reader.specs.Stored.{problemOf, Kept};
 ghost use Rattle.format.proofs.WithinLimits.{Limits};
 ghost use Rattle.accepting.specs.Judgement as J;
-ghost use Rattle.calls.specs.Tables.{tablesShort, tableLeft};
-ghost use Rattle.checker.specs.Tables.{Long, Cleared};
-ghost use Rattle.calls.specs.Blocks.{blocksShort, refusedBlocks, blocksOf, blocksRead, bytesOf, bytesRead, blocksVerdict, bytesLeft};
+ghost use Rattle.joining_rule.specs.Bytes.{blockByteCount};
+ghost use Rattle.calls.specs.Tables.{tableLength, tables, tablesShort, TablesLeft};
+ghost use Rattle.checker.specs.Tables.{Long, Rest};
+ghost use Rattle.calls.specs.Blocks.{blocksShort, refusedBlocks, blocksOf, blocksRead};
+ghost use Rattle.calls.specs.Blocks.{bytesOf, bytesRead, blocksVerdict, bytesLeft};
 ghost use Rattle.fractions.specs.Ranges.{Bound};
 ghost use Rattle.calls.specs.Fractions.{fraction};
 ghost use Rattle.calls.specs.Refusals.{certificateRefusal};
@@ -21,8 +22,11 @@ ghost use Rattle.row_products.specs.Outer.{Below};
 ghost use Rattle.certificate_judge.specs.Steps.{JoinedProblem};
 ghost use Rattle.calls.specs.Check.{refusedCheck, checkOf, checkRead, checkVerdict};
 ghost use Rattle.calls.specs.Pair.{refusedPair, pairSides, pairFirst, pairOf, pairRead, pairVerdict};
-ghost use Rattle.checker.specs.Steps.{Rest, checkFrom, pairFrom};
-ghost use Rattle.calls.specs.Promises.{BlocksClosed, BlocksLeast, BlocksLowest, RoundsTaken, FewRounds, SevenExactly, AcceptedExactly, PairExactly, HoldsBelow, HoldsAbove, HoldsGap};
+ghost use Rattle.checker.specs.Steps.{checkFrom, pairFrom};
+ghost use Rattle.calls.specs.Promises.{NumberedTo, BlocksClosed, BlocksLeast, BlocksLowest, BlocksCounted};
+ghost use Rattle.calls.specs.Promises.{RoundsTaken, FewRounds, SevenExactly};
+ghost use Rattle.calls.specs.Promises.{AcceptedExactly, CheckDiffers, HoldsBySide};
+ghost use Rattle.calls.specs.Promises.{PairExactly, PairDiffers, HoldsBelow, HoldsAbove, HoldsGap};
 use calls::BlocksVerdict;
 use calls::CheckVerdict;
 use calls::Fraction;
@@ -35,8 +39,8 @@ use problem_reader::StoredProblem;
 
 // The block numbers written to the lent bytes.
 fn copy(out: &mut [u8], labels: &[u8])
-    requires { ⌜ (576 ≤ length (now out)) × (length (now labels) ≡ 576) ⌝ }
-    ensures { λ _. ⌜ now (out .exit) ≡ now (labels .entry) ++ drop 576 (now (out .entry)) ⌝ }
+    requires { ⌜ (blockByteCount ≤ length (now out)) × (length (now labels) ≡ blockByteCount) ⌝ }
+    ensures { λ _. ⌜ now (out .exit) ≡ now (labels .entry) ++ drop blockByteCount (now (out .entry)) ⌝ }
 {
     let mut i = 0;
     while i < 576 {
@@ -47,7 +51,7 @@ fn copy(out: &mut [u8], labels: &[u8])
 
 // Whether a work table is too short, by their lengths.
 fn is_short(keys: usize, high: usize, low: usize) -> bool
-    ensures { λ r. ⌜ r ≡ (ltb keys 2048 || (ltb high 2048 || ltb low 2048)) ⌝ }
+    ensures { λ r. ⌜ r ≡ (ltb keys tableLength || (ltb high tableLength || ltb low tableLength)) ⌝ }
 {
     if keys < 2048 {
         return true;
@@ -60,11 +64,10 @@ fn is_short(keys: usize, high: usize, low: usize) -> bool
 
 // The work tables as every call leaves them that has used them.
 fn clear_tables(keys: &mut [u64], high: &mut [i64], low: &mut [u64])
-    requires { ⌜ Long (now keys) (now high) (now low) ⌝ }
-    ensures { λ _. ⌜
-        Cleared (now (keys .entry)) (now (high .entry)) (now (low .entry)) (now (keys .exit)) (now (high .exit))
-        (now (low .exit))
-        ⌝ }
+    requires { ⌜ Long (tables (now keys) (now high) (now low)) ⌝ }
+    ensures { λ _.
+        let lent = tables (now (keys .entry)) (now (high .entry)) (now (low .entry)) in
+        ⌜ TablesLeft false lent (tables (now (keys .exit)) (now (high .exit)) (now (low .exit))) ⌝ }
 {
     certificate_judge::clear(keys, 2048);
     certificate_judge::clear_signed(high, 2048);
@@ -89,11 +92,11 @@ fn refuse_blocks(number: u8, place: usize) -> BlocksVerdict
 
 // The blocks of a problem that was read. The table is changed before place 2,048 only.
 fn blocks_of(p: StoredProblem, out: &mut [u8], table: &mut [u64]) -> BlocksVerdict
-    requires { ⌜ Kept p × (576 ≤ length (now out)) × (2048 ≤ length (now table)) ⌝ }
+    requires { ⌜ Kept p × (blockByteCount ≤ length (now out)) × (tableLength ≤ length (now table)) ⌝ }
     ensures { λ r. ⌜
         (r ≡ blocksOf (problemOf p))
         × (now (out .exit) ≡ bytesOf (problemOf p) (now (out .entry)))
-        × (drop 2048 (now (table .exit)) ≡ drop 2048 (now (table .entry)))
+        × (drop tableLength (now (table .exit)) ≡ drop tableLength (now (table .entry)))
         ⌝ }
 {
     let mut index = [0u16; 6144];
@@ -117,11 +120,11 @@ fn blocks_of(p: StoredProblem, out: &mut [u8], table: &mut [u64]) -> BlocksVerdi
 
 // The blocks of a problem stream, with tables that are long enough.
 fn answer_blocks(problem: &[u8], out: &mut [u8], table: &mut [u64]) -> BlocksVerdict
-    requires { ⌜ (576 ≤ length (now out)) × (2048 ≤ length (now table)) ⌝ }
+    requires { ⌜ (blockByteCount ≤ length (now out)) × (tableLength ≤ length (now table)) ⌝ }
     ensures { λ r. ⌜
         (r ≡ blocksRead (readProblem (now (problem .entry))))
         × (now (out .exit) ≡ bytesRead (readProblem (now (problem .entry))) (now (out .entry)))
-        × (drop 2048 (now (table .exit)) ≡ drop 2048 (now (table .entry)))
+        × (drop tableLength (now (table .exit)) ≡ drop tableLength (now (table .entry)))
         ⌝ }
 {
     let r = problem_reader::read(problem);
@@ -140,34 +143,24 @@ pub fn blocks(
     high: &mut [i64],
     low: &mut [u64],
 ) -> BlocksVerdict
-    ensures verdict { λ r. ⌜
-        r
-        ≡ blocksVerdict (blocksShort (now (out .entry)) (now (keys .entry)) (now (high .entry)) (now (low .entry)))
-        (now (problem .entry))
-        ⌝ }
-    ensures bytes { λ _. ⌜
-        now (out .exit)
-        ≡ bytesLeft (blocksShort (now (out .entry)) (now (keys .entry)) (now (high .entry)) (now (low .entry)))
-        (now (problem .entry)) (now (out .entry))
-        ⌝ }
-    ensures keys_left { λ _. ⌜
-        now (keys .exit)
-        ≡ tableLeft (blocksShort (now (out .entry)) (now (keys .entry)) (now (high .entry)) (now (low .entry))) 0
-        (now (keys .entry))
-        ⌝ }
-    ensures high_left { λ _. ⌜
-        now (high .exit)
-        ≡ tableLeft (blocksShort (now (out .entry)) (now (keys .entry)) (now (high .entry)) (now (low .entry)))
-        (pos 0) (now (high .entry))
-        ⌝ }
-    ensures low_left { λ _. ⌜
-        now (low .exit)
-        ≡ tableLeft (blocksShort (now (out .entry)) (now (keys .entry)) (now (high .entry)) (now (low .entry))) 0
-        (now (low .entry))
-        ⌝ }
+    ensures verdict { λ r.
+        let lent = tables (now (keys .entry)) (now (high .entry)) (now (low .entry)) in
+        ⌜ r ≡ blocksVerdict (blocksShort (now (out .entry)) lent) (now (problem .entry)) ⌝ }
+    ensures bytes { λ _.
+        let lent = tables (now (keys .entry)) (now (high .entry)) (now (low .entry)) in
+        let before = now (out .entry) in
+        ⌜ now (out .exit) ≡ bytesLeft (blocksShort before lent) (now (problem .entry)) before ⌝ }
+    ensures tables { λ _.
+        let lent = tables (now (keys .entry)) (now (high .entry)) (now (low .entry)) in
+        let left = tables (now (keys .exit)) (now (high .exit)) (now (low .exit)) in
+        ⌜ TablesLeft (blocksShort (now (out .entry)) lent) lent left ⌝ }
+    ensures numbered { λ r. ⌜ NumberedTo 7 (r .refusal .number) ⌝ }
     ensures closed { λ r. ⌜ BlocksClosed (now (problem .entry)) (r .refusal .number) (now (out .exit)) ⌝ }
     ensures least { λ r. ⌜ BlocksLeast (now (problem .entry)) (r .refusal .number) (now (out .exit)) ⌝ }
     ensures lowest { λ r. ⌜ BlocksLowest (now (problem .entry)) (r .refusal .number) (now (out .exit)) ⌝ }
+    ensures counted { λ r. ⌜
+        BlocksCounted (now (problem .entry)) (r .refusal .number) (now (out .exit)) (r .blocks)
+        ⌝ }
     ensures rounds { λ r. ⌜ RoundsTaken (now (problem .entry)) (r .refusal .number) (r .rounds) ⌝ }
     ensures few_rounds { λ r. ⌜ FewRounds (now (problem .entry)) (r .refusal .number) (r .rounds) ⌝ }
     ensures seven { λ r. ⌜ SevenExactly (now (problem .entry)) (r .refusal .number) ⌝ }
@@ -227,11 +220,11 @@ fn check_of(
     high: &mut [i64],
     low: &mut [u64],
 ) -> CheckVerdict
-    requires { ⌜ Kept p × Limits (problemOf p) × Long (now keys) (now high) (now low) ⌝ }
+    requires { ⌜ Kept p × Limits (problemOf p) × Long (tables (now keys) (now high) (now low)) ⌝ }
     ensures { λ r. ⌜
         (r ≡ checkOf (problemOf p) (now (certificate .entry)))
-        × Rest (now (keys .entry)) (now (high .entry)) (now (low .entry)) (now (keys .exit)) (now (high .exit))
-        (now (low .exit))
+        × Rest (tables (now (keys .entry)) (now (high .entry)) (now (low .entry)))
+        (tables (now (keys .exit)) (now (high .exit)) (now (low .exit)))
         ⌝ }
 {
     let mut index = [0u16; 6144];
@@ -264,11 +257,11 @@ fn answer_check(
     high: &mut [i64],
     low: &mut [u64],
 ) -> CheckVerdict
-    requires { ⌜ Long (now keys) (now high) (now low) ⌝ }
+    requires { ⌜ Long (tables (now keys) (now high) (now low)) ⌝ }
     ensures { λ r. ⌜
         (r ≡ checkRead (readProblem (now (problem .entry))) (now (certificate .entry)))
-        × Rest (now (keys .entry)) (now (high .entry)) (now (low .entry)) (now (keys .exit)) (now (high .exit))
-        (now (low .exit))
+        × Rest (tables (now (keys .entry)) (now (high .entry)) (now (low .entry)))
+        (tables (now (keys .exit)) (now (high .exit)) (now (low .exit)))
         ⌝ }
 {
     let r = problem_reader::read(problem);
@@ -287,28 +280,21 @@ pub fn check(
     high: &mut [i64],
     low: &mut [u64],
 ) -> CheckVerdict
-    ensures verdict { λ r. ⌜
-        r
-        ≡ checkVerdict (tablesShort (now (keys .entry)) (now (high .entry)) (now (low .entry))) (now (problem .entry))
-        (now (certificate .entry))
-        ⌝ }
-    ensures keys_left { λ _. ⌜
-        now (keys .exit)
-        ≡ tableLeft (tablesShort (now (keys .entry)) (now (high .entry)) (now (low .entry))) 0 (now (keys .entry))
-        ⌝ }
-    ensures high_left { λ _. ⌜
-        now (high .exit)
-        ≡ tableLeft (tablesShort (now (keys .entry)) (now (high .entry)) (now (low .entry))) (pos 0)
-        (now (high .entry))
-        ⌝ }
-    ensures low_left { λ _. ⌜
-        now (low .exit)
-        ≡ tableLeft (tablesShort (now (keys .entry)) (now (high .entry)) (now (low .entry))) 0 (now (low .entry))
-        ⌝ }
-    ensures accepted { λ r. ⌜
-        AcceptedExactly (tablesShort (now (keys .entry)) (now (high .entry)) (now (low .entry)))
-        (now (problem .entry)) (now (certificate .entry)) (r .refusal .number)
-        ⌝ }
+    ensures verdict { λ r.
+        let lent = tables (now (keys .entry)) (now (high .entry)) (now (low .entry)) in
+        ⌜ r ≡ checkVerdict (tablesShort lent) (now (problem .entry)) (now (certificate .entry)) ⌝ }
+    ensures tables { λ _.
+        let lent = tables (now (keys .entry)) (now (high .entry)) (now (low .entry)) in
+        let left = tables (now (keys .exit)) (now (high .exit)) (now (low .exit)) in
+        ⌜ TablesLeft (tablesShort lent) lent left ⌝ }
+    ensures numbered { λ r. ⌜ NumberedTo 9 (r .refusal .number) ⌝ }
+    ensures accepted { λ r.
+        let lent = tables (now (keys .entry)) (now (high .entry)) (now (low .entry)) in
+        ⌜ AcceptedExactly (tablesShort lent) (now (problem .entry)) (now (certificate .entry)) (r .refusal .number) ⌝ }
+    ensures differs { λ r.
+        let lent = tables (now (keys .entry)) (now (high .entry)) (now (low .entry)) in
+        ⌜ CheckDiffers (tablesShort lent) (now (problem .entry)) (now (certificate .entry)) (r .refusal) ⌝ }
+    ensures holds { λ r. ⌜ HoldsBySide (now (problem .entry)) r ⌝ }
     ensures rounds { λ r. ⌜ RoundsTaken (now (problem .entry)) (r .refusal .number) (r .rounds) ⌝ }
     ensures few_rounds { λ r. ⌜ FewRounds (now (problem .entry)) (r .refusal .number) (r .rounds) ⌝ }
 {
@@ -390,13 +376,13 @@ fn pair_both(
     requires { ⌜
         JoinedProblem p j (now keys) (now index)
         × Below 0 (now g)
-        × (2048 ≤ length (now high))
-        × (2048 ≤ length (now low))
+        × (tableLength ≤ length (now high))
+        × (tableLength ≤ length (now low))
         ⌝ }
     ensures { λ r. ⌜
         (r ≡ pairFirst (problemOf p) (J.judge (problemOf p) (now (first .entry))) (now (second .entry)))
-        × (drop 2048 (now (high .exit)) ≡ drop 2048 (now (high .entry)))
-        × (drop 2048 (now (low .exit)) ≡ drop 2048 (now (low .entry)))
+        × (drop tableLength (now (high .exit)) ≡ drop tableLength (now (high .entry)))
+        × (drop tableLength (now (low .exit)) ≡ drop tableLength (now (low .entry)))
         ⌝ }
 {
     match certificate_judge::judge(1, p, j, first, keys, index, g, lasts, high, low) {
@@ -418,11 +404,11 @@ fn pair_of(
     high: &mut [i64],
     low: &mut [u64],
 ) -> PairVerdict
-    requires { ⌜ Kept p × Limits (problemOf p) × Long (now keys) (now high) (now low) ⌝ }
+    requires { ⌜ Kept p × Limits (problemOf p) × Long (tables (now keys) (now high) (now low)) ⌝ }
     ensures { λ r. ⌜
         (r ≡ pairOf (problemOf p) (now (first .entry)) (now (second .entry)))
-        × Rest (now (keys .entry)) (now (high .entry)) (now (low .entry)) (now (keys .exit)) (now (high .exit))
-        (now (low .exit))
+        × Rest (tables (now (keys .entry)) (now (high .entry)) (now (low .entry)))
+        (tables (now (keys .exit)) (now (high .exit)) (now (low .exit)))
         ⌝ }
 {
     let mut index = [0u16; 6144];
@@ -455,11 +441,11 @@ fn answer_pair(
     high: &mut [i64],
     low: &mut [u64],
 ) -> PairVerdict
-    requires { ⌜ Long (now keys) (now high) (now low) ⌝ }
+    requires { ⌜ Long (tables (now keys) (now high) (now low)) ⌝ }
     ensures { λ r. ⌜
         (r ≡ pairRead (readProblem (now (problem .entry))) (now (first .entry)) (now (second .entry)))
-        × Rest (now (keys .entry)) (now (high .entry)) (now (low .entry)) (now (keys .exit)) (now (high .exit))
-        (now (low .exit))
+        × Rest (tables (now (keys .entry)) (now (high .entry)) (now (low .entry)))
+        (tables (now (keys .exit)) (now (high .exit)) (now (low .exit)))
         ⌝ }
 {
     let r = problem_reader::read(problem);
@@ -479,28 +465,21 @@ pub fn pair(
     high: &mut [i64],
     low: &mut [u64],
 ) -> PairVerdict
-    ensures verdict { λ r. ⌜
-        r
-        ≡ pairVerdict (tablesShort (now (keys .entry)) (now (high .entry)) (now (low .entry))) (now (problem .entry))
-        (now (first .entry)) (now (second .entry))
-        ⌝ }
-    ensures keys_left { λ _. ⌜
-        now (keys .exit)
-        ≡ tableLeft (tablesShort (now (keys .entry)) (now (high .entry)) (now (low .entry))) 0 (now (keys .entry))
-        ⌝ }
-    ensures high_left { λ _. ⌜
-        now (high .exit)
-        ≡ tableLeft (tablesShort (now (keys .entry)) (now (high .entry)) (now (low .entry))) (pos 0)
-        (now (high .entry))
-        ⌝ }
-    ensures low_left { λ _. ⌜
-        now (low .exit)
-        ≡ tableLeft (tablesShort (now (keys .entry)) (now (high .entry)) (now (low .entry))) 0 (now (low .entry))
-        ⌝ }
-    ensures accepted { λ r. ⌜
-        PairExactly (tablesShort (now (keys .entry)) (now (high .entry)) (now (low .entry))) (now (problem .entry))
-        (now (first .entry)) (now (second .entry)) r
-        ⌝ }
+    ensures verdict { λ r.
+        let lent = tables (now (keys .entry)) (now (high .entry)) (now (low .entry)) in
+        ⌜ r ≡ pairVerdict (tablesShort lent) (now (problem .entry)) (now (first .entry)) (now (second .entry)) ⌝ }
+    ensures tables { λ _.
+        let lent = tables (now (keys .entry)) (now (high .entry)) (now (low .entry)) in
+        let left = tables (now (keys .exit)) (now (high .exit)) (now (low .exit)) in
+        ⌜ TablesLeft (tablesShort lent) lent left ⌝ }
+    ensures numbered { λ r. ⌜ NumberedTo 10 (r .refusal .number) ⌝ }
+    ensures accepted { λ r.
+        let lent = tables (now (keys .entry)) (now (high .entry)) (now (low .entry)) in
+        ⌜ PairExactly (tablesShort lent) (now (problem .entry)) (now (first .entry)) (now (second .entry)) r ⌝ }
+    ensures differs { λ r.
+        let lent = tables (now (keys .entry)) (now (high .entry)) (now (low .entry)) in
+        ⌜ PairDiffers (tablesShort lent) (now (problem .entry)) (now (first .entry)) (now (second .entry))
+        (r .refusal) ⌝ }
     ensures below { λ r. ⌜ HoldsBelow (now (problem .entry)) (r .refusal .number) (r .lower) ⌝ }
     ensures above { λ r. ⌜ HoldsAbove (now (problem .entry)) (r .refusal .number) (r .upper) ⌝ }
     ensures gap { λ r. ⌜ HoldsGap (now (problem .entry)) (r .refusal .number) (r .gap) ⌝ }

@@ -120,24 +120,40 @@ module _ {A : Type 0} (l : Language A) (s : List ℕ) (R : A → ℕ → List �
   unfolding readWhole commands
   read-induction a b h = run-induction (length s + 1) a b 0 h
 
--- ---- a refusal has a number
-module _ {A : Type 0} (l : Language A) (s : List ℕ) where
-  run-positive : (f : ℕ) (a : A) (at n place : ℕ) → run l f a s at ≡ refused n place → 0 < n
+-- ---- the number of a refusal: one of the checks', or 2
+pub first-most : (p w a r f : Bool) → firstRefusal p w a r f ≤ 6
+unfolding firstRefusal
+first-most true true true false false = omega arith
+first-most true true true false true = omega arith
+first-most true true true true f = omega arith
+first-most true true false r f = omega arith
+first-most true false a r f = omega arith
+first-most false w a r f = omega arith
+
+module _ {A : Type 0} (l : Language A) (s : List ℕ) (P : ℕ → Type 0) (two : P 2) (checks : (a : A) (at : ℕ) → 0 < l .verdict a s at → P (l .verdict a s at)) where
+  run-number : (f : ℕ) (a : A) (at n place : ℕ) → run l f a s at ≡ refused n place → P n
   unfolding run
-  run-positive zero a at n place h = let e : n ≡ 2 = cc in omega arith
-  run-positive (suc f) a at n place h =
-      go (run-positive f (l .next a s at) (at + l .size (getD s at 0)) n place) (leb (length s) at) (ltb 0 (l .verdict a s at)) refl (eqb (getD s at 0) (l .ending)) (ltb (at + 1) (length s)) h
+  run-number zero a at n place h = let e : 2 ≡ n = cc in subst P e two
+  run-number (suc f) a at n place h =
+      go (run-number f (l .next a s at) (at + l .size (getD s at 0)) n place) (leb (length s) at) (ltb 0 (l .verdict a s at)) refl (eqb (getD s at 0) (l .ending)) (ltb (at + 1) (length s)) h
     where
-      go : (run l f (l .next a s at) s (at + l .size (getD s at 0)) ≡ refused n place → 0 < n)
+      go : (run l f (l .next a s at) s (at + l .size (getD s at 0)) ≡ refused n place → P n)
           → (t u : Bool) → ltb 0 (l .verdict a s at) ≡ u → (v w : Bool)
           → cond t (refused 2 (length s)) (cond u (refused (l .verdict a s at) at) (cond v (cond w (refused 2 (at + 1)) (given a)) (run l f (l .next a s at) s (at + l .size (getD s at 0))))) ≡ refused n place
-          → 0 < n
-      go i true u q v w h = let e : n ≡ 2 = cc in omega arith
-      go i false true q v w h = let e : n ≡ l .verdict a s at = cc in let k = ltb-true 0 (l .verdict a s at) q in omega arith
-      go i false false q true true h = let e : n ≡ 2 = cc in omega arith
+          → P n
+      go i true u q v w h = let e : 2 ≡ n = cc in subst P e two
+      go i false true q v w h = let e : l .verdict a s at ≡ n = cc in subst P e (checks a at (ltb-true 0 (l .verdict a s at) q))
+      go i false false q true true h = let e : 2 ≡ n = cc in subst P e two
       go i false false q true false h = never n place a (sym h)
       go i false false q false w h = i h
 
-  pub read-positive : (a : A) (n place : ℕ) → readWhole l a s ≡ refused n place → 0 < n
+  pub read-number : (a : A) (n place : ℕ) → readWhole l a s ≡ refused n place → P n
   unfolding readWhole
-  read-positive a n place h = run-positive (length s + 1) a 0 n place h
+  read-number a n place h = run-number (length s + 1) a 0 n place h
+
+module _ {A : Type 0} (l : Language A) (s : List ℕ) where
+  pub read-positive : (a : A) (n place : ℕ) → readWhole l a s ≡ refused n place → 0 < n
+  read-positive = read-number l s (λ n. 0 < n) (omega arith) (λ a at h. h)
+
+  pub read-most : ((a : A) (at : ℕ) → l .verdict a s at ≤ 6) → (a : A) (n place : ℕ) → readWhole l a s ≡ refused n place → n ≤ 6
+  read-most h = read-number l s (λ n. n ≤ 6) (omega arith) (λ a at _. h a at)

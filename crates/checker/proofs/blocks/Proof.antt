@@ -3,18 +3,20 @@ use borrow.Author.Needs.{needs}
 use native.Mathlib.Omega.{arith}
 use mathlib.Core.Path.{_≡_, refl, sym, _∙_}
 use mathlib.Core.Bool.{Bool, true, false}
-use lib.IntN.{pos}
-use Rattle.calls.specs.Tables.{tablesShort}
+use Rattle.calls.specs.Tables.{Tables, tables, tablesShort}
 use Rattle.checker.specs.Tables.{Long}
 use Rattle.calls.specs.Blocks.{blocksShort, blocksVerdict, bytesLeft}
-use Rattle.checker.proofs.Tables.{tables-long, out-short, out-long, tables-cleared, table-kept}
+use Rattle.checker.proofs.Tables.{tables-long, tables-kept, out-short, out-long, tables-cleared}
 use Rattle.calls.proofs.Promised.{clauses}
 use Rattle.checker.proofs.blocks.Statement.{statement}
 use Rattle.checker.proofs.blocks.Tie as tie
 
 -- whether something lent is too short
+abbrev lent : tie.Start → Tables
+lent s = tables (s .args .keys .now) (s .args .high .now) (s .args .low .now)
+
 abbrev short : tie.Start → Bool
-short s = blocksShort (s .args .out .now) (s .args .keys .now) (s .args .high .now) (s .args .low .now)
+short s = blocksShort (s .args .out .now) (lent s)
 
 refuse-blocks-requires : tie.Need-refuse-blocks-requires
 refuse-blocks-requires c κs = search needs
@@ -23,9 +25,9 @@ returns : tie.Need-returns
 unfolding blocksVerdict bytesLeft
 returns c =
     let s = c .before .before .before .before .before .before in
-    let e : short s ≡ true = out-short (s .args .keys .now) (s .args .high .now) (s .args .low .now) (s .args .out .now) (c .before .if1 .taken) in
+    let e : short s ≡ true = out-short (lent s) (s .args .out .now) (c .before .if1 .taken) in
     let v = c .refuse-blocks .ensures in
-    rw e (v, (refl, (table-kept 0 _, (table-kept (pos 0) _, (table-kept 0 _, clauses true (s .args .problem .now) (s .args .out .now) _ _ v refl)))))
+    rw e (v, (refl, (tables-kept _, clauses true (s .args .problem .now) (s .args .out .now) _ _ v refl)))
 
 is-short-requires : tie.Need-is-short-requires
 is-short-requires c κs = search needs
@@ -38,16 +40,16 @@ unfolding blocksVerdict bytesLeft
 returns-2 c =
     let i = c .before .before in
     let s = i .before .before .before .before .before .before in
-    let e : short s ≡ true = out-long (s .args .keys .now) (s .args .high .now) (s .args .low .now) (s .args .out .now) true (i .before .if1 .left) (sym (i .is-short .ensures) ∙ c .before .if2 .taken) in
+    let e : short s ≡ true = out-long (lent s) (s .args .out .now) true (i .before .if1 .left) (sym (i .is-short .ensures) ∙ c .before .if2 .taken) in
     let v = c .refuse-blocks2 .ensures in
-    rw e (v, (refl, (table-kept 0 _, (table-kept (pos 0) _, (table-kept 0 _, clauses true (s .args .problem .now) (s .args .out .now) _ _ v refl)))))
+    rw e (v, (refl, (tables-kept _, clauses true (s .args .problem .now) (s .args .out .now) _ _ v refl)))
 
 -- with tables that are long enough
-fine : (c : tie.Else2) → tablesShort (c .before .before .before .before .before .before .before .args .keys .now) (c .before .before .before .before .before .before .before .args .high .now) (c .before .before .before .before .before .before .before .args .low .now) ≡ false
+fine : (c : tie.Else2) → tablesShort (lent (c .before .before .before .before .before .before .before)) ≡ false
 fine c = sym (c .before .is-short .ensures) ∙ c .if2 .left
 
-long : (c : tie.Else2) → let s = c .before .before .before .before .before .before .before in Long (s .args .keys .now) (s .args .high .now) (s .args .low .now)
-long c = tables-long _ _ _ (fine c)
+long : (c : tie.Else2) → Long (lent (c .before .before .before .before .before .before .before))
+long c = tables-long _ (fine c)
 
 answer-blocks-requires : tie.Need-answer-blocks-requires
 answer-blocks-requires c κs = let e = c .before .before in (e .before .before .if1 .left, long e .keys)
@@ -77,11 +79,11 @@ returns-3 c =
     let a = k .before .before .before .before .before .before .before .before in
     let b = a .before .before .before in
     let s = b .before .before .before .before .before .before .before in
-    let e : short s ≡ false = out-long (s .args .keys .now) (s .args .high .now) (s .args .low .now) (s .args .out .now) false (b .before .before .if1 .left) (fine b) in
+    let e : short s ≡ false = out-long (lent s) (s .args .out .now) false (b .before .before .if1 .left) (fine b) in
     let v = a .answer-blocks .ensures .0 in
     let o = a .answer-blocks .ensures .1 in
     let t = tables-cleared (record { keys = a .answer-blocks .ensures .2; high = refl; low = refl }) (k .clear-tables .ensures) in
-    rw e (v, (o, (t .0, (t .1, (t .2, clauses false (s .args .problem .now) (s .args .out .now) _ _ v o)))))
+    rw e (v, (o, (t, clauses false (s .args .problem .now) (s .args .out .now) _ _ v o)))
 
 pub blocks-spec : {M : Type 1} → statement M
 blocks-spec =

@@ -2,26 +2,24 @@
 use borrow.Author.Needs.{needs}
 use native.Mathlib.Omega.{arith}
 use mathlib.Core.Path.{_≡_, sym, _∙_}
-use mathlib.Core.Bool.{Bool, true, false}
-use lib.IntN.{pos}
-use Rattle.calls.specs.Tables.{tablesShort}
+use mathlib.Core.Bool.{true, false}
+use Rattle.calls.specs.Tables.{Tables, tables, tablesShort}
 use Rattle.checker.specs.Tables.{Long}
 use Rattle.calls.specs.Check.{checkVerdict}
-use Rattle.checker.proofs.Tables.{tables-long, tables-cleared, table-kept}
-use Rattle.calls.proofs.Accepting.{check-clauses}
+use Rattle.checker.proofs.Tables.{tables-long, tables-kept, tables-cleared}
+use Rattle.calls.proofs.Checking.{check-clauses}
 use Rattle.checker.proofs.check.Statement.{statement}
 use Rattle.checker.proofs.check.Tie as tie
 
--- whether a table is too short
-abbrev short : tie.Start → Bool
-short s = tablesShort (s .args .keys .now) (s .args .high .now) (s .args .low .now)
+abbrev lent : tie.Start → Tables
+lent s = tables (s .args .keys .now) (s .args .high .now) (s .args .low .now)
 
 -- the call's beginning, where the tables are long enough
 abbrev start : tie.Else1 → tie.Start
 start c = c .before .before .before .before .before .before
 
-long : (c : tie.Else1) → Long (start c .args .keys .now) (start c .args .high .now) (start c .args .low .now)
-long c = tables-long _ _ _ (sym (c .before .is-short .ensures) ∙ c .if1 .left)
+long : (c : tie.Else1) → Long (lent (start c))
+long c = tables-long _ (sym (c .before .is-short .ensures) ∙ c .if1 .left)
 
 is-short-requires : tie.Need-is-short-requires
 is-short-requires c κs = search needs
@@ -37,9 +35,9 @@ unfolding checkVerdict
 returns c =
     let i = c .before .before in
     let s = i .before .before .before .before .before .before in
-    let e : short s ≡ true = sym (i .before .is-short .ensures) ∙ i .if1 .taken in
+    let e : tablesShort (lent s) ≡ true = sym (i .before .is-short .ensures) ∙ i .if1 .taken in
     let v = rw (c .before .problem-refusal .ensures) at (c .refuse-check .ensures) in
-    rw e (v, (table-kept 0 _, (table-kept (pos 0) _, (table-kept 0 _, check-clauses true (s .args .problem .now) (s .args .certificate .now) _ v))))
+    rw e (v, (tables-kept _, check-clauses true (s .args .problem .now) (s .args .certificate .now) _ v))
 
 answer-check-requires : tie.Need-answer-check-requires
 answer-check-requires c κs = long (c .before .before .before)
@@ -66,10 +64,10 @@ returns-2 c =
     let a = k .before .before .before .before .before .before .before .before .before in
     let b = a .before .before .before .before in
     let s = start b in
-    let e : short s ≡ false = sym (b .before .is-short .ensures) ∙ b .if1 .left in
+    let e : tablesShort (lent s) ≡ false = sym (b .before .is-short .ensures) ∙ b .if1 .left in
     let v = a .answer-check .ensures .0 in
     let t = tables-cleared (a .answer-check .ensures .1) (k .clear-tables .ensures) in
-    rw e (v, (t .0, (t .1, (t .2, check-clauses false (s .args .problem .now) (s .args .certificate .now) _ v))))
+    rw e (v, (t, check-clauses false (s .args .problem .now) (s .args .certificate .now) _ v))
 
 pub check-spec : {M : Type 1} → statement M
 check-spec =

@@ -1,0 +1,143 @@
+-- The clauses of the check, from its equation.
+use mathlib.Core.Path.{_≡_, refl, sym, ap, _∙_, subst}
+use mathlib.Core.Bool.{Bool}
+use mathlib.Core.List.{List}
+use Prim.Native.Nat.{ℕ, _≤_}
+use native.Mathlib.Omega.{arith}
+use Rattle.format.specs.Commands.{given}
+use Rattle.format.specs.ProblemRules.{Problem, readProblem}
+use Rattle.format.proofs.ProblemLimits.{read-limits}
+use Rattle.format.specs.CertificateRules.{Certificate, readCertificate}
+use Rattle.format.proofs.CertificateLimits.{read-sound}
+use Rattle.joining_rule.specs.Joining.{closing}
+use Rattle.accepting.specs.Identity.{KeepsBlocks, Identity}
+use Rattle.accepting.specs.Judgement.{Judgement, judge}
+use Rattle.accepting.specs.Judgement as J
+use Rattle.accepting.specs.Bounds.{BoundedBelow, BoundedAbove}
+use Rattle.accepting.proofs.Accepted.{judge-accepted, accepted-judge, judge-differs, accepted-below, accepted-above}
+use Rattle.calls.specs.declared.CheckVerdict.{CheckVerdict}
+use Rattle.calls.specs.Refusals.{problemRefusal, certificateRefusal}
+use Rattle.calls.specs.Check.{refusedCheck, acceptedCheck, checkJudged, checkOf, checkRead, checkVerdict}
+use Rattle.calls.specs.Promises.{NumberedTo, RoundsTaken, FewRounds, Reads, DiffersAt, IdentityFalse, Within, AcceptedExactly, CheckDiffers, HoldsBelow, HoldsAbove, HoldsBySide}
+use Rattle.calls.proofs.Promised.{promise-rounds, promise-few}
+use Rattle.calls.proofs.Judged.{Between, judge-number, judge-nine}
+use Rattle.calls.proofs.Ends.{reads-at, Ends, before, within, ends, opened}
+
+-- two certificates that a stream gives are one
+given-once : (h : Problem) (s : List ℕ) (c d : Certificate) → readCertificate h s ≡ given c → readCertificate h s ≡ given d → c ≡ d
+given-once h s c d e f = cc
+
+-- a certificate that is accepted, and the verdict that says so
+record Checked (p : Problem) (t : List ℕ) (v : CheckVerdict) : Type 0 where
+  certificate : Certificate
+  accepted : J.Accepted p t certificate
+  verdict : v ≡ acceptedCheck (certificate .header) (closing p .rounds)
+
+-- how the check ends
+data Ended (s t : List ℕ) (v : CheckVerdict) : Type 0 where
+  unjudged : (n place : ℕ) → Between n 1 7 → v ≡ refusedCheck (problemRefusal n place) → Ended s t v
+  refused : (p : Problem) → readProblem s ≡ given p → (n place key : ℕ) → judge p t ≡ J.refused n place key → v ≡ refusedCheck (certificateRefusal 1 n place key) → Ended s t v
+  accepted : Reads s (λ p. Checked p t v) → Ended s t v
+
+module _ (short : Bool) (s t : List ℕ) (v : CheckVerdict) (is : v ≡ checkVerdict short s t) where
+  ended : Ended s t v
+  unfolding checkVerdict checkOf
+  ended = go (rw is (ends refusedCheck (λ p. checkJudged p (judge p t)) (λ o. checkRead o t) (λ n place. refl) (λ p. refl) short s))
+    where
+      judged : (p : Problem) → readProblem s ≡ given p → (j : Judgement) → judge p t ≡ j → v ≡ checkJudged p j → Ended s t v
+      judged p r (J.refused n place key) f e = refused p r n place key f e
+      judged p r (J.accepted c) f e = accepted (record { problem = p; read = r; holds = record { certificate = c; accepted = judge-accepted p (read-limits s p r) t c f; verdict = e } })
+
+      go : Ends refusedCheck (λ p. checkJudged p (judge p t)) (λ o. checkRead o t) (λ n place. refl) (λ p. refl) short s v → Ended s t v
+      go (before n place b e) = unjudged n place b e
+      go (within p r e) = judged p r (judge p t) refl e
+
+  is-judged : (p : Problem) → Within short s p → v ≡ checkJudged p (judge p t)
+  unfolding checkVerdict checkOf
+  is-judged p w = is ∙ opened refusedCheck (λ p. checkJudged p (judge p t)) (λ o. checkRead o t) (λ n place. refl) (λ p. refl) short s p w
+
+  number-is : (w : CheckVerdict) → v ≡ w → v .refusal .number ≡ w .refusal .number
+  number-is w e = ap (λ (x : CheckVerdict). x .refusal .number) e
+
+  check-numbered : NumberedTo 9 (v .refusal .number)
+  check-numbered = go ended
+    where
+      go : Ended s t v → v .refusal .number ≤ 9
+      go (unjudged n place b e) = omega (arith, number-is _ e, b .most)
+      go (refused p r n place key f e) = omega (arith, number-is _ e, judge-number p t n place key f .most)
+      go (accepted r) = omega (arith, number-is _ (r .holds .verdict))
+
+  -- ---- where nothing is refused
+  check-found : v .refusal .number ≡ 0 → Reads s (λ p. Checked p t v)
+  check-found h = go ended
+    where
+      go : Ended s t v → Reads s (λ p. Checked p t v)
+      go (unjudged n place b e) = absurd (omega (arith, number-is _ e, b .least))
+      go (refused p r n place key f e) = absurd (omega (arith, number-is _ e, judge-number p t n place key f .least))
+      go (accepted r) = r
+
+  found-at : (p : Problem) → readProblem s ≡ given p → v .refusal .number ≡ 0 → Checked p t v
+  found-at p r h = reads-at s (λ p. Checked p t v) (check-found h) p r
+
+  check-exactly : AcceptedExactly short s t (v .refusal .number)
+  check-exactly = record {
+    only = λ p c read given h.
+        let k = found-at p read h in
+        let a = k .accepted in
+        let e : k .certificate ≡ c = given-once p t (k .certificate) c (a .read) given in
+        (subst (λ (x : Certificate). KeepsBlocks p (x .rows)) e (a .blocks), subst (λ (x : Certificate). Identity p x) e (a .identity));
+    always = λ p c w given blocks identity. number-is _ (is-judged p w ∙ ap (checkJudged p) (accepted-judge p t c (record { read = given; blocks = blocks; identity = identity })));
+  }
+
+  check-rounds : RoundsTaken s (v .refusal .number) (v .rounds)
+  check-rounds p read h = rw (found-at p read h .verdict) (promise-rounds s p read)
+
+  check-few : FewRounds s (v .refusal .number) (v .rounds)
+  check-few p read h = rw (found-at p read h .verdict) (promise-few s p read)
+
+  -- ---- refusal 9
+  check-differs : CheckDiffers short s t (v .refusal)
+  check-differs = record {
+    only = λ h. go h ended;
+    always = λ p c w i.
+        let d = judge-differs p t c (i .read) (read-limits s p (w .read)) (i .blocks) (i .differs) in
+        number-is _ (is-judged p w ∙ ap (checkJudged p) (d .refusal));
+  }
+    where
+      go : v .refusal .number ≡ 9 → Ended s t v → (v .refusal .stream ≡ 1) × Reads s (λ p. DiffersAt p t (v .refusal .key))
+      go h (unjudged n place b e) = absurd (omega (arith, number-is _ e, b .most))
+      go h (refused p r n place key f e) = (
+        ap (λ (x : CheckVerdict). x .refusal .stream) e,
+        record { problem = p; read = r; holds = rw e (judge-nine p t n place key (read-limits s p r) f (sym (number-is _ e) ∙ h)) },
+      )
+      go h (accepted r) = absurd (omega (arith, number-is _ (r .holds .verdict)))
+
+  -- ---- the bound
+  check-holds : HoldsBySide s v
+  check-holds = record { sides = sides ended; lower = lower; upper = upper }
+    where
+      side-is : (w : CheckVerdict) → v ≡ w → v .side ≡ w .side
+      side-is w e = ap (λ (x : CheckVerdict). x .side) e
+
+      sides : Ended s t v → v .side ≤ 1
+      sides (unjudged n place b e) = omega (arith, side-is _ e)
+      sides (refused p r n place key f e) = omega (arith, side-is _ e)
+      sides (accepted r) = let k = r .holds in omega (arith, side-is _ (k .verdict), read-sound (r .problem) t (k .certificate) (k .accepted .read) .side)
+
+      lower : v .side ≡ 0 → HoldsBelow s (v .refusal .number) (v .bound)
+      lower z p read h =
+          let k = found-at p read h in
+          let c = k .certificate in
+          let a = k .accepted in
+          rw (k .verdict) (accepted-below p (read-limits s p read) t c a (sym (side-is _ (k .verdict)) ∙ z))
+
+      upper : v .side ≡ 1 → HoldsAbove s (v .refusal .number) (v .bound)
+      upper z p read h =
+          let k = found-at p read h in
+          let c = k .certificate in
+          let a = k .accepted in
+          rw (k .verdict) (accepted-above p (read-limits s p read) t c a (sym (side-is _ (k .verdict)) ∙ z))
+
+  -- all of them
+  pub check-clauses : NumberedTo 9 (v .refusal .number) × (AcceptedExactly short s t (v .refusal .number) × (CheckDiffers short s t (v .refusal) × (HoldsBySide s v × (RoundsTaken s (v .refusal .number) (v .rounds) × FewRounds s (v .refusal .number) (v .rounds)))))
+  check-clauses = (check-numbered, (check-exactly, (check-differs, (check-holds, (check-rounds, check-few)))))

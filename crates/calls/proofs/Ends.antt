@@ -1,0 +1,43 @@
+-- How a call ends, for the three calls: refused before a certificate is looked at, or by the problem that was read.
+use mathlib.Core.Path.{_≡_, refl, subst}
+use mathlib.Core.Bool.{Bool, true, false, cond}
+use mathlib.Core.List.{List}
+use Prim.Native.Nat.{ℕ}
+use native.Mathlib.Omega.{arith}
+use Rattle.format.specs.Commands.{Outcome, refused, given}
+use Rattle.format.specs.ProblemRules.{Problem, readProblem}
+use Rattle.joining_rule.specs.Joining.{tooLarge}
+use Rattle.calls.specs.declared.Refusal.{Refusal}
+use Rattle.calls.specs.Refusals.{problemRefusal}
+use Rattle.calls.specs.Promises.{Reads, Within}
+use Rattle.calls.proofs.Judged.{Between, problem-number}
+
+-- a stream gives one problem
+pub reads-at : (s : List ℕ) (P : Problem → Type 0) → Reads s P → (p : Problem) → readProblem s ≡ given p → P p
+reads-at s P r p e = let i = r .read in let same : r .problem ≡ p = cc in subst P same (r .holds)
+
+-- refuse is the call's verdict with a refusal, of its verdict for a problem within its limits, and read that for what the stream gives
+module _ {A : Type 0} (refuse : Refusal → A) (of : Problem → A) (read : Outcome Problem → A)
+    (by-refusal : (n place : ℕ) → read (refused n place) ≡ refuse (problemRefusal n place))
+    (by-problem : (p : Problem) → read (given p) ≡ cond (tooLarge p) (refuse (problemRefusal 7 0)) (of p)) (short : Bool) (s : List ℕ) where
+  abbrev verdict : A
+  verdict = cond short (refuse (problemRefusal 1 0)) (read (readProblem s))
+
+  pub data Ends (v : A) : Type 0 where
+    before : (n place : ℕ) → Between n 1 7 → v ≡ refuse (problemRefusal n place) → Ends v
+    within : (p : Problem) → readProblem s ≡ given p → v ≡ of p → Ends v
+
+  pub ends : Ends verdict
+  ends = go short (readProblem s) refl
+    where
+      by-size : (p : Problem) → readProblem s ≡ given p → (l : Bool) → Ends (cond l (refuse (problemRefusal 7 0)) (of p))
+      by-size p e true = before 7 0 (record { least = omega arith; most = omega arith }) refl
+      by-size p e false = within p e refl
+
+      go : (b : Bool) (o : Outcome Problem) → readProblem s ≡ o → Ends (cond b (refuse (problemRefusal 1 0)) (read o))
+      go true o e = before 1 0 (record { least = omega arith; most = omega arith }) refl
+      go false (refused n place) e = let b = problem-number s n place e in before n place (record { least = b .least; most = omega (arith, b .most) }) (by-refusal n place)
+      go false (given p) e = rw (by-problem p) (by-size p e (tooLarge p))
+
+  pub opened : (p : Problem) → Within short s p → verdict ≡ of p
+  opened p w = rw (w .long, w .read, by-problem p, w .few)

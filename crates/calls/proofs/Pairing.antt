@@ -1,0 +1,175 @@
+-- The clauses of the pair, from its equation.
+use mathlib.Core.Path.{_≡_, refl, sym, ap, _∙_}
+use mathlib.Core.Bool.{Bool, true, false, cond}
+use mathlib.Core.List.{List}
+use mathlib.Core.Logic.{_⊎_, inl, inr}
+use Prim.Native.Nat.{ℕ, _≤_}
+use native.Mathlib.Omega.{arith}
+use lib.Dec.{eqb}
+use borrow.Author.Tests.{eqb-true, eq-eqb}
+use Rattle.format.specs.Commands.{given}
+use Rattle.format.specs.ProblemRules.{Problem, readProblem}
+use Rattle.format.proofs.ProblemLimits.{read-limits}
+use Rattle.format.specs.CertificateRules.{Certificate}
+use Rattle.joining_rule.specs.Joining.{closing}
+use Rattle.accepting.specs.Judgement.{Judgement, judge}
+use Rattle.accepting.specs.Judgement as J
+use Rattle.accepting.proofs.Accepted.{judge-accepted, accepted-judge, judge-differs, accepted-below, accepted-above}
+use Rattle.accepting.proofs.Bounds.{bounds-gap}
+use Rattle.calls.specs.declared.PairVerdict.{PairVerdict}
+use Rattle.calls.specs.Refusals.{problemRefusal, certificateRefusal}
+use Rattle.calls.specs.Pair.{refusedPair, acceptedPair, pairSides, pairSecond, pairFirst, pairOf, pairRead, pairVerdict}
+use Rattle.calls.specs.Promises.{NumberedTo, RoundsTaken, FewRounds, Reads, DiffersAt, Within, BothHold, Stated, PairExactly, SecondDiffers, PairDiffers, HoldsBelow, HoldsAbove, HoldsGap}
+use Rattle.calls.proofs.Promised.{promise-rounds, promise-few}
+use Rattle.calls.proofs.Judged.{Between, judge-number, judge-nine}
+use Rattle.calls.proofs.Ends.{reads-at, Ends, before, within, ends, opened}
+
+-- two certificates that hold, and the verdict that says so
+record Paired (p : Problem) (low high : List ℕ) (v : PairVerdict) : Type 0 where
+  first : Certificate
+  second : Certificate
+  hold : BothHold p low high first second
+  verdict : v ≡ acceptedPair (first .header) (second .header) (closing p .rounds)
+
+-- how the pair ends
+data Ended (s low high : List ℕ) (v : PairVerdict) : Type 0 where
+  unjudged : (n place : ℕ) → Between n 1 7 → v ≡ refusedPair (problemRefusal n place) → Ended s low high v
+  first-refused : (p : Problem) → readProblem s ≡ given p → (n place key : ℕ) → judge p low ≡ J.refused n place key
+      → v ≡ refusedPair (certificateRefusal 1 n place key) → Ended s low high v
+  second-refused : (p : Problem) → readProblem s ≡ given p → (c : Certificate) → J.Accepted p low c → (n place key : ℕ) → judge p high ≡ J.refused n place key
+      → v ≡ refusedPair (certificateRefusal 2 n place key) → Ended s low high v
+  wrong-side : (stream : ℕ) → v ≡ refusedPair (certificateRefusal stream 10 0 0) → Ended s low high v
+  accepted : Reads s (λ p. Paired p low high v) → Ended s low high v
+
+module _ (short : Bool) (s low high : List ℕ) (v : PairVerdict) (is : v ≡ pairVerdict short s low high) where
+  module _ (p : Problem) (r : readProblem s ≡ given p) where
+    sides : (c d : Certificate) → J.Accepted p low c → J.Accepted p high d → (x y : Bool) → eqb (c .header .side) 0 ≡ x → eqb (d .header .side) 1 ≡ y
+        → v ≡ cond x (cond y (acceptedPair (c .header) (d .header) (closing p .rounds)) (refusedPair (certificateRefusal 2 10 0 0))) (refusedPair (certificateRefusal 1 10 0 0)) → Ended s low high v
+    sides c d a b true true x y e =
+        let hold : BothHold p low high c d = record { first = a; second = b; lower = eqb-true _ _ x; upper = eqb-true _ _ y } in
+        accepted (record { problem = p; read = r; holds = record { first = c; second = d; hold = hold; verdict = e } })
+    sides c d a b true false x y e = wrong-side 2 e
+    sides c d a b false y x z e = wrong-side 1 e
+
+    second : (c : Certificate) → J.Accepted p low c → (k : Judgement) → judge p high ≡ k → v ≡ pairSecond p c k → Ended s low high v
+    unfolding pairSides
+    second c a (J.refused n place key) g e = second-refused p r c a n place key g e
+    second c a (J.accepted d) g e = sides c d a (judge-accepted p (read-limits s p r) high d g) (eqb (c .header .side) 0) (eqb (d .header .side) 1) refl refl e
+
+    first : (j : Judgement) → judge p low ≡ j → v ≡ pairFirst p j high → Ended s low high v
+    first (J.refused n place key) f e = first-refused p r n place key f e
+    first (J.accepted c) f e = second c (judge-accepted p (read-limits s p r) low c f) (judge p high) refl e
+
+  ended : Ended s low high v
+  unfolding pairVerdict pairOf
+  ended = go (rw is (ends refusedPair (λ p. pairFirst p (judge p low) high) (λ o. pairRead o low high) (λ n place. refl) (λ p. refl) short s))
+    where
+      go : Ends refusedPair (λ p. pairFirst p (judge p low) high) (λ o. pairRead o low high) (λ n place. refl) (λ p. refl) short s v → Ended s low high v
+      go (before n place b e) = unjudged n place b e
+      go (within p r e) = first p r (judge p low) refl e
+
+  is-judged : (p : Problem) → Within short s p → v ≡ pairFirst p (judge p low) high
+  unfolding pairVerdict pairOf
+  is-judged p w = is ∙ opened refusedPair (λ p. pairFirst p (judge p low) high) (λ o. pairRead o low high) (λ n place. refl) (λ p. refl) short s p w
+
+  number-is : (w : PairVerdict) → v ≡ w → v .refusal .number ≡ w .refusal .number
+  number-is w e = ap (λ (x : PairVerdict). x .refusal .number) e
+
+  stream-is : (w : PairVerdict) → v ≡ w → v .refusal .stream ≡ w .refusal .stream
+  stream-is w e = ap (λ (x : PairVerdict). x .refusal .stream) e
+
+  pair-numbered : NumberedTo 10 (v .refusal .number)
+  pair-numbered = go ended
+    where
+      go : Ended s low high v → v .refusal .number ≤ 10
+      go (unjudged n place b e) = omega (arith, number-is _ e, b .most)
+      go (first-refused p r n place key f e) = omega (arith, number-is _ e, judge-number p low n place key f .most)
+      go (second-refused p r c a n place key f e) = omega (arith, number-is _ e, judge-number p high n place key f .most)
+      go (wrong-side i e) = omega (arith, number-is _ e)
+      go (accepted r) = omega (arith, number-is _ (r .holds .verdict))
+
+  -- ---- where nothing is refused
+  pair-found : v .refusal .number ≡ 0 → Reads s (λ p. Paired p low high v)
+  pair-found h = go ended
+    where
+      go : Ended s low high v → Reads s (λ p. Paired p low high v)
+      go (unjudged n place b e) = absurd (omega (arith, number-is _ e, b .least))
+      go (first-refused p r n place key f e) = absurd (omega (arith, number-is _ e, judge-number p low n place key f .least))
+      go (second-refused p r c a n place key f e) = absurd (omega (arith, number-is _ e, judge-number p high n place key f .least))
+      go (wrong-side i e) = absurd (omega (arith, number-is _ e))
+      go (accepted r) = r
+
+  found-at : (p : Problem) → readProblem s ≡ given p → v .refusal .number ≡ 0 → Paired p low high v
+  found-at p r h = reads-at s (λ p. Paired p low high v) (pair-found h) p r
+
+  pair-exactly : PairExactly short s low high v
+  unfolding pairSides
+  pair-exactly = record {
+    only = λ h.
+        let r = pair-found h in
+        let k = r .holds in
+        record {
+          problem = r .problem;
+          read = r .read;
+          first = k .first;
+          second = k .second;
+          hold = k .hold;
+          lower = ap (λ (x : PairVerdict). x .lower) (k .verdict);
+          upper = ap (λ (x : PairVerdict). x .upper) (k .verdict);
+          gap = ap (λ (x : PairVerdict). x .gap) (k .verdict);
+        };
+    always = λ p c d w b.
+        number-is _ (is-judged p w)
+        ∙ rw (accepted-judge p low c (b .first), accepted-judge p high d (b .second), pairSides, eq-eqb (c .header .side) 0 (b .lower), eq-eqb (d .header .side) 1 (b .upper));
+  }
+
+  below : HoldsBelow s (v .refusal .number) (v .lower)
+  below p read h =
+      let k = found-at p read h in
+      rw (k .verdict) (accepted-below p (read-limits s p read) low (k .first) (k .hold .first) (k .hold .lower))
+
+  above : HoldsAbove s (v .refusal .number) (v .upper)
+  above p read h =
+      let k = found-at p read h in
+      rw (k .verdict) (accepted-above p (read-limits s p read) high (k .second) (k .hold .second) (k .hold .upper))
+
+  gap : HoldsGap s (v .refusal .number) (v .gap)
+  gap p read h =
+      let k = found-at p read h in
+      rw (k .verdict) (bounds-gap p _ _ _ _ (rw (k .verdict) at (below p read h)) (rw (k .verdict) at (above p read h)))
+
+  pair-rounds : RoundsTaken s (v .refusal .number) (v .rounds)
+  pair-rounds p read h = rw (found-at p read h .verdict) (promise-rounds s p read)
+
+  pair-few : FewRounds s (v .refusal .number) (v .rounds)
+  pair-few p read h = rw (found-at p read h .verdict) (promise-few s p read)
+
+  -- ---- refusal 9
+  pair-differs : PairDiffers short s low high (v .refusal)
+  pair-differs = record {
+    only = λ h. go h ended;
+    first = λ p c w i.
+        let d = judge-differs p low c (i .read) (read-limits s p (w .read)) (i .blocks) (i .differs) in
+        let e = is-judged p w ∙ ap (λ (j : Judgement). pairFirst p j high) (d .refusal) in
+        (number-is _ e, stream-is _ e);
+    second = λ p c d w a i.
+        let k = judge-differs p high d (i .read) (read-limits s p (w .read)) (i .blocks) (i .differs) in
+        let e = is-judged p w ∙ ap (λ (j : Judgement). pairFirst p j high) (accepted-judge p low c a) ∙ ap (pairSecond p c) (k .refusal) in
+        (number-is _ e, stream-is _ e);
+  }
+    where
+      go : v .refusal .number ≡ 9 → Ended s low high v
+          → ((v .refusal .stream ≡ 1) × Reads s (λ p. DiffersAt p low (v .refusal .key))) ⊎ ((v .refusal .stream ≡ 2) × Reads s (λ p. SecondDiffers p low high (v .refusal .key)))
+      go h (unjudged n place b e) = absurd (omega (arith, number-is _ e, b .most))
+      go h (first-refused p r n place key f e) =
+          let d = judge-nine p low n place key (read-limits s p r) f (sym (number-is _ e) ∙ h) in
+          inl (stream-is _ e, record { problem = p; read = r; holds = rw e d })
+      go h (second-refused p r c a n place key f e) =
+          let d = judge-nine p high n place key (read-limits s p r) f (sym (number-is _ e) ∙ h) in
+          inr (stream-is _ e, record { problem = p; read = r; holds = record { first = c; accepted = a; second = rw e d } })
+      go h (wrong-side i e) = absurd (omega (arith, number-is _ e))
+      go h (accepted r) = absurd (omega (arith, number-is _ (r .holds .verdict)))
+
+  -- all of them
+  pub pair-clauses : NumberedTo 10 (v .refusal .number) × (PairExactly short s low high v × (PairDiffers short s low high (v .refusal) × (HoldsBelow s (v .refusal .number) (v .lower) × (HoldsAbove s (v .refusal .number) (v .upper) × (HoldsGap s (v .refusal .number) (v .gap) × (RoundsTaken s (v .refusal .number) (v .rounds) × FewRounds s (v .refusal .number) (v .rounds)))))))
+  pair-clauses = (pair-numbered, (pair-exactly, (pair-differs, (below, (above, (gap, (pair-rounds, pair-few)))))))
