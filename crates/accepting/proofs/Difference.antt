@@ -15,7 +15,7 @@ use Rattle.format.specs.ProblemRules.{Problem}
 use Rattle.format.proofs.WithinLimits.{Limits}
 use Rattle.joining_rule.specs.Sets.{In, member}
 use Rattle.joining_rule.proofs.Rising.{Rising}
-use Rattle.format.specs.ProblemLimits.{All}
+use Rattle.format.specs.All.{All}
 use Rattle.format.proofs.CertificateLimits.{SoundRow}
 use Rattle.joining_rule.proofs.Elements.{in-cons, not-nil, above-in}
 use Rattle.format.specs.CertificateRules.{Certificate}

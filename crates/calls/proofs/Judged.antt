@@ -9,14 +9,14 @@ use Rattle.format.specs.Commands.{Outcome}
 use Rattle.format.specs.Commands as Stream
 use Rattle.format.proofs.Run.{first-most, read-positive, read-most}
 use Rattle.format.specs.ProblemRules.{Problem, problemRefusalAt, problemLanguage, noProblem, readProblem}
-use Rattle.format.specs.ProblemLimits.{Limits}
-use Rattle.format.specs.CertificateRules.{Certificate, progressVerdict, certificateRefusalAt, noCertificate, certificateLanguage, readCertificate}
+use Rattle.format.proofs.WithinLimits.{Limits}
+use Rattle.format.specs.CertificateRules.{Certificate, certificateRefusalAt, noCertificate, certificateLanguage, readCertificate}
 use Rattle.accepting.specs.Identity.{Identity}
 use Rattle.accepting.specs.Judgement.{judge, judgeRead, judgeOutcome, byBlocks, byIdentity, splitPlace, differenceKey}
 use Rattle.accepting.specs.Judgement as J
 use Rattle.accepting.proofs.Blocks.{split-none}
 use Rattle.accepting.proofs.Difference.{difference-smallest}
-use Rattle.accepting.proofs.Fits.{read-fits}
+use Rattle.format.proofs.CertificateLimits.{read-sound}
 use Rattle.calls.specs.Promises.{DiffersAt}
 
 -- ---- numbers
@@ -32,7 +32,7 @@ problem-number s n place h = record {
 }
 
 certificate-number : (p : Problem) (s : List ℕ) (n place : ℕ) → readCertificate p s ≡ Stream.refused n place → Between n 1 6
-unfolding readCertificate certificateRefusalAt progressVerdict
+unfolding readCertificate certificateRefusalAt
 certificate-number p s n place h =
     let l = certificateLanguage p in
     record { least = read-positive l s noCertificate n place h; most = read-most l s (λ a at. first-most _ _ _ _ _) noCertificate n place h }
@@ -74,7 +74,7 @@ module _ (p : Problem) (s : List ℕ) (n place key : ℕ) where
       go (split e) = absurd (omega arith)
       go (differs e c r x y) =
           let blocks = split-none p (c .rows) x in
-          let smallest = difference-smallest p c limits (read-fits p limits s c r) blocks key y in
+          let smallest = difference-smallest p c limits (read-sound p s c r .rows) blocks key y in
           record {
             certificate = c;
             identity = record { read = r; blocks = blocks; differs = unfold Identity in (λ i. smallest .differs (i key)) };

@@ -10,8 +10,7 @@ use borrow.Author.Tests.{le-leb, leb-true, leb-false, lt-ltb, le-ltb}
 use Rattle.counting.proofs.Listed.{listed-at}
 use Rattle.format.specs.ProblemRules.{Problem}
 use Rattle.format.specs.ProblemBases.{basisOf}
-use Rattle.format.proofs.WithinLimits.{Monomials, Limits as ProblemLimits}
-use Rattle.format.specs.ProblemLimits.{Limits}
+use Rattle.format.proofs.WithinLimits.{Monomials, Limits as ProblemLimits, Limits}
 use Rattle.format.proofs.ProblemLimits.{all-at, monomials-none}
 use Rattle.format.specs.CertificateRules.{Entry, Certificate, lastRow, rises}
 use Rattle.certificate_reader.specs.declared.Shape.{Shape}

@@ -11,7 +11,7 @@ use Rattle.counting.proofs.Listed.{listed-length, listed-at}
 use Rattle.format.specs.Commands.{given}
 use Rattle.format.specs.Operands.{number}
 use Rattle.format.specs.All.{All}
-use Rattle.format.specs.ProblemLimits.{Limits}
+use Rattle.format.proofs.WithinLimits.{Limits}
 use Rattle.format.specs.ProblemRules.{Problem}
 use Rattle.format.specs.ProblemBases.{basisOf}
 use Rattle.certificate_reader.specs.declared.StoredRow.{StoredRow}

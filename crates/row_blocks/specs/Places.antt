@@ -5,7 +5,7 @@ use mathlib.Core.Option.{Option, none, some}
 use Prim.Native.Nat.{ℕ, _+_, _*_, _≤_, _<_}
 use lib.ListN.{length, getD}
 use Rattle.format.specs.ProblemRules.{Problem}
-use Rattle.format.specs.ProblemLimits.{Limits}
+use Rattle.format.proofs.WithinLimits.{Limits}
 use Rattle.format.specs.CertificateRules.{mostRows}
 use Rattle.certificate_reader.specs.Rows.{Chain}
 use Rattle.certificate_reader.specs.declared.StoredRow.{StoredRow}

@@ -23,7 +23,7 @@ use Rattle.format.specs.All.{All}
 use Rattle.format.specs.CertificateRules.{Entry, Row, mostRows}
 use Rattle.format.specs.ProblemRules.{Problem}
 use Rattle.format.specs.ProblemBases.{basisOf}
-use Rattle.format.specs.ProblemLimits.{Limits}
+use Rattle.format.proofs.WithinLimits.{Limits}
 use Rattle.format.proofs.CertificateLimits.{IndicesRise, SoundRow}
 use Rattle.certificate_reader.specs.Rows.{stands, entryCount, entryAt, rowAt, afterRow, rowsFrom, rowsOf, storedEntry, rowOf, HoldsRow, Chain, done, more}
 use Rattle.certificate_reader.specs.declared.StoredRow.{StoredRow}

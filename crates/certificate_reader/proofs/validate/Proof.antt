@@ -8,7 +8,7 @@ use borrow.Author.Tests.{ne-eqb}
 use borrow.Author.Needs.{needs}
 use Rattle.format.specs.CertificateLayout.{certificateCommand, certificateSize}
 use Rattle.format.specs.ProblemRules.{Problem}
-use Rattle.format.specs.ProblemLimits.{Limits}
+use Rattle.format.proofs.WithinLimits.{Limits}
 use Rattle.format.specs.CertificateRules.{certificateCommandAt, certificateInstructionAt, certificateRefusalAt}
 use Rattle.certificate_reader.specs.Kept.{shapeOf, headerOutcomeOf}
 use Rattle.certificate_reader.proofs.Kept.{Held, HeldFor, held-start, held-end, held-refused, held-extra, held-given, held-next}
