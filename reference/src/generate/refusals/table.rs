@@ -22,7 +22,7 @@ const ONE: &str = "
 
 A replayed record is always answered with tables lent in full, so no record meets refusal 1. It is stated in the public \
 contracts in `crates/checker/src/lib.rt`: `verdict` of each call says that it is given exactly when the named test holds, and \
-`bytes`, `keys_left`, `high_left` and `low_left` that nothing is written then. `bench short` calls the C functions with each \
+`bytes` and `tables` that nothing is written then. `bench short` calls the C functions with each \
 length one short, and sees refusal 1 and all that was lent untouched.
 
 | case | what is lent | answer | clause |
