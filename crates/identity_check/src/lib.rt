@@ -108,15 +108,17 @@ fn negate(side: usize, scale: u16, p: i32, q: u16) -> Negated
 {
     let m = (scale as i64) * (q as i64);
     let c = (scale as i64) * (p as i64);
+    let less_m = 0 - m;
+    let less_c = 0 - c;
     if side == 0 {
         Negated {
-            objective: 0 - m,
+            objective: less_m,
             constant: c,
         }
     } else {
         Negated {
             objective: m,
-            constant: 0 - c,
+            constant: less_c,
         }
     }
 }

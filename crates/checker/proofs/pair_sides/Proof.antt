@@ -59,7 +59,7 @@ problem-refusal-requires : tie.Need-problem-refusal-requires
 problem-refusal-requires c κs = search needs
 
 gap-requires : tie.Need-gap-requires
-gap-requires c κs = (c .before .before .before .bound .ensures .1, c .before .bound2 .ensures .1)
+gap-requires c κs = search needs
 
 returns-3 : tie.Need-returns-3
 returns-3 c =

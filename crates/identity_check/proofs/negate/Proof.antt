@@ -65,31 +65,31 @@ cast-c-2 c = simp (toZ-ofZ (c .fits .p)) (fits-p c)
 mul-c : tie.Need-mul-c
 mul-c c = simp (toZ-ofZ, c .fits .p, fits-scale c, fits-p c) (fits-N c)
 
-sub-t11 : tie.Need-sub-t11
-sub-t11 c = let s = c .before in simp (toZ-ofZ, fits-scale s, fits-q s, fits-M s) (less-M s)
+sub-less-m : tie.Need-sub-less-m
+sub-less-m c = simp (toZ-ofZ, fits-scale c, fits-q c, fits-M c) (less-M c)
 
-sub-t12 : tie.Need-sub-t12
-sub-t12 c = let s = c .before in simp (toZ-ofZ, s .fits .p, fits-scale s, fits-p s, fits-N s) (less-N s)
+sub-less-c : tie.Need-sub-less-c
+sub-less-c c = simp (toZ-ofZ, c .fits .p, fits-scale c, fits-p c, fits-N c) (less-N c)
 
 returns : tie.Need-returns
 returns c =
     let s = c .before in
     let a = s .args in
     let e : a .side ≡ 0 = c .if1 .taken in
-    simp (toZ-ofZ, s .fits .p, fits-scale s, fits-q s, fits-p s, fits-M s, fits-N s, less-M s)
-    (rw (e, minus (M s)) record {
+    simp (toZ-ofZ, s .fits .p, fits-scale s, fits-q s, fits-p s, fits-M s, fits-N s, less-M s, less-N s)
+    (rw e (simp minus record {
       objective = refl;
       constant = back (pos (a .scale)) (a .p);
       objective-small = omega (arith, small-M s, abs-neg (M s));
       constant-small = small-N s;
-    })
+    }))
 
 returns-2 : tie.Need-returns-2
 returns-2 c =
     let s = c .before in
     let a = s .args in
-    simp (toZ-ofZ, s .fits .p, fits-scale s, fits-q s, fits-p s, fits-M s, fits-N s, less-N s)
-    (rw (minus (N s)) record {
+    simp (toZ-ofZ, s .fits .p, fits-scale s, fits-q s, fits-p s, fits-M s, fits-N s, less-M s, less-N s)
+    (simp minus record {
       objective = rw (turned-other (a .side) (pos (a .q)) (c .if1 .left)) (back (pos (a .scale)) (pos (a .q)));
       constant = rw (turned-other (a .side) (negℤ (a .p)) (c .if1 .left)) (back-twice (pos (a .scale)) (a .p));
       objective-small = small-M s;
@@ -99,4 +99,4 @@ returns-2 c =
 pub negate-spec : {M : Type 1} → statement M
 negate-spec =
     tie.close
-    (tie.spec cast-m cast-m-2 mul-m cast-c cast-c-2 mul-c sub-t11 sub-t12 returns returns-2)
+    (tie.spec cast-m cast-m-2 mul-m cast-c cast-c-2 mul-c sub-less-m sub-less-c returns returns-2)
