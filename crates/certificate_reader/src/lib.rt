@@ -6,6 +6,8 @@ ghost use lib.ListN.{length};
 ghost use Rattle.format.specs.Operands.{number, signed};
 ghost use Rattle.format.specs.ProblemRules.{Problem};
 ghost use Rattle.format.proofs.WithinLimits.{Limits};
+ghost use Rattle.format.specs.Layouts.{ZeroUnknown};
+ghost use Rattle.format.specs.declared.certificate.Command.the-variants as C;
 ghost use Rattle.format.specs.CertificateLayout.{certificateCommand, certificateSize, certificateDecoded};
 ghost use Rattle.format.specs.CertificateRules.{Certificate, noHeader, certificatePlaced, certificateOperandsFit, certificateRepeated, certificateFull, certificateRefusalAt, readCertificate};
 ghost use Rattle.certificate_reader.specs.Kept.{shapeOf, progressOf, ProblemShape, ProgressWithin};
@@ -86,15 +88,16 @@ fn command_of(byte: u8) -> Command
     }
 }
 
-fn size_of(command: Command) -> usize
-    ensures { λ r. ⌜ (r ≡ certificateSize command) × (r ≤ 10) ⌝ }
+// The length of the command that a byte names, with its byte; 0 where it names none.
+pub fn length_of(byte: u8) -> usize
+    ensures layout { λ r. ⌜ r ≡ certificateSize (certificateCommand byte) ⌝ }
+    ensures unknown { λ r. ⌜ ZeroUnknown C.Unknown (certificateCommand byte) r ⌝ }
 {
-    match command {
-        Command::Header => 1 + 1 + 2 + 4 + 2,
-        Command::Row => 1 + 1 + 2,
-        Command::Entry => 1 + 1 + 2,
-        Command::End => 1,
-        Command::Unknown => 0,
+    match byte {
+        0x13 => 1,
+        0x11 | 0x12 => 4,
+        0x10 => 10,
+        0x00..=0x0F | 0x14..=0xFF => 0,
     }
 }
 
@@ -192,11 +195,12 @@ fn verdict_at(h: Shape, g: Progress, s: &[u8], at: usize) -> u8
         → r ≡ certificateRefusalAt p c (now (s .entry)) at)
         ⌝ }
 {
-    let command = command_of(s[at]);
+    let byte = s[at];
+    let command = command_of(byte);
     if !is_placed(g, at, command) {
         return 3;
     }
-    if s.len() < at + size_of(command) {
+    if s.len() - at < length_of(byte) {
         return 2;
     }
     let i = decode_at(command, s, at);
@@ -278,7 +282,7 @@ pub fn validate(h: Shape, s: &[u8]) -> Reading
         }
         let byte = s[at];
         let command = command_of(byte);
-        let next = at + size_of(command);
+        let next = at + length_of(byte);
         if byte == 0x13 {
             let number = if next < s.len() { 2 } else { 0 };
             return Reading {

@@ -5,5 +5,6 @@ pub mod ProblemLimits
 pub mod CertificateChecks
 pub mod CertificateLimits
 pub mod Numbers
+pub mod Lengths
 pub mod ProblemCounts
 pub mod All

@@ -20,10 +20,12 @@ certificateLayout C.Entry = line 0x12 (u8 ∷ i16 ∷ [])
 certificateLayout C.End = line 0x13 []
 certificateLayout C.Unknown = none
 
+abbrev pub certificateCommands : List Command
+certificateCommands = C.Header ∷ C.Row ∷ C.Entry ∷ C.End ∷ []
+
 -- the command that a byte names
 unfoldable pub certificateCommand : ℕ → Command
-certificateCommand b =
-    commandNamed certificateLayout C.Unknown (C.Header ∷ C.Row ∷ C.Entry ∷ C.End ∷ []) b
+certificateCommand b = commandNamed certificateLayout C.Unknown certificateCommands b
 
 -- a command's length; 0 of what is no command
 abbrev pub certificateSize : Command → ℕ

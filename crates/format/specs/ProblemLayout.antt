@@ -24,11 +24,12 @@ problemLayout C.Member = line 0x05 (u8 ∷ E ∷ [])
 problemLayout C.End = line 0x06 []
 problemLayout C.Unknown = none
 
+abbrev pub problemCommands : List Command
+problemCommands = C.Variables ∷ C.Objective ∷ C.Constraint ∷ C.Term ∷ C.Member ∷ C.End ∷ []
+
 -- the command that a byte names
 unfoldable pub problemCommand : ℕ → Command
-problemCommand b =
-    commandNamed problemLayout C.Unknown
-    (C.Variables ∷ C.Objective ∷ C.Constraint ∷ C.Term ∷ C.Member ∷ C.End ∷ []) b
+problemCommand b = commandNamed problemLayout C.Unknown problemCommands b
 
 -- a command's length; 0 of what is no command
 abbrev pub problemSize : Command → ℕ

@@ -15,7 +15,7 @@ use Rattle.format.specs.Commands.{firstRefusal}
 use Rattle.format.proofs.Run.{Left, left-start, left-end, left-refused, left-extra, left-given, left-next}
 use Rattle.counting.specs.Counting.{listed}
 use Rattle.polynomial.specs.Monomial.{degree, within}
-use Rattle.polynomial.specs.Terms.{Term, term}
+use Rattle.polynomial.specs.Terms.{term}
 use Rattle.problem_reader.specs.TermArrays.{termsIn, FilledTerms}
 use Rattle.problem_reader.specs.declared.Objective.{Objective}
 use Rattle.problem_reader.specs.declared.Polynomial.{Polynomial}

@@ -2,6 +2,8 @@
 ghost use mathlib.Core.Path.{_≡_};
 ghost use Prim.Native.Nat.{_+_, _≤_, _<_};
 ghost use lib.ListN.{length};
+ghost use Rattle.format.specs.Layouts.{ZeroUnknown};
+ghost use Rattle.format.specs.declared.problem.Command.the-variants as C;
 ghost use Rattle.format.specs.ProblemLayout.{problemCommand, problemSize, problemDecoded};
 ghost use Rattle.format.specs.ProblemRules.{Problem, problemPlaced, fitting, nonzero, problemOperandsFit, problemCommandAt, readProblem};
 ghost use Rattle.problem_reader.specs.Checks.{early, lateIn};
@@ -131,17 +133,18 @@ fn command_of(byte: u8) -> Command
     }
 }
 
-fn size_of(command: Command) -> usize
-    ensures { λ r. ⌜ (r ≡ problemSize command) × (r ≤ 13) ⌝ }
+// The length of the command that a byte names, with its byte; 0 where it names none.
+pub fn length_of(byte: u8) -> usize
+    ensures layout { λ r. ⌜ r ≡ problemSize (problemCommand byte) ⌝ }
+    ensures unknown { λ r. ⌜ ZeroUnknown C.Unknown (problemCommand byte) r ⌝ }
 {
-    match command {
-        Command::Variables => 1 + 1,
-        Command::Objective => 1 + 8 + 4,
-        Command::Constraint => 1,
-        Command::Term => 1 + 8 + 2,
-        Command::Member => 1 + 1 + 8,
-        Command::End => 1,
-        Command::Unknown => 0,
+    match byte {
+        0x03 | 0x06 => 1,
+        0x01 => 2,
+        0x05 => 10,
+        0x04 => 11,
+        0x02 => 13,
+        0x00 | 0x07..=0xFF => 0,
     }
 }
 
@@ -221,8 +224,10 @@ fn is_allowed(n: usize, count: usize, i: Instruction) -> bool
 }
 
 // The checks 3, 2 and 4 of the command at an offset: they need two numbers of what was read before it.
-fn check_at(n: usize, count: usize, command: Command, s: &[u8], at: usize) -> u8
-    requires { ⌜ (at < length (now s)) × (command ≡ problemCommandAt (now s) at) ⌝ }
+fn check_at(n: usize, count: usize, command: Command, len: usize, s: &[u8], at: usize) -> u8
+    requires { ⌜
+        (at < length (now s)) × (command ≡ problemCommandAt (now s) at) × (len ≡ problemSize command)
+        ⌝ }
     ensures { λ r. ⌜
         ((p : Problem) → p .variables ≡ n → length (p .constraints) ≡ count → r ≡ early p (now (s .entry)) at)
         ⌝ }
@@ -230,7 +235,7 @@ fn check_at(n: usize, count: usize, command: Command, s: &[u8], at: usize) -> u8
     if !is_placed(count, at, command) {
         return 3;
     }
-    if s.len() < at + size_of(command) {
+    if s.len() - at < len {
         return 2;
     }
     if !is_allowed(n, count, decode_at(command, s, at)) {
@@ -268,13 +273,15 @@ pub fn read(s: &[u8]) -> Reading
     let mut number: u8 = 2;
     let mut at = 0;
     while at < s.len() {
-        let command = command_of(s[at]);
-        let found = check_at(variables, count, command, s, at);
+        let byte = s[at];
+        let command = command_of(byte);
+        let len = length_of(byte);
+        let found = check_at(variables, count, command, len, s, at);
         if 0 < found {
             number = found;
             break;
         }
-        let next = at + size_of(command);
+        let next = at + len;
         match decode_at(command, s, at) {
             Instruction::Variables(n) => {
                 variables = n;

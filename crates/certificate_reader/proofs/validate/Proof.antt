@@ -65,8 +65,8 @@ module _ (c : tie.Else1 Inv-loop μ-loop) where
   unfolding held
   taken = none (start here .pre .problem) (start here .pre .limits) (start here .pre .is)
 
-length-is : (c : tie.After-size-of Inv-loop μ-loop) → let l = c .before .before .before .before .before .before in c .size-of .result ≡ certificateSize (certificateCommandAt (s l) (l .loop .at))
-length-is c = c .size-of .ensures .0 ∙ ap certificateSize (c .before .command-of .ensures)
+length-is : (c : tie.After-length-of Inv-loop μ-loop) → let l = c .before .before .before .before .before .before in c .length-of .result ≡ certificateSize (certificateCommandAt (s l) (l .loop .at))
+length-is c = c .length-of .ensures .0
 
 shared-slice-read-byte : tie.Need-shared-slice-read-byte Inv-loop μ-loop
 shared-slice-read-byte c = search needs
@@ -74,11 +74,11 @@ shared-slice-read-byte c = search needs
 command-of-requires : tie.Need-command-of-requires Inv-loop μ-loop
 command-of-requires c κs = search needs
 
-size-of-requires : tie.Need-size-of-requires Inv-loop μ-loop
-size-of-requires c κs = search needs
+length-of-requires : tie.Need-length-of-requires Inv-loop μ-loop
+length-of-requires c κs = search needs
 
 add-next : tie.Need-add-next Inv-loop μ-loop
-add-next c = let k = c .size-of .ensures .1 in omega arith
+add-next c = let k = length-is c in omega (arith, taken-whole _ _ _ _ (taken (c .before .before .before)))
 
 returns-2 : tie.Need-returns-2 Inv-loop μ-loop
 unfolding headerOutcomeOf certificateCommand
@@ -86,7 +86,7 @@ returns-2 c = λ p limits e.
     let i = c .before .before .before .before .before in
     let l = here i in
     let b = c .before .if2 .taken in
-    let k : c .before .before .size-of .result ≡ 1 = length-is (c .before .before) ∙ ap (λ (x : ℕ). certificateSize (certificateCommand x)) b in
+    let k : c .before .before .length-of .result ≡ 1 = length-is (c .before .before) ∙ ap (λ (x : ℕ). certificateSize (certificateCommand x)) b in
     rw k (held-extra p (s l) _ _ (l .loop .at) (l .loop .inv p limits e) (omega arith) (none i p limits e) b (omega arith))
 
 returns-3 : tie.Need-returns-3 Inv-loop μ-loop
@@ -95,14 +95,14 @@ returns-3 c = λ p limits e.
     let i = c .before .before .before .before .before in
     let l = here i in
     let b = c .before .if2 .taken in
-    let k : c .before .before .size-of .result ≡ 1 = length-is (c .before .before) ∙ ap (λ (x : ℕ). certificateSize (certificateCommand x)) b in
+    let k : c .before .before .length-of .result ≡ 1 = length-is (c .before .before) ∙ ap (λ (x : ℕ). certificateSize (certificateCommand x)) b in
     held-given p (s l) _ _ (l .loop .at) (l .loop .inv p limits e) (omega arith) (none i p limits e) b (omega arith)
 
 decode-at-requires : tie.Need-decode-at-requires Inv-loop μ-loop
 decode-at-requires c κs =
     let i = c .before .before .before .before in
     let k = length-is (c .before) in
-    let e = c .before .size-of .ensures .0 in
+    let e = ap certificateSize (c .before .before .command-of .ensures) in
     omega (arith, taken-whole _ _ _ _ (taken i))
 
 header-after-requires : tie.Need-header-after-requires Inv-loop μ-loop
@@ -146,7 +146,7 @@ validate-spec =
     returns
     shared-slice-read-byte
     command-of-requires
-    size-of-requires
+    length-of-requires
     add-next
     returns-2
     returns-3

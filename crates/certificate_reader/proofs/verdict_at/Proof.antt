@@ -15,8 +15,8 @@ use Rattle.certificate_reader.proofs.Checks.{verdict-3, verdict-2, verd
 use Rattle.certificate_reader.proofs.verdict_at.Statement.{statement}
 use Rattle.certificate_reader.proofs.verdict_at.Tie as tie
 
-shared-slice-read-command-of : tie.Need-shared-slice-read-command-of
-shared-slice-read-command-of c = search needs
+shared-slice-read-byte : tie.Need-shared-slice-read-byte
+shared-slice-read-byte c = search needs
 
 command-of-requires : tie.Need-command-of-requires
 command-of-requires c κs = search needs
@@ -24,17 +24,21 @@ command-of-requires c κs = search needs
 is-placed-requires : tie.Need-is-placed-requires
 is-placed-requires c κs = search needs
 
-size-of-requires : tie.Need-size-of-requires
-size-of-requires c κs = search needs
+sub-if2 : tie.Need-sub-if2
+sub-if2 c = search needs
 
-length-is : (c : tie.After-size-of) → let a = c .before .before .before .before .before .before .args in c .size-of .result ≡ certificateSize (certificateCommandAt (a .s .now) (a .at))
-length-is c = c .size-of .ensures .0 ∙ ap certificateSize (c .before .before .before .command-of .ensures)
+length-of-requires : tie.Need-length-of-requires
+length-of-requires c κs = search needs
 
-add-if2 : tie.Need-add-if2
-add-if2 c = search needs
+length-is : (c : tie.After-length-of) → let a = c .before .before .before .before .before .before .args in c .length-of .result ≡ certificateSize (certificateCommandAt (a .s .now) (a .at))
+length-is c = c .length-of .ensures .0
+
+-- past the second check the whole command is there
+whole : (c : tie.Else2) → let a = c .before .before .before .before .before .before .before .args in a .at + certificateSize (certificateCommandAt (a .s .now) (a .at)) ≤ length (a .s .now)
+whole c = let k = length-is (c .before) in omega arith
 
 decode-at-requires : tie.Need-decode-at-requires
-decode-at-requires c κs = let k = c .before .size-of .ensures .0 in omega arith
+decode-at-requires c κs = let k = whole c in let e = ap certificateSize (c .before .before .before .before .command-of .ensures) in omega arith
 
 decoded : (c : tie.After-decode-at) → let a = c .before .before .before .before .before .before .before .before .args in c .decode-at .result ≡ certificateInstructionAt (a .s .now) (a .at)
 decoded c = rw (c .decode-at .ensures, c .before .before .before .before .before .command-of .ensures)
@@ -59,9 +63,6 @@ module _ (c : tie.After-is-placed) where
   module _ (k : Certificate) (f : c .before .before .before .before .args .g ≡ progressOf k) where
     placed-as : {b : Bool} → c .is-placed .result ≡ b → certificatePlaced k at (certificateCommandAt s at) ≡ b
     placed-as e = rw (c .before .command-of .ensures) at (sym (c .is-placed .ensures k f) ∙ e)
-
-whole : (c : tie.Else2) → let a = c .before .before .before .before .before .before .before .args in a .at + certificateSize (certificateCommandAt (a .s .now) (a .at)) ≤ length (a .s .now)
-whole c = let k = length-is (c .before) in omega arith
 
 returns : tie.Need-returns
 returns c = λ p k e f. verdict-3 p k _ _ (placed-as (c .before) k f (not-true _ (c .if1 .taken)))
@@ -112,12 +113,12 @@ pub verdict-at-spec : {M : Type 1} → statement M
 verdict-at-spec =
     tie.close
     (tie.spec
-    shared-slice-read-command-of
+    shared-slice-read-byte
     command-of-requires
     is-placed-requires
     returns
-    size-of-requires
-    add-if2
+    sub-if2
+    length-of-requires
     returns-2
     decode-at-requires
     is-allowed-requires

@@ -25,57 +25,45 @@ returns c =
     let a = c .before .before .before .args in
     sym (early-3 p (a .s .now) (a .at) (rw (c .before .before .before .pre .1) at (sym (c .before .is-placed .ensures p h) ∙ not-true _ (c .if1 .taken))))
 
-size-of-requires : tie.Need-size-of-requires
-size-of-requires c κs = search needs
+length-is : (c : tie.Start) → c .args .len ≡ problemSize (problemCommandAt (c .args .s .now) (c .args .at))
+length-is c = c .pre .2 ∙ ap problemSize (c .pre .1)
 
-length-is : (c : tie.After-size-of) → c .size-of .result ≡ problemSize (problemCommandAt (c .before .before .before .before .args .s .now) (c .before .before .before .before .args .at))
-length-is c = c .size-of .ensures .0 ∙ ap problemSize (c .before .before .before .before .pre .1)
-
-add-if2 : tie.Need-add-if2
-add-if2 c = let h = c .size-of .ensures .1 in omega arith
+sub-if2 : tie.Need-sub-if2
+sub-if2 c = search needs
 
 returns-2 : tie.Need-returns-2
 returns-2 c =
     λ p e h.
-    let a = c .before .before .before .before .before .args in
-    let k = length-is (c .before) in
-    sym (early-2 p (a .s .now) (a .at) (stands (c .before .before) p h) (omega arith))
+    let a = c .before .before .before .before in
+    let k = length-is a in
+    sym (early-2 p (a .args .s .now) (a .args .at) (stands (c .before) p h) (omega arith))
 
 decode-at-requires : tie.Need-decode-at-requires
-decode-at-requires c κs = let k = c .before .size-of .ensures .0 in omega arith
+decode-at-requires c κs = let k = c .before .before .before .before .pre .2 in omega arith
 
 is-allowed-requires : tie.Need-is-allowed-requires
 is-allowed-requires c κs = search needs
 
-decoded : (c : tie.After-is-allowed) → c .before .decode-at .result ≡ problemInstructionAt (c .before .before .before .before .before .before .before .args .s .now) (c .before .before .before .before .before .before .before .args .at)
-decoded c = rw (c .before .decode-at .ensures, c .before .before .before .before .before .before .before .pre .1)
+decoded : (c : tie.After-is-allowed) → let a = c .before .before .before .before .before .before .args in c .before .decode-at .result ≡ problemInstructionAt (a .s .now) (a .at)
+decoded c = rw (c .before .decode-at .ensures, c .before .before .before .before .before .before .pre .1)
 
 returns-3 : tie.Need-returns-3
 returns-3 c =
     λ p e h.
     let d = c .before .before .before in
-    let a = d .before .before .before .before .before .args in
-    let k = length-is (d .before) in
-    sym (early-4 p (a .s .now) (a .at) (stands (d .before .before) p h) (omega arith) (rw (decoded (c .before)) at (sym (c .before .is-allowed .ensures p e h) ∙ not-true _ (c .if3 .taken))))
+    let a = d .before .before .before .before in
+    let k = length-is a in
+    sym (early-4 p (a .args .s .now) (a .args .at) (stands (d .before) p h) (omega arith) (rw (decoded (c .before)) at (sym (c .before .is-allowed .ensures p e h) ∙ not-true _ (c .if3 .taken))))
 
 returns-4 : tie.Need-returns-4
 returns-4 c =
     λ p e h.
     let d = c .before .before .before in
-    let a = d .before .before .before .before .before .args in
-    let k = length-is (d .before) in
-    sym (early-0 p (a .s .now) (a .at) (stands (d .before .before) p h) (omega arith) (rw (decoded (c .before)) at (sym (c .before .is-allowed .ensures p e h) ∙ not-false _ (c .if3 .left))))
+    let a = d .before .before .before .before in
+    let k = length-is a in
+    sym (early-0 p (a .args .s .now) (a .args .at) (stands (d .before) p h) (omega arith) (rw (decoded (c .before)) at (sym (c .before .is-allowed .ensures p e h) ∙ not-false _ (c .if3 .left))))
 
 pub check-at-spec : {M : Type 1} → statement M
 check-at-spec =
     tie.close
-    (tie.spec
-    is-placed-requires
-    returns
-    size-of-requires
-    add-if2
-    returns-2
-    decode-at-requires
-    is-allowed-requires
-    returns-3
-    returns-4)
+    (tie.spec is-placed-requires returns sub-if2 returns-2 decode-at-requires is-allowed-requires returns-3 returns-4)

@@ -34,10 +34,10 @@ bytes l = l .before .before .before .before .args .s .now
 abbrev kept : tie.At-loop Inv-loop μ-loop → Problem
 kept l = problemOf (stored (l .loop .variables) (l .loop .objective) (l .loop .constraints) (l .loop .count) (l .loop .keys) (l .loop .sizes))
 
-first : (c : tie.After-check-at Inv-loop μ-loop) → let l = c .before .before .before .before in c .check-at .result ≡ early (kept l) (bytes l) (l .loop .at)
-first c = first-checks _ _ _ _ _ _ _ _ _ 0 (c .before .before .before .before .loop .inv) (omega arith) _ (c .check-at .ensures)
+first : (c : tie.After-check-at Inv-loop μ-loop) → let l = c .before .before .before .before .before in c .check-at .result ≡ early (kept l) (bytes l) (l .loop .at)
+first c = first-checks _ _ _ _ _ _ _ _ _ 0 (c .before .before .before .before .before .loop .inv) (omega arith) _ (c .check-at .ensures)
 
-none : (c : tie.Else1 Inv-loop μ-loop) → let l = c .before .before .before .before .before in early (kept l) (bytes l) (l .loop .at) ≡ 0
+none : (c : tie.Else1 Inv-loop μ-loop) → let l = c .before .before .before .before .before .before in early (kept l) (bytes l) (l .loop .at) ≡ 0
 none c = let e = first (c .before) in omega arith
 
 abbrev Told : Type 0
@@ -47,7 +47,7 @@ abbrev head : Told → tie.At-loop Inv-loop μ-loop
 head c = c .before .before .before .before .before .before .before
 
 abbrev next : Told → ℕ
-next c = head c .loop .at + c .before .size-of .result
+next c = head c .loop .at + c .before .before .before .length-of .result
 
 abbrev At : Told → Instruction → Type 0
 At c i = Passes (kept (head c)) (bytes (head c)) (head c .loop .at) i (next c)
@@ -55,7 +55,7 @@ At c i = Passes (kept (head c)) (bytes (head c)) (head c .loop .at) i (next c)
 passed : (c : Told) (i : Instruction) → c .decode-at .result ≡ i → At c i
 passed c i e =
     let m = c .before .before .before .before .command-of .ensures in
-    passes _ _ _ _ _ (none (c .before .before)) (sym (c .decode-at .ensures ∙ ap (λ (k : Command). problemDecoded k (bytes (head c)) (head c .loop .at)) m) ∙ e) (ap (λ (n : ℕ). head c .loop .at + n) (c .before .size-of .ensures .0 ∙ ap problemSize m))
+    passes _ _ _ _ _ (none (c .before)) (sym (c .decode-at .ensures ∙ ap (λ (k : Command). problemDecoded k (bytes (head c)) (head c .loop .at)) m) ∙ e) (ap (λ (n : ℕ). head c .loop .at + n) (c .before .before .before .length-of .ensures .0))
 
 shorter : (c : Told) → length (bytes (head c)) - next c < length (bytes (head c)) - head c .loop .at
 shorter c = let t = passed c (c .decode-at .result) refl in let l = passes-longer _ _ _ _ _ t in let w = t .whole in omega arith
@@ -69,25 +69,30 @@ empty-requires-2 c κs = search needs
 loop-holds : tie.Need-loop-holds Inv-loop μ-loop
 loop-holds c = starting (c .before .before .before .args .s .now) (c .before .empty .result) (c .empty2 .result) (c .before .empty .ensures) (c .empty2 .ensures)
 
-shared-slice-read-command-of : tie.Need-shared-slice-read-command-of Inv-loop μ-loop
-shared-slice-read-command-of c = omega arith
+shared-slice-read-byte : tie.Need-shared-slice-read-byte Inv-loop μ-loop
+shared-slice-read-byte c = omega arith
 
 command-of-requires : tie.Need-command-of-requires Inv-loop μ-loop
 command-of-requires c κs = search needs
 
-check-at-requires : tie.Need-check-at-requires Inv-loop μ-loop
-check-at-requires c κs = (omega arith, c .command-of .ensures)
+length-of-requires : tie.Need-length-of-requires Inv-loop μ-loop
+length-of-requires c κs = search needs
 
-size-of-requires : tie.Need-size-of-requires Inv-loop μ-loop
-size-of-requires c κs = search needs
+check-at-requires : tie.Need-check-at-requires Inv-loop μ-loop
+check-at-requires c κs =
+    let e = c .before .command-of .ensures in
+    (omega arith, e, c .length-of .ensures .0 ∙ ap problemSize (sym e))
 
 add-next : tie.Need-add-next Inv-loop μ-loop
-add-next c = let h = c .size-of .ensures .1 in omega arith
+add-next c =
+    let e = c .before .before .length-of .ensures .0 in
+    let w = passes _ _ _ _ _ (none c) refl refl .whole in
+    omega arith
 
 decode-at-requires : tie.Need-decode-at-requires Inv-loop μ-loop
 decode-at-requires c κs =
     let e = ap problemSize (c .before .before .before .command-of .ensures) in
-    let w = passes _ _ _ _ _ (none (c .before)) refl refl .whole in
+    let w = passes _ _ _ _ _ (none c) refl refl .whole in
     omega arith
 
 enum-known-n : tie.Need-enum-known-n Inv-loop μ-loop
@@ -296,7 +301,7 @@ returns c = ended _ _ _ _ (c .before .loop .inv) (omega arith)
 returns-2 : tie.Need-returns-2 Inv-loop μ-loop
 returns-2 c =
     let r = first (c .before) in
-    refusing _ _ _ _ (c .before .before .before .before .before .loop .inv) (omega arith) _ (omega arith) (early-refusal _ _ _ (omega arith) ∙ sym r)
+    refusing _ _ _ _ (c .before .before .before .before .before .before .loop .inv) (omega arith) _ (omega arith) (early-refusal _ _ _ (omega arith) ∙ sym r)
 
 returns-3 : tie.Need-returns-3 Inv-loop μ-loop
 returns-3 c =
@@ -337,10 +342,10 @@ read-spec =
     empty-requires
     empty-requires-2
     loop-holds
-    shared-slice-read-command-of
+    shared-slice-read-byte
     command-of-requires
+    length-of-requires
     check-at-requires
-    size-of-requires
     add-next
     decode-at-requires
     enum-known-n
