@@ -1,0 +1,1 @@
+"""gapfile: from a polynomial to a filed figure, beside the checker. Nothing trusted rests on it."""
