@@ -11,7 +11,7 @@ from . import VERSION
 from .blocks import as_svg
 from .programs import Verdict, blocks_call, gapcheck, program
 from .reading import Refusal, read_certificate, read_problem
-from .sheet import Sheet, names_of, page
+from .sheet import Sheet, page
 from .text import decode
 
 STREAMS = ("problem.bin", "low.bin", "high.bin")
@@ -49,21 +49,22 @@ def file_folder(folder: Path) -> Verdict:
     if not verdict.accepted:
         raise NotAccepted(verdict)
     problem = read_problem(streams[0])
-    (folder / "problem.txt").write_text(decode(streams[0]).text(), encoding="utf-8")
-    (folder / "verdict.txt").write_text("\n".join(verdict.lines) + "\n", encoding="utf-8")
     manifest = json.loads((folder / "manifest.json").read_text(encoding="utf-8"))
+    names = [v["in the stream"] for v in manifest["variables"]]
+    (folder / "problem.txt").write_text(decode(streams[0], names).text(), encoding="utf-8")
+    (folder / "verdict.txt").write_text("\n".join(verdict.lines) + "\n", encoding="utf-8")
     # the hashes are of the bytes that were judged, not of what the disk may hold by now
     sums = [(name, digest(stream)) for name, stream in zip(STREAMS, streams)]
     sums += [(name, digest((folder / name).read_bytes())) for name in ("model.gap", "manifest.json", "problem.txt", "verdict.txt")]
     checker = program("gapcheck")
     found = blocks_call(streams[0])
-    picture = "" if isinstance(found, Refusal) else as_svg(problem, found, names_of(problem), 9)
+    picture = "" if isinstance(found, Refusal) else as_svg(problem, found, names)
     sheet = Sheet(
         title=manifest["title"], problem=problem,
         certificates=(read_certificate(streams[1], problem, 1), read_certificate(streams[2], problem, 2)),
         verdict=verdict, factor=int(manifest["factor"]),
         variables=[(v["name"], Fraction(v["middle"]), Fraction(v["half"])) for v in manifest["variables"]],
-        points=[_point(side) for side in manifest["sides"]],
+        names=names, points=[_point(side) for side in manifest["sides"]],
         relaxations=[f"{float(side['relaxation']):.9g}" for side in manifest["sides"]], picture=picture,
         sums=sums + [("gapcheck", digest(checker.read_bytes()))],
         versions=[("gapfile", VERSION), ("Python", platform.python_version()), ("solver:", manifest["solver"])])

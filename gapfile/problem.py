@@ -31,6 +31,14 @@ class Posed:
         return [m + h * x for m, h, x in zip(self.middle, self.half, point)]
 
 
+def stream_names(names: list[str], middle: list[Fraction], half: list[Fraction]) -> list[str]:
+    """Names for the variables of the stream: the model's where they are the same numbers, else others."""
+    if not any(middle) and all(h == 1 for h in half):
+        return names
+    letter = next(c for c in "uvwxyz" if not any(n.startswith(c) and n[1:].isdigit() for n in names))
+    return [f"{letter}{i + 1}" for i in range(len(names))]
+
+
 def pose(model: Model) -> Posed:
     """The problem of a model. Raises LimitError."""
     middle, half = [], []

@@ -9,6 +9,7 @@ from . import VERSION
 from .decimals import decimal, fraction
 from .model import Model
 from .points import Attained
+from .problem import stream_names
 from .solver import STATUS
 from .solving import Side, Solved
 
@@ -51,13 +52,14 @@ def off_by(side: Side, factor: int) -> Fraction:
 def manifest(solved: Solved, model: Model, solver: str) -> str:
     """What is needed to read the figures in the model's units, and how they were found, as JSON."""
     posed = solved.posed
+    inner = stream_names(model.names, posed.middle, posed.half)
     data: dict[str, Any] = {
         "gapfile": VERSION,
         "title": model.title,
         "factor": posed.factor,
         "meaning": "the model's polynomial is the objective of problem.bin divided by the factor",
-        "variables": [{"name": name, "is": f"{fraction(m)} + {fraction(h)}*x{i + 1}", "middle": fraction(m), "half": fraction(h)}
-                      for i, (name, m, h) in enumerate(zip(model.names, posed.middle, posed.half))],
+        "variables": [{"name": name, "is": f"{fraction(m)} + {fraction(h)}*{x}", "in the stream": x, "middle": fraction(m),
+                       "half": fraction(h)} for name, x, m, h in zip(model.names, inner, posed.middle, posed.half)],
         "conditions": posed.origins,
         "degree": solved.degree,
         "blocks": solved.blocks.count,

@@ -5,6 +5,7 @@ only the factor and what the variables stand for.
 """
 from __future__ import annotations
 
+import re
 from dataclasses import dataclass
 from fractions import Fraction
 from html import escape
@@ -30,8 +31,9 @@ td, th { text-align: left; vertical-align: top; padding: .3mm 2mm .3mm 0; font-w
 th { color: #444 }
 code, pre, .mono { font: 7.4pt/1.3 "DejaVu Sans Mono", monospace; margin: 0; overflow-wrap: anywhere }
 .formula { font: 8pt/1.35 "DejaVu Serif", serif; overflow-wrap: anywhere }
+sup { line-height: 0; font-size: 75% }
 .columns { display: flex; gap: 6mm } .columns > div { flex: 1 1 0; min-width: 0 }
-.picture svg { max-width: 100%; max-height: 42mm; height: auto; width: auto }
+.picture svg { max-width: 100%; max-height: 58mm; height: auto; width: auto }
 ul { margin: .4mm 0; padding-left: 4.5mm }
 """
 MANY_TERMS = 48
@@ -46,16 +48,13 @@ class Sheet:
     verdict: Verdict
     factor: int
     variables: list[tuple[str, Fraction, Fraction]]         # name, middle, half
+    names: list[str]                                        # of the stream's variables
     points: list[Optional[list[Fraction]]]                  # for each side, in the problem's variables
     relaxations: list[str]
     picture: str
     sums: list[tuple[str, str]]                             # file, SHA-256
     versions: list[tuple[str, str]]
     digits: int = 6
-
-
-def names_of(problem: Problem) -> list[str]:
-    return [f"x{i + 1}" for i in range(problem.variables)]
 
 
 def page(sheet: Sheet) -> str:
@@ -82,18 +81,18 @@ def _figure(sheet: Sheet) -> str:
 
 def _problem(sheet: Sheet) -> str:
     """Polynomial and region from the bytes; what the variables stand for and the factor from the manifest."""
-    names = names_of(sheet.problem)
-    rows = []
+    names, rows = sheet.names, []
     for condition in sheet.problem.conditions:
         rows.append(f"{_formula(condition.terms, names)} {'=' if condition.equality else '≥'} 0")
     standing = "; ".join(f"{escape(name)} = {_affine(middle, half, x)}"
-                         for (name, middle, half), x in zip(sheet.variables, names))
+                         for (name, middle, half), x in zip(sheet.variables, names) if name != x)
+    meaning = f"In the words of the model {standing}." if standing else "The variables are those of the model."
     division = "the polynomial itself" if sheet.factor == 1 else f"{sheet.factor} times the polynomial of the figure"
     return ("<h2>Polynomial and region, as in problem.bin</h2>"
             f'<p class="formula">f = {_formula(sheet.problem.objective, names)}</p>'
             f"<p>f is {division} (recorded factor {sheet.factor}).</p>"
             f'<p class="formula">{";&emsp;".join(rows) or "no condition"}</p>'
-            f"<p>{standing}.</p>")
+            f"<p>{meaning}</p>")
 
 
 def _affine(middle: Fraction, half: Fraction, name: str) -> str:
@@ -104,6 +103,7 @@ def _affine(middle: Fraction, half: Fraction, name: str) -> str:
 def _formula(terms: dict[Monomial, int], names: list[str]) -> str:
     shown = dict(list(terms.items())[:MANY_TERMS])
     text = escape(polynomial_text(shown, names)).replace("-", "−").replace("*", "·")
+    text = re.sub(r"\^(\d+)", r"<sup>\1</sup>", text)
     return text + (f" + {len(terms) - MANY_TERMS} more terms, in problem.txt" if len(terms) > MANY_TERMS else "")
 
 

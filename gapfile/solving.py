@@ -17,7 +17,7 @@ from .sdp import Program, Solution, Unreachable, pose_program, solve
 from .solver import STATUS, USABLE, Solver
 from .squares import RoundingError, TooManyRows
 
-SLACKS = tuple(m * 10.0 ** -k for k in range(8, 1, -1) for m in (1, 3))      # of the objective's largest coefficient
+SLACKS = tuple(m * 10.0 ** -k for k in range(9, 1, -1) for m in (1, 3))      # of the objective's largest coefficient
 LARGEST_DEGREE = 16
 
 
@@ -120,15 +120,18 @@ def _one_side(solved: Solved, parts: list[list[list[int]]], side: int, solver: S
 
 
 def _rounded(program: Program, parts: list[list[list[int]]], solution: Solution, slack: float, wide: bool) -> Rounded:
-    """With as many rows as there is room for; the first way of spending them that succeeds."""
-    why: Optional[RoundingError] = None
+    """With as many rows as there is room for; after two failures that more rows do not cure, more slack is needed."""
+    failures: list[RoundingError] = []
     for effort in EFFORTS:
         try:
             return round_solution(program, parts, solution, slack, wide, effort)
+        except TooManyRows as error:
+            failures = failures or [error]
         except RoundingError as error:
-            why = why if why and isinstance(error, TooManyRows) else error
-    assert why
-    raise why
+            failures = [f for f in failures if not isinstance(f, TooManyRows)] + [error]
+            if len(failures) == 2:
+                break
+    raise failures[0]
 
 
 def _side(side: int, program: Program, best: Solution, rounded: Rounded, stream: bytes, slack: float,

@@ -14,7 +14,7 @@ from math import isqrt, sqrt
 Matrix = dict[tuple[int, int], int]
 Factors = dict[int, int]
 
-FOUND_ENOUGH, TRIES, LARGEST_WEIGHT = 12, 4000, 65535
+FOUND_ENOUGH, TRIES, LARGEST_WEIGHT, MOST_ROWS = 12, 4000, 65535, 7
 
 
 class RoundingError(Exception):
@@ -86,6 +86,8 @@ def pivot_of(d: int, count: int, limits: Limits, largest: int, chance: random.Ra
     if best is None:
         if d - 1 <= LARGEST_WEIGHT:
             return Pivot([(d - 1, 1), (1, 1)])
+        if count < MOST_ROWS:
+            return pivot_of(d, count + 1, limits, largest, chance)
         raise RoundingError(f"no squares for the pivot {d}")
     return best
 

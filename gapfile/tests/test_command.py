@@ -39,7 +39,7 @@ class Decimals(unittest.TestCase):
 
 class Usage(unittest.TestCase):
     def test_help(self) -> None:
-        for command in ("decode", "encode", "check", "explain", "blocks"):
+        for command in ("decode", "encode", "check", "explain", "blocks", "solve", "file"):
             status, out, _ = run(command, "--help")
             self.assertEqual(status, 0)
             self.assertIn(f"example: gapfile {command}", " ".join(out.split()))
