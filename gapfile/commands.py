@@ -6,6 +6,7 @@ from __future__ import annotations
 
 from dataclasses import dataclass
 from enum import Enum
+from functools import cached_property
 from typing import Union
 
 Monomial = tuple[int, ...]          # eight exponents
@@ -26,7 +27,7 @@ class Layout:
     word: str
     widths: tuple[str, ...]
 
-    @property
+    @cached_property
     def length(self) -> int:
         return 1 + sum(WIDTH[w] for w in self.widths)
 

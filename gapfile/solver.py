@@ -16,7 +16,7 @@ Cost = dict[tuple[int, int, int], float]
 STATUS = {
     0: "csdp found an optimum",
     1: "csdp says that no certificate of this degree exists",
-    2: "csdp says that any bound can be proved: the region has no points, or the degree is too low to say",
+    2: "csdp says that any bound can be proved, so the region seems to have no points",
     3: "csdp found an optimum, not to its full accuracy",
     4: "csdp reached its limit of iterations",
     5: "csdp got stuck at the edge of what is feasible",

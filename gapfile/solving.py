@@ -21,8 +21,15 @@ SLACKS = tuple(m * 10.0 ** -k for k in range(9, 1, -1) for m in (1, 3))      # o
 LARGEST_DEGREE = 16
 
 
+ANY_BOUND = 2                    # csdp's status where the program is unbounded
+
+
 class NoCertificate(Exception):
-    """No certificate was found; the sentence says why and what to try."""
+    """No certificate was found; the sentence says why, and `higher` whether a higher degree may help."""
+
+    def __init__(self, why: str, higher: bool = True) -> None:
+        super().__init__(why)
+        self.higher = higher
 
 
 @dataclass
@@ -59,8 +66,9 @@ def solve_model(model: Model, solver: Solver, judge: Judge, narrow: bool, say: C
         try:
             return _at_degree(posed, total, solver, judge, narrow, say)
         except NoCertificate as error:
-            last = total == degrees[-1] or total + 2 > LARGEST_DEGREE
-            if last:
+            if not error.higher:
+                raise
+            if total == degrees[-1] or total + 2 > LARGEST_DEGREE:
                 raise NoCertificate(f"{error}; try degree {total + 2}") from None
             say(f"{error}; trying degree {total + 2}")
         except LimitError as error:
@@ -92,11 +100,11 @@ def _one_side(solved: Solved, parts: list[list[list[int]]], side: int, solver: S
         program = pose_program(problem, parts, side)
     except Unreachable:
         raise NoCertificate(f"no {word} certificate of degree {solved.degree}: the objective has a monomial that no "
-                            f"product of the bases has") from None
+                            f"product of the bases has; give every variable a range") from None
     best = solve(program, solver)
     say(f"{word}: {STATUS[best.status]}, {program.sign * best.bound:.9g}")
     if best.status not in USABLE:
-        raise NoCertificate(f"no {word} certificate of degree {solved.degree}: {STATUS[best.status]}")
+        raise NoCertificate(f"no {word} certificate of degree {solved.degree}: {STATUS[best.status]}", best.status != ANY_BOUND)
     attained = attain(problem, side, best.moments)
     why = ""
     for slack in SLACKS:

@@ -7,7 +7,8 @@ from typing import Iterator
 
 ROOT = Path(__file__).resolve().parents[2]
 EXAMPLES = ROOT / "examples"
-SHARED = next((p for p in (ROOT.parent / "shared", ROOT.parent.parent / "shared") if (p / "vectors").is_dir()), None)
+_beside = Path(os.environ.get("GAPFILE_SHARED", ROOT.parent / "shared"))       # vectors and examples of another hand
+SHARED = _beside if (_beside / "vectors").is_dir() else None
 
 
 def records(file: Path) -> Iterator[tuple[str, list[bytes]]]:

@@ -162,6 +162,11 @@ class WithCsdp(unittest.TestCase):
         self.assertIn("no lower certificate of degree 2", str(caught.exception))
         self.assertIn("try degree 4", str(caught.exception))
 
+    def test_empty_region(self) -> None:
+        with self.assertRaises(NoCertificate) as caught:
+            solve_model(parse("var x in [0, 1]\nbound x\nwhere x >= 2"), Csdp(), Checker(), True, quiet)
+        self.assertTrue(str(caught.exception).endswith("the region seems to have no points"), caught.exception)
+
 
 if __name__ == "__main__":
     unittest.main()
