@@ -1,0 +1,123 @@
+"""What a refusal means: the line of text at its place, the rule it breaks, and what can be seen there."""
+from __future__ import annotations
+
+from typing import Optional
+
+from .commands import TABLE, Kind, Monomial, key, monomial_of_key, monomial_text
+from .exact import closure, differences, products
+from .programs import blocks_call
+from .reading import KEYS, Certificate, Problem, Refusal, Refused, read_certificate, read_problem
+from .text import DEFAULT_NAMES, decode, refusal_of
+
+RULES = {
+    1: "a lent table is too short",
+    2: "the stream is cut, has no end, or goes on after its end",
+    3: "the command is unknown in this stream or misplaced",
+    4: "an operand is outside its rule",
+    5: "a monomial is repeated, or an index does not rise",
+    6: "one more than a count allows",
+    7: f"the closed support with the zero exponent is above {KEYS:,}",
+    8: "a row has entries in two blocks",
+    9: "the identity is false",
+    10: "the first certificate is no lower bound, or the second no upper one",
+}
+STREAMS = ("the problem", "the first certificate", "the second certificate")
+
+
+def explain(refusal: Refusal, problem_stream: bytes, low: bytes, high: bytes,
+            names: Optional[list[str]] = None) -> list[str]:
+    """Lines on a refusal that the checker gave for these bytes."""
+    names = names or DEFAULT_NAMES
+    stream = (problem_stream, low, high)[refusal.stream]
+    lines = [refusal.line(), f"{RULES.get(refusal.number, 'unknown refusal')}, in {STREAMS[refusal.stream]}"]
+    if refusal.number <= 6:
+        return lines + _place(refusal, stream, problem_stream, names)
+    if refusal.number == 10:
+        return lines + ["the first must say `lower` and the second `upper`: exchange the files, or find the missing one"]
+    problem = read_problem(problem_stream)
+    if refusal.number == 7:
+        return lines + count_by_basis(problem)
+    certificate = read_certificate(stream, problem, refusal.stream)
+    if refusal.number == 8:
+        return lines + _row(refusal, problem, problem_stream, certificate, stream, names)
+    return lines + identity(problem, certificate, names)
+
+
+def _place(refusal: Refusal, stream: bytes, problem_stream: bytes, names: list[str]) -> list[str]:
+    """Refusals 2 to 6: the line at the place, and the rule in words."""
+    kind = Kind.CERTIFICATE if refusal.stream else Kind.PROBLEM
+    problem = None
+    if refusal.stream:
+        try:
+            problem = read_problem(problem_stream)
+        except Refused:
+            pass
+    decoded = decode(stream, names, problem, kind)
+    number, text = decoded.line_at(refusal.place)
+    lines = []
+    if refusal.place < len(stream):
+        lines.append(f"line {number}, byte {refusal.place}: {text}")
+    else:
+        lines.append(f"after line {len([x for x in decoded.lines if x.text])}, at byte {refusal.place}, the end of the file")
+    own = refusal_of(stream, kind, problem, refusal.stream)
+    if own and (own.number, own.place) == (refusal.number, refusal.place):
+        return lines + [f"why: {own.why}"]
+    byte = stream[refusal.place] if refusal.place < len(stream) else None
+    if refusal.number == 3 and byte in TABLE[kind]:
+        return lines + [f"why: this gapcheck does not read command {byte:02X} (`{TABLE[kind][byte].word}`) here"]
+    return lines
+
+
+def count_by_basis(problem: Problem) -> list[str]:
+    """Refusal 7: how many monomials each basis brings, and how many of them no other brings."""
+    closed = closure(problem)
+    sets = {"objective": {key(e) for e in problem.objective}}
+    for j, basis in enumerate(problem.bases):
+        terms = [key(t) for t in problem.multiplier(j)]
+        keys = [key(b) for b in basis]
+        sets[f"basis {j}"] = products(keys, terms, closed.blocks[j]) | ({2 * b for b in keys} if j == 0 else set(terms))
+    lines = [f"{len(closed.compared)} monomials, {len(closed.compared) - KEYS} too many; by basis:"]
+    for name, found in sets.items():
+        others = set().union(*(s for n, s in sets.items() if n != name))
+        lines.append(f"  {name}: {len(found)}, of them {len(found - others)} from nowhere else")
+    return lines + ["take smaller bases, first where most come from nowhere else"]
+
+
+def _row(refusal: Refusal, problem: Problem, problem_stream: bytes, certificate: Certificate, stream: bytes,
+         names: list[str]) -> list[str]:
+    """Refusal 8: the row, its entries and their blocks."""
+    row = max((r for r in certificate.rows if r.place <= refusal.place), key=lambda r: r.place)
+    decoded = decode(stream, names, problem, Kind.CERTIFICATE)
+    number, text = decoded.line_at(row.place)
+    lines = [f"line {number}: {text}"]
+    found = blocks_call(problem_stream)
+    if isinstance(found, Refusal):
+        return lines
+    for i, factor in row.entries.items():
+        place = row.places[i]
+        at, _ = decoded.line_at(place)
+        mark = "   <- the first entry outside the row's first block" if place == refusal.place else ""
+        lines.append(f"line {at}: entry {i}, factor {factor}, {monomial_text(problem.bases[row.basis][i], names)}: "
+                     f"block {found.numbers[row.basis][i]}{mark}")
+    return lines + ["split the row by blocks; `gapfile blocks` shows them"]
+
+
+def identity(problem: Problem, certificate: Certificate, names: list[str]) -> list[str]:
+    """Refusal 9: every monomial that differs, largest difference first."""
+    wrong = differences(problem, certificate)
+    unit = certificate.scale * certificate.q
+    order: list[Monomial] = sorted(wrong, key=lambda e: (-abs(wrong[e][1] - wrong[e][0]), key(e)))
+    shown = [monomial_text(e, names) for e in order]
+    wide = max(map(len, shown), default=1)
+    lines = [f"{len(order)} monomials differ; the left is D x (q x objective - p), for an upper bound with both signs turned, "
+             f"the right the sum of the rows; D x q is {unit}"]
+    for e, text in zip(order, shown):
+        left, right = wrong[e]
+        lines.append(f"  {text:<{wide}}  left {left}  right {right}  difference {right - left} "
+                     f"({(right - left) / unit:.3g} in the objective's units)")
+    return lines
+
+
+def key_text(number: int, names: list[str]) -> str:
+    """The monomial of a key."""
+    return monomial_text(monomial_of_key(number), names)

@@ -1,0 +1,150 @@
+"""From the solver's floats to a certificate whose identity holds exactly.
+
+Everything is multiplied by D x q. Multipliers are rounded first; what they leave of the identity is met
+exactly by the Gram matrix of basis 0, which is then written as squares of whole rows.
+"""
+from __future__ import annotations
+
+import random
+from dataclasses import dataclass
+from math import floor
+
+from .commands import CERTIFICATE, Monomial, ONE, add, write_command
+from .multipliers import equality_rows, inequality_rows
+from .reading import LIMITS, Problem
+from .sdp import Program, Solution
+from .squares import LARGEST_WEIGHT, Factors, Limits, Matrix, RoundingError, TooManyRows, rows_of
+
+SignedRow = tuple[int, int, Factors]         # basis, weight, factors
+
+
+@dataclass
+class Rounded:
+    """A certificate: its numbers and its rows."""
+    side: int
+    scale: int
+    p: int
+    q: int
+    rows: list[SignedRow]
+
+
+def denominator_for(bound: float) -> int:
+    """q: as fine as p of 32 bits allows, round in decimals."""
+    for q in (50000, 25000, 10000, 5000, 1000, 500, 100, 50, 10, 5):
+        if abs(bound) * q < (1 << 31) - 2 * q:
+            return q
+    return 1
+
+
+def scale_for(solution: Solution, q: int, limits: Limits) -> int:
+    """D: even, so that coefficients are, and as large as factors and weights of 16 bits allow for the largest diagonal."""
+    largest = max((row[a] for gram in solution.grams for a, row in enumerate(gram)), default=1.0)
+    room = 0.6 * LARGEST_WEIGHT * float(limits.factor) ** 2 / (q * max(largest, 1e-9))
+    return max(2, min(65534, 2 * int(room / 2)))
+
+
+@dataclass(frozen=True)
+class Effort:
+    """How rows are spent: so many for a pivot of basis 0, and so many at most for a pivot of a multiplier."""
+    pivot_rows: int
+    multiplier_rows: int
+
+
+EFFORTS = tuple(Effort(a, b) for a, b in ((6, 3), (5, 3), (5, 2), (4, 3), (4, 2), (4, 1), (3, 2), (3, 1)))
+
+
+def round_solution(program: Program, blocks: list[list[list[int]]], solution: Solution, slack: float, wide: bool,
+                   effort: Effort) -> Rounded:
+    """The certificate for the solver's bound, a little less. Raises RoundingError."""
+    problem, limits, chance = program.problem, Limits.of(wide), random.Random(1)
+    q = denominator_for(solution.bound)
+    scale = scale_for(solution, q, limits)
+    unit = scale * q
+    p = floor(solution.bound * q)
+    target: dict[Monomial, int] = {e: unit * program.sign * c for e, c in problem.objective.items()}
+    target[ONE] = target.get(ONE, 0) - scale * p
+    rows: list[SignedRow] = []
+    for (j, ix), gram in zip(program.blocks, solution.grams):
+        if j:
+            scaled = [[unit * x for x in row] for row in gram]
+            even = any(x % 2 for t in problem.multiplier(j) for x in t)
+            for weight, row in inequality_rows(scaled, 0.1 * slack * unit, limits, even,
+                                               effort.multiplier_rows):
+                _take(problem, target, rows, j, weight, {ix[a]: v for a, v in row.items()})
+    for j, parts in enumerate(blocks):
+        if problem.is_equality(j):
+            wanted = {s: unit * v for (k, s), v in solution.free.items() if k == j}
+            for weight, row in equality_rows(problem, j, parts, wanted, limits):
+                _take(problem, target, rows, j, weight, row)
+    if len(rows) >= LIMITS["rows"]:
+        raise TooManyRows(f"{len(rows)} rows of multipliers")
+    for order, matrix in _whole_grams(program, solution, target, unit):
+        for weight, row in rows_of(matrix, order, effort.pivot_rows, limits, chance):
+            rows.append((0, weight, row))
+            if len(rows) > LIMITS["rows"]:
+                raise TooManyRows(f"more than {LIMITS['rows']} rows")
+    return Rounded(0 if program.sign == 1 else 1, scale, program.sign * p, q, rows)
+
+
+def _take(problem: Problem, target: dict[Monomial, int], rows: list[SignedRow], j: int, weight: int, row: Factors) -> None:
+    """Adds a row of a multiplier, and takes what it says off the target."""
+    rows.append((j, weight, row))
+    basis = problem.bases[j]
+    for i, a in row.items():
+        for k, b in row.items():
+            s = add(basis[i], basis[k])
+            for t, c in problem.multiplier(j).items():
+                e = add(s, t)
+                target[e] = target.get(e, 0) - weight * a * b * c
+
+
+def _whole_grams(program: Program, solution: Solution, target: dict[Monomial, int],
+                 unit: int) -> list[tuple[list[int], Matrix]]:
+    """The whole Gram matrices of basis 0, block by block, with every monomial's sum exact, and the order of pivots."""
+    basis = program.problem.bases[0]
+    matrices: list[tuple[list[int], Matrix]] = []
+    pairs: dict[Monomial, list[tuple[Matrix, tuple[int, int]]]] = {}
+    for (j, ix), gram in zip(program.blocks, solution.grams):
+        if j:
+            continue
+        matrix: Matrix = {}
+        for a in range(len(ix)):
+            for b in range(a, len(ix)):
+                matrix[ix[a], ix[b]] = round(unit * gram[a][b])
+                pairs.setdefault(add(basis[ix[a]], basis[ix[b]]), []).append((matrix, (ix[a], ix[b])))
+        order = sorted(ix, key=lambda i: -matrix[i, i])
+        matrices.append((order, matrix))
+    for e, value in target.items():
+        if value and e not in pairs:
+            raise RoundingError("a monomial that basis 0 does not reach is left")
+    for e, places in pairs.items():
+        _meet(places, target.get(e, 0))
+    return matrices
+
+
+def _meet(places: list[tuple[Matrix, tuple[int, int]]], value: int) -> None:
+    """Moves the entries of one monomial, evenly, so that they sum to the value."""
+    times = [1 if a == b else 2 for _, (a, b) in places]
+    missing = value - sum(n * matrix[at] for n, (matrix, at) in zip(times, places))
+    share = missing // sum(times)
+    for matrix, at in places:
+        matrix[at] += share
+    missing -= share * sum(times)
+    for n, (matrix, at) in sorted(zip(times, places), key=lambda x: -x[0]):
+        while missing >= n:
+            matrix[at] += 1
+            missing -= n
+    if missing:
+        raise RoundingError("a coefficient is odd where only even ones can be met")
+
+
+def encode_certificate(problem: Problem, rounded: Rounded) -> bytes:
+    """The stream; 15 only for the factors that 16 bits do not hold."""
+    out = bytearray(write_command(CERTIFICATE[0x10], (rounded.side, rounded.scale, rounded.p, rounded.q)))
+    for j, weight, row in rounded.rows:
+        out += write_command(CERTIFICATE[0x14 if problem.is_equality(j) else 0x11], (j, weight))
+        for i in sorted(row):
+            narrow = -(1 << 15) <= row[i] < 1 << 15
+            out += write_command(CERTIFICATE[0x12 if narrow else 0x15], (i, row[i]))
+    out += write_command(CERTIFICATE[0x13], ())
+    return bytes(out)

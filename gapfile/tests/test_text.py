@@ -1,0 +1,180 @@
+"""The text form: lossless both ways, damage named, wrong text named."""
+import unittest
+
+from gapfile.commands import Kind, kind_of
+from gapfile.reading import Refused, read_certificate, read_problem
+from gapfile.text import TextError, decode, encode
+from gapfile.tests.streams import EXAMPLES, ROOT, SHARED, records, stored_streams
+
+F_PROBLEM = """\
+variables x1
+objective 1 x1
+constraint                        # condition 1
+term 1 1
+term -1 x1^2
+basis 0 1                         # index 0
+basis 0 x1                        # index 1
+basis 1 1                         # index 0
+end
+"""
+F_LOW = """\
+lower -1/1 scale 2
+row 0 weight 1
+entry 0 1                         # 1
+entry 1 1                         # x1
+row 1 weight 1
+entry 0 1                         # 1
+done
+"""
+
+
+class RoundTrip(unittest.TestCase):
+    def test_every_stored_stream(self) -> None:
+        streams = stored_streams()
+        self.assertGreater(len(streams), 3000)
+        for k, stream in enumerate(sorted(streams)):
+            if len(stream) > 300 and k % 6:
+                continue                      # of the longer ones a sixth, for the time it takes
+            self.assertEqual(encode(decode(stream).text())[0], stream)
+
+    def test_one_line_a_command(self) -> None:
+        stream = (EXAMPLES / "two_decks/problem.bin").read_bytes()
+        lines = decode(stream).text().splitlines()
+        self.assertEqual(encode("\n".join(lines))[1], list(range(1, len(lines) + 1)))
+
+    def test_case_f(self) -> None:
+        folder = ROOT / "crates/gapcheck/data"
+        problem = (folder / "problem.bin").read_bytes()
+        self.assertEqual(decode(problem).text(), F_PROBLEM)
+        low = (folder / "low.bin").read_bytes()
+        self.assertEqual(decode(low, problem=read_problem(problem)).text(), F_LOW)
+        self.assertEqual(encode(F_LOW)[0], low)
+
+    def test_names(self) -> None:
+        stream = encode(F_PROBLEM)[0]
+        text = decode(stream, ["load"]).text()
+        self.assertIn("term -1 load^2\n", text)
+        self.assertEqual(encode(text)[0], stream)
+
+    def test_commands_of_document_02(self) -> None:
+        text = ("variables a b\nrule 2\norder 1\nequality\nterm 2 a*b\nbasis 1 1\nend\n",
+                "lower 1/2 scale 3\nsigned 1 weight -32768\nentry 0 5\nwide 1 -2147483648\n"
+                "note 00 11 22 33 44 55 66 77\ndone\n")
+        self.assertEqual(encode(text[0])[0].hex(), "0102080209010704" "0101000000000000" "0200" "0501" + "00" * 8 + "06")
+        self.assertEqual(encode(text[1])[0].hex(), "1000030001000000" "0200" "14010080" "12000500" "150100000080"
+                         "4000112233445566771" "3")
+        for part in text:
+            plain = [line.split("#")[0].rstrip() for line in decode(encode(part)[0], ["a", "b"]).text().splitlines()]
+            self.assertEqual("\n".join(plain) + "\n", part)
+
+    def test_comments_and_blank_lines(self) -> None:
+        spaced = "# a file\n\n" + F_PROBLEM.replace("\n", "   # why\n\n")
+        self.assertEqual(encode(spaced)[0], encode(F_PROBLEM)[0])
+
+
+class Damage(unittest.TestCase):
+    def refusal(self, stream: bytes):
+        return decode(stream).refusal
+
+    def test_cut(self) -> None:
+        stream = encode(F_PROBLEM)[0][:20]
+        decoded = decode(stream)
+        self.assertEqual((decoded.refusal.number, decoded.refusal.place), (2, 16))
+        last = decoded.text().splitlines()[-1]
+        self.assertTrue(last.startswith("bytes 04 00 00 00"))
+        self.assertIn("refusal 2 at byte 16: the command is cut: it has 11 bytes, 4 are there", last)
+        self.assertEqual(len(decoded.lines), 4)
+
+    def test_no_end_and_extra_bytes(self) -> None:
+        stream = encode(F_PROBLEM)[0]
+        self.assertIn("# refusal 2 at byte 68: the problem has no end command", decode(stream[:-1]).text().splitlines()[-1])
+        extra = decode(stream + b"\x06\x01")
+        self.assertEqual(extra.lines[-1].text, "bytes 06 01")
+        self.assertEqual((extra.refusal.number, extra.refusal.place), (2, 69))
+
+    def test_operands(self) -> None:
+        for text, number in (("variables a\nobjective 0 a\nend", 4), ("variables a\nterm 1 a\nend", 3),
+                             ("variables a\nbasis 0 a\nbasis 0 a\nend", 5), ("variables a\nbasis 1 a\nend", 4)):
+            stream = encode(text)[0]
+            decoded = decode(stream, ["a"])
+            self.assertEqual(decoded.refusal.number, number)
+            self.assertEqual(encode(decoded.text())[0], stream)
+
+    def test_a_side_without_a_word(self) -> None:
+        stream = bytes.fromhex("10070100000000000100" "13")
+        self.assertEqual(decode(stream).lines[0].text, "bytes 10 07 01 00 00 00 00 00 01 00")
+        self.assertEqual(decode(stream).refusal.number, 4)
+
+    def test_reading_refuses_as_the_stored_answers(self) -> None:
+        """2 to 6 of this reader are those of the corpus, up to the commands of document 02."""
+        answers = (ROOT / "crates/replay/stdout").read_text().splitlines()
+        seen = self.compare(zip(records(ROOT / "crates/replay/stdin"), answers), "070809", "1415")
+        self.assertGreater(seen, 2500)
+
+    @unittest.skipUnless(SHARED, "no vectors of document 02 beside the repository")
+    def test_reading_refuses_as_the_vectors(self) -> None:
+        for kind in "bcp":
+            file = SHARED / f"vectors/02/core-{kind}.records"
+            answers = file.with_suffix(".lines").read_text().splitlines()
+            self.assertGreater(self.compare(zip(records(file), answers), "", ""), 40)
+
+    def compare(self, cases, problem_skips: str, certificate_skips: str) -> int:
+        seen = 0
+        for (kind, runs), answer in cases:
+            words = answer.split()
+            if kind not in "bcp" or words[0] != "refused" or not 2 <= int(words[1]) <= 6:
+                continue
+            number, stream, place = map(int, words[1:4])
+            try:
+                problem = read_problem(runs[0])
+                for k in range(1, stream + 1):
+                    read_certificate(runs[k], problem, k)
+                found = None
+            except Refused as refused:
+                found = refused.refusal
+            new = bytes.fromhex(certificate_skips if stream else problem_skips)
+            if number == 3 and runs[stream][place:place + 1] and runs[stream][place] in new:
+                continue                      # a command of document 02, unknown to the stored answer
+            self.assertIsNotNone(found, answer)
+            self.assertEqual((found.number, found.stream, found.place), (number, stream, place), found.why)
+            seen += 1
+        return seen
+
+
+class WrongText(unittest.TestCase):
+    def wrong(self, text: str) -> str:
+        with self.assertRaises(TextError) as caught:
+            encode(text)
+        return str(caught.exception)
+
+    def test_messages(self) -> None:
+        for text, message in (
+                ("variables a\nobjectiv 1 a", "line 2: unknown word `objectiv`; expected one of "),
+                ("variables a\nobjective a 1", "line 2: expected a whole number, not `a`"),
+                ("variables a\n\nobjective 1 b", "line 3: expected a monomial of a, not `b`"),
+                ("variables a\nobjective 1", "line 2: expected `objective COEFFICIENT MONOMIAL`"),
+                ("variables a\nobjective 1.5 a", "line 2: expected a whole number, not `1.5`"),
+                ("variables a\nobjective 2147483648 a", "line 2: the coefficient 2147483648 does not fit i32"),
+                ("variables a\nconstraint 1", "line 2: expected `constraint`"),
+                ("variables a a", "line 1: expected 1 to 8 different names"),
+                ("variables 1a", "line 1: `1a` is no name of a variable"),
+                ("variables a\nbasis 0 a^x", "line 2: expected an exponent after ^"),
+                ("variables a\nbasis 0 a^256", "line 2: an exponent of `a^256` is above 255"),
+                ("lower 1 scale 2", "line 1: expected `lower P/Q scale D`"),
+                ("lower 1/1 scale 65536", "line 1: the D 65536 does not fit u16"),
+                ("lower 1/1 scale 1\nrow 0 1", "line 2: expected `row BASIS weight NUMBER`"),
+                ("lower 1/1 scale 1\nrow 0 weight 1\nentry 0 32768", "line 3: the factor 32768 does not fit i16"),
+                ("note 00", "line 1: expected 8 bytes, found 1"),
+                ("bytes 0", "line 1: expected bytes in hexadecimal")):
+            self.assertTrue(self.wrong(text).startswith(message), self.wrong(text))
+
+
+class Kinds(unittest.TestCase):
+    def test_first_byte(self) -> None:
+        self.assertIs(kind_of(b"\x10"), Kind.CERTIFICATE)
+        self.assertIs(kind_of(b"\x01"), Kind.PROBLEM)
+        self.assertIs(kind_of(b""), Kind.PROBLEM)
+
+
+if __name__ == "__main__":
+    unittest.main()
