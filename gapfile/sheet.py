@@ -73,7 +73,7 @@ def _figure(sheet: Sheet) -> str:
         return '<p class="figure">No rational point meets all conditions: the region is empty.</p>'
     low, high, gap = lower / sheet.factor, upper / sheet.factor, (upper - lower) / sheet.factor
     rounded = not all(is_exact(x, sheet.digits) for x in (low, high, gap))
-    return ('<p class="figure">At every point of the region the value is at least '
+    return ('<p class="figure">At every rational point of the region the value is at least '
             f"<b>{decimal(low, False, sheet.digits)}</b> and at most <b>{decimal(high, True, sheet.digits)}</b>. "
             f"Two values never differ by more than <b>{decimal(gap, True, sheet.digits)}</b>.</p>"
             + ("<p>Decimals are rounded outward: the lower bound down, the upper bound and the gap up.</p>" if rounded else ""))
@@ -159,4 +159,4 @@ def _again(sheet: Sheet) -> str:
             "<div><h2>What is not claimed</h2><ul>"
             "<li>That the polynomial and the region describe anything outside this page.</li>"
             "<li>That the bounds are attained, beyond the values given above.</li>"
-            "<li>Anything about points outside the region.</li></ul></div></div>")
+            "<li>Anything about points outside the region, or with coordinates that are not rational.</li></ul></div></div>")
