@@ -41,8 +41,8 @@ def by_degree(problem: Problem, total: int) -> None:
     problem.bases[0] = drop(problem)
     for j, basis in enumerate(problem.bases):
         if len(basis) > LIMITS["basis"]:
-            raise LimitError(f"basis {j} of degree {total // 2} has {len(basis)} monomials, more than {LIMITS['basis']}; "
-                             f"take fewer variables or a lower degree")
+            raise LimitError(f"basis {j} of degree {total // 2} has {len(basis)} monomials, more than "
+                             f"{LIMITS['basis']}; take fewer variables or a lower degree")
 
 
 def drop(problem: Problem) -> list[Monomial]:
@@ -97,7 +97,8 @@ def find_blocks(problem: Problem, judge: Judge) -> Blocks:
     found = judge.blocks(encode_problem(problem))
     if isinstance(found, Refusal):
         if found.number == 7:
-            raise LimitError(f"the closed support has more than {KEYS:,} monomials; take a lower degree or fewer variables")
+            raise LimitError(f"the closed support has more than {KEYS:,} monomials; take a lower degree "
+                             "or fewer variables")
         raise LimitError(f"gapcheck refuses the problem: {found.line()}")
     return found
 
@@ -115,5 +116,6 @@ def check_limits(problem: Problem, found: Blocks) -> str:
     if rows > LIMITS["rows"]:
         raise LimitError(f"basis 0 alone needs about {rows} rows of {LIMITS['rows']} (blocks of "
                          f"{', '.join(map(str, sorted(sizes, reverse=True)))}); take fewer variables or a lower degree")
-    return (f"basis 0 has {len(problem.bases[0])} monomials in {len(sizes)} blocks, the largest {max(sizes, default=0)}; "
-            f"{compared_keys(problem, found)} of {KEYS} keys; at least {rows} of {LIMITS['rows']} rows")
+    return (f"basis 0 has {len(problem.bases[0])} monomials in {len(sizes)} blocks, the largest "
+            f"{max(sizes, default=0)}; {compared_keys(problem, found)} of {KEYS} keys; "
+            f"at least {rows} of {LIMITS['rows']} rows")

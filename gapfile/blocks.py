@@ -60,7 +60,8 @@ def as_text(problem: Problem, found: Blocks, names: list[str]) -> str:
     """The blocks as lines."""
     masks = symmetries(problem)
     shown = [" ".join(names[i] for i in range(problem.variables) if r >> i & 1) or "none" for r in masks]
-    lines = [f"blocks {found.count}", f"rounds {found.rounds}" + (f" (at most {problem.order})" if problem.order else ""),
+    order = f" (at most {problem.order})" if problem.order else ""
+    lines = [f"blocks {found.count}", f"rounds {found.rounds}{order}",
              f"rule {found.rule}", f"keys {compared_keys(problem, found)} of {KEYS}",
              f"sign symmetries {len(masks)}: " + "; ".join(shown[:8]) + ("; .." if len(masks) > 8 else "")]
     for j, blocks in enumerate(by_basis(problem, found)):
@@ -109,5 +110,6 @@ def _matrix(blocks: list[list[int]], labels: list[str], left: float, top: float,
     for k, label in enumerate(labels):
         middle = cell * k + cell / 2
         out.append(f'<text x="{left - 4:.1f}" y="{top + middle + 3.5:.1f}" text-anchor="end">{escape(label)}</text>')
-        out.append(f'<text transform="translate({left + middle + 3.5:.1f} {top - 4:.1f}) rotate(-90)">{escape(label)}</text>')
+        at_top = f"translate({left + middle + 3.5:.1f} {top - 4:.1f}) rotate(-90)"
+        out.append(f'<text transform="{at_top}">{escape(label)}</text>')
     return "".join(out)

@@ -1,4 +1,7 @@
-"""The command line: arguments, files and exit statuses. 0 accepted or done, 1 refused, 2 usage or file, 3 no certificate."""
+"""The command line: arguments, files and exit statuses.
+
+0 accepted or done, 1 refused, 2 usage, file or a model beyond a limit, 3 no certificate found.
+"""
 from __future__ import annotations
 
 import argparse
@@ -101,8 +104,8 @@ def run_encode(arguments: argparse.Namespace) -> int:
             decoded = decode(stream, kind=kind_of(stream))
             line, _ = decoded.line_at(refusal.place)
             where = f"line {numbers[line - 1]}" if refusal.place < len(stream) and line <= len(numbers) else "the end"
-            print(f"{path}: {target} is written, and it will be refused: {where}: refusal {refusal.number}: {refusal.why}",
-                  file=sys.stderr)
+            print(f"{path}: {target} is written, and it will be refused: {where}: refusal {refusal.number}: "
+                  f"{refusal.why}", file=sys.stderr)
     return status
 
 
@@ -177,7 +180,8 @@ def run_blocks(arguments: argparse.Namespace) -> int:
 
 def parser() -> argparse.ArgumentParser:
     top = argparse.ArgumentParser(prog="gapfile", description="From a polynomial to a filed figure.",
-                                  epilog="Exit status: 0 accepted or done, 1 refused, 2 usage or file, 3 no certificate found.")
+                                  epilog="Exit status: 0 accepted or done, 1 refused, 2 usage, file or a model "
+                                         "beyond a limit, 3 no certificate found.")
     commands = top.add_subparsers(dest="command", required=True, metavar="COMMAND")
 
     def command(name: str, said: str) -> argparse.ArgumentParser:
@@ -194,7 +198,7 @@ def parser() -> argparse.ArgumentParser:
     made.add_argument("files", nargs="+", metavar="FILE")
     made.add_argument("-o", "--output", help="the file to write, for one FILE")
     made.set_defaults(run=run_encode)
-    for name, said, run in (("check", "ask gapcheck, and say the bounds and the gap in decimals rounded outward", run_check),
+    for name, said, run in (("check", "ask gapcheck, and say bounds and gap in decimals, rounded outward", run_check),
                             ("explain", "say what a refusal means", run_explain)):
         made = command(name, said)
         made.add_argument("paths", nargs="+", metavar="PATH",

@@ -92,11 +92,11 @@ def differences(problem: Problem, certificate: Certificate) -> dict[Monomial, tu
     return {e: (left.get(e, 0), right.get(e, 0)) for e in {*left, *right} if left.get(e, 0) != right.get(e, 0)}
 
 
-def check(problem_stream: bytes, stream: bytes, number: int = 1, closed: Closure | None = None) -> Certificate | Refusal:
+def check(problem_stream: bytes, stream: bytes, number: int = 1) -> Certificate | Refusal:
     """The verdict on one certificate: itself, or its refusal."""
     try:
         problem = read_problem(problem_stream)
-        closed = closed or closure(problem)
+        closed = closure(problem)
         if len(closed.compared) > KEYS:
             return Refusal(7, 0, 0)
         certificate = read_certificate(stream, problem, number)
@@ -125,9 +125,8 @@ def check_lines(problem_stream: bytes, stream: bytes) -> list[str]:
 def pair(problem_stream: bytes, low: bytes, high: bytes) -> list[str]:
     """The lines of gapcheck, with document 02's `gap empty`."""
     found: list[Certificate] = []
-    closed = None
     for number, stream in ((1, low), (2, high)):
-        verdict = check(problem_stream, stream, number, closed)
+        verdict = check(problem_stream, stream, number)
         if isinstance(verdict, Refusal):
             return [verdict.line()]
         found.append(verdict)

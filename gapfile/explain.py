@@ -33,7 +33,8 @@ def explain(refusal: Refusal, problem_stream: bytes, low: bytes, high: bytes,
     if refusal.number <= 6:
         return lines + _place(refusal, stream, problem_stream, names)
     if refusal.number == 10:
-        return lines + ["the first must say `lower` and the second `upper`: exchange the files, or find the missing one"]
+        return lines + ["the first must say `lower` and the second `upper`: exchange the files, "
+                        "or find the missing one"]
     problem = read_problem(problem_stream)
     if refusal.number == 7:
         return lines + count_by_basis(problem)
@@ -58,7 +59,8 @@ def _place(refusal: Refusal, stream: bytes, problem_stream: bytes, names: list[s
     if refusal.place < len(stream):
         lines.append(f"line {number}, byte {refusal.place}: {text}")
     else:
-        lines.append(f"after line {len([x for x in decoded.lines if x.text])}, at byte {refusal.place}, the end of the file")
+        count = len([line for line in decoded.lines if line.text])
+        lines.append(f"after line {count}, at byte {refusal.place}, the end of the file")
     own = refusal_of(stream, kind, problem, refusal.stream)
     if own and (own.number, own.place) == (refusal.number, refusal.place):
         return lines + [f"why: {own.why}"]
@@ -109,8 +111,8 @@ def identity(problem: Problem, certificate: Certificate, names: list[str]) -> li
     order: list[Monomial] = sorted(wrong, key=lambda e: (-abs(wrong[e][1] - wrong[e][0]), key(e)))
     shown = [monomial_text(e, names) for e in order]
     wide = max(map(len, shown), default=1)
-    lines = [f"{len(order)} monomials differ; the left is D x (q x objective - p), for an upper bound with both signs turned, "
-             f"the right the sum of the rows; D x q is {unit}"]
+    lines = [f"{len(order)} monomials differ; the left is D x (q x objective - p), for an upper bound with both "
+             f"signs turned, the right the sum of the rows; D x q is {unit}"]
     for e, text in zip(order, shown):
         left, right = wrong[e]
         lines.append(f"  {text:<{wide}}  left {left}  right {right}  difference {right - left} "

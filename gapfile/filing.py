@@ -1,4 +1,7 @@
-"""Files of a filing: streams, manifest, verdict, sheet, SUMS. No sheet is written unless gapcheck accepted these very bytes."""
+"""Files of a filing: streams, manifest, verdict, sheet, SUMS.
+
+No sheet is written unless gapcheck accepted the very bytes whose hashes stand on it.
+"""
 from __future__ import annotations
 
 import hashlib
@@ -55,7 +58,8 @@ def file_folder(folder: Path) -> Verdict:
     (folder / "verdict.txt").write_text("\n".join(verdict.lines) + "\n", encoding="utf-8")
     # the hashes are of the bytes that were judged, not of what the disk may hold by now
     sums = [(name, digest(stream)) for name, stream in zip(STREAMS, streams)]
-    sums += [(name, digest((folder / name).read_bytes())) for name in ("model.gap", "manifest.json", "problem.txt", "verdict.txt")]
+    sums += [(name, digest((folder / name).read_bytes()))
+             for name in ("model.gap", "manifest.json", "problem.txt", "verdict.txt")]
     checker = program("gapcheck")
     found = blocks_call(streams[0])
     picture = "" if isinstance(found, Refusal) else as_svg(problem, found, names)

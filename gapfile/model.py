@@ -17,7 +17,8 @@ from typing import Optional
 from .polynomials import Polynomial, constant, plus, power, times, variable
 from .text import NAME
 
-TOKEN = re.compile(r"\s*(?:(?P<number>\d+(?:\.\d+)?|\.\d+)|(?P<name>[A-Za-z_]\w*)|(?P<sign><=|>=|==|[-−+*^/()\[\],=<>]))")
+TOKEN = re.compile(r"\s*(?:(?P<number>\d+(?:\.\d+)?|\.\d+)|(?P<name>[A-Za-z_]\w*)"
+                   r"|(?P<sign><=|>=|==|[-−+*^/()\[\],=<>]))")
 LARGEST_POWER = 32
 
 
@@ -212,7 +213,7 @@ def _statement(model: Model, word: str, line: _Line, text: str) -> None:
         model.conditions.append(Where(difference, sign.text == "==", text, line.number))
     elif word == "degree":
         token = line.next()
-        if token.text != "auto" and not (token.text.isdigit() and 2 <= int(token.text) <= 16 and int(token.text) % 2 == 0):
+        if token.text not in ("auto", "2", "4", "6", "8", "10", "12", "14", "16"):
             raise ModelError(line.number, token.column, "expected auto or an even degree from 2 to 16")
         model.degree = None if token.text == "auto" else int(token.text)
         line.done("the end of the line")
@@ -237,7 +238,8 @@ def _variables(model: Model, line: _Line) -> None:
     line.done("a name, `in` or the end of the line")
     for token in names:
         if not NAME.fullmatch(token.text):
-            raise ModelError(line.number, token.column, f"`{token.text}` is no name: letters of ASCII, digits and _ are")
+            raise ModelError(line.number, token.column, f"`{token.text}` is no name; expected letters of "
+                                                            "ASCII, digits and _")
         if token.text in model.names:
             raise ModelError(line.number, token.column, f"`{token.text}` stands twice")
         if len(model.variables) == 8:

@@ -42,7 +42,7 @@ def compiled(terms: dict[Monomial, int]) -> Callable[[Point], float]:
 
 
 class Search:
-    """The search for one problem: equalities are solved for a variable in which they are linear, the first from `prefer` on."""
+    """The search for one problem. Equalities are solved for a variable in which they are linear, from `prefer` on."""
 
     def __init__(self, problem: Problem, prefer: int = 0) -> None:
         self.problem = problem

@@ -65,8 +65,8 @@ def pose(model: Model) -> Posed:
         terms, _ = whole(substitute(where.polynomial, values))
         _coefficients(terms, 1 << 15, f"the condition of line {where.line} (`{where.text}`), in whole numbers")
         if len(terms) > LIMITS["terms"] or degree(terms) > 16:
-            raise LimitError(f"the condition of line {where.line} has {len(terms)} terms of degree up to {degree(terms)}; "
-                             f"{LIMITS['terms']} terms and degree 16 are allowed")
+            raise LimitError(f"the condition of line {where.line} has {len(terms)} terms of degree up to "
+                             f"{degree(terms)}; {LIMITS['terms']} terms and degree 16 are allowed")
         problem.conditions.append(Condition(where.equality, {e: terms[e] for e in ordered(terms)}))
         origins.append(where.text)
     if len(problem.conditions) > LIMITS["conditions"]:
@@ -79,7 +79,8 @@ def _coefficients(terms: dict[Monomial, int], limit: int, what: str) -> None:
     """The region and the objective are sent exactly or not at all: nothing is rounded here."""
     for c in terms.values():
         if not -limit <= c < limit:
-            raise LimitError(f"{what} has a coefficient {c}, beyond {limit - 1}; take rounder numbers or narrower ranges")
+            raise LimitError(f"{what} has a coefficient {c}, beyond {limit - 1}; take rounder numbers "
+                             "or narrower ranges")
 
 
 def encode_problem(problem: Problem) -> bytes:

@@ -81,7 +81,7 @@ class Certificate:
 
 
 def walk(stream: bytes, kind: Kind, number: int, misplaced: Callable[[int], Optional[str]]) -> Iterator[Command]:
-    """The commands up to the end; refusals 3 and 2 are raised here, `misplaced` says why a command may not stand here."""
+    """The commands up to the end. Refusals 3 and 2 are raised here; `misplaced` says why a command may not stand."""
     table, place = TABLE[kind], 0
     end = 0x06 if kind is Kind.PROBLEM else 0x13
     while True:
@@ -163,7 +163,8 @@ def _problem_command(problem: Problem, checks: _Checks, command: Command) -> Non
         checks.need(4, values[0] < len(problem.bases), f"constraint {values[0]} has not begun")
         basis = problem.bases[values[0]]
         checks.monomial(values[1], problem.variables, 8)
-        checks.need(5, values[1] not in basis, f"the monomial {monomial_text(values[1], [])} stands twice in basis {values[0]}")
+        checks.need(5, values[1] not in basis,
+                    f"the monomial {monomial_text(values[1], [])} stands twice in basis {values[0]}")
         checks.need(6, len(basis) < LIMITS["basis"], f"more than {LIMITS['basis']} monomials in basis {values[0]}")
         basis.append(values[1])
     elif byte == 0x08:
@@ -196,7 +197,8 @@ def read_certificate(stream: bytes, problem: Optional[Problem], number: int = 1,
     return certificate
 
 
-def _certificate_command(certificate: Certificate, problem: Optional[Problem], checks: _Checks, command: Command) -> None:
+def _certificate_command(certificate: Certificate, problem: Optional[Problem], checks: _Checks,
+                         command: Command) -> None:
     """Takes one command in; raises 4, 5 or 6."""
     byte, values = command.byte, command.values
     if byte == 0x10:

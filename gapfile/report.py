@@ -32,8 +32,8 @@ def report_lines(solved: Solved, model: Model) -> list[str]:
         word = WORDS[side.side]
         bound = side.bound / factor
         lines.append(f"{word}: filed {decimal(bound, side.side == 1, 9)}, relaxation {side.relaxation / factor:.9g}, "
-                     f"lost {abs(float(side.bound) - side.relaxation) / factor:.2g}; {side.rows} rows, {side.wide} wide entries; "
-                     f"{STATUS[side.status]}")
+                     f"lost {abs(float(side.bound) - side.relaxation) / factor:.2g}; {side.rows} rows, "
+                     f"{side.wide} wide entries; {STATUS[side.status]}")
         if side.attained:
             value = side.attained.value / factor
             lines.append(f"{word}: attained {float(value):.9g} at {point_text(solved, model, side.attained)}; "
@@ -58,8 +58,9 @@ def manifest(solved: Solved, model: Model, solver: str) -> str:
         "title": model.title,
         "factor": posed.factor,
         "meaning": "the model's polynomial is the objective of problem.bin divided by the factor",
-        "variables": [{"name": name, "is": f"{fraction(m)} + {fraction(h)}*{x}", "in the stream": x, "middle": fraction(m),
-                       "half": fraction(h)} for name, x, m, h in zip(model.names, inner, posed.middle, posed.half)],
+        "variables": [{"name": name, "is": f"{fraction(m)} + {fraction(h)}*{x}", "in the stream": x,
+                       "middle": fraction(m), "half": fraction(h)}
+                      for name, x, m, h in zip(model.names, inner, posed.middle, posed.half)],
         "conditions": posed.origins,
         "degree": solved.degree,
         "blocks": solved.blocks.count,

@@ -37,7 +37,7 @@ def denominator_for(bound: float) -> int:
 
 
 def scale_for(solution: Solution, q: int, limits: Limits) -> int:
-    """D: even, so that coefficients are, and as large as factors and weights of 16 bits allow for the largest diagonal."""
+    """D: even, so that coefficients are, and as large as factors and weights allow for the largest diagonal."""
     largest = max((row[a] for gram in solution.grams for a, row in enumerate(gram)), default=1.0)
     room = 0.6 * LARGEST_WEIGHT * float(limits.factor) ** 2 / (q * max(largest, 1e-9))
     return max(2, min(65534, 2 * int(room / 2)))
@@ -86,7 +86,8 @@ def round_solution(program: Program, blocks: list[list[list[int]]], solution: So
     return Rounded(0 if program.sign == 1 else 1, scale, program.sign * p, q, rows)
 
 
-def _take(problem: Problem, target: dict[Monomial, int], rows: list[SignedRow], j: int, weight: int, row: Factors) -> None:
+def _take(problem: Problem, target: dict[Monomial, int], rows: list[SignedRow], j: int, weight: int,
+          row: Factors) -> None:
     """Adds a row of a multiplier, and takes what it says off the target."""
     rows.append((j, weight, row))
     basis = problem.bases[j]

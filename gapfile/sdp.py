@@ -24,7 +24,7 @@ class Unreachable(Exception):
 
 @dataclass
 class Solution:
-    """What the solver found: status, bound, Gram matrices by block, multipliers of equalities, and a point to start from."""
+    """What the solver found: status, bound, Gram matrices, multipliers of equalities, and a point to start from."""
     status: int
     bound: float
     grams: list[list[list[float]]]
@@ -131,7 +131,7 @@ def solve(program: Program, solver: Solver, slack: float = 0.0) -> Solution:
     sizes = [len(ix) for _, ix in program.blocks]
     answer = solver.solve(sizes, cost, equations, sides)
     scale = float(program.scale)
-    value = target[ONE] + sum(c * answer.matrices[p[0]][p[1]][p[2]] * (1 if p[1] == p[2] else 2) for p, c in cost.items())
+    value = target[ONE] + sum(c * answer.matrices[k][a][b] * (1 if a == b else 2) for (k, a, b), c in cost.items())
     free = _free_values(program, answer, slack)
     grams = [[[scale * x for x in row] for row in matrix] for matrix in answer.matrices]
     for (j, ix), gram in zip(program.blocks, grams):

@@ -61,8 +61,8 @@ def page(sheet: Sheet) -> str:
     """The whole page."""
     parts = [_figure(sheet), _problem(sheet), _exact(sheet), _points(sheet), _picture(sheet), _again(sheet)]
     title = escape(sheet.title or "A bounded polynomial")
-    return (f'<!DOCTYPE html>\n<html lang="en"><head><meta charset="utf-8"><title>{title}</title><style>{STYLE}</style></head>'
-            f"\n<body><h1>{title}</h1>\n" + "\n".join(parts) + "\n</body></html>\n")
+    return (f'<!DOCTYPE html>\n<html lang="en"><head><meta charset="utf-8"><title>{title}</title>'
+            f"<style>{STYLE}</style></head>\n<body><h1>{title}</h1>\n" + "\n".join(parts) + "\n</body></html>\n")
 
 
 def _figure(sheet: Sheet) -> str:
@@ -76,7 +76,8 @@ def _figure(sheet: Sheet) -> str:
     return ('<p class="figure">At every rational point of the region the value is at least '
             f"<b>{decimal(low, False, sheet.digits)}</b> and at most <b>{decimal(high, True, sheet.digits)}</b>. "
             f"Two values never differ by more than <b>{decimal(gap, True, sheet.digits)}</b>.</p>"
-            + ("<p>Decimals are rounded outward: the lower bound down, the upper bound and the gap up.</p>" if rounded else ""))
+            + ("<p>Decimals are rounded outward: the lower bound down, the upper bound and the gap up.</p>"
+               if rounded else ""))
 
 
 def _problem(sheet: Sheet) -> str:
@@ -149,13 +150,14 @@ def _picture(sheet: Sheet) -> str:
 
 def _again(sheet: Sheet) -> str:
     """Hashes, versions, how to check it again, and what is not claimed."""
-    sums = "".join(f'<tr><td class="mono">{escape(name)}</td><td class="mono">{digest}</td></tr>' for name, digest in sheet.sums)
+    sums = "".join(f'<tr><td class="mono">{escape(name)}</td><td class="mono">{digest}</td></tr>'
+                   for name, digest in sheet.sums)
     versions = "; ".join(f"{escape(a)} {escape(b)}" for a, b in sheet.versions)
     return (f"<h2>SHA-256</h2><table>{sums}</table><p>{versions}.</p>"
             '<div class="columns"><div><h2>To check it again</h2>'
             "<p><code>sha256sum -c SUMS</code> in the folder of the files, then "
-            "<code>gapcheck problem.bin low.bin high.bin</code>. It must print the lines above. Nothing else is needed: "
-            "neither the solver nor this sheet is trusted.</p></div>"
+            "<code>gapcheck problem.bin low.bin high.bin</code>. It must print the lines above. Nothing else "
+            "is needed: neither the solver nor this sheet is trusted.</p></div>"
             "<div><h2>What is not claimed</h2><ul>"
             "<li>That the polynomial and the region describe anything outside this page.</li>"
             "<li>That the bounds are attained, beyond the values given above.</li>"

@@ -1,4 +1,4 @@
-"""From a model to three streams: bases, blocks, the solver, rounding, attained points, and a report of what was lost."""
+"""From a model to three streams: bases, blocks, the solver, rounding, attained points, and what was lost."""
 from __future__ import annotations
 
 from dataclasses import dataclass, field
@@ -74,11 +74,13 @@ def solve_model(model: Model, solver: Solver, judge: Judge, narrow: bool, say: C
         except LimitError as error:
             if total == degrees[0]:
                 raise
-            raise NoCertificate(f"no certificate of degree {degrees[0]}, and degree {total} is too large: {error}") from None
+            raise NoCertificate(f"no certificate of degree {degrees[0]}, and degree {total} is too large: {error}",
+                                False) from None
     raise AssertionError("no degree")
 
 
-def _at_degree(posed: Posed, total: int, solver: Solver, judge: Judge, narrow: bool, say: Callable[[str], None]) -> Solved:
+def _at_degree(posed: Posed, total: int, solver: Solver, judge: Judge, narrow: bool,
+               say: Callable[[str], None]) -> Solved:
     problem = posed.problem
     basis.by_degree(problem, total)
     found = basis.find_blocks(problem, judge)
@@ -104,7 +106,8 @@ def _one_side(solved: Solved, parts: list[list[list[int]]], side: int, solver: S
     best = solve(program, solver)
     say(f"{word}: {STATUS[best.status]}, {program.sign * best.bound:.9g}")
     if best.status not in USABLE:
-        raise NoCertificate(f"no {word} certificate of degree {solved.degree}: {STATUS[best.status]}", best.status != ANY_BOUND)
+        raise NoCertificate(f"no {word} certificate of degree {solved.degree}: {STATUS[best.status]}",
+                            best.status != ANY_BOUND)
     attained = attain(problem, side, best.moments)
     why = ""
     for slack in SLACKS:

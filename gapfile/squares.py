@@ -115,7 +115,7 @@ def _try(d: int, count: int, first: int, cap: int, spread: float, chance: random
 
 
 def single(value: int, limits: Limits, unit: int = 1) -> list[tuple[int, int]]:
-    """A lone diagonal as rows (weight, factor), mostly one or two; weights, and what they reach, are multiples of the unit."""
+    """A lone diagonal, down to a multiple of the unit, as rows (weight, factor); weights are multiples of the unit."""
     out: list[tuple[int, int]] = []
     value, most = value // unit, LARGEST_WEIGHT // unit
     while value:
@@ -132,7 +132,8 @@ def single(value: int, limits: Limits, unit: int = 1) -> list[tuple[int, int]]:
     return out
 
 
-def rows_of(matrix: Matrix, order: list[int], count: int, limits: Limits, chance: random.Random) -> list[tuple[int, Factors]]:
+def rows_of(matrix: Matrix, order: list[int], count: int, limits: Limits,
+            chance: random.Random) -> list[tuple[int, Factors]]:
     """Rows (weight, factors) whose weighted squares sum to the matrix exactly. Raises RoundingError."""
     left = dict(matrix)
     rows: list[tuple[int, Factors]] = []

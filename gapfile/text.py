@@ -178,8 +178,8 @@ def encode(text: str) -> tuple[bytes, list[int]]:
 BY_WORD: dict[str, Layout] = {layout.word: layout for layout in (*PROBLEM.values(), *CERTIFICATE.values())
                               if layout.word != "bound"}
 FORMS = {
-    "variables": "variables NAME ..", "objective": "objective COEFFICIENT MONOMIAL", "term": "term COEFFICIENT MONOMIAL",
-    "basis": "basis NUMBER MONOMIAL", "rule": "rule NUMBER", "order": "order NUMBER",
+    "variables": "variables NAME ..", "objective": "objective COEFFICIENT MONOMIAL",
+    "term": "term COEFFICIENT MONOMIAL", "basis": "basis NUMBER MONOMIAL", "rule": "rule NUMBER", "order": "order NUMBER",
     "lower": "lower P/Q scale D", "upper": "upper P/Q scale D", "row": "row BASIS weight NUMBER",
     "signed": "signed BASIS weight NUMBER", "entry": "entry INDEX FACTOR", "wide": "wide INDEX FACTOR",
     "note": "note with 8 bytes in hexadecimal", "bytes": "bytes in hexadecimal",
@@ -201,7 +201,8 @@ def _line(line: str, names: tuple[str, ...]) -> tuple[bytes, Optional[list[str]]
             raise ValueError(f"expected `{form}`")
         p, q = rest[0].split("/")
         layout = CERTIFICATE[0x10]
-        return _written(layout, (int(word == "upper"), _whole(rest[2]), _whole(p), _whole(q)), ("side", "D", "p", "q")), None
+        values = (int(word == "upper"), _whole(rest[2]), _whole(p), _whole(q))
+        return _written(layout, values, ("side", "D", "p", "q")), None
     if word not in BY_WORD:
         raise ValueError(f"unknown word `{word}`; expected one of {', '.join(sorted({*FORMS, *BY_WORD}))}")
     layout = BY_WORD[word]

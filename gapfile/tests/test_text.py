@@ -1,10 +1,11 @@
 """The text form: lossless both ways, damage named, wrong text named."""
+import os
 import unittest
 
 from gapfile.commands import Kind, kind_of
 from gapfile.reading import Refused, read_certificate, read_problem
 from gapfile.text import TextError, decode, encode
-from gapfile.tests.streams import EXAMPLES, ROOT, SHARED, records, stored_streams
+from gapfile.tests.streams import EXAMPLES, ROOT, SHARED, folders, records, stored_streams
 
 F_PROBLEM = """\
 variables x1
@@ -29,13 +30,20 @@ done
 
 
 class RoundTrip(unittest.TestCase):
-    def test_every_stored_stream(self) -> None:
+    def test_examples_and_vectors(self) -> None:
+        """Every file of every folder."""
+        for folder in folders():
+            for file in folder.glob("*.bin"):
+                stream = file.read_bytes()
+                self.assertEqual(encode(decode(stream).text())[0], stream, file)
+
+    def test_records(self) -> None:
+        """All short streams of the corpora and a sixth of those above 300 bytes; all of them where GAPFILE_ALL is set."""
         streams = stored_streams()
         self.assertGreater(len(streams), 3000)
         for k, stream in enumerate(sorted(streams)):
-            if len(stream) > 300 and k % 6:
-                continue                      # of the longer ones a sixth, for the time it takes
-            self.assertEqual(encode(decode(stream).text())[0], stream)
+            if len(stream) <= 300 or k % 6 == 0 or "GAPFILE_ALL" in os.environ:
+                self.assertEqual(encode(decode(stream).text())[0], stream)
 
     def test_one_line_a_command(self) -> None:
         stream = (EXAMPLES / "two_decks/problem.bin").read_bytes()
