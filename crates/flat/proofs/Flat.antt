@@ -65,7 +65,7 @@ part-bounded m n a l h i =
 
 -- ---- what is lent of the arrays: the bases are `take 576 keys` with `take 9 sizes`, the multipliers
 -- `take 288 (drop 576 keys)` and `take 288 coefficients` with `take 9 (drop 9 sizes)`
-module _ (keys : List ℕ) (coefficients : List ℤ) (sizes : List ℕ) (f : FlatLimits keys coefficients sizes) where
+module _ {keys : List ℕ} {coefficients : List ℤ} {sizes : List ℕ} (f : FlatLimits keys coefficients sizes) where
   pub basis-size : (j : ℕ) → j < 9 → getD sizes j 0 ≤ 64
   basis-size j h = rw (basis-most j h) at (f .sizes-low j)
 
@@ -112,13 +112,13 @@ module _ (keys : List ℕ) (coefficients : List ℤ) (sizes : List ℕ) (f : Fla
   pub objective-low : Low 32 (drop 864 keys)
   objective-low i = rw (getD-drop 864 keys i 0) (rw (objective-degree (864 + i) (omega arith)) at (f .keys-low (864 + i)))
 
-module _ (p : Problem) (keys : List ℕ) (coefficients : List ℤ) (sizes : List ℕ) (f : FlatProblem p keys coefficients sizes) where
+module _ {p : Problem} {keys : List ℕ} {coefficients : List ℤ} {sizes : List ℕ} (f : FlatProblem p keys coefficients sizes) where
   -- the exponents of a multiplier and of the objective
   pub multiplier-part : (j : ℕ) → j < 9 → take (getD sizes (9 + j) 0) (drop (576 + 32 * j) keys) ≡ multiplierOf p j
   unfolding multiplierOf
   multiplier-part j h =
       let e = f .limits .keys-length in
-      let b = multiplier-size keys coefficients sizes (f .limits) j h in
+      let b = multiplier-size (f .limits) j h in
       sym (terms-keys (getD sizes (9 + j) 0) (drop (576 + 32 * j) keys) (drop (32 * j) coefficients) (rw (length-drop (576 + 32 * j) keys) (omega arith)))
       ∙ ap keysOf (f .multipliers j h)
 
@@ -131,14 +131,14 @@ module _ (p : Problem) (keys : List ℕ) (coefficients : List ℤ) (sizes : List
   -- the same by the parts that are lent
   pub basis-lent : (j : ℕ) → j < 9 → take (getD (take 9 sizes) j 0) (drop (64 * j) (take 576 keys)) ≡ basisOf p j
   basis-lent j h =
-      let b = basis-size keys coefficients sizes (f .limits) j h in
+      let b = basis-size (f .limits) j h in
       rw (getD-take 9 sizes j 0 h) (part-take (getD sizes j 0) (64 * j) 576 keys (omega arith) ∙ f .bases j h)
 
   count-lent : (j : ℕ) → j < 9 → getD (take 9 (drop 9 sizes)) j 0 ≡ getD sizes (9 + j) 0
   count-lent j h = getD-take 9 (drop 9 sizes) j 0 h ∙ getD-drop 9 sizes j 0
 
   keys-lent : (j : ℕ) → j < 9 → take (getD sizes (9 + j) 0) (drop (32 * j) (take 288 (drop 576 keys))) ≡ take (getD sizes (9 + j) 0) (drop (576 + 32 * j) keys)
-  keys-lent j h = let b = multiplier-size keys coefficients sizes (f .limits) j h in part-lent (getD sizes (9 + j) 0) (32 * j) 288 576 keys (omega arith)
+  keys-lent j h = let b = multiplier-size (f .limits) j h in part-lent (getD sizes (9 + j) 0) (32 * j) 288 576 keys (omega arith)
 
   pub exponents-lent : (j : ℕ) → j < 9 → take (getD (take 9 (drop 9 sizes)) j 0) (drop (32 * j) (take 288 (drop 576 keys))) ≡ multiplierOf p j
   exponents-lent j h = rw (count-lent j h) (keys-lent j h ∙ multiplier-part j h)
@@ -146,7 +146,7 @@ module _ (p : Problem) (keys : List ℕ) (coefficients : List ℤ) (sizes : List
   pub terms-lent : (j : ℕ) → j < 9
       → termsIn (getD (take 9 (drop 9 sizes)) j 0) (drop (32 * j) (take 288 (drop 576 keys))) (drop (32 * j) (take 288 coefficients)) ≡ multiplier p j
   terms-lent j h =
-      let b = multiplier-size keys coefficients sizes (f .limits) j h in
+      let b = multiplier-size (f .limits) j h in
       rw (count-lent j h)
       (terms-same (getD sizes (9 + j) 0) _ _ _ _ (keys-lent j h) (part-take (getD sizes (9 + j) 0) (32 * j) 288 coefficients (omega arith)) ∙ f .multipliers j h)
 

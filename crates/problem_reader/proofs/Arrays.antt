@@ -101,14 +101,14 @@ pub record Others (i : ℕ) (keys : List ℕ) (coefficients : List ℤ) (sizes k
 pub polynomial-place : (j : ℕ) → listAt (9 + j) ≡ 576 + 32 * j
 polynomial-place j = let e : 9 + j - 9 ≡ j = omega arith in rw e at (polynomial-list (9 + j) (omega arith))
 
-module _ (keys : List ℕ) (coefficients : List ℤ) (sizes : List ℕ) (f : FlatLimits keys coefficients sizes) where
+module _ {keys : List ℕ} {coefficients : List ℤ} {sizes : List ℕ} (f : FlatLimits keys coefficients sizes) where
   -- the coefficients of polynomial q may have changed: the others' are the same
   pub coefficients-apart : (q : ℕ) (coefficients′ : List ℤ) → q < 10 → Apart (32 * q) (mostAt (9 + q)) coefficients coefficients′ → (j : ℕ) → j < 10 → 9 + j ≢ 9 + q
       → take (getD sizes (9 + j) 0) (drop (32 * j) coefficients′) ≡ take (getD sizes (9 + j) 0) (drop (32 * j) coefficients)
   coefficients-apart q coefficients′ b a j c d =
       a .same (32 * j) (getD sizes (9 + j) 0)
       (⊎-elim
-      (λ h. inl (omega (arith, multiplier-size keys coefficients sizes f j (omega arith))))
+      (λ h. inl (omega (arith, multiplier-size f j (omega arith))))
       (λ h. inr (omega (arith, multiplier-most (9 + q) (omega arith) (omega arith))))
       (before-or-after j q (λ e. d (ap (λ (x : ℕ). 9 + x) e))))
 

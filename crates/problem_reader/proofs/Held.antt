@@ -44,7 +44,7 @@ pub record Held (p : Problem) (keys : List ℕ) (coefficients : List ℤ) (sizes
   pub filled : FilledTerms 16 32 (last .keys) (last .coefficients) (last .count)
   pub empty : (j : ℕ) → n ≤ j → j < 9 → getD sizes (9 + j) 0 ≡ 0
 
-module _ (p : Problem) (keys : List ℕ) (coefficients : List ℤ) (sizes : List ℕ) (v : ℕ) (last : Polynomial) (n : ℕ) (held : Held p keys coefficients sizes v last n) where
+module _ {p : Problem} {keys : List ℕ} {coefficients : List ℤ} {sizes : List ℕ} {v : ℕ} {last : Polynomial} {n : ℕ} (held : Held p keys coefficients sizes v last n) where
   abbrev limits : FlatLimits keys coefficients sizes
   limits = held .limits
 
@@ -78,7 +78,7 @@ module _ (p : Problem) (keys : List ℕ) (coefficients : List ℤ) (sizes : List
     basis-others =
         let a = basis-list j h in
         let b = basis-most j h in
-        others keys coefficients sizes limits j _ basis-keys coefficients (omega arith)
+        others limits j _ basis-keys coefficients (omega arith)
         (apart-set keys _ _ _ k (omega arith) (omega arith))
         (λ i q d. refl)
 
@@ -100,7 +100,7 @@ module _ (p : Problem) (keys : List ℕ) (coefficients : List ℤ) (sizes : List
         let w = held .count-low in
         record {
           limits =
-              limits-more keys coefficients sizes limits j _ basis-keys coefficients (length-set keys _ k) refl
+              limits-more limits j _ basis-keys coefficients (length-set keys _ k) refl
               (set-all (λ i x. x ≤ degreeAt i * 2 ^ 56) keys _ k 0 (limits .keys-low) (rw (basis-degree (64 * j + getD sizes j 0) (omega arith)) low))
               (rw (basis-most j h) (omega arith));
           variables = held .variables;
@@ -134,9 +134,9 @@ module _ (p : Problem) (keys : List ℕ) (coefficients : List ℤ) (sizes : List
     objective-others : Others 18 keys coefficients sizes objective-keys objective-coefficients objective-sizes
     objective-others =
         let a = polynomial-place 9 in
-        others keys coefficients sizes limits 18 _ objective-keys objective-coefficients (omega arith)
+        others limits 18 _ objective-keys objective-coefficients (omega arith)
         (apart-set keys _ _ _ k (omega arith) (omega arith))
-        (coefficients-apart keys coefficients sizes limits 9 objective-coefficients (omega arith) (apart-set coefficients _ _ _ c (omega arith) (omega arith)))
+        (coefficients-apart limits 9 objective-coefficients (omega arith) (apart-set coefficients _ _ _ c (omega arith) (omega arith)))
 
     objective-more : polynomialIn objective-keys objective-coefficients objective-sizes 9 ≡ polynomialIn keys coefficients sizes 9 ++ (term k c ∷ [])
     objective-more =
@@ -157,7 +157,7 @@ module _ (p : Problem) (keys : List ℕ) (coefficients : List ℤ) (sizes : List
         let w = held .count-low in
         record {
           limits =
-              limits-more keys coefficients sizes limits 18 _ objective-keys objective-coefficients (length-set keys _ k) (length-set coefficients _ c)
+              limits-more limits 18 _ objective-keys objective-coefficients (length-set keys _ k) (length-set coefficients _ c)
               (set-all (λ i x. x ≤ degreeAt i * 2 ^ 56) keys _ k 0 (limits .keys-low) (rw (objective-degree (864 + getD sizes 18 0) (omega arith)) low))
               (omega arith);
           variables = held .variables;
@@ -221,9 +221,9 @@ module _ (p : Problem) (keys : List ℕ) (coefficients : List ℤ) (sizes : List
       let w = held .count-low in
       let u = limits .keys-length in
       let x = limits .coefficients-length in
-      others keys coefficients sizes limits (9 + n) _ laid-keys laid-coefficients (omega arith)
+      others limits (9 + n) _ laid-keys laid-coefficients (omega arith)
       (rw (polynomial-place n, laid-most) (wider _ _ 32 keys laid-keys (f .count-low) (apart-paste keys (576 + 32 * n) (last .keys) 0 (last .count) (omega arith) (omega arith))))
-      (coefficients-apart keys coefficients sizes limits n laid-coefficients (omega arith)
+      (coefficients-apart limits n laid-coefficients (omega arith)
       (rw laid-most (wider _ _ 32 coefficients laid-coefficients (f .count-low) (apart-paste coefficients (32 * n) (last .coefficients) (pos 0) (last .count) (omega arith) (omega arith)))))
 
   laid-here : polynomialIn laid-keys laid-coefficients laid-sizes n ≡ multiplier p n
@@ -245,7 +245,7 @@ module _ (p : Problem) (keys : List ℕ) (coefficients : List ℤ) (sizes : List
       let w = held .count-low in
       let u = limits .keys-length in
       let x = limits .coefficients-length in
-      limits-more keys coefficients sizes limits (9 + n) _ laid-keys laid-coefficients
+      limits-more limits (9 + n) _ laid-keys laid-coefficients
       (length-paste keys (576 + 32 * n) (last .keys) (last .count) (omega arith) (omega arith))
       (length-paste coefficients (32 * n) (last .coefficients) (last .count) (omega arith) (omega arith))
       (paste-all keys (576 + 32 * n) (last .keys) 0 (λ i y. y ≤ degreeAt i * 2 ^ 56) (limits .keys-low) (last .count) (omega arith) (omega arith)
@@ -287,7 +287,7 @@ module _ (p : Problem) (keys : List ℕ) (coefficients : List ℤ) (sizes : List
       let w = held .count-low in
       let s = limits .sizes-length in
       record {
-        limits = limits-more laid-keys laid-coefficients laid-sizes laid-limits 19 n laid-keys laid-coefficients refl refl (laid-limits .keys-low) w;
+        limits = limits-more laid-limits 19 n laid-keys laid-coefficients refl refl (laid-limits .keys-low) w;
         bases = λ j q. rw (getD-set-other laid-sizes 19 j n 0 (λ e. omega arith)) (o .bases j q (λ e. omega arith) ∙ held .bases j q);
         multipliers = λ j q. rw (getD-set-other laid-sizes 19 (9 + j) n 0 (λ e. omega arith)) (all j q);
         objective = rw (getD-set-other laid-sizes 19 18 n 0 (λ e. omega arith)) (o .polynomials 9 (omega arith) (λ e. omega arith) ∙ held .objective);

@@ -56,12 +56,17 @@ pub record Stepped (p : Problem) (i : Instruction) (keys : List ℕ) (coefficien
   pub held : number ≡ 0 → Held (problemApplied p i) keys coefficients sizes v last n
   pub on : I.End ≡ i → ⊥
 
+pub stepped-as : {p : Problem} {i i′ : Instruction} {keys keys′ : List ℕ} {coefficients coefficients′ : List ℤ} {sizes sizes′ : List ℕ} {v v′ : ℕ} {last last′ : Polynomial} {n n′ m m′ : ℕ}
+    → i ≡ i′ → keys ≡ keys′ → coefficients ≡ coefficients′ → sizes ≡ sizes′ → v ≡ v′ → last ≡ last′ → n ≡ n′ → m ≡ m′ → Stepped p i′ keys′ coefficients′ sizes′ v′ last′ n′ m′
+    → Stepped p i keys coefficients sizes v last n m
+stepped-as e k c s v l n m q = rw (e, k, c, s, v, l, n, m) q
+
 -- a refusal
 refusal : (s keys : List ℕ) (coefficients : List ℤ) (sizes : List ℕ) (n at : ℕ) → FlatLimits keys coefficients sizes → 0 < n → readProblem s ≡ refused n at
     → ReadFlat s (reading n at) keys coefficients sizes
 refusal s keys coefficients sizes n at f h e = record { limits = f; gives = λ z. absurd (omega arith); refuses = λ _. e }
 
-module _ (s keys : List ℕ) (coefficients : List ℤ) (sizes : List ℕ) (v : ℕ) (last : Polynomial) (n number at : ℕ) (g : Going s keys coefficients sizes v last n number at) where
+module _ {s keys : List ℕ} {coefficients : List ℤ} {sizes : List ℕ} {v : ℕ} {last : Polynomial} {n number at : ℕ} (g : Going s keys coefficients sizes v last n number at) where
   abbrev here : Problem
   here = g .problem
 
@@ -87,7 +92,7 @@ module _ (s keys : List ℕ) (coefficients : List ℤ) (sizes : List ℕ) (v : �
     early-refusing = refusing keys coefficients sizes (g .held .limits)
 
     -- past the arm of a command
-    module _ (i : Instruction) (after : ℕ) (t : Passes here s at i after) (keys′ : List ℕ) (coefficients′ : List ℤ) (sizes′ : List ℕ) (v′ : ℕ) (last′ : Polynomial) (n′ m : ℕ)
+    module _ {i : Instruction} {after : ℕ} (t : Passes here s at i after) {keys′ : List ℕ} {coefficients′ : List ℤ} {sizes′ : List ℕ} {v′ : ℕ} {last′ : Polynomial} {n′ m : ℕ}
         (q : Stepped here i keys′ coefficients′ sizes′ v′ last′ n′ m) where
       pub late-refusing : 0 < m → ReadFlat s (reading m at) keys′ coefficients′ sizes′
       late-refusing l = refusing keys′ coefficients′ sizes′ (q .limits) m l (t .decides ∙ sym (q .decided))
@@ -106,7 +111,7 @@ module _ (s keys : List ℕ) (coefficients : List ℤ) (sizes : List ℕ) (v : �
           }
 
     -- the end command
-    module _ (after : ℕ) (t : Passes here s at I.End after) where
+    module _ {after : ℕ} (t : Passes here s at I.End after) where
       last-byte : after ≡ at + 1
       unfolding problemCommand
       last-byte = rw (passes-end _ s at I.End after t refl) at (t .step)
@@ -120,10 +125,10 @@ module _ (s keys : List ℕ) (coefficients : List ℤ) (sizes : List ℕ) (v : �
           refusal s keys coefficients sizes 2 after (g .held .limits) (omega arith)
           (rw last-byte (sym (left-extra problemLanguage s _ _ at (g .left) h none (passes-end _ s at I.End after t refl) (rw last-byte at m))))
 
-      pub complete : length s ≤ after → (keys′ : List ℕ) (coefficients′ : List ℤ) (sizes′ : List ℕ)
-          → LaidOut keys coefficients sizes n (last .keys) (last .coefficients) (last .count) keys′ coefficients′ sizes′ → ReadFlat s (reading 0 at) keys′ coefficients′ (set sizes′ 19 n)
-      complete m keys′ coefficients′ sizes′ o =
-          let f = held-end here keys coefficients sizes v last n (g .held) in
+      pub complete : length s ≤ after → (r : ℕ) → r ≡ 0 → (keys′ : List ℕ) (coefficients′ : List ℤ) (sizes′ : List ℕ)
+          → LaidOut keys coefficients sizes n (last .keys) (last .coefficients) (last .count) keys′ coefficients′ sizes′ → ReadFlat s (reading r at) keys′ coefficients′ (set sizes′ 19 n)
+      complete m r z keys′ coefficients′ sizes′ o =
+          let f = held-end (g .held) in
           rw (o .keys-are, o .coefficients-are, o .sizes-are)
           (record {
             limits = f .limits;
@@ -160,36 +165,10 @@ terms-room : (n most k : ℕ) (keys : List ℕ) (coefficients : List ℤ) (ts : 
     → lateIn keys 0 n k most ≡ firstRefusal true true true (among k (keysOf ts)) (leb most (length ts))
 terms-room n most k keys coefficients ts h e = rw (← e, terms-keys n keys coefficients h, terms-length n keys coefficients)
 
-module _ (p : Problem) (keys : List ℕ) (coefficients : List ℤ) (sizes : List ℕ) (v : ℕ) (last : Polynomial) (n : ℕ) (held : Held p keys coefficients sizes v last n)
-    (s : List ℕ) (at after : ℕ) where
+module _ {p : Problem} {keys : List ℕ} {coefficients : List ℤ} {sizes : List ℕ} {v : ℕ} {last : Polynomial} {n : ℕ} (held : Held p keys coefficients sizes v last n) where
   -- a monomial that passed the first checks
   low : (d k : ℕ) → fitting (p .variables) d k ≡ true → k ≤ d * 2 ^ 56
   low d k e = let u = held .variables in let w = held .variables-low in fitting-low (p .variables) d k (omega arith) e
-
-  pub stepped-variables : (m : ℕ) → Passes p s at (I.Variables m) after → (r : ℕ) → r ≡ 0 → Stepped p (I.Variables m) keys coefficients sizes m last n r
-  unfolding firstRefusal
-  stepped-variables m t r z =
-      record { decided = z; limits = held .limits; held = λ _. held-variables p keys coefficients sizes v last n held m (leb-true m 8 (and-right (leb 1 m) (leb m 8) (t .operands))); on = λ e. clash (cc) }
-
-  module _ (k : ℕ) (c : ℤ) (t : Passes p s at (I.Objective k c) after) where
-    objective-room : lateIn keys 864 (getD sizes 18 0) k 256 ≡ late p (I.Objective k c)
-    objective-room =
-        let b = held .limits .sizes-low 18 in
-        let l = held .limits .keys-length in
-        terms-room (getD sizes 18 0) 256 k (drop 864 keys) (drop 288 coefficients) (p .objective) (rw (length-drop 864 keys) (omega arith)) (held .objective)
-
-    pub stepped-objective : (r : ℕ) (keys′ : List ℕ) (coefficients′ : List ℤ) (sizes′ : List ℕ) → r ≡ lateIn keys 864 (getD sizes 18 0) k 256
-        → keys′ ≡ storedIf r keys (864 + getD sizes 18 0) k → coefficients′ ≡ storedIf r coefficients (288 + getD sizes 18 0) c → sizes′ ≡ storedIf r sizes 18 (getD sizes 18 0 + 1)
-        → Stepped p (I.Objective k c) keys′ coefficients′ sizes′ v last n r
-    stepped-objective r keys′ coefficients′ sizes′ e = go (eqb r 0) refl
-      where
-        go : (b : Bool) → eqb r 0 ≡ b → keys′ ≡ cond b (set keys (864 + getD sizes 18 0) k) keys → coefficients′ ≡ cond b (set coefficients (288 + getD sizes 18 0) c) coefficients → sizes′ ≡ cond b (set sizes 18 (getD sizes 18 0 + 1)) sizes
-            → Stepped p (I.Objective k c) keys′ coefficients′ sizes′ v last n r
-        go true q x y z =
-            let f = space keys 864 (getD sizes 18 0) k 256 (sym e ∙ eqb-true r 0 q) in
-            let m = held-objective p keys coefficients sizes v last n held k c f (low 32 k (and-left (fitting (p .variables) 32 k) (nonzero c) (t .operands))) in
-            rw (x, y, z) (record { decided = e ∙ objective-room; limits = m .limits; held = λ _. m; on = λ e. clash (cc) })
-        go false q x y z = rw (x, y, z) (record { decided = e ∙ objective-room; limits = held .limits; held = λ z. absurd (eqb-false r 0 q z); on = λ e. clash (cc) })
 
   pub stepped-full : 8 ≤ n → Stepped p I.Constraint keys coefficients sizes v last n 6
   unfolding firstRefusal
@@ -200,53 +179,79 @@ module _ (p : Problem) (keys : List ℕ) (coefficients : List ℤ) (sizes : List
       → Stepped p I.Constraint keys′ coefficients′ sizes′ v last′ (n + 1) r
   unfolding firstRefusal
   stepped-begun h r z keys′ coefficients′ sizes′ last′ o e =
-      let m = held-constraint p keys coefficients sizes v last n held h in
+      let m = held-constraint held h in
       rw (o .keys-are, o .coefficients-are, o .sizes-are, e)
       (record { decided = rw (held .count, lt-leb 8 n h) z; limits = m .limits; held = λ _. m; on = λ e. clash (cc) })
 
-  module _ (k : ℕ) (c : ℤ) (t : Passes p s at (I.Term k c) after) where
-    begun : 0 < n
-    begun = rw (held .count) at (term-placed p s at (problemCommandAt s at) k c (t .stands) (t .instruction))
+  module _ {s : List ℕ} {at after : ℕ} where
+    pub stepped-variables : {m : ℕ} → Passes p s at (I.Variables m) after → (r : ℕ) → r ≡ 0 → Stepped p (I.Variables m) keys coefficients sizes m last n r
+    unfolding firstRefusal
+    stepped-variables {m} t r z =
+        record { decided = z; limits = held .limits; held = λ _. held-variables held m (leb-true m 8 (and-right (leb 1 m) (leb m 8) (t .operands))); on = λ e. clash (cc) }
 
-    latest : terms last ≡ lastOf (p .constraints)
-    latest = held .latest ∙ rw (held .count) (multiplier-at p n begun)
+    module _ {k : ℕ} {c : ℤ} (t : Passes p s at (I.Objective k c) after) where
+      objective-room : lateIn keys 864 (getD sizes 18 0) k 256 ≡ late p (I.Objective k c)
+      objective-room =
+          let b = held .limits .sizes-low 18 in
+          let l = held .limits .keys-length in
+          terms-room (getD sizes 18 0) 256 k (drop 864 keys) (drop 288 coefficients) (p .objective) (rw (length-drop 864 keys) (omega arith)) (held .objective)
 
-    term-room : lateIn (last .keys) 0 (last .count) k 32 ≡ late p (I.Term k c)
-    term-room = let f = held .filled in terms-room (last .count) 32 k (last .keys) (last .coefficients) (lastOf (p .constraints)) (omega arith) latest
+      pub stepped-objective : (r : ℕ) (keys′ : List ℕ) (coefficients′ : List ℤ) (sizes′ : List ℕ) → r ≡ lateIn keys 864 (getD sizes 18 0) k 256
+          → keys′ ≡ storedIf r keys (864 + getD sizes 18 0) k → coefficients′ ≡ storedIf r coefficients (288 + getD sizes 18 0) c → sizes′ ≡ storedIf r sizes 18 (getD sizes 18 0 + 1)
+          → Stepped p (I.Objective k c) keys′ coefficients′ sizes′ v last n r
+      stepped-objective r keys′ coefficients′ sizes′ e = go (eqb r 0) refl
+        where
+          go : (b : Bool) → eqb r 0 ≡ b → keys′ ≡ cond b (set keys (864 + getD sizes 18 0) k) keys → coefficients′ ≡ cond b (set coefficients (288 + getD sizes 18 0) c) coefficients → sizes′ ≡ cond b (set sizes 18 (getD sizes 18 0 + 1)) sizes
+              → Stepped p (I.Objective k c) keys′ coefficients′ sizes′ v last n r
+          go true q x y z =
+              let f = space keys 864 (getD sizes 18 0) k 256 (sym e ∙ eqb-true r 0 q) in
+              let m = held-objective held k c f (low 32 k (and-left (fitting (p .variables) 32 k) (nonzero c) (t .operands))) in
+              rw (x, y, z) (record { decided = e ∙ objective-room; limits = m .limits; held = λ _. m; on = λ e. clash (cc) })
+          go false q x y z = rw (x, y, z) (record { decided = e ∙ objective-room; limits = held .limits; held = λ z. absurd (eqb-false r 0 q z); on = λ e. clash (cc) })
 
-    pub stepped-refused : (r : ℕ) → (r ≡ 0 → ⊥) → r ≡ lateIn (last .keys) 0 (last .count) k 32 → Stepped p (I.Term k c) keys coefficients sizes v last n r
-    stepped-refused r d e = record { decided = e ∙ term-room; limits = held .limits; held = λ z. absurd (d z); on = λ e. clash (cc) }
+    module _ {k : ℕ} {c : ℤ} (t : Passes p s at (I.Term k c) after) where
+      begun : 0 < n
+      begun = rw (held .count) at (term-placed p s at (problemCommandAt s at) k c (t .stands) (t .instruction))
 
-    pub stepped-term : (r : ℕ) → r ≡ 0 → r ≡ lateIn (last .keys) 0 (last .count) k 32
-        → Stepped p (I.Term k c) keys coefficients sizes v (record { keys = set (last .keys) (last .count) k; coefficients = set (last .coefficients) (last .count) c; count = last .count + 1 }) n r
-    stepped-term r z e =
-        let f = space (last .keys) 0 (last .count) k 32 (sym e ∙ z) in
-        let m = held-term p keys coefficients sizes v last n held k c begun f (low 16 k (and-left (fitting (p .variables) 16 k) (nonzero c) (t .operands))) in
-        record { decided = e ∙ term-room; limits = held .limits; held = λ _. m; on = λ e. clash (cc) }
+      latest : terms last ≡ lastOf (p .constraints)
+      latest = held .latest ∙ rw (held .count) (multiplier-at p n begun)
 
-  module _ (j k : ℕ) (t : Passes p s at (I.Member j k) after) where
-    pub named : j < 9
-    named =
-        let e = held .count in
-        let u = held .count-low in
-        omega (arith, leb-true j (length (p .constraints)) (and-left (leb j (length (p .constraints))) (fitting (p .variables) 8 k) (t .operands)))
+      term-room : lateIn (last .keys) 0 (last .count) k 32 ≡ late p (I.Term k c)
+      term-room = let f = held .filled in terms-room (last .count) 32 k (last .keys) (last .coefficients) (lastOf (p .constraints)) (omega arith) latest
 
-    member-room : lateIn keys (64 * j) (getD sizes j 0) k 64 ≡ late p (I.Member j k)
-    unfolding basisOf
-    member-room =
-        let w = held .limits .keys-length in
-        let m = named in
-        let b = basis-size keys coefficients sizes (held .limits) j named in
-        let l : length (take (getD sizes j 0) (drop (64 * j) keys)) ≡ getD sizes j 0 = length-take-le (getD sizes j 0) (drop (64 * j) keys) (rw (length-drop (64 * j) keys) (omega arith)) in
-        rw (← held .bases j named, l)
+      pub stepped-refused : (r : ℕ) → (r ≡ 0 → ⊥) → r ≡ lateIn (last .keys) 0 (last .count) k 32 → Stepped p (I.Term k c) keys coefficients sizes v last n r
+      stepped-refused r d e = record { decided = e ∙ term-room; limits = held .limits; held = λ z. absurd (d z); on = λ e. clash (cc) }
 
-    pub stepped-member : (r : ℕ) (keys′ sizes′ : List ℕ) → r ≡ lateIn keys (64 * j) (getD sizes j 0) k 64 → keys′ ≡ storedIf r keys (64 * j + getD sizes j 0) k → sizes′ ≡ storedIf r sizes j (getD sizes j 0 + 1)
-        → Stepped p (I.Member j k) keys′ coefficients sizes′ v last n r
-    stepped-member r keys′ sizes′ e = go (eqb r 0) refl
-      where
-        go : (b : Bool) → eqb r 0 ≡ b → keys′ ≡ cond b (set keys (64 * j + getD sizes j 0) k) keys → sizes′ ≡ cond b (set sizes j (getD sizes j 0 + 1)) sizes → Stepped p (I.Member j k) keys′ coefficients sizes′ v last n r
-        go true q x z =
-            let f = space keys (64 * j) (getD sizes j 0) k 64 (sym e ∙ eqb-true r 0 q) in
-            let m = held-member p keys coefficients sizes v last n held j k named f (low 8 k (and-right (leb j (length (p .constraints))) (fitting (p .variables) 8 k) (t .operands))) in
-            rw (x, z) (record { decided = e ∙ member-room; limits = m .limits; held = λ _. m; on = λ e. clash (cc) })
-        go false q x z = rw (x, z) (record { decided = e ∙ member-room; limits = held .limits; held = λ z. absurd (eqb-false r 0 q z); on = λ e. clash (cc) })
+      pub stepped-term : (r : ℕ) → r ≡ 0 → r ≡ lateIn (last .keys) 0 (last .count) k 32
+          → Stepped p (I.Term k c) keys coefficients sizes v (record { keys = set (last .keys) (last .count) k; coefficients = set (last .coefficients) (last .count) c; count = last .count + 1 }) n r
+      stepped-term r z e =
+          let f = space (last .keys) 0 (last .count) k 32 (sym e ∙ z) in
+          let m = held-term held k c begun f (low 16 k (and-left (fitting (p .variables) 16 k) (nonzero c) (t .operands))) in
+          record { decided = e ∙ term-room; limits = held .limits; held = λ _. m; on = λ e. clash (cc) }
+
+    module _ {j k : ℕ} (t : Passes p s at (I.Member j k) after) where
+      pub named : j < 9
+      named =
+          let e = held .count in
+          let u = held .count-low in
+          omega (arith, leb-true j (length (p .constraints)) (and-left (leb j (length (p .constraints))) (fitting (p .variables) 8 k) (t .operands)))
+
+      member-room : lateIn keys (64 * j) (getD sizes j 0) k 64 ≡ late p (I.Member j k)
+      unfolding basisOf
+      member-room =
+          let w = held .limits .keys-length in
+          let m = named in
+          let b = basis-size (held .limits) j named in
+          let l : length (take (getD sizes j 0) (drop (64 * j) keys)) ≡ getD sizes j 0 = length-take-le (getD sizes j 0) (drop (64 * j) keys) (rw (length-drop (64 * j) keys) (omega arith)) in
+          rw (← held .bases j named, l)
+
+      pub stepped-member : (r : ℕ) (keys′ sizes′ : List ℕ) → r ≡ lateIn keys (64 * j) (getD sizes j 0) k 64 → keys′ ≡ storedIf r keys (64 * j + getD sizes j 0) k → sizes′ ≡ storedIf r sizes j (getD sizes j 0 + 1)
+          → Stepped p (I.Member j k) keys′ coefficients sizes′ v last n r
+      stepped-member r keys′ sizes′ e = go (eqb r 0) refl
+        where
+          go : (b : Bool) → eqb r 0 ≡ b → keys′ ≡ cond b (set keys (64 * j + getD sizes j 0) k) keys → sizes′ ≡ cond b (set sizes j (getD sizes j 0 + 1)) sizes → Stepped p (I.Member j k) keys′ coefficients sizes′ v last n r
+          go true q x z =
+              let f = space keys (64 * j) (getD sizes j 0) k 64 (sym e ∙ eqb-true r 0 q) in
+              let m = held-member held j k named f (low 8 k (and-right (leb j (length (p .constraints))) (fitting (p .variables) 8 k) (t .operands))) in
+              rw (x, z) (record { decided = e ∙ member-room; limits = m .limits; held = λ _. m; on = λ e. clash (cc) })
+          go false q x z = rw (x, z) (record { decided = e ∙ member-room; limits = held .limits; held = λ z. absurd (eqb-false r 0 q z); on = λ e. clash (cc) })

@@ -1,0 +1,294 @@
+-- `read`: from the command at hand on the definition gives what it gives for the whole stream (`Going`); the arm of each command leaves what it
+-- stores (`Stepped`).
+use mathlib.Core.Path.{_≡_, refl, sym, ap, _∙_}
+use mathlib.Core.List.{List}
+use mathlib.Core.Logic.{⊎-elim}
+use Prim.Native.Nat.{ℕ, _+_, _-_, _*_, _<_}
+use native.Mathlib.Omega.{arith}
+use lib.IntN.{ℤ}
+use lib.ListN.{length, getD}
+use mir.Syntax.{w32}
+use mir.Val.{toZ, ofZ}
+use borrow.Author.Needs.{needs}
+use Rattle.format.specs.declared.problem.Instruction.{Instruction}
+use Rattle.format.specs.declared.problem.Instruction.the-variants as I
+use Rattle.format.specs.declared.problem.Command.{Command}
+use Rattle.format.specs.ProblemLayout.{problemSize, problemDecoded}
+use Rattle.format.specs.ProblemRules.{Problem}
+use Rattle.flat.specs.Flat.{FlatLimits}
+use Rattle.flat.proofs.Flat.{basis-size}
+use Rattle.problem_reader.specs.Checks.{early, lateIn}
+use Rattle.problem_reader.proofs.Checks.{Passes, passes, early-refusal, passes-longer, space}
+use Rattle.problem_reader.proofs.Held.{Held}
+use Rattle.problem_reader.proofs.Steps.{Going, Stepped, stepped-as, starting, ended, first-checks, early-refusing, late-refusing, going-on, extra, complete, stepped-variables, stepped-objective, stepped-full, stepped-begun, stepped-refused, stepped-term, named, stepped-member}
+use Rattle.problem_reader.proofs.read.Statement.{statement}
+use Rattle.problem_reader.proofs.read.Tie as tie
+
+abbrev Inv-loop : tie.InvT-loop
+Inv-loop s keys₀ coefficients₀ sizes₀ variables₀ last₀ count₀ number₀ at₀ keys coefficients sizes variables last count number at = Going s keys coefficients sizes variables last count number at
+
+abbrev μ-loop : tie.MeasureT-loop
+μ-loop s keys₀ coefficients₀ sizes₀ variables₀ last₀ count₀ number₀ at₀ keys coefficients sizes variables last count number at = length s - at
+
+-- ---- the command at hand, which passed the first checks
+abbrev bytes : tie.At-loop Inv-loop μ-loop → List ℕ
+bytes l = l .before .before .before .args .s .now
+
+abbrev Kept : tie.At-loop Inv-loop μ-loop → Type 0
+Kept l = Held (l .loop .inv .problem) (l .loop .keys) (l .loop .coefficients) (l .loop .sizes) (l .loop .variables) (l .loop .last) (l .loop .count)
+
+kept : (l : tie.At-loop Inv-loop μ-loop) → Kept l
+kept l = l .loop .inv .held
+
+first : (c : tie.After-check-at Inv-loop μ-loop) → let l = c .before .before .before .before in c .check-at .result ≡ early (l .loop .inv .problem) (bytes l) (l .loop .at)
+first c = first-checks (c .before .before .before .before .loop .inv) _ (c .check-at .ensures)
+
+zero-found : (c : tie.Else1 Inv-loop μ-loop) → c .before .check-at .result ≡ 0
+zero-found c = omega arith
+
+none : (c : tie.Else1 Inv-loop μ-loop) → let l = c .before .before .before .before .before in early (l .loop .inv .problem) (bytes l) (l .loop .at) ≡ 0
+none c = sym (first (c .before)) ∙ zero-found c
+
+abbrev Told : Type 0
+Told = tie.After-decode-at Inv-loop μ-loop
+
+abbrev head : Told → tie.At-loop Inv-loop μ-loop
+head c = c .before .before .before .before .before .before .before
+
+abbrev next : Told → ℕ
+next c = head c .loop .at + c .before .size-of .result
+
+abbrev At : Told → Instruction → Type 0
+At c i = Passes (head c .loop .inv .problem) (bytes (head c)) (head c .loop .at) i (next c)
+
+passed : (c : Told) (i : Instruction) → c .decode-at .result ≡ i → At c i
+passed c i e =
+    let m = c .before .before .before .before .command-of .ensures in
+    passes _ _ _ _ _ (none (c .before .before)) (sym (c .decode-at .ensures ∙ ap (λ (k : Command). problemDecoded k (bytes (head c)) (head c .loop .at)) m) ∙ e) (ap (λ (n : ℕ). head c .loop .at + n) (c .before .size-of .ensures .0 ∙ ap problemSize m))
+
+shorter : (c : Told) → length (bytes (head c)) - next c < length (bytes (head c)) - head c .loop .at
+shorter c = let t = passed c (c .decode-at .result) refl in let l = passes-longer _ _ _ _ _ t in let w = t .whole in omega arith
+
+one-requires : tie.Need-one-requires Inv-loop μ-loop
+one-requires c κs = search needs
+
+loop-holds : tie.Need-loop-holds Inv-loop μ-loop
+loop-holds c = let a = c .before .before .args in starting (a .s .now) (a .keys .now) (a .coefficients .now) (a .sizes .now) (c .one .result) (c .before .before .pre) (c .one .ensures .0) (c .one .ensures .1)
+
+shared-slice-read-command-of : tie.Need-shared-slice-read-command-of Inv-loop μ-loop
+shared-slice-read-command-of c = search needs
+
+command-of-requires : tie.Need-command-of-requires Inv-loop μ-loop
+command-of-requires c κs = search needs
+
+check-at-requires : tie.Need-check-at-requires Inv-loop μ-loop
+check-at-requires c κs = (omega arith, c .command-of .ensures)
+
+size-of-requires : tie.Need-size-of-requires Inv-loop μ-loop
+size-of-requires c κs = search needs
+
+add-next : tie.Need-add-next Inv-loop μ-loop
+add-next c = let h = c .size-of .ensures .1 in omega arith
+
+decode-at-requires : tie.Need-decode-at-requires Inv-loop μ-loop
+decode-at-requires c κs =
+    let e = ap problemSize (c .before .before .before .command-of .ensures) in
+    let w = passes _ _ _ _ _ (none (c .before)) refl refl .whole in
+    omega arith
+
+enum-known-n : tie.Need-enum-known-n Inv-loop μ-loop
+enum-known-n c = search needs
+
+enum-known-key : tie.Need-enum-known-key Inv-loop μ-loop
+enum-known-key c = search needs
+
+put-objective-requires : tie.Need-put-objective-requires Inv-loop μ-loop
+put-objective-requires c κs = kept (head (c .before .before .before .before .before .before)) .limits
+
+enum-told : tie.Need-enum-told Inv-loop μ-loop
+enum-told c = search needs
+
+lay-out-requires : tie.Need-lay-out-requires Inv-loop μ-loop
+lay-out-requires c κs = let k = kept (head (c .before .before .before .before .before .before .before .before .before)) in (k .limits, k .filled, omega arith)
+
+empty-requires : tie.Need-empty-requires Inv-loop μ-loop
+empty-requires c κs = search needs
+
+add-count : tie.Need-add-count Inv-loop μ-loop
+add-count c = search needs
+
+enum-known-key-2 : tie.Need-enum-known-key-2 Inv-loop μ-loop
+enum-known-key-2 c = search needs
+
+check-room-requires : tie.Need-check-room-requires Inv-loop μ-loop
+check-room-requires c κs = let f = kept (head (c .before .before .before .before .before .before)) .filled in omega arith
+
+-- ---- a term of the constraint begun last
+term-space : (c : tie.Then3 Inv-loop μ-loop) → head (c .before .before .before .before .before .before .before .before) .loop .last .count < 32
+term-space c =
+    let q = head (c .before .before .before .before .before .before .before .before) .loop .last in
+    space (q .keys) 0 (q .count) (c .before .before .before .before .before .before .key2 .given .0 .0) 32 (sym (c .before .check-room .ensures) ∙ c .if3 .taken)
+
+mul-last : tie.Need-mul-last Inv-loop μ-loop
+mul-last c = let h = term-space c in omega arith
+
+element-write-last : tie.Need-element-write-last Inv-loop μ-loop
+element-write-last c = let h = term-space c in omega arith
+
+mul-c : tie.Need-mul-c Inv-loop μ-loop
+mul-c c = let h = term-space c in omega arith
+
+element-set-from-c : tie.Need-element-set-from-c Inv-loop μ-loop
+element-set-from-c c = let h = term-space c in omega arith
+
+add-last : tie.Need-add-last Inv-loop μ-loop
+add-last c = let h = term-space c in omega arith
+
+enum-known-j : tie.Need-enum-known-j Inv-loop μ-loop
+enum-known-j c = search needs
+
+-- ---- a monomial of a basis
+member-passed : (c : tie.After-known-told4 Inv-loop μ-loop) → At (c .before .before .before) (I.Member (c .before .j .given .0 .0) (c .before .j .given .0 .1 .0))
+member-passed c = passed (c .before .before .before) _ (c .before .j .given .1)
+
+basis-named : (c : tie.After-known-told4 Inv-loop μ-loop) → c .before .j .given .0 .0 < 9
+basis-named c = named (kept (head (c .before .before .before))) (member-passed c)
+
+mul-put : tie.Need-mul-put Inv-loop μ-loop
+mul-put c = let h = basis-named (c .before .before) in omega arith
+
+put-requires : tie.Need-put-requires Inv-loop μ-loop
+put-requires c κs =
+    let l = head (c .before .before .before .before .before) in
+    let h = basis-named (c .before .before) in
+    (omega arith, basis-size (kept l .limits) _ h, omega arith)
+
+enum-told-2 : tie.Need-enum-told-2 Inv-loop μ-loop
+enum-told-2 c = search needs
+
+lay-out-requires-2 : tie.Need-lay-out-requires-2 Inv-loop μ-loop
+lay-out-requires-2 c κs = let k = kept (head (c .before .before .before .before .before .before .before .before .before)) in let w = k .count-low in (k .limits, k .filled, omega arith)
+
+element-write-sizes : tie.Need-element-write-sizes Inv-loop μ-loop
+element-write-sizes c = search needs
+
+-- ---- what the arms leave, where they meet
+-- a coefficient is what its bits stand for
+objective-told : (c : tie.After-known-told2 Inv-loop μ-loop) → c .before .before .before .decode-at .result ≡ I.Objective (c .before .key .given .0 .0) (toZ w32 (ofZ w32 (c .before .key .given .0 .1 .0)))
+objective-told c =
+    let g = c .before .key .given in
+    let z : toZ w32 (ofZ w32 (g .0 .1 .0)) ≡ g .0 .1 .0 = search needs in
+    g .1 ∙ ap (I.Objective (g .0 .0)) (sym z)
+
+term-told : (c : tie.After-known-told3 Inv-loop μ-loop) → c .before .before .before .decode-at .result ≡ I.Term (c .before .key2 .given .0 .0) (toZ w32 (ofZ w32 (c .before .key2 .given .0 .1 .0)))
+term-told c =
+    let g = c .before .key2 .given in
+    let z : toZ w32 (ofZ w32 (g .0 .1 .0)) ≡ g .0 .1 .0 = search needs in
+    g .1 ∙ ap (I.Term (g .0 .0)) (sym z)
+
+stepped : (c : tie.At-match-came Inv-loop μ-loop)
+    → let m = c .match in Stepped (head (c .before) .loop .inv .problem) (c .before .decode-at .result) (m .keys) (m .coefficients) (m .sizes) (m .variables) (m .last) (m .count) (m .number)
+stepped c =
+    let d = c .before in
+    let z = zero-found (d .before .before) in
+    ⊎-elim
+    (λ w. stepped-as (w .1 .given .1) (w .3) (w .4) (w .5) (w .6) (w .7) (w .8) (w .9) (stepped-variables (kept (head d)) (passed d _ (w .1 .given .1)) _ z))
+    (λ x.
+    ⊎-elim
+    (λ w.
+    let e = objective-told (record { before = record { before = record { before = d; match = w .0 }; key = w .1 }; known-told2 = w .2 }) in
+    stepped-as e (w .7) (w .8) (w .9) (w .10) (w .11) (w .12) (w .13) (stepped-objective (kept (head d)) (passed d _ e) _ (w .6 .last .0) (w .6 .last .1 .0) (w .6 .last .1 .1 .0) (w .6 .ensures .0) (w .6 .ensures .1) (w .6 .ensures .2) (w .6 .ensures .3)))
+    (λ x.
+    ⊎-elim
+    (λ w. stepped-as (w .1 .given .1) (w .3) (w .4) (w .5) (w .6) (w .7) (w .8) (w .9) (stepped-full (kept (head d)) (omega arith)))
+    (λ x.
+    ⊎-elim
+    (λ w. stepped-as (w .1 .given .1) (w .11) (w .12) (w .13) (w .14) (w .15) (w .16) (w .17) (stepped-begun (kept (head d)) (omega arith) _ z (w .9 .last .0) (w .9 .last .1 .0) (w .9 .last .1 .1 .0) (w .10 .result) (w .9 .ensures) (w .10 .ensures)))
+    (λ x.
+    ⊎-elim
+    (λ w.
+    let e = term-told (record { before = record { before = record { before = d; match = w .0 }; key2 = w .1 }; known-told3 = w .2 }) in
+    stepped-as e (w .8) (w .9) (w .10) (w .11) (w .12) (w .13) (w .14) (stepped-term (kept (head d)) (passed d _ e) _ (w .7 .taken) (w .6 .ensures)))
+    (λ x.
+    ⊎-elim
+    (λ w. stepped-as (w .1 .given .1) (w .8) (w .9) (w .10) (w .11) (w .12) (w .13) (w .14) (stepped-refused (kept (head d)) (passed d _ (w .1 .given .1)) _ (w .7 .left) (w .6 .ensures)))
+    (λ w. stepped-as (w .1 .given .1) (w .6) (w .7) (w .8) (w .9) (w .10) (w .11) (w .12) (stepped-member (kept (head d)) (passed d _ (w .1 .given .1)) _ (w .5 .last .0) (w .5 .last .1 .0) (w .5 .ensures .0) (w .5 .ensures .1) (w .5 .ensures .2)))
+    x)
+    x)
+    x)
+    x)
+    x)
+    (c .match .came)
+
+loop-less : tie.Need-loop-less Inv-loop μ-loop
+loop-less c = shorter (c .before .before)
+
+loop-again : tie.Need-loop-again Inv-loop μ-loop
+loop-again c =
+    let d = c .before .before in
+    going-on (head d .loop .inv) (omega arith) (passed d _ refl) (stepped (c .before)) (omega arith)
+
+returns : tie.Need-returns Inv-loop μ-loop
+returns c = ended (c .before .loop .inv) (omega arith)
+
+returns-2 : tie.Need-returns-2 Inv-loop μ-loop
+returns-2 c =
+    let r = first (c .before) in
+    let l = c .before .before .before .before .before in
+    early-refusing (l .loop .inv) (omega arith) _ (omega arith) (early-refusal _ _ _ (omega arith) ∙ sym r)
+
+returns-3 : tie.Need-returns-3 Inv-loop μ-loop
+returns-3 c = extra (head (c .before .before .before) .loop .inv) (omega arith) (passed (c .before .before .before) _ (c .before .enum-told2 .given .1)) (omega arith)
+
+returns-4 : tie.Need-returns-4 Inv-loop μ-loop
+returns-4 c =
+    let d = c .before .before .before .before .before .before .before .before .before .before in
+    complete (head d .loop .inv) (omega arith) (passed d _ (c .before .before .before .before .before .before .before .before .enum-told2 .given .1)) (omega arith) _ (zero-found (d .before .before))
+    (c .lay-out2 .last .0) (c .lay-out2 .last .1 .0) (c .lay-out2 .last .1 .1 .0) (c .lay-out2 .ensures)
+
+returns-5 : tie.Need-returns-5 Inv-loop μ-loop
+returns-5 c =
+    let d = c .before .before in
+    late-refusing (head d .loop .inv) (omega arith) (passed d _ refl) (stepped (c .before)) (omega arith)
+
+pub read-spec : {M : Type 1} → statement M
+read-spec =
+    tie.close
+    (tie.spec
+    Inv-loop
+    μ-loop
+    one-requires
+    loop-holds
+    shared-slice-read-command-of
+    command-of-requires
+    check-at-requires
+    size-of-requires
+    add-next
+    decode-at-requires
+    enum-known-n
+    enum-known-key
+    put-objective-requires
+    enum-told
+    lay-out-requires
+    empty-requires
+    add-count
+    enum-known-key-2
+    check-room-requires
+    mul-last
+    element-write-last
+    mul-c
+    element-set-from-c
+    add-last
+    enum-known-j
+    mul-put
+    put-requires
+    enum-told-2
+    lay-out-requires-2
+    element-write-sizes
+    loop-less
+    loop-again
+    returns
+    returns-2
+    returns-3
+    returns-4
+    returns-5)
