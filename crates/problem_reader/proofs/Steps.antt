@@ -7,7 +7,7 @@ use native.Mathlib.Omega.{arith}
 use lib.Dec.{eqb, leb, ltb}
 use lib.IntN.{ℤ, pos}
 use lib.ListN.{length, take, drop, set, getD, length-drop}
-use lib.Seq.{length-take-le}
+use lib.Seq.{length-take-le, paste}
 use borrow.Author.Tests.{le-leb, lt-leb, leb-true, ltb-true, eqb-true, eqb-false}
 use Rattle.counting.proofs.Cases.{clash, and-left, and-right}
 use Rattle.format.specs.Commands.{firstRefusal, refused}
@@ -23,11 +23,11 @@ use Rattle.format.specs.ProblemLayout.{problemCommand, problemDecoded}
 use Rattle.format.specs.ProblemRules.{Problem, lastOf, problemPlaced, fitting, nonzero, problemApplied, problemCommandAt, problemRefusalAt, problemNext, problemLanguage, noProblem, readProblem}
 use Rattle.format.specs.ProblemBases.{basisOf, multiplier}
 use Rattle.flat.specs.TermArrays.{termsIn, FilledTerms}
-use Rattle.flat.specs.Flat.{FlatLimits, FlatProblem, FlatZero}
+use Rattle.flat.specs.Flat.{exponentsAt, coefficientsAt, FlatLimits, FlatZero}
 use Rattle.flat.proofs.TermArrays.{terms-length, terms-keys}
 use Rattle.flat.proofs.Flat.{basis-size}
 use Rattle.problem_reader.specs.Checks.{early, late, lateIn}
-use Rattle.problem_reader.specs.Storing.{terms, noTerms, storedIf, LaidOut, ReadFlat}
+use Rattle.problem_reader.specs.Storing.{terms, noTerms, storedIf, ReadFlat}
 use Rattle.problem_reader.specs.declared.Polynomial.{Polynomial}
 use Rattle.problem_reader.specs.declared.Reading.{Reading}
 use Rattle.problem_reader.proofs.Checks.{Passes, passes-size, passes-end, passes-on, space}
@@ -125,11 +125,11 @@ module _ {s keys : List ℕ} {coefficients : List ℤ} {sizes : List ℕ} {v : �
           refusal s keys coefficients sizes 2 after (g .held .limits) (omega arith)
           (rw last-byte (sym (left-extra problemLanguage s _ _ at (g .left) h none (passes-end _ s at I.End after t refl) (rw last-byte at m))))
 
-      pub complete : length s ≤ after → (r : ℕ) → r ≡ 0 → (keys′ : List ℕ) (coefficients′ : List ℤ) (sizes′ : List ℕ)
-          → LaidOut keys coefficients sizes n (last .keys) (last .coefficients) (last .count) keys′ coefficients′ sizes′ → ReadFlat s (reading r at) keys′ coefficients′ (set sizes′ 19 n)
-      complete m r z keys′ coefficients′ sizes′ o =
+      pub complete : length s ≤ after → (r : ℕ) → r ≡ 0 → (keys′ : List ℕ) (coefficients′ : List ℤ) → keys′ ≡ paste keys (exponentsAt n) (last .keys) (last .count) → coefficients′ ≡ paste coefficients (coefficientsAt n) (last .coefficients) (last .count)
+          → ReadFlat s (reading r at) keys′ coefficients′ (set (set sizes (9 + n) (last .count)) 19 n)
+      complete m r z keys′ coefficients′ x y =
           let f = held-end (g .held) in
-          rw (o .keys-are, o .coefficients-are, o .sizes-are)
+          rw (x, y)
           (record {
             limits = f .limits;
             gives = λ _. record { problem = here; read = sym (left-given problemLanguage s _ _ at (g .left) h none (passes-end _ s at I.End after t refl) (rw last-byte at m)); flat = f };
@@ -174,14 +174,13 @@ module _ {p : Problem} {keys : List ℕ} {coefficients : List ℤ} {sizes : List
   unfolding firstRefusal
   stepped-full h = record { decided = rw (held .count, le-leb 8 n h); limits = held .limits; held = λ z. absurd (omega arith); on = λ e. clash (cc) }
 
-  pub stepped-begun : n < 8 → (r : ℕ) → r ≡ 0 → (keys′ : List ℕ) (coefficients′ : List ℤ) (sizes′ : List ℕ) (last′ : Polynomial)
-      → LaidOut keys coefficients sizes n (last .keys) (last .coefficients) (last .count) keys′ coefficients′ sizes′ → last′ ≡ noTerms
-      → Stepped p I.Constraint keys′ coefficients′ sizes′ v last′ (n + 1) r
+  pub stepped-begun : n < 8 → (r : ℕ) → r ≡ 0 → (keys′ : List ℕ) (coefficients′ : List ℤ) (last′ : Polynomial)
+      → keys′ ≡ paste keys (exponentsAt n) (last .keys) (last .count) → coefficients′ ≡ paste coefficients (coefficientsAt n) (last .coefficients) (last .count) → last′ ≡ noTerms
+      → Stepped p I.Constraint keys′ coefficients′ (set sizes (9 + n) (last .count)) v last′ (n + 1) r
   unfolding firstRefusal
-  stepped-begun h r z keys′ coefficients′ sizes′ last′ o e =
+  stepped-begun h r z keys′ coefficients′ last′ x y e =
       let m = held-constraint held h in
-      rw (o .keys-are, o .coefficients-are, o .sizes-are, e)
-      (record { decided = rw (held .count, lt-leb 8 n h) z; limits = m .limits; held = λ _. m; on = λ e. clash (cc) })
+      rw (x, y, e) (record { decided = rw (held .count, lt-leb 8 n h) z; limits = m .limits; held = λ _. m; on = λ e. clash (cc) })
 
   module _ {s : List ℕ} {at after : ℕ} where
     pub stepped-variables : {m : ℕ} → Passes p s at (I.Variables m) after → (r : ℕ) → r ≡ 0 → Stepped p (I.Variables m) keys coefficients sizes m last n r

@@ -6,12 +6,11 @@ use Prim.Native.Nat.{ℕ, _<_}
 use lib.Dec.{eqb}
 use lib.IntN.{ℤ, pos}
 use lib.ListN.{set, replicate}
-use lib.Seq.{paste}
 use Rattle.polynomial.specs.Terms.{Term}
 use Rattle.format.specs.Commands.{Outcome, refused, given}
 use Rattle.format.specs.ProblemRules.{Problem, readProblem}
 use Rattle.flat.specs.TermArrays.{termsIn}
-use Rattle.flat.specs.Flat.{exponentsAt, coefficientsAt, countAt, FlatLimits, FlatProblem}
+use Rattle.flat.specs.Flat.{FlatLimits, FlatProblem}
 use Rattle.problem_reader.specs.declared.Polynomial.{Polynomial}
 use Rattle.problem_reader.specs.declared.Reading.{Reading}
 
@@ -26,13 +25,6 @@ noTerms = record { keys = replicate 32 0; coefficients = replicate 32 (pos 0); c
 -- a list with one element stored where no check failed
 abbrev pub storedIf {ℓ} : {A : Type ℓ} → ℕ → List A → ℕ → A → List A
 storedIf found l i a = cond (eqb found 0) (set l i a) l
-
--- the first n terms of two arrays are laid out as polynomial j (Flat.antt)
-pub record LaidOut (keys : List ℕ) (coefficients : List ℤ) (sizes : List ℕ) (j : ℕ) (from : List ℕ) (with : List ℤ) (n : ℕ)
-    (keys′ : List ℕ) (coefficients′ : List ℤ) (sizes′ : List ℕ) : Type 0 where
-  pub keys-are : keys′ ≡ paste keys (exponentsAt j) from n
-  pub coefficients-are : coefficients′ ≡ paste coefficients (coefficientsAt j) with n
-  pub sizes-are : sizes′ ≡ set sizes (countAt j) n
 
 -- the stream gives a problem, and the arrays hold it
 pub record GivenFlat (s keys : List ℕ) (coefficients : List ℤ) (sizes : List ℕ) : Type 0 where

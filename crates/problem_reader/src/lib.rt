@@ -1,17 +1,20 @@
 // The reader of the problem stream.
 ghost use mathlib.Core.Path.{_≡_};
-ghost use Prim.Native.Nat.{_+_, _*_, _≤_, _<_};
+ghost use Prim.Native.Nat.{_+_, _≤_, _<_};
 ghost use mathlib.Core.List.{[], _∷_};
 ghost use lib.IntN.{pos};
 ghost use lib.ListN.{length, getD};
+ghost use lib.Seq.{paste};
+ghost use Rattle.format.specs.ProblemLimits.{mostObjectiveTerms};
 ghost use Rattle.format.specs.ProblemLayout.{problemCommand, problemSize, problemDecoded};
 ghost use Rattle.format.specs.ProblemRules.{Problem, problemPlaced, fitting, nonzero, problemOperandsFit, problemCommandAt, readProblem};
 ghost use Rattle.problem_reader.specs.Checks.{early, lateIn};
-ghost use Rattle.problem_reader.specs.Storing.{noTerms, terms, storedIf, LaidOut, ReadFlat};
-ghost use Rattle.flat.specs.Flat.{FlatLimits, FlatZero};
+ghost use Rattle.problem_reader.specs.Storing.{noTerms, terms, storedIf, ReadFlat};
+ghost use Rattle.flat.specs.Flat.{objectiveNumber, exponentsAt, coefficientsAt, countAt, FlatLimits, FlatZero};
 ghost use Rattle.flat.specs.TermArrays.{FilledTerms};
 ghost use Rattle.polynomial.specs.Monomial.{degree, within, among};
 ghost use Rattle.polynomial.specs.Terms.{term};
+use flat::CONSTRAINTS;
 use flat::OBJECTIVE;
 use flat::TERMS;
 use format::problem::Command;
@@ -224,8 +227,7 @@ fn check_room(keys: &[u64], from: usize, count: usize, key: u64, limit: usize) -
     requires { ⌜ from + count ≤ length (now keys) ⌝ }
     ensures { λ r. ⌜ r ≡ lateIn (now (keys .entry)) from count key limit ⌝ }
 {
-    let part = &keys[from..from + count];
-    if is_among(part, key) {
+    if is_among(flat::part(keys, from, count), key) {
         return 5;
     }
     if limit <= count {
@@ -270,11 +272,11 @@ fn put_objective(
     c: i32,
 ) -> u8
     requires { ⌜ FlatLimits (now keys) (now coefficients) (now sizes) ⌝ }
-    ensures { λ r. let n = getD (now (sizes .entry)) 18 0 in ⌜
-        (r ≡ lateIn (now (keys .entry)) 864 n key 256)
-        × (now (keys .exit) ≡ storedIf r (now (keys .entry)) (864 + n) key)
-        × (now (coefficients .exit) ≡ storedIf r (now (coefficients .entry)) (288 + n) c)
-        × (now (sizes .exit) ≡ storedIf r (now (sizes .entry)) 18 (n + 1))
+    ensures { λ r. let j = objectiveNumber in let n = getD (now (sizes .entry)) (countAt j) 0 in ⌜
+        (r ≡ lateIn (now (keys .entry)) (exponentsAt j) n key mostObjectiveTerms)
+        × (now (keys .exit) ≡ storedIf r (now (keys .entry)) (exponentsAt j + n) key)
+        × (now (coefficients .exit) ≡ storedIf r (now (coefficients .entry)) (coefficientsAt j + n) c)
+        × (now (sizes .exit) ≡ storedIf r (now (sizes .entry)) (countAt j) (n + 1))
         ⌝ }
 {
     let n = sizes[9 + OBJECTIVE];
@@ -290,27 +292,29 @@ fn put_objective(
 fn lay_out<'a>(
     keys: &mut [u64; 1120],
     coefficients: &mut [i32; 544],
-    sizes: &mut [usize; 20],
     j: usize,
     from: &'a [u64; 32],
     with: &'a [i32; 32],
     n: usize,
 )
     requires { ⌜
-        FlatLimits (now keys) (now coefficients) (now sizes) × FilledTerms 16 32 (now from) (now with) n × (j < 9)
+        (length (now keys) ≡ 1120)
+        × (length (now coefficients) ≡ 544)
+        × (j < 9)
+        × FilledTerms 16 32 (now from) (now with) n
         ⌝ }
     ensures { λ _. ⌜
-        LaidOut (now (keys .entry)) (now (coefficients .entry)) (now (sizes .entry)) j (now (from .entry))
-        (now (with .entry)) n (now (keys .exit)) (now (coefficients .exit)) (now (sizes .exit))
+        (now (keys .exit) ≡ paste (now (keys .entry)) (exponentsAt j) (now (from .entry)) n)
+        × (now (coefficients .exit) ≡ paste (now (coefficients .entry)) (coefficientsAt j) (now (with .entry)) n)
         ⌝ }
 {
     let mut i = 0;
     while i < n {
-        keys[TERMS + 32 * j + i] = from[i];
-        coefficients[32 * j + i] = with[i];
+        let to = 32 * j + i;
+        keys[TERMS + to] = from[i];
+        coefficients[to] = with[i];
         i += 1;
     }
-    sizes[9 + j] = n;
 }
 
 // Reads a problem stream into arrays that hold zeros. The constraint begun last is a polynomial by itself, until the next
@@ -350,7 +354,8 @@ pub fn read(
                     number = 6;
                 } else {
                     let n = last.count;
-                    lay_out(keys, coefficients, sizes, count, &last.keys, &last.coefficients, n);
+                    lay_out(keys, coefficients, count, &last.keys, &last.coefficients, n);
+                    sizes[9 + count] = n;
                     last = Polynomial::empty();
                     count += 1;
                 }
@@ -373,8 +378,9 @@ pub fn read(
                     at = next;
                 } else {
                     let n = last.count;
-                    lay_out(keys, coefficients, sizes, count, &last.keys, &last.coefficients, n);
-                    sizes[19] = count;
+                    lay_out(keys, coefficients, count, &last.keys, &last.coefficients, n);
+                    sizes[9 + count] = n;
+                    sizes[CONSTRAINTS] = count;
                 }
                 break;
             }

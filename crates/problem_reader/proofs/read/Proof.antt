@@ -109,7 +109,16 @@ enum-told : tie.Need-enum-told Inv-loop μ-loop
 enum-told c = search needs
 
 lay-out-requires : tie.Need-lay-out-requires Inv-loop μ-loop
-lay-out-requires c κs = let k = kept (head (c .before .before .before .before .before .before .before .before .before)) in (k .limits, k .filled, omega arith)
+lay-out-requires c κs = let k = kept (head (c .before .before .before .before .before .before .before .before)) in (k .limits .keys-length, k .limits .coefficients-length, omega arith, k .filled)
+
+add-sizes : tie.Need-add-sizes Inv-loop μ-loop
+add-sizes c = search needs
+
+mul-sizes : tie.Need-mul-sizes Inv-loop μ-loop
+mul-sizes c = search needs
+
+element-write-sizes : tie.Need-element-write-sizes Inv-loop μ-loop
+element-write-sizes c = search needs
 
 empty-requires : tie.Need-empty-requires Inv-loop μ-loop
 empty-requires c κs = search needs
@@ -167,10 +176,19 @@ enum-told-2 : tie.Need-enum-told-2 Inv-loop μ-loop
 enum-told-2 c = search needs
 
 lay-out-requires-2 : tie.Need-lay-out-requires-2 Inv-loop μ-loop
-lay-out-requires-2 c κs = let k = kept (head (c .before .before .before .before .before .before .before .before .before)) in let w = k .count-low in (k .limits, k .filled, omega arith)
+lay-out-requires-2 c κs = let k = kept (head (c .before .before .before .before .before .before .before .before)) in let w = k .count-low in (k .limits .keys-length, k .limits .coefficients-length, omega arith, k .filled)
 
-element-write-sizes : tie.Need-element-write-sizes Inv-loop μ-loop
-element-write-sizes c = search needs
+add-sizes-2 : tie.Need-add-sizes-2 Inv-loop μ-loop
+add-sizes-2 c = search needs
+
+mul-sizes-2 : tie.Need-mul-sizes-2 Inv-loop μ-loop
+mul-sizes-2 c = search needs
+
+element-write-sizes-2 : tie.Need-element-write-sizes-2 Inv-loop μ-loop
+element-write-sizes-2 c = search needs
+
+element-write-sizes-3 : tie.Need-element-write-sizes-3 Inv-loop μ-loop
+element-write-sizes-3 c = search needs
 
 -- ---- what the arms leave, where they meet
 -- a coefficient is what its bits stand for
@@ -203,7 +221,7 @@ stepped c =
     (λ w. stepped-as (w .1 .given .1) (w .3) (w .4) (w .5) (w .6) (w .7) (w .8) (w .9) (stepped-full (kept (head d)) (omega arith)))
     (λ x.
     ⊎-elim
-    (λ w. stepped-as (w .1 .given .1) (w .11) (w .12) (w .13) (w .14) (w .15) (w .16) (w .17) (stepped-begun (kept (head d)) (omega arith) _ z (w .9 .last .0) (w .9 .last .1 .0) (w .9 .last .1 .1 .0) (w .10 .result) (w .9 .ensures) (w .10 .ensures)))
+    (λ w. stepped-as (w .1 .given .1) (w .10) (w .11) (w .12) (w .13) (w .14) (w .15) (w .16) (stepped-begun (kept (head d)) (omega arith) _ z (w .8 .last .0) (w .8 .last .1 .0) (w .9 .result) (w .8 .ensures .0) (w .8 .ensures .1) (w .9 .ensures)))
     (λ x.
     ⊎-elim
     (λ w.
@@ -242,9 +260,9 @@ returns-3 c = extra (head (c .before .before .before) .loop .inv) (omega arith) 
 
 returns-4 : tie.Need-returns-4 Inv-loop μ-loop
 returns-4 c =
-    let d = c .before .before .before .before .before .before .before .before .before .before in
-    complete (head d .loop .inv) (omega arith) (passed d _ (c .before .before .before .before .before .before .before .before .enum-told2 .given .1)) (omega arith) _ (zero-found (d .before .before))
-    (c .lay-out2 .last .0) (c .lay-out2 .last .1 .0) (c .lay-out2 .last .1 .1 .0) (c .lay-out2 .ensures)
+    let d = c .before .before .before .before .before .before .before .before .before in
+    complete (head d .loop .inv) (omega arith) (passed d _ (c .before .before .before .before .before .before .before .enum-told2 .given .1)) (omega arith) _ (zero-found (d .before .before))
+    (c .lay-out2 .last .0) (c .lay-out2 .last .1 .0) (c .lay-out2 .ensures .0) (c .lay-out2 .ensures .1)
 
 returns-5 : tie.Need-returns-5 Inv-loop μ-loop
 returns-5 c =
@@ -270,6 +288,9 @@ read-spec =
     put-objective-requires
     enum-told
     lay-out-requires
+    add-sizes
+    mul-sizes
+    element-write-sizes
     empty-requires
     add-count
     enum-known-key-2
@@ -284,7 +305,10 @@ read-spec =
     put-requires
     enum-told-2
     lay-out-requires-2
-    element-write-sizes
+    add-sizes-2
+    mul-sizes-2
+    element-write-sizes-2
+    element-write-sizes-3
     loop-less
     loop-again
     returns
