@@ -2,23 +2,21 @@
 -- places: 0 to 8 are the bases, 9 to 17 the multipliers, and 18 is the objective.
 use mathlib.Core.Path.{_≡_, refl, sym, ap, subst, _∙_}
 use mathlib.Core.Bool.{cond}
-use mathlib.Core.List.{List, [], _∷_, _++_}
+use mathlib.Core.List.{List, _++_}
 use mathlib.Core.Logic.{_⊎_, inl, inr, ⊎-elim, _≢_}
 use Prim.Native.Nat.{ℕ, zero, suc, _+_, _-_, _*_, _^_, _≤_, _<_}
 use native.Mathlib.Decide.{decLt}
-use native.Mathlib.Numerals.{add-one, lt-of-le-of-ne}
+use native.Mathlib.Numerals.{lt-of-le-of-ne}
 use native.Mathlib.Omega.{arith}
 use lib.Dec.{ltb}
-use lib.IntN.{ℤ, pos}
-use lib.ListN.{length, take, drop, set, getD, length-set, length-drop}
-use lib.Seq.{getD-set-same, getD-set-other, drop-set-add, drop-set-lt, take-set-le, take-suc-set, paste, paste-zero, paste-suc, length-paste, take-append-le, drop-append-le, drop-at, length-paste-head, length-take-le, take-take}
+use lib.IntN.{ℤ}
+use lib.ListN.{length, take, drop, set, getD, length-set}
+use lib.Seq.{getD-set-other, drop-set-add, drop-set-lt, take-set-le, paste, paste-zero, paste-suc, take-append-le, drop-append-le, drop-at, length-paste-head, length-take-le, take-take}
 use borrow.Author.Tests.{lt-ltb, le-ltb}
 use Rattle.counting.proofs.Cases.{lt-or-le}
-use Rattle.polynomial.specs.Terms.{Term, term}
-use Rattle.flat.specs.TermArrays.{termsIn}
 use Rattle.flat.specs.Flat.{basisAt, exponentsAt, basisIn, polynomialIn, mostAt, degreeAt, FlatLimits}
-use Rattle.flat.proofs.TermArrays.{set-all, terms-same, terms-more}
-use Rattle.flat.proofs.Flat.{basis-most, multiplier-most, basis-size, multiplier-size}
+use Rattle.flat.proofs.TermArrays.{set-all, terms-same}
+use Rattle.flat.proofs.Flat.{basis-most, multiplier-most, multiplier-size}
 
 -- ---- where a list begins in keys; the lists follow one another
 unfoldable pub listAt : ℕ → ℕ
@@ -51,9 +49,6 @@ pub record Apart {A : Type 0} (a n : ℕ) (l l′ : List A) : Type 0 where
   pub same : (b m : ℕ) → (b + m ≤ a) ⊎ (a + n ≤ b) → take m (drop b l′) ≡ take m (drop b l)
 
 module _ {A : Type 0} (l : List A) where
-  pub apart-none : (a n : ℕ) → Apart a n l l
-  apart-none a n = record { same = λ b m h. refl }
-
   pub apart-set : (a n i : ℕ) (x : A) → a ≤ i → i < a + n → Apart a n l (set l i x)
   apart-set a n i x h k = record {
     same = λ b m.

@@ -2,13 +2,13 @@
 use mathlib.Core.Path.{_≡_, refl, sym, ap, subst, _∙_}
 use mathlib.Core.List.{List, [], _∷_, _++_}
 use mathlib.Core.Logic.{inl, inr, ⊎-elim}
-use Prim.Native.Nat.{ℕ, zero, suc, _+_, _-_, _*_, _^_, _≤_, _<_, zero-le}
+use Prim.Native.Nat.{ℕ, _+_, _-_, _*_, _^_, _≤_, _<_, zero-le}
 use native.Mathlib.Nat.{eq-or-lt-of-le}
 use native.Mathlib.Numerals.{add-one}
 use native.Mathlib.Omega.{arith}
 use lib.IntN.{ℤ, pos}
-use lib.ListN.{length, take, drop, set, getD, replicate, length-set, length-append, length-drop, length-replicate}
-use lib.Seq.{paste, length-paste, take-suc-set, drop-set-add, getD-set-same, getD-set-other, getD-drop}
+use lib.ListN.{length, drop, set, getD, replicate, length-set, length-append, length-drop, length-replicate}
+use lib.Seq.{paste, length-paste, take-suc-set, drop-set-add, getD-set-same, getD-set-other}
 use Rattle.counting.specs.Counting.{listed}
 use Rattle.counting.proofs.Bounded.{bounded-zeros}
 use Rattle.counting.proofs.Cases.{lt-or-le}
@@ -24,7 +24,7 @@ use Rattle.flat.proofs.TermArrays.{set-all, terms-same, terms-more, filled-none
 use Rattle.flat.proofs.Flat.{basis-most, multiplier-most, basis-degree, multiplier-degree, objective-degree}
 use Rattle.problem_reader.specs.Storing.{noTerms, terms}
 use Rattle.problem_reader.specs.declared.Polynomial.{Polynomial}
-use Rattle.problem_reader.proofs.Arrays.{basis-list, polynomial-place, Apart, apart-none, apart-set, apart-paste, paste-all, paste-here, Others, coefficients-apart, others, limits-more}
+use Rattle.problem_reader.proofs.Arrays.{basis-list, polynomial-place, Apart, apart-set, apart-paste, paste-all, paste-here, Others, coefficients-apart, others, limits-more}
 use Rattle.problem_reader.proofs.Problems.{appended-length, multiplier-same, multiplier-none, member-here, member-other, begun-before, begun-here, term-other, term-here}
 
 -- the problem p as it was read so far: keys, coefficients and sizes are the arrays, v is the number of variables, last the

@@ -1,5 +1,5 @@
 -- One command of the reading loop: what it stores is what the definition says, and the loop's invariant goes on.
-use mathlib.Core.Path.{_≡_, refl, sym, ap, _∙_}
+use mathlib.Core.Path.{_≡_, refl, sym, _∙_}
 use mathlib.Core.List.{List, [], _∷_}
 use mathlib.Core.Bool.{Bool, true, false, cond}
 use Prim.Native.Nat.{ℕ, _+_, _-_, _*_, _^_, _≤_, _<_, zero-le}
@@ -21,7 +21,7 @@ use Rattle.format.specs.declared.problem.Instruction.{Instruction}
 use Rattle.format.specs.declared.problem.Instruction.the-variants as I
 use Rattle.format.specs.ProblemLayout.{problemCommand, problemDecoded}
 use Rattle.format.specs.ProblemRules.{Problem, lastOf, problemPlaced, fitting, nonzero, problemApplied, problemCommandAt, problemRefusalAt, problemNext, problemLanguage, noProblem, readProblem}
-use Rattle.format.specs.ProblemBases.{basisOf, multiplier}
+use Rattle.format.specs.ProblemBases.{basisOf}
 use Rattle.flat.specs.TermArrays.{termsIn, FilledTerms}
 use Rattle.flat.specs.Flat.{exponentsAt, coefficientsAt, FlatLimits, FlatZero}
 use Rattle.flat.proofs.TermArrays.{terms-length, terms-keys}

@@ -7,7 +7,7 @@ use lib.Dec.{eqb}
 use lib.IntN.{ℤ, pos}
 use lib.ListN.{set, replicate}
 use Rattle.polynomial.specs.Terms.{Term}
-use Rattle.format.specs.Commands.{Outcome, refused, given}
+use Rattle.format.specs.Commands.{refused, given}
 use Rattle.format.specs.ProblemRules.{Problem, readProblem}
 use Rattle.flat.specs.TermArrays.{termsIn}
 use Rattle.flat.specs.Flat.{FlatLimits, FlatProblem}

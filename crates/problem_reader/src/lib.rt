@@ -7,7 +7,7 @@ ghost use lib.ListN.{length, getD};
 ghost use lib.Seq.{paste};
 ghost use Rattle.format.specs.ProblemLimits.{mostObjectiveTerms};
 ghost use Rattle.format.specs.ProblemLayout.{problemCommand, problemSize, problemDecoded};
-ghost use Rattle.format.specs.ProblemRules.{Problem, problemPlaced, fitting, nonzero, problemOperandsFit, problemCommandAt, readProblem};
+ghost use Rattle.format.specs.ProblemRules.{Problem, problemPlaced, fitting, nonzero, problemOperandsFit, problemCommandAt};
 ghost use Rattle.problem_reader.specs.Checks.{early, lateIn};
 ghost use Rattle.problem_reader.specs.Storing.{noTerms, terms, storedIf, ReadFlat};
 ghost use Rattle.flat.specs.Flat.{objectiveNumber, exponentsAt, coefficientsAt, countAt, FlatLimits, FlatZero};
@@ -377,9 +377,16 @@ pub fn read(
                     number = 2;
                     at = next;
                 } else {
-                    let n = last.count;
-                    lay_out(keys, coefficients, count, &last.keys, &last.coefficients, n);
-                    sizes[9 + count] = n;
+                    let terms = last.count;
+                    lay_out(
+                        keys,
+                        coefficients,
+                        count,
+                        &last.keys,
+                        &last.coefficients,
+                        terms,
+                    );
+                    sizes[9 + count] = terms;
                     sizes[CONSTRAINTS] = count;
                 }
                 break;

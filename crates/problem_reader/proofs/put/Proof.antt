@@ -1,16 +1,14 @@
+-- `put`: where no check failed, the list has room for one more.
 use borrow.Author.Needs.{needs}
 use native.Mathlib.Omega.{arith}
-use mathlib.Core.Path.{_≡_, refl, sym, ap, _∙_, subst}
-use Prim.Native.Nat.{ℕ, zero, suc, _+_, _-_, _*_, _≤_, _<_}
+use mathlib.Core.Path.{_≡_, refl, sym, _∙_}
+use Prim.Native.Nat.{_+_, _-_, _≤_, _<_}
 use borrow.Author.Tests.{ne-eqb}
 use Rattle.problem_reader.specs.Checks.{lateIn}
 use Rattle.problem_reader.proofs.Checks.{space}
-use lib.ListN.{length, getD, take, drop, set, length-set}
+use lib.ListN.{getD}
 use Rattle.problem_reader.proofs.put.Statement.{statement}
 use Rattle.problem_reader.proofs.put.Tie as tie
-use Rattle.problem_reader.proofs.put.Reads as reads
-use Rattle.problem_reader.proofs.put.Lts as lts
-use Rattle.problem_reader.proofs.check_room.Reads as check-room-reads
 
 mul-n : tie.Need-mul-n
 mul-n c = search needs

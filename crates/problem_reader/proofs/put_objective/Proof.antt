@@ -1,17 +1,15 @@
+-- `put_objective`: where no check failed, there is room for one more coefficient too.
 use borrow.Author.Needs.{needs}
 use native.Mathlib.Omega.{arith}
-use mathlib.Core.Path.{_≡_, refl, sym, ap, _∙_, subst}
-use Prim.Native.Nat.{ℕ, zero, suc, _+_, _-_, _*_, _≤_, _<_}
+use mathlib.Core.Path.{_≡_, sym, _∙_}
+use Prim.Native.Nat.{_-_, _<_}
 use mir.Syntax.{w32}
 use mir.Val.{toZ, ofZ}
 use borrow.Author.Tests.{ne-eqb}
 use Rattle.problem_reader.proofs.Checks.{space}
-use lib.ListN.{length, getD, take, drop, set, length-set}
+use lib.ListN.{getD}
 use Rattle.problem_reader.proofs.put_objective.Statement.{statement}
 use Rattle.problem_reader.proofs.put_objective.Tie as tie
-use Rattle.problem_reader.proofs.put_objective.Reads as reads
-use Rattle.problem_reader.proofs.put_objective.Lts as lts
-use Rattle.problem_reader.proofs.put.Reads as put-reads
 
 add-n : tie.Need-add-n
 add-n c = search needs

@@ -3,10 +3,9 @@
 use mathlib.Core.Path.{_≡_, refl, sym, ap, _∙_}
 use mathlib.Core.List.{List}
 use mathlib.Core.Logic.{⊎-elim}
-use Prim.Native.Nat.{ℕ, _+_, _-_, _*_, _<_}
+use Prim.Native.Nat.{ℕ, _+_, _-_, _<_}
 use native.Mathlib.Omega.{arith}
-use lib.IntN.{ℤ}
-use lib.ListN.{length, getD}
+use lib.ListN.{length}
 use mir.Syntax.{w32}
 use mir.Val.{toZ, ofZ}
 use borrow.Author.Needs.{needs}
@@ -14,10 +13,8 @@ use Rattle.format.specs.declared.problem.Instruction.{Instruction}
 use Rattle.format.specs.declared.problem.Instruction.the-variants as I
 use Rattle.format.specs.declared.problem.Command.{Command}
 use Rattle.format.specs.ProblemLayout.{problemSize, problemDecoded}
-use Rattle.format.specs.ProblemRules.{Problem}
-use Rattle.flat.specs.Flat.{FlatLimits}
 use Rattle.flat.proofs.Flat.{basis-size}
-use Rattle.problem_reader.specs.Checks.{early, lateIn}
+use Rattle.problem_reader.specs.Checks.{early}
 use Rattle.problem_reader.proofs.Checks.{Passes, passes, early-refusal, passes-longer, space}
 use Rattle.problem_reader.proofs.Held.{Held}
 use Rattle.problem_reader.proofs.Steps.{Going, Stepped, stepped-as, starting, ended, first-checks, early-refusing, late-refusing, going-on, extra, complete, stepped-variables, stepped-objective, stepped-full, stepped-begun, stepped-refused, stepped-term, named, stepped-member}

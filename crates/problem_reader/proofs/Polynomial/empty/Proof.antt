@@ -1,3 +1,4 @@
+-- `Polynomial::empty`: nothing but zeros, and no term.
 use mathlib.Core.Path.{refl}
 use Rattle.problem_reader.proofs.Polynomial.empty.Statement.{statement}
 use Rattle.problem_reader.proofs.Polynomial.empty.Tie as tie

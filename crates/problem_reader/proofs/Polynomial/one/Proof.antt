@@ -1,17 +1,13 @@
+-- `Polynomial::one`: nothing but zeros, and a 1 in front of the exponent 0.
 use borrow.Author.Needs.{needs}
 use native.Mathlib.Omega.{arith}
-use mathlib.Core.Path.{_≡_, refl, sym, ap, _∙_, subst}
-use Prim.Native.Nat.{ℕ, zero, suc, _+_, _-_, _*_, _^_, _≤_, _<_}
+use mathlib.Core.Path.{refl}
+use Prim.Native.Nat.{_-_, _*_, _^_}
 use Rattle.flat.specs.TermArrays.{termsIn}
 use Rattle.counting.specs.Counting.{listed}
-use lib.IntN.{pos}
 use Rattle.counting.proofs.Bounded.{bounded-zeros}
-use lib.ListN.{length, getD, take, drop, set, length-set}
 use Rattle.problem_reader.proofs.Polynomial.one.Statement.{statement}
 use Rattle.problem_reader.proofs.Polynomial.one.Tie as tie
-use Rattle.problem_reader.proofs.Polynomial.one.Reads as reads
-use Rattle.problem_reader.proofs.Polynomial.one.Lts as lts
-use Rattle.problem_reader.proofs.Polynomial.empty.Reads as empty-reads
 
 empty-requires : tie.Need-empty-requires
 empty-requires c κs = search needs
