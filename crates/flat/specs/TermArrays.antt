@@ -5,19 +5,11 @@ use Prim.Native.Nat.{ℕ, _*_, _^_, _≤_}
 use lib.IntN.{ℤ, pos}
 use lib.ListN.{getD, length}
 use Rattle.counting.specs.Counting.{listed, Bounded}
-use Rattle.problem_reader.specs.declared.Objective.{Objective}
-use Rattle.problem_reader.specs.declared.Polynomial.{Polynomial}
 use Rattle.polynomial.specs.Terms.{Term, term}
 
 -- the terms that the first n places of two arrays hold
 unfoldable pub termsIn : ℕ → List ℕ → List ℤ → List Term
 termsIn n keys coefficients = listed n (λ i. term (getD keys i 0) (getD coefficients i (pos 0)))
-
-abbrev pub objectiveTerms : Objective → List Term
-objectiveTerms q = termsIn (q .count) (q .keys) (q .coefficients)
-
-abbrev pub terms : Polynomial → List Term
-terms q = termsIn (q .count) (q .keys) (q .coefficients)
 
 -- no number of a list is above d × 256^7, as no key of a monomial of degree at most d is
 abbrev pub Low : ℕ → List ℕ → Type 0

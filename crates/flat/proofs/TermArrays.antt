@@ -1,16 +1,16 @@
 -- Laws of the terms that arrays hold: their number, their keys, one more term.
-use mathlib.Core.Path.{_≡_, refl, _∙_}
+use mathlib.Core.Path.{_≡_, refl, sym, ap, ap₂, _∙_}
 use mathlib.Core.List.{List, [], _∷_, _++_, map-append}
 use Prim.Native.Nat.{ℕ, zero, suc, _+_, _*_, _^_, _≤_, _<_, zero-le}
 use native.Mathlib.Omega.{arith}
 use lib.IntN.{ℤ, pos}
 use lib.ListN.{length, take, set, getD, replicate, length-set, length-replicate}
-use lib.Seq.{getD-set-same, getD-set-other}
+use lib.Seq.{getD-take, getD-set-same, getD-set-other}
 use Rattle.counting.proofs.Bounded.{bounded-zeros}
 use Rattle.counting.specs.Counting.{listed}
-use Rattle.counting.proofs.Listed.{listed-length, listed-take, listed-more}
+use Rattle.counting.proofs.Listed.{listed-length, listed-same, listed-take, listed-more}
 use Rattle.polynomial.specs.Terms.{Term, term, keysOf}
-use Rattle.problem_reader.specs.TermArrays.{termsIn, Low, FilledTerms}
+use Rattle.flat.specs.TermArrays.{termsIn, Low, FilledTerms}
 
 pub terms-length : (n : ℕ) (keys : List ℕ) (coefficients : List ℤ) → length (termsIn n keys coefficients) ≡ n
 unfolding termsIn
@@ -25,6 +25,12 @@ keys-listed (suc n) k c = rw (map-append (λ (t : Term). t .key) (listed n (λ i
 pub terms-keys : (n : ℕ) (keys : List ℕ) (coefficients : List ℤ) → n ≤ length keys → keysOf (termsIn n keys coefficients) ≡ take n keys
 unfolding termsIn
 terms-keys n keys coefficients h = keys-listed n _ _ ∙ listed-take n keys 0 h
+
+-- terms are the same where the first places of the arrays are
+pub terms-same : (n : ℕ) (k l : List ℕ) (c d : List ℤ) → take n k ≡ take n l → take n c ≡ take n d → termsIn n k c ≡ termsIn n l d
+unfolding termsIn
+terms-same n k l c d e f =
+    listed-same n _ _ (λ i h. ap₂ term (sym (getD-take n k i 0 h) ∙ ap (λ (x : List ℕ). getD x i 0) e ∙ getD-take n l i 0 h) (sym (getD-take n c i (pos 0) h) ∙ ap (λ (x : List ℤ). getD x i (pos 0)) f ∙ getD-take n d i (pos 0) h))
 
 -- a store at the count, and the count one more, is one more term at the end
 pub terms-more : (n : ℕ) (keys : List ℕ) (coefficients : List ℤ) (k : ℕ) (c : ℤ) → n < length keys → n < length coefficients
