@@ -1,5 +1,5 @@
-// Where a problem stands in the three arrays that a call owns and lends to its steps: the places are in specs/Flat.antt,
-// the laws of the parts in proofs/Flat.antt.
+// Where a problem stands in the three arrays that a call owns and lends to its steps. The places are in
+// specs/Flat.antt, the laws of the parts in proofs/Flat.antt.
 ghost use mathlib.Core.Path.{_≡_};
 ghost use Prim.Native.Nat.{_+_, _*_, _≤_, _<_};
 ghost use lib.ListN.{length, getD, take, drop};

@@ -241,8 +241,8 @@ fn check_room(keys: &[u64], from: usize, count: usize, key: u64, limit: usize) -
     0
 }
 
-// One monomial more for the list whose length is sizes[which], which may have `limit` from a place of keys on, where the
-// checks 5 and 6 let it in.
+// One monomial more, where the checks 5 and 6 let it in, for a list of at most `limit` from a place of the keys on. Its
+// length is sizes[which].
 fn put(
     keys: &mut [u64; 1120],
     sizes: &mut [usize; 20],
@@ -322,8 +322,9 @@ fn lay_out<'a>(
     }
 }
 
-// Reads a problem stream into arrays that hold zeros. The constraint begun last is a polynomial by itself, until the next
-// begins or the stream ends: then it is laid out. Before the first, that is g_0, which is 1.
+// Reads a problem stream into arrays that hold zeros. The constraint begun last is a polynomial by itself, until the
+// next begins or the stream ends: then it is laid out. Before the first, that is g_0, which is 1. number is 2, as of a
+// stream that ends here, until it is decided.
 pub fn read(
     s: &[u8],
     keys: &mut [u64; 1120],
