@@ -447,8 +447,8 @@ pub struct Closed {
     pub rounds: usize,
 }
 
-// What some of the rounds leave beside them: `ended`, where one of them was the last; else the members after the first `since` came
-// in the last of them.
+// What some of the rounds leave beside them: `ended`, where one of them was the last; else the members after the first
+// `since` came in the last of them.
 struct Progress {
     since: usize,
     len: usize,
@@ -699,7 +699,9 @@ pub fn close(
     index: &mut [u16],
     len: usize,
 ) -> Closed
-    requires { ⌜ Starting (now table) (now index) len (now keys) (now sizes) (now exponents) (now counts) (now labels) ⌝ }
+    requires { ⌜
+        Starting (now table) (now index) len (now keys) (now sizes) (now exponents) (now counts) (now labels)
+        ⌝ }
     ensures { λ r. ⌜
         Settled
         (closingOf (basesIn (now (keys .entry)) (now (sizes .entry)) (now (exponents .entry)) (now (counts .entry)))
