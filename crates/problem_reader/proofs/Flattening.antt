@@ -2,11 +2,11 @@
 use mathlib.Core.Path.{_≡_, refl, sym, ap, ap₂, _∙_}
 use mathlib.Core.List.{List, [], _∷_, _++_}
 use mathlib.Core.Logic.{_⊎_, ⊎-elim}
-use Prim.Native.Nat.{ℕ, zero, suc, _+_, _-_, _*_, _≤_, _<_, zero-le}
+use Prim.Native.Nat.{ℕ, zero, suc, _+_, _-_, _*_, _^_, _≤_, _<_, zero-le}
 use native.Mathlib.Nat.{eq-or-lt-of-le}
 use native.Mathlib.Numerals.{add-one}
 use native.Mathlib.Omega.{arith}
-use lib.IntN.{ℤ, pos}
+use lib.IntN.{ℤ, pos, natAbs}
 use lib.ListN.{length, take, drop, set, getD, replicate, length-append, length-drop, length-set, length-replicate, take-append-drop, List·getD-eq-default}
 use lib.Seq.{length-take-le, take-append-le, drop-append-le, drop-at, getD-take, getD-set-same, getD-set-other}
 use Rattle.counting.specs.Counting.{listed}
@@ -14,9 +14,9 @@ use Rattle.counting.proofs.Cases.{lt-or-le}
 use Rattle.counting.proofs.Bounded.{bounded-zeros, bounded-take, bounded-drop, bounded-append}
 use Rattle.counting.proofs.Listed.{listed-at, listed-same}
 use Rattle.polynomial.specs.Terms.{Term, term}
-use Rattle.problem_reader.specs.TermArrays.{termsIn, terms, Low, FilledTerms}
+use Rattle.problem_reader.specs.TermArrays.{termsIn, terms, Low, Small, FilledTerms}
 use Rattle.problem_reader.specs.declared.Polynomial.{Polynomial}
-use Rattle.problem_reader.proofs.TermArrays.{set-all}
+use Rattle.problem_reader.proofs.TermArrays.{set-all, small-zeros, small-take, small-drop, small-append}
 use Rattle.problem_reader.specs.declared.StoredProblem.{StoredProblem}
 use Rattle.format.specs.ProblemRules.{Problem}
 use Rattle.problem_reader.specs.Stored.{noTerms, constraintsOf, basesHeld, problemOf, KeptConstraints, Kept}
@@ -78,6 +78,7 @@ pub record Flattened (qs : List Polynomial) (j : ℕ) (keys : List ℕ) (coeffic
   pub keys-length : length keys ≡ 288
   pub keys-low : Low 16 keys
   pub coefficients-length : length coefficients ≡ 288
+  pub coefficients-small : Small (2 ^ 15) coefficients
 
 module _ (qs : List Polynomial) where
   pub flat-start : Flattened qs 0 (replicate 288 0) (set (replicate 288 (pos 0)) 0 (pos 1)) (set (replicate 9 0) 0 1)
@@ -91,6 +92,7 @@ module _ (qs : List Polynomial) where
         keys-length = length-replicate {A = ℕ} 288 0;
         keys-low = bounded-zeros _ 288;
         coefficients-length = length-set (replicate 288 (pos 0)) 0 (pos 1) ∙ length-replicate {A = ℤ} 288 (pos 0);
+        coefficients-small = set-all (λ _ x. natAbs x ≤ 2 ^ 15) (replicate 288 (pos 0)) 0 (pos 1) (pos 0) (small-zeros _ 288) (omega arith);
       }
     where
       first : (i : ℕ) → i ≤ 0 → termsIn (getD (set (replicate 9 0) 0 1) i 0) (drop (32 * i) (replicate 288 0)) (drop (32 * i) (set (replicate 288 (pos 0)) 0 (pos 1))) ≡ held qs i
@@ -105,7 +107,7 @@ module _ (qs : List Polynomial) where
     abbrev q : Polynomial
     q = getD qs j noTerms
 
-    pub kept-one : FilledTerms 16 32 (q .keys) (q .coefficients) (q .count)
+    pub kept-one : FilledTerms 16 32 (2 ^ 15) (q .keys) (q .coefficients) (q .count)
     kept-one = let u = k .count-low in k .each j (omega arith)
 
     abbrev a : ℕ
@@ -174,6 +176,7 @@ module _ (qs : List Polynomial) where
           keys-length = longer-length keys (q .keys) (f .keys-length) (o .keys-length);
           keys-low = bounded-append _ (take a keys) (q .keys ++ rest keys) (bounded-take _ a keys (f .keys-low)) (bounded-append _ (q .keys) (rest keys) (o .keys-low) (bounded-drop _ (a + 32 - a) (drop a keys) (bounded-drop _ a keys (f .keys-low))));
           coefficients-length = longer-length coefficients (q .coefficients) (f .coefficients-length) (o .coefficients-length);
+          coefficients-small = small-append _ (take a coefficients) (q .coefficients ++ rest coefficients) (small-take _ a coefficients (f .coefficients-small)) (small-append _ (q .coefficients) (rest coefficients) (o .coefficients-small) (small-drop _ (a + 32 - a) (drop a coefficients) (small-drop _ a coefficients (f .coefficients-small))));
         }
 
   pub flat-done : (n : ℕ) (keys : List ℕ) (coefficients : List ℤ) (counts : List ℕ) → KeptConstraints n qs → Flattened qs n keys coefficients counts
@@ -187,6 +190,7 @@ module _ (qs : List Polynomial) where
         keys-length = f .keys-length;
         keys-low = f .keys-low;
         coefficients-length = f .coefficients-length;
+        coefficients-small = f .coefficients-small;
       }
     where
       all : (i : ℕ) → termsIn (getD counts i 0) (drop (32 * i) keys) (drop (32 * i) coefficients) ≡ multiplier p i

@@ -21,6 +21,7 @@ use Rattle.problem_reader.specs.declared.Objective.{Objective}
 use Rattle.problem_reader.specs.declared.Polynomial.{Polynomial}
 use Rattle.polynomial.proofs.Monomials.{key-low}
 use Rattle.problem_reader.proofs.TermArrays.{terms-more, filled-more}
+use Rattle.problem_reader.proofs.Coefficients.{decoded-small}
 use Rattle.format.specs.declared.problem.Command.{Command}
 use Rattle.format.specs.declared.problem.Command.the-variants as C
 use Rattle.format.specs.declared.problem.Instruction.{Instruction}
@@ -46,6 +47,7 @@ pub record Going (s : List ℕ) (p : StoredProblem) (number at : ℕ) : Type 0 w
   pub undecided : number ≡ 2
   pub reached : at ≤ length s
   pub kept : Kept p
+  pub bytes : (i : ℕ) → getD s i 0 < 256
   pub left : Left problemLanguage s (readProblem s) (problemOf p) at
 
 -- what the function promises
@@ -76,6 +78,7 @@ module _ (s : List ℕ) (p : StoredProblem) (number at : ℕ) (g : Going s p num
             undecided = g .undecided;
             reached = t .whole;
             kept = k;
+            bytes = g .bytes;
             left = rw (e, t .step, ← t .instruction) (left-next problemLanguage s _ _ at (g .left) h (t .decides ∙ v) (λ b. d (passes-on _ s at i after t b)) (passes-size _ s at i after t));
           }
 
@@ -98,13 +101,14 @@ module _ (s : List ℕ) (p : StoredProblem) (number at : ℕ) (g : Going s p num
       complete m = (left-given problemLanguage s _ _ at (g .left) h none (passes-end _ s at I.End after t refl) (rw last-byte at m), g .kept)
 
 -- before the first command
-pub starting : (s : List ℕ) (o : Objective) (q : Polynomial) → FilledTerms 32 256 (o .keys) (o .coefficients) (o .count) × (o .count ≡ 0)
-    → FilledTerms 16 32 (q .keys) (q .coefficients) (q .count) × (q .count ≡ 0) → Going s (stored 0 o (replicate 8 q) 0 (replicate 576 0) (replicate 9 0)) 2 0
+pub starting : (s : List ℕ) → ((i : ℕ) → getD s i 0 < 256) → (o : Objective) (q : Polynomial) → FilledTerms 32 256 (2 ^ 31) (o .keys) (o .coefficients) (o .count) × (o .count ≡ 0)
+    → FilledTerms 16 32 (2 ^ 15) (q .keys) (q .coefficients) (q .count) × (q .count ≡ 0) → Going s (stored 0 o (replicate 8 q) 0 (replicate 576 0) (replicate 9 0)) 2 0
 unfolding problemOf constraintsOf basesHeld termsIn listed readProblem
-starting s o q f e =
+starting s b o q f e =
     record {
       undecided = refl;
       reached = zero-le;
+      bytes = b;
       kept =
           record {
             variables-low = zero-le;
@@ -177,7 +181,7 @@ module _ (s : List ℕ) (v : ℕ) (o : Objective) (qs : List Polynomial) (n : �
         (rw (terms-more (o .count) (o .keys) (o .coefficients) k c (omega arith) (omega arith)))
         (record {
           variables-low = kept .variables-low;
-          objective = filled-more 32 256 (o .keys) (o .coefficients) (o .count) k c f l b;
+          objective = filled-more 32 256 (2 ^ 31) (o .keys) (o .coefficients) (o .count) k c f l b (rw (t .instruction) at (decoded-small s (g .bytes) (problemCommandAt s at) at));
           constraints = kept .constraints;
           bases = kept .bases;
         })
@@ -187,7 +191,7 @@ module _ (s : List ℕ) (v : ℕ) (o : Objective) (qs : List Polynomial) (n : �
     unfolding problemOf firstRefusal
     constraint-full l = rw (constraints-count n qs, le-leb 8 n l)
 
-    pub after-constraint : (q : Polynomial) → n < 8 → FilledTerms 16 32 (q .keys) (q .coefficients) (q .count) × (q .count ≡ 0) → Going s (stored v o (set qs n q) (n + 1) keys sizes) number after
+    pub after-constraint : (q : Polynomial) → n < 8 → FilledTerms 16 32 (2 ^ 15) (q .keys) (q .coefficients) (q .count) × (q .count ≡ 0) → Going s (stored v o (set qs n q) (n + 1) keys sizes) number after
     unfolding problemOf problemApplied firstRefusal
     after-constraint q l f =
         let w = kept .constraints .places in
@@ -208,7 +212,7 @@ module _ (s : List ℕ) (v : ℕ) (o : Objective) (qs : List Polynomial) (n : �
     abbrev last : Polynomial
     last = getD qs (n - 1) noTerms
 
-    pub last-filled : FilledTerms 16 32 (last .keys) (last .coefficients) (last .count)
+    pub last-filled : FilledTerms 16 32 (2 ^ 15) (last .keys) (last .coefficients) (last .count)
     last-filled = let w = kept .constraints .count-low in let b = term-begun in kept .constraints .each (n - 1) (omega arith)
 
     pub term-room : lateIn (last .keys) 0 (last .count) k 32 ≡ late (problemOf here) (I.Term k c)
@@ -231,7 +235,7 @@ module _ (s : List ℕ) (v : ℕ) (o : Objective) (qs : List Polynomial) (n : �
         (record {
           variables-low = kept .variables-low;
           objective = kept .objective;
-          constraints = constraints-kept n qs (n - 1) n _ (kept .constraints) u (filled-more 16 32 (last .keys) (last .coefficients) (last .count) k c f l m);
+          constraints = constraints-kept n qs (n - 1) n _ (kept .constraints) u (filled-more 16 32 (2 ^ 15) (last .keys) (last .coefficients) (last .count) k c f l m (rw (t .instruction) at (decoded-small s (g .bytes) (problemCommandAt s at) at)));
           bases = kept .bases;
         })
 

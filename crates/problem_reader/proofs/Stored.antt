@@ -68,12 +68,12 @@ module _ (n : ℕ) (qs : List Polynomial) where
       (λ i p d. rw (getD-set-other qs j i q noTerms d))
       (rw (getD-set-same qs j q noTerms l) e)
 
-  pub constraints-kept : (j m : ℕ) (q : Polynomial) → KeptConstraints n qs → m ≤ 8 → FilledTerms 16 32 (q .keys) (q .coefficients) (q .count) → KeptConstraints m (set qs j q)
+  pub constraints-kept : (j m : ℕ) (q : Polynomial) → KeptConstraints n qs → m ≤ 8 → FilledTerms 16 32 (2 ^ 15) (q .keys) (q .coefficients) (q .count) → KeptConstraints m (set qs j q)
   constraints-kept j m q k h f =
       record {
         count-low = h;
         places = length-set qs j q ∙ k .places;
-        each = set-all (λ i (x : Polynomial). i < 8 → FilledTerms 16 32 (x .keys) (x .coefficients) (x .count)) qs j q noTerms (k .each) (λ _. f);
+        each = set-all (λ i (x : Polynomial). i < 8 → FilledTerms 16 32 (2 ^ 15) (x .keys) (x .coefficients) (x .count)) qs j q noTerms (k .each) (λ _. f);
       }
 
 -- ---- the bases

@@ -1,8 +1,8 @@
 -- The multipliers in arrays.
 use mathlib.Core.Path.{_≡_}
-use Prim.Native.Nat.{ℕ, _*_, _≤_}
+use Prim.Native.Nat.{ℕ, _*_, _^_, _≤_}
 use lib.ListN.{length, getD, drop}
-use Rattle.problem_reader.specs.TermArrays.{termsIn, Low}
+use Rattle.problem_reader.specs.TermArrays.{termsIn, Low, Small}
 use Rattle.problem_reader.specs.declared.Multipliers.{Multipliers}
 use Rattle.format.specs.ProblemRules.{Problem}
 use Rattle.format.specs.ProblemBases.{multiplier}
@@ -16,3 +16,4 @@ pub record Flat (p : Problem) (r : Multipliers) : Type 0 where
   pub keys-length : length (r .keys) ≡ 288
   pub keys-low : Low 16 (r .keys)
   pub coefficients-length : length (r .coefficients) ≡ 288
+  pub coefficients-small : Small (2 ^ 15) (r .coefficients)

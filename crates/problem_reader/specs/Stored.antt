@@ -2,7 +2,7 @@
 use mathlib.Core.Path.{_≡_}
 use mathlib.Core.Bool.{cond}
 use mathlib.Core.List.{List, []}
-use Prim.Native.Nat.{ℕ, _*_, _≤_, _<_}
+use Prim.Native.Nat.{ℕ, _*_, _^_, _≤_, _<_}
 use lib.Dec.{eqb}
 use lib.ListN.{length, getD, take, drop}
 use Rattle.counting.specs.Counting.{listed}
@@ -44,7 +44,7 @@ pub record KeptConstraints (n : ℕ) (qs : List Polynomial) : Type 0 where
   pub count-low : n ≤ 8
   pub places : length qs ≡ 8
   pub each : (j : ℕ) → j < 8
-      → FilledTerms 16 32 (getD qs j noTerms .keys) (getD qs j noTerms .coefficients) (getD qs j noTerms .count)
+      → FilledTerms 16 32 (2 ^ 15) (getD qs j noTerms .keys) (getD qs j noTerms .coefficients) (getD qs j noTerms .count)
 
 pub record KeptBases (sizes keys : List ℕ) : Type 0 where
   pub sizes-length : length sizes ≡ 9
@@ -54,6 +54,6 @@ pub record KeptBases (sizes keys : List ℕ) : Type 0 where
 
 pub record Kept (p : StoredProblem) : Type 0 where
   pub variables-low : p .variables ≤ 8
-  pub objective : FilledTerms 32 256 (p .objective .keys) (p .objective .coefficients) (p .objective .count)
+  pub objective : FilledTerms 32 256 (2 ^ 31) (p .objective .keys) (p .objective .coefficients) (p .objective .count)
   pub constraints : KeptConstraints (p .count) (p .constraints)
   pub bases : KeptBases (p .sizes) (p .keys)

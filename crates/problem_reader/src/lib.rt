@@ -1,6 +1,6 @@
 // The reader of the problem stream.
 ghost use mathlib.Core.Path.{_≡_};
-ghost use Prim.Native.Nat.{_+_, _≤_, _<_};
+ghost use Prim.Native.Nat.{_+_, _^_, _≤_, _<_};
 ghost use lib.ListN.{length};
 ghost use Rattle.format.specs.ProblemLayout.{problemCommand, problemSize, problemDecoded};
 ghost use Rattle.format.specs.ProblemRules.{Problem, problemPlaced, fitting, nonzero, problemOperandsFit, problemCommandAt, readProblem};
@@ -28,7 +28,7 @@ pub struct Polynomial {
 
 impl Objective {
     pub fn empty() -> Self
-        ensures { λ r. ⌜ FilledTerms 32 256 (r .keys) (r .coefficients) (r .count) × (r .count ≡ 0) ⌝ }
+        ensures { λ r. ⌜ FilledTerms 32 256 (2 ^ 31) (r .keys) (r .coefficients) (r .count) × (r .count ≡ 0) ⌝ }
     {
         Objective {
             keys: [0; 256],
@@ -40,7 +40,7 @@ impl Objective {
 
 impl Polynomial {
     pub fn empty() -> Self
-        ensures { λ r. ⌜ FilledTerms 16 32 (r .keys) (r .coefficients) (r .count) × (r .count ≡ 0) ⌝ }
+        ensures { λ r. ⌜ FilledTerms 16 32 (2 ^ 15) (r .keys) (r .coefficients) (r .count) × (r .count ≡ 0) ⌝ }
     {
         Polynomial {
             keys: [0; 32],

@@ -1,7 +1,7 @@
 -- `read`: from the command at hand on the definition gives what it gives for the whole stream (`Going`); each command's law keeps it.
 use mathlib.Core.Path.{_≡_, refl, sym, ap, _∙_}
 use mathlib.Core.List.{List}
-use Prim.Native.Nat.{ℕ, _+_, _-_, _*_, _<_}
+use Prim.Native.Nat.{ℕ, _+_, _-_, _*_, _^_, _<_}
 use native.Mathlib.Omega.{arith}
 use lib.ListN.{length, getD}
 use mir.Syntax.{w32}
@@ -67,7 +67,7 @@ empty-requires-2 : tie.Need-empty-requires-2 Inv-loop μ-loop
 empty-requires-2 c κs = search needs
 
 loop-holds : tie.Need-loop-holds Inv-loop μ-loop
-loop-holds c = starting (c .before .before .before .args .s .now) (c .before .empty .result) (c .empty2 .result) (c .before .empty .ensures) (c .empty2 .ensures)
+loop-holds c = starting (c .before .before .before .args .s .now) (λ i. omega (arith, c .before .before .shared-slice-known .given i)) (c .before .empty .result) (c .empty2 .result) (c .before .empty .ensures) (c .empty2 .ensures)
 
 shared-slice-read-command-of : tie.Need-shared-slice-read-command-of Inv-loop μ-loop
 shared-slice-read-command-of c = omega arith
@@ -158,7 +158,7 @@ begun c = term-begun _ _ _ _ _ _ _ _ _ _ (head (c .before .before .before) .loop
 abbrev last : Told → Polynomial
 last c = getD (head c .loop .constraints) (head c .loop .count - 1) noTerms
 
-last-kept : (c : tie.After-known-told3 Inv-loop μ-loop) → let q = last (c .before .before .before) in FilledTerms 16 32 (q .keys) (q .coefficients) (q .count)
+last-kept : (c : tie.After-known-told3 Inv-loop μ-loop) → let q = last (c .before .before .before) in FilledTerms 16 32 (2 ^ 15) (q .keys) (q .coefficients) (q .count)
 last-kept c = last-filled _ _ _ _ _ _ _ _ _ _ (head (c .before .before .before) .loop .inv) (omega arith) _ _ (term-passed c)
 
 sub-last : tie.Need-sub-last Inv-loop μ-loop
