@@ -22,12 +22,12 @@ labels-long : (s : tie.Start) → length (s .args .j .labels) ≡ 576
 labels-long s = let h = s .pre .0 in rw (h .joining .labels (h .few)) (bytes-long _)
 
 -- the reading is against the shape of the problem
-read-as : (c : tie.After-validate) → let s = c .before .before .before .before .before in headerOutcomeOf (c .validate .result) ≡ headerOutcome (readCertificate (shapeOf (P s)) (s .args .s .now))
+read-as : (c : tie.After-validate) → let s = c .before .before .before .before in headerOutcomeOf (c .validate .result) ≡ headerOutcome (readCertificate (shapeOf (P s)) (s .args .s .now))
 read-as c =
-    let s = c .before .before .before .before .before in
+    let s = c .before .before .before .before in
     c .validate .ensures ∙ ap (λ (h : Shape). headerOutcome (readCertificate h (s .args .s .now))) (sym (shape-is (s .args .p) (s .pre .0 .kept)))
 
-stands : (c : tie.Else1) → let s = c .before .before .before .before .before .before in HeaderStands (P s) (s .args .s .now) (c .before .validate .result .header)
+stands : (c : tie.Else1) → let s = c .before .before .before .before .before in HeaderStands (P s) (s .args .s .now) (c .before .validate .result .header)
 stands c = certificate-given _ _ (read-as (c .before)) (omega (arith, c .if1 .left)) _ _ refl
 
 validate-requires : tie.Need-validate-requires
@@ -39,16 +39,16 @@ refuse-requires c κs = search needs
 returns : tie.Need-returns
 returns c =
     let v = c .before .before in
-    let s = v .before .before .before .before .before in
+    let s = v .before .before .before .before in
     (c .refuse .ensures ∙ judge-refused (P s) (s .args .s .now) _ _ _ (certificate-refused _ _ (read-as v) (c .before .if1 .taken)), refl, refl, s .pre .1)
 
 slice-aggregate-split-place : tie.Need-slice-aggregate-split-place
-slice-aggregate-split-place c = sym (labels-long (c .before .before .before .before .before .before .before .before .before))
+slice-aggregate-split-place c = sym (labels-long (c .before .before .before .before .before .before .before .before))
 
 split-place-requires : tie.Need-split-place-requires
 split-place-requires c κs =
     let i = c .before .before .before in
-    let s = i .before .before .before .before .before .before in
+    let s = i .before .before .before .before .before in
     let t = stands i in
     (walkable (P s) (s .pre .0 .limits) (s .args .s .now) (t .certificate) (t .read), labels-long s)
 
@@ -64,7 +64,7 @@ enum-told c = search needs
 difference-requires : tie.Need-difference-requires
 difference-requires c κs =
     let i = c .before .before .before .before .before .before .before .before .before .before in
-    let s = i .before .before .before .before .before .before in
+    let s = i .before .before .before .before .before in
     (s .pre .0 .kept, joins-compare _ _ _ _ (s .pre .0), s .pre .1, stands i, s .pre .2, s .pre .3)
 
 by-identity-requires : tie.Need-by-identity-requires
@@ -75,7 +75,7 @@ returns-2 c =
     let k = c .before .before in
     let w = k .before .before in
     let i = w .before .before .before .before in
-    let s = i .before .before .before .before .before .before in
+    let s = i .before .before .before .before .before in
     let t = stands i in
     let h = s .pre .0 in
     let e = w .split-place .ensures (P s) (t .certificate) (h .limits) (t .read) (h .joining .labels (h .few)) in
@@ -89,11 +89,11 @@ same-length-2 c = search needs
 
 returns-3 : tie.Need-returns-3
 returns-3 c =
-    let d = c .before .before .before .before in
+    let d = c .before .before .before in
     let n = d .before .before .before .before .before in
     let w = n .before .before in
     let i = w .before .before .before .before in
-    let s = i .before .before .before .before .before .before in
+    let s = i .before .before .before .before .before in
     let t = stands i in
     let h = s .pre .0 in
     let e = w .split-place .ensures (P s) (t .certificate) (h .limits) (t .read) (h .joining .labels (h .few)) in (
