@@ -13,7 +13,7 @@ use Rattle.counting.proofs.Cases.{clash, and-left, and-right}
 use Rattle.format.specs.Commands.{firstRefusal, refused}
 use Rattle.format.proofs.Run.{Left, left-start, left-end, left-refused, left-extra, left-given, left-next}
 use Rattle.polynomial.specs.Monomial.{degree, within, among}
-use Rattle.polynomial.specs.Terms.{term, keysOf}
+use Rattle.polynomial.specs.Terms.{Term, term, keysOf}
 use Rattle.polynomial.proofs.Monomials.{key-low}
 use Rattle.format.specs.declared.problem.Command.{Command}
 use Rattle.format.specs.declared.problem.Command.the-variants as C

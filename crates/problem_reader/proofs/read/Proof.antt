@@ -210,7 +210,7 @@ stepped : (c : tie.At-match-came Inv-loop μ-loop)
     → let m = c .match in Stepped (head (c .before) .loop .inv .problem) (c .before .decode-at .result) (m .keys) (m .coefficients) (m .sizes) (m .variables) (m .last) (m .count) (m .number)
 stepped c =
     let d = c .before in
-    let z = zero-found (d .before .before) in
+    let z = zero-found (d .before) in
     ⊎-elim
     (λ w. stepped-as (w .1 .given .1) (w .3) (w .4) (w .5) (w .6) (w .7) (w .8) (w .9) (stepped-variables (kept (head d)) (passed d _ (w .1 .given .1)) _ z))
     (λ x.
@@ -263,7 +263,7 @@ returns-3 c = extra (head (c .before .before .before) .loop .inv) (omega arith) 
 returns-4 : tie.Need-returns-4 Inv-loop μ-loop
 returns-4 c =
     let d = c .before .before .before .before .before .before .before .before .before in
-    complete (head d .loop .inv) (omega arith) (passed d _ (c .before .before .before .before .before .before .before .enum-told2 .given .1)) (omega arith) _ (zero-found (d .before .before))
+    complete (head d .loop .inv) (omega arith) (passed d _ (c .before .before .before .before .before .before .before .enum-told2 .given .1)) (omega arith) _ (zero-found (d .before))
     (c .lay-out2 .last .0) (c .lay-out2 .last .1 .0) (c .lay-out2 .ensures .0) (c .lay-out2 .ensures .1)
 
 returns-5 : tie.Need-returns-5 Inv-loop μ-loop
