@@ -14,6 +14,7 @@ mod limits;
 mod neighbours;
 mod problems;
 pub mod refusals;
+mod requests;
 mod rng;
 mod rules;
 mod samples;
@@ -46,7 +47,11 @@ pub fn generate(kinds: &str, seed: u64, count: usize) -> impl Iterator<Item = Re
     let mut rng = Rng::new(seed);
     (0..count).map(move |_| {
         let kind = *rng.pick(&kinds);
-        record(&mut rng, kind)
+        if rng.once_in(2) {
+            requests::record(&mut rng, kind)
+        } else {
+            record(&mut rng, kind)
+        }
     })
 }
 
@@ -57,7 +62,8 @@ fn record(rng: &mut Rng, kind: u8) -> Record {
     }
 }
 
-/// The fixed corpus of these kinds: the special cases, then records of a fixed seed.
+/// The fixed corpus of these kinds: the special cases, then records of a fixed seed, then records of
+/// the requests.
 pub fn corpus(kinds: &str) -> Vec<Record> {
     let mut all = Vec::new();
     for (kind, count) in CORPUS {
@@ -67,6 +73,7 @@ pub fn corpus(kinds: &str) -> Vec<Record> {
         all.extend(special(kind));
         let mut rng = Rng::new(CORPUS_SEED + u64::from(kind));
         all.extend((0..count).map(|_| record(&mut rng, kind)));
+        all.extend(requests::corpus(kind));
     }
     all
 }

@@ -4,6 +4,7 @@
 //! them, and the stored corpus holds the proved calls to them.
 
 mod certificates;
+mod equalities;
 mod order;
 mod problems;
 mod sums;
@@ -18,7 +19,7 @@ pub use table::print;
 const TWO: &str = "stream ends in a command or without its end, or goes on after it";
 const THREE: &str = "command unknown in this stream or misplaced";
 const ONLY: &str = "First, and only first.";
-const BEFORE: &str = "A 04 before any 03, and a 12 before any row, is misplaced.";
+const BEFORE: &str = "a 12 before any row, is misplaced.";
 const NEVER: &str = "Coefficients and factors are never 0.";
 
 /// One way to be refused.
@@ -27,7 +28,7 @@ pub struct Case {
     pub name: &'static str,
     /// What the refused stream has.
     pub what: &'static str,
-    /// The words of document 01 that it comes from.
+    /// The words of document 01 that it comes from, or those of a request with its number.
     pub words: &'static str,
     /// The refused stream as document 01 writes bytes, when it is short.
     pub text: Option<&'static str>,
@@ -73,6 +74,7 @@ pub fn cases() -> Vec<Case> {
         certificates::cases(),
         sums::cases(),
         order::cases(),
+        equalities::cases(),
     ]
     .concat()
 }

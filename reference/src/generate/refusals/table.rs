@@ -7,7 +7,8 @@ use crate::records::Record;
 
 const HEAD: &str = "# Refusals
 
-Every way to be refused, by number and stream, each with the words of the scope (document 01) that it comes from. \
+Every way to be refused, by number and stream, each with the words that it comes from: those of the scope (document 01) or, \
+after its number, of a request (document 02). \
 The answers were found by hand from those words and stand beside the cases in `reference/src/generate/refusals`; a test \
 there holds the reference to them. Each case is in the stored corpus `crates/replay/stdin`, where the proved calls \
 meet it; the last column gives, for each kind of call that meets it (`b` blocks, `c` check, `p` pair), the number of its \
@@ -75,7 +76,7 @@ pub fn print() {
         }
         if (number, case.expected.stream) != section {
             println!("\n### {}", STREAMS[usize::from(case.expected.stream)]);
-            println!("\n| case | what the stream has | stream | document 01 | answer | records |");
+            println!("\n| case | what the stream has | stream | words | answer | records |");
             println!("|---|---|---|---|---|---|");
         }
         section = (number, case.expected.stream);
