@@ -9,6 +9,7 @@ mod order;
 mod problems;
 mod sums;
 mod table;
+mod wide_factors;
 
 use crate::generate::samples;
 use crate::records::{Record, BLOCKS, CHECK, PAIR};
@@ -75,6 +76,7 @@ pub fn cases() -> Vec<Case> {
         sums::cases(),
         order::cases(),
         equalities::cases(),
+        wide_factors::cases(),
     ]
     .concat()
 }

@@ -1,6 +1,7 @@
 //! Records for the requests of document 02.
 
 mod equalities;
+mod wide_factors;
 
 use crate::generate::accepted::case;
 use crate::generate::blocks::valid_draft;
@@ -18,7 +19,7 @@ type Change = fn(&mut Rng, &mut Streams);
 
 /// What each request does to the calls of document 01, and how many records of each kind the corpus
 /// has of it.
-const CHANGED: [(Change, usize); 1] = [(equalities::change, 150)];
+const CHANGED: [(Change, usize); 2] = [(equalities::change, 150), (wide_factors::change, 150)];
 
 /// The seed of the corpus.
 const SEED: u64 = 4_096;
