@@ -1,5 +1,6 @@
 //! Records for the requests of document 02.
 
+mod empty_region;
 mod equalities;
 mod wide_factors;
 
@@ -9,7 +10,7 @@ use crate::generate::certificates::{as_record, streams};
 use crate::generate::changes::{change_case, CHANGES};
 use crate::generate::damage::{self, damaged};
 use crate::generate::rng::Rng;
-use crate::records::{Record, BLOCKS};
+use crate::records::{Record, BLOCKS, PAIR};
 
 /// The commands of a problem and of its two certificates.
 pub type Streams = [Vec<Vec<u8>>; 3];
@@ -31,11 +32,19 @@ pub fn corpus(kind: u8) -> Vec<Record> {
         let rng = &mut Rng::new(SEED + 256 * number as u64 + u64::from(kind));
         all.extend((0..count).map(|_| changed(rng, kind, &[change])));
     }
+    if kind == PAIR {
+        let rng = &mut Rng::new(SEED);
+        all.extend(empty_region::special());
+        all.extend((0..100).map(|_| empty_region::record(rng)));
+    }
     all
 }
 
 /// A fresh record of a kind of document 01 with commands of some of the requests.
 pub fn record(rng: &mut Rng, kind: u8) -> Record {
+    if kind == PAIR && rng.once_in(12) {
+        return empty_region::record(rng);
+    }
     let mut changes: Vec<Change> = CHANGED.into_iter().map(|(change, _)| change).collect();
     rng.shuffle(&mut changes);
     changes.truncate(rng.between(1, 3));
