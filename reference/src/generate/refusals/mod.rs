@@ -7,6 +7,7 @@ mod certificates;
 mod equalities;
 mod order;
 mod problems;
+mod rule_and_order;
 mod sums;
 mod table;
 mod wide_factors;
@@ -77,6 +78,7 @@ pub fn cases() -> Vec<Case> {
         order::cases(),
         equalities::cases(),
         wide_factors::cases(),
+        rule_and_order::cases(),
     ]
     .concat()
 }

@@ -54,11 +54,11 @@ pub fn record(rng: &mut Rng) -> Record {
 
 /// Pairs with the lines found by hand. S is 1 and x from the start, so that one round changes nothing.
 pub const LINES: [((i32, u16), (i32, u16), &str); 5] = [
-    ((1, 1), (-1, 1), "pair 1/1 -1/1 gap empty rounds 1"),
-    ((0, 1), (0, 1), "pair 0/1 0/1 gap 0/1 rounds 1"),
-    ((1, 2), (2, 4), "pair 1/2 2/4 gap 0/8 rounds 1"),
-    ((1, 2), (1, 3), "pair 1/2 1/3 gap empty rounds 1"),
-    ((-1, 3), (-1, 2), "pair -1/3 -1/2 gap empty rounds 1"),
+    ((1, 1), (-1, 1), "pair 1/1 -1/1 gap empty rounds 1 rule 1"),
+    ((0, 1), (0, 1), "pair 0/1 0/1 gap 0/1 rounds 1 rule 1"),
+    ((1, 2), (2, 4), "pair 1/2 2/4 gap 0/8 rounds 1 rule 1"),
+    ((1, 2), (1, 3), "pair 1/2 1/3 gap empty rounds 1 rule 1"),
+    ((-1, 3), (-1, 2), "pair -1/3 -1/2 gap empty rounds 1 rule 1"),
 ];
 
 pub fn special() -> Vec<Record> {

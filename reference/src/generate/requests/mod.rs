@@ -2,6 +2,7 @@
 
 mod empty_region;
 mod equalities;
+mod joining_rules;
 mod wide_factors;
 
 use crate::generate::accepted::case;
@@ -20,7 +21,11 @@ type Change = fn(&mut Rng, &mut Streams);
 
 /// What each request does to the calls of document 01, and how many records of each kind the corpus
 /// has of it.
-const CHANGED: [(Change, usize); 2] = [(equalities::change, 150), (wide_factors::change, 150)];
+const CHANGED: [(Change, usize); 3] = [
+    (equalities::change, 150),
+    (wide_factors::change, 150),
+    (joining_rules::change, 150),
+];
 
 /// The seed of the corpus.
 const SEED: u64 = 4_096;
@@ -31,6 +36,9 @@ pub fn corpus(kind: u8) -> Vec<Record> {
     for (number, (change, count)) in CHANGED.into_iter().enumerate() {
         let rng = &mut Rng::new(SEED + 256 * number as u64 + u64::from(kind));
         all.extend((0..count).map(|_| changed(rng, kind, &[change])));
+    }
+    if kind == BLOCKS {
+        all.extend(joining_rules::special());
     }
     if kind == PAIR {
         let rng = &mut Rng::new(SEED);
