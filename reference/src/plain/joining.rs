@@ -24,7 +24,8 @@ impl Joined {
         Joined::by(problem, Joined::round)
     }
 
-    /// "Rounds repeat until one changes neither a block nor S; that one counts too."
+    /// "Rounds repeat until one changes neither a block nor S; that one counts too"; a chosen order
+    /// "ends the rounds after k, if they haven't ended sooner".
     pub fn by(problem: &Problem, round: fn(&mut Joined, &Problem)) -> Joined {
         let mut joined = start(problem);
         loop {
@@ -32,7 +33,8 @@ impl Joined {
             round(&mut joined, problem);
             joined.rounds += 1;
             let after = (joined.blocks.clone(), joined.support.len());
-            if before == after || joined.support.len() > MEMBERS {
+            let ended = before == after || problem.order == Some(joined.rounds);
+            if ended || joined.support.len() > MEMBERS {
                 return joined;
             }
         }

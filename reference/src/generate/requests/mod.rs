@@ -3,6 +3,7 @@
 mod empty_region;
 mod equalities;
 mod joining_rules;
+mod orders;
 mod wide_factors;
 
 use crate::generate::accepted::case;
@@ -21,10 +22,11 @@ type Change = fn(&mut Rng, &mut Streams);
 
 /// What each request does to the calls of document 01, and how many records of each kind the corpus
 /// has of it.
-const CHANGED: [(Change, usize); 3] = [
+const CHANGED: [(Change, usize); 4] = [
     (equalities::change, 150),
     (wide_factors::change, 150),
     (joining_rules::change, 150),
+    (orders::change, 150),
 ];
 
 /// The seed of the corpus.
@@ -39,6 +41,7 @@ pub fn corpus(kind: u8) -> Vec<Record> {
     }
     if kind == BLOCKS {
         all.extend(joining_rules::special());
+        all.extend(orders::special());
     }
     if kind == PAIR {
         let rng = &mut Rng::new(SEED);
