@@ -13,12 +13,13 @@ mod lines;
 mod polynomial;
 mod problem;
 mod stream;
+mod symmetries;
 #[cfg(test)]
 mod tests;
 
 pub use calls::{blocks, pair};
 
-use crate::records::{Record, BLOCKS, CHECK, PAIR};
+use crate::records::{Record, BLOCKS, CHECK, PAIR, SYMMETRIES};
 use crate::refusal::Refusal;
 
 /// What a record asks for: the line that answers it, or its refusal.
@@ -28,6 +29,7 @@ pub fn answer(record: &Record) -> Result<String, Refusal> {
         BLOCKS => blocks(run(0)).map(|verdict| verdict.to_string()),
         CHECK => calls::check(run(0), run(1)).map(|verdict| verdict.to_string()),
         PAIR => pair(run(0), run(1), run(2)).map(|verdict| verdict.to_string()),
+        SYMMETRIES => symmetries::symmetries(run(0)).map(|verdict| verdict.to_string()),
         other => unreachable!("no record has the kind {other}"),
     }
 }

@@ -3,7 +3,7 @@
 use super::{cases, Case};
 use crate::generate::corpus;
 use crate::plain;
-use crate::records::Record;
+use crate::records::{run_count, Record};
 
 const HEAD: &str = "# Refusals
 
@@ -11,7 +11,7 @@ Every way to be refused, by number and stream, each with the words that it comes
 after its number, of a request (document 02). \
 The answers were found by hand from those words and stand beside the cases in `reference/src/generate/refusals`; a test \
 there holds the reference to them. Each case is in the stored corpus `crates/replay/stdin`, where the proved calls \
-meet it; the last column gives, for each kind of call that meets it (`b` blocks, `c` check, `p` pair), the number of its \
+meet it; the last column gives, for each kind of call that meets it (they stand in `reference/README.md`), the number of its \
 record there, which is that of the line in `stdout`. `reference refusals` writes this page, and `./test` compares the two.
 
 An answer is `refused`, number, stream (0 problem, 1 first certificate, 2 second), place and key. Bytes are \
@@ -64,7 +64,10 @@ const SHORT: usize = 130;
 
 /// Writes the page.
 pub fn print() {
-    let corpus = corpus("bcp");
+    let kinds: Vec<u8> = (0..=255)
+        .filter(|&kind| run_count(kind).is_some())
+        .collect();
+    let corpus = corpus(&String::from_utf8(kinds).expect("kinds are letters"));
     let mut cases = cases();
     cases.sort_by_key(|case| (case.expected.number, case.expected.stream));
     print!("{HEAD}{ONE}");

@@ -4,6 +4,7 @@ mod empty_region;
 mod equalities;
 mod joining_rules;
 mod orders;
+mod symmetries;
 mod wide_factors;
 
 use crate::generate::accepted::case;
@@ -12,7 +13,31 @@ use crate::generate::certificates::{as_record, streams};
 use crate::generate::changes::{change_case, CHANGES};
 use crate::generate::damage::{self, damaged};
 use crate::generate::rng::Rng;
-use crate::records::{Record, BLOCKS, PAIR};
+use crate::records::{Record, BLOCKS, PAIR, SYMMETRIES};
+
+/// A call that a request added.
+pub struct Call {
+    pub kind: u8,
+    /// The records of the corpus that are made for it.
+    pub special: fn() -> Vec<Record>,
+    /// A random record.
+    pub random: fn(&mut Rng) -> Record,
+    /// How many of these the corpus has.
+    pub count: usize,
+}
+
+/// The calls of the requests, in the order of the corpus.
+pub const CALLS: &[Call] = &[Call {
+    kind: SYMMETRIES,
+    special: symmetries::special,
+    random: symmetries::random,
+    count: 250,
+}];
+
+/// The call of this kind, when a request added it.
+pub fn call(kind: u8) -> Option<&'static Call> {
+    CALLS.iter().find(|call| call.kind == kind)
+}
 
 /// The commands of a problem and of its two certificates.
 pub type Streams = [Vec<Vec<u8>>; 3];
