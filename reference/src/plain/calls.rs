@@ -14,6 +14,11 @@ pub struct Fraction {
 }
 
 impl Fraction {
+    /// "Two fractions are compared by cross products." Denominators are above 0.
+    pub fn is_below(self, other: Fraction) -> bool {
+        self.numerator * other.denominator < other.numerator * self.denominator
+    }
+
     /// "(P x q - p x Q)/(Q x q), not reduced"
     fn gap(lower: Fraction, upper: Fraction) -> Fraction {
         let (p, q) = (lower.numerator, lower.denominator);
@@ -70,7 +75,7 @@ pub fn close(problem: &[u8]) -> Result<Closed, Refusal> {
 }
 
 /// "the first certificate by commands likewise; 8 by rows; 9; the second certificate the same"
-fn judge(closed: &Closed, certificate: &[u8], stream: u8) -> Result<Check, Refusal> {
+pub fn judge(closed: &Closed, certificate: &[u8], stream: u8) -> Result<Check, Refusal> {
     let certificate = Certificate::read(certificate, stream, &closed.problem)?;
     keep_to_blocks(&certificate, &closed.joined, stream)?;
     identity_holds(&certificate, &closed.problem, stream)?;

@@ -9,6 +9,7 @@ mod order;
 mod problems;
 mod rule_and_order;
 mod sums;
+mod superseding;
 mod table;
 mod wide_factors;
 
@@ -83,6 +84,7 @@ pub fn cases() -> Vec<Case> {
         equalities::cases(),
         wide_factors::cases(),
         rule_and_order::cases(),
+        superseding::cases(),
     ]
     .concat()
 }
@@ -96,7 +98,7 @@ pub fn records(call: u8) -> Vec<Record> {
 
 /// The bytes of a text as document 01 writes them: hexadecimal, with 0⁷ for seven zero bytes and 0⁸
 /// for eight; a bar stands between commands.
-fn bytes(text: &str) -> Vec<u8> {
+pub fn bytes(text: &str) -> Vec<u8> {
     let mut all = Vec::new();
     for word in text.split_whitespace() {
         match word {
@@ -110,7 +112,7 @@ fn bytes(text: &str) -> Vec<u8> {
 }
 
 /// The streams of case F: problem, lower and upper certificate.
-fn case_f() -> [Vec<u8>; 3] {
+pub fn case_f() -> [Vec<u8>; 3] {
     let certificates = [0, 1].map(samples::f_certificate);
     let [lower, upper] = certificates;
     [samples::f().bytes(), lower, upper]
@@ -177,7 +179,9 @@ mod tests {
         let in_problem = (2..=7).map(|number| (number, 0));
         let in_certificate = [2, 3, 4, 5, 6, 8, 9, 10];
         let in_certificate = in_certificate.iter().flat_map(|&n| [(n, 1), (n, 2)]);
-        assert_eq!(met, in_problem.chain(in_certificate).collect());
+        let of_requests = [(11, 2)];
+        let all = in_problem.chain(in_certificate).chain(of_requests);
+        assert_eq!(met, all.collect());
     }
 
     #[test]
@@ -185,7 +189,12 @@ mod tests {
         let mut names = BTreeSet::new();
         for case in cases() {
             let Refusal { number, stream, .. } = case.expected;
-            assert!(names.insert((number, stream, case.name)), "{}", case.name);
+            let call = case.calls[0];
+            assert!(
+                names.insert((number, stream, case.name, call)),
+                "{}",
+                case.name
+            );
         }
     }
 

@@ -40,8 +40,8 @@ length one short, and sees refusal 1 and all that was lent untouched.
 | pair, low | 2,047 numbers as the third table | `refused 1 0 0 0` | `verdict` of `pair`, `tablesShort` |
 ";
 
-/// The words of document 01's table for each number from 2 on.
-const TITLES: [&str; 9] = [
+/// The words of document 01's table, and of the requests, for each number from 2 on.
+const TITLES: [&str; 10] = [
     "stream ends in a command or without its end, or goes on after it",
     "command unknown in this stream or misplaced",
     "operand outside its rule",
@@ -51,6 +51,7 @@ const TITLES: [&str; 9] = [
     "a row in two blocks",
     "identity false",
     "in a pair, first side not 0 or second not 1",
+    "of two certificates, both are accepted and their sides differ",
 ];
 
 const STREAMS: [&str; 3] = [

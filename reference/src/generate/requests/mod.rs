@@ -4,6 +4,7 @@ mod empty_region;
 mod equalities;
 mod joining_rules;
 mod orders;
+mod superseding;
 mod symmetries;
 mod wide_factors;
 
@@ -13,7 +14,7 @@ use crate::generate::certificates::{as_record, streams};
 use crate::generate::changes::{change_case, CHANGES};
 use crate::generate::damage::{self, damaged};
 use crate::generate::rng::Rng;
-use crate::records::{Record, BLOCKS, PAIR, SYMMETRIES};
+use crate::records::{Record, BLOCKS, PAIR, SYMMETRIES, TIGHTER};
 
 /// A call that a request added.
 pub struct Call {
@@ -27,12 +28,20 @@ pub struct Call {
 }
 
 /// The calls of the requests, in the order of the corpus.
-pub const CALLS: &[Call] = &[Call {
-    kind: SYMMETRIES,
-    special: symmetries::special,
-    random: symmetries::random,
-    count: 250,
-}];
+pub const CALLS: &[Call] = &[
+    Call {
+        kind: SYMMETRIES,
+        special: symmetries::special,
+        random: symmetries::random,
+        count: 250,
+    },
+    Call {
+        kind: TIGHTER,
+        special: superseding::special,
+        random: superseding::random,
+        count: 300,
+    },
+];
 
 /// The call of this kind, when a request added it.
 pub fn call(kind: u8) -> Option<&'static Call> {
@@ -122,6 +131,14 @@ fn drawn(rng: &mut Rng, kind: u8) -> (Streams, usize) {
         streams[0] = case.problem.mixed_commands(rng);
     }
     (streams, case.focus)
+}
+
+/// A record of three runs.
+fn record_of(kind: u8, runs: [Vec<u8>; 3]) -> Record {
+    Record {
+        kind,
+        runs: runs.into(),
+    }
 }
 
 /// The places of the commands with this first byte.

@@ -1,5 +1,6 @@
 //! Request 01: records of the sign symmetries.
 
+use super::record_of;
 use crate::generate::draft::{monomial, power, random_monomial, Draft};
 use crate::generate::rng::Rng;
 use crate::generate::{blocks, samples};
@@ -7,10 +8,7 @@ use crate::monomial::Monomial;
 use crate::records::{Record, SYMMETRIES};
 
 fn record(problem: Vec<u8>) -> Record {
-    Record {
-        kind: SYMMETRIES,
-        runs: vec![problem, Vec::new(), Vec::new()],
-    }
+    record_of(SYMMETRIES, [problem, Vec::new(), Vec::new()])
 }
 
 /// Problems with the masks found by hand, as the objective's exponents in so many variables.
