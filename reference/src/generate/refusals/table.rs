@@ -21,7 +21,7 @@ hexadecimal, 0⁷ is seven zero bytes and 0⁸ eight, and a bar stands between c
 const ONE: &str = "
 ## 1: a lent table or the 576 bytes is too short
 
-A replayed record is always answered with tables lent in full, so no record meets refusal 1. It is stated in the public \
+A replayed record is always answered with tables lent in full, so no record of document 01's calls meets refusal 1. It is stated in the public \
 contracts in `crates/checker/src/lib.rt`: `verdict` of each call says that it is given exactly when the named test holds, and \
 `bytes`, `keys_left`, `high_left` and `low_left` that nothing is written then. `bench short` calls the C functions with each \
 length one short, and sees refusal 1 and all that was lent untouched.
@@ -41,7 +41,7 @@ length one short, and sees refusal 1 and all that was lent untouched.
 ";
 
 /// The words of document 01's table, and of the requests, for each number from 2 on.
-const TITLES: [&str; 10] = [
+const TITLES: [&str; 11] = [
     "stream ends in a command or without its end, or goes on after it",
     "command unknown in this stream or misplaced",
     "operand outside its rule",
@@ -52,10 +52,11 @@ const TITLES: [&str; 10] = [
     "identity false",
     "in a pair, first side not 0 or second not 1",
     "of two certificates, both are accepted and their sides differ",
+    "a record of a report is cut short, or a byte comes after the 64th",
 ];
 
 const STREAMS: [&str; 3] = [
-    "in the problem",
+    "in the problem, or of stream 0",
     "in the first certificate",
     "in the second certificate",
 ];
@@ -72,7 +73,7 @@ pub fn print() {
     let mut cases = cases();
     cases.sort_by_key(|case| (case.expected.number, case.expected.stream));
     print!("{HEAD}{ONE}");
-    let mut section = (1, 0);
+    let mut section = (1, 255);
     for case in &cases {
         let number = case.expected.number;
         if number != section.0 {

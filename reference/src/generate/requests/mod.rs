@@ -4,6 +4,7 @@ mod empty_region;
 mod equalities;
 mod joining_rules;
 mod orders;
+mod reports;
 mod superseding;
 mod symmetries;
 mod wide_factors;
@@ -14,7 +15,9 @@ use crate::generate::certificates::{as_record, streams};
 use crate::generate::changes::{change_case, CHANGES};
 use crate::generate::damage::{self, damaged};
 use crate::generate::rng::Rng;
-use crate::records::{Record, BLOCKS, PAIR, SYMMETRIES, TIGHTER};
+use crate::records::{Record, BLOCKS, PAIR, REPORT, SYMMETRIES, TIGHTER};
+
+pub use reports::packed;
 
 /// A call that a request added.
 pub struct Call {
@@ -40,6 +43,12 @@ pub const CALLS: &[Call] = &[
         special: superseding::special,
         random: superseding::random,
         count: 300,
+    },
+    Call {
+        kind: REPORT,
+        special: reports::special,
+        random: reports::random,
+        count: 200,
     },
 ];
 
