@@ -21,7 +21,8 @@ hexadecimal, 0⁷ is seven zero bytes and 0⁸ eight, and a bar stands between c
 const ONE: &str = "
 ## 1: a lent table or the 576 bytes is too short
 
-A replayed record is always answered with tables lent in full, so no record of document 01's calls meets refusal 1. It is stated in the public \
+A replayed record is always answered with tables lent in full, so no record of document 01's calls meets refusal 1; that of `x` is the number in its line, 1 for an \
+output below 32 bytes. It is stated in the public \
 contracts in `crates/checker/src/lib.rt`: `verdict` of each call says that it is given exactly when the named test holds, and \
 `bytes`, `keys_left`, `high_left` and `low_left` that nothing is written then. `bench short` calls the C functions with each \
 length one short, and sees refusal 1 and all that was lent untouched.

@@ -2,6 +2,7 @@
 
 mod empty_region;
 mod equalities;
+mod for_c;
 mod joining_rules;
 mod orders;
 mod reports;
@@ -15,7 +16,7 @@ use crate::generate::certificates::{as_record, streams};
 use crate::generate::changes::{change_case, CHANGES};
 use crate::generate::damage::{self, damaged};
 use crate::generate::rng::Rng;
-use crate::records::{Record, BLOCKS, PAIR, REPORT, SYMMETRIES, TIGHTER};
+use crate::records::{Record, BLOCKS, PAIR, RECORD, REPORT, SYMMETRIES, TIGHTER};
 
 pub use reports::packed;
 
@@ -49,6 +50,12 @@ pub const CALLS: &[Call] = &[
         special: reports::special,
         random: reports::random,
         count: 200,
+    },
+    Call {
+        kind: RECORD,
+        special: for_c::special,
+        random: for_c::random,
+        count: 250,
     },
 ];
 
