@@ -33,6 +33,8 @@ pub const SIDES: u8 = 10;
 pub const DIFFERENT_SIDES: u8 = 11;
 /// Req 07: a record is cut short, or a byte comes after the 64th.
 pub const RECORDS: u8 = 12;
+/// Req 10: the buffer can't hold all notes.
+pub const NOTES: u8 = 13;
 
 /// The four fields of a refusal.
 #[derive(Clone, Copy, Debug, PartialEq, Eq)]

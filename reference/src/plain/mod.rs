@@ -10,6 +10,7 @@ mod calls;
 mod certificate;
 mod joining;
 mod lines;
+mod office;
 mod polynomial;
 mod problem;
 mod report;
@@ -22,7 +23,7 @@ mod tests;
 pub use calls::{blocks, pair};
 
 use crate::records::{
-    hexadecimal, Record, BLOCKS, CHECK, PAIR, RECORD, REPORT, SYMMETRIES, TIGHTER,
+    hexadecimal, Record, BLOCKS, CHECK, OFFICE, PAIR, RECORD, REPORT, SYMMETRIES, TIGHTER,
 };
 use crate::refusal::Refusal;
 
@@ -41,6 +42,7 @@ pub fn answer(record: &Record) -> Result<String, Refusal> {
             let (number, output) = report::record_for_c([run(0), run(1), run(2)], run(3));
             Ok(format!("record {number} {}", hexadecimal(&output)))
         }
+        OFFICE => office::office(run(0), run(1), run(2)).map(|verdict| verdict.to_string()),
         other => unreachable!("no record has the kind {other}"),
     }
 }

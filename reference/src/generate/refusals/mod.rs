@@ -5,6 +5,7 @@
 
 mod certificates;
 mod equalities;
+mod notes;
 mod order;
 mod problems;
 mod reports;
@@ -87,6 +88,7 @@ pub fn cases() -> Vec<Case> {
         rule_and_order::cases(),
         superseding::cases(),
         reports::cases(),
+        notes::cases(),
     ]
     .concat()
 }
@@ -181,7 +183,7 @@ mod tests {
         let in_problem = (2..=7).map(|number| (number, 0));
         let in_certificate = [2, 3, 4, 5, 6, 8, 9, 10];
         let in_certificate = in_certificate.iter().flat_map(|&n| [(n, 1), (n, 2)]);
-        let of_requests = [(1, 0), (11, 2), (12, 0)];
+        let of_requests = [(1, 0), (11, 2), (12, 0), (13, 1)];
         let all = in_problem.chain(in_certificate).chain(of_requests);
         assert_eq!(met, all.collect());
     }

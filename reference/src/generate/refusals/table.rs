@@ -42,7 +42,7 @@ length one short, and sees refusal 1 and all that was lent untouched.
 ";
 
 /// The words of document 01's table, and of the requests, for each number from 2 on.
-const TITLES: [&str; 11] = [
+const TITLES: [&str; 12] = [
     "stream ends in a command or without its end, or goes on after it",
     "command unknown in this stream or misplaced",
     "operand outside its rule",
@@ -54,6 +54,7 @@ const TITLES: [&str; 11] = [
     "in a pair, first side not 0 or second not 1",
     "of two certificates, both are accepted and their sides differ",
     "a record of a report is cut short, or a byte comes after the 64th",
+    "the buffer can't hold all notes",
 ];
 
 const STREAMS: [&str; 3] = [

@@ -4,6 +4,7 @@ mod empty_region;
 mod equalities;
 mod for_c;
 mod joining_rules;
+mod notes;
 mod orders;
 mod reports;
 mod superseding;
@@ -16,7 +17,7 @@ use crate::generate::certificates::{as_record, streams};
 use crate::generate::changes::{change_case, CHANGES};
 use crate::generate::damage::{self, damaged};
 use crate::generate::rng::Rng;
-use crate::records::{Record, BLOCKS, PAIR, RECORD, REPORT, SYMMETRIES, TIGHTER};
+use crate::records::{Record, BLOCKS, OFFICE, PAIR, RECORD, REPORT, SYMMETRIES, TIGHTER};
 
 pub use reports::packed;
 
@@ -56,6 +57,12 @@ pub const CALLS: &[Call] = &[
         special: for_c::special,
         random: for_c::random,
         count: 250,
+    },
+    Call {
+        kind: OFFICE,
+        special: notes::special,
+        random: notes::random,
+        count: 300,
     },
 ];
 
