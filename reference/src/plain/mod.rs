@@ -19,11 +19,12 @@ mod superseding;
 mod symmetries;
 #[cfg(test)]
 mod tests;
+mod window;
 
 pub use calls::{blocks, pair};
 
 use crate::records::{
-    hexadecimal, Record, BLOCKS, CHECK, OFFICE, PAIR, RECORD, REPORT, SYMMETRIES, TIGHTER,
+    hexadecimal, Record, BLOCKS, CHECK, OFFICE, PAIR, RECORD, REPORT, SYMMETRIES, TIGHTER, WINDOW,
 };
 use crate::refusal::Refusal;
 
@@ -43,6 +44,7 @@ pub fn answer(record: &Record) -> Result<String, Refusal> {
             Ok(format!("record {number} {}", hexadecimal(&output)))
         }
         OFFICE => office::office(run(0), run(1), run(2)).map(|verdict| verdict.to_string()),
+        WINDOW => Ok(window::window(run(0))),
         other => unreachable!("no record has the kind {other}"),
     }
 }

@@ -10,6 +10,7 @@ mod reports;
 mod superseding;
 mod symmetries;
 mod wide_factors;
+mod windows;
 
 use crate::generate::accepted::case;
 use crate::generate::blocks::valid_draft;
@@ -17,7 +18,7 @@ use crate::generate::certificates::{as_record, streams};
 use crate::generate::changes::{change_case, CHANGES};
 use crate::generate::damage::{self, damaged};
 use crate::generate::rng::Rng;
-use crate::records::{Record, BLOCKS, OFFICE, PAIR, RECORD, REPORT, SYMMETRIES, TIGHTER};
+use crate::records::{Record, BLOCKS, OFFICE, PAIR, RECORD, REPORT, SYMMETRIES, TIGHTER, WINDOW};
 
 pub use reports::packed;
 
@@ -63,6 +64,12 @@ pub const CALLS: &[Call] = &[
         special: notes::special,
         random: notes::random,
         count: 300,
+    },
+    Call {
+        kind: WINDOW,
+        special: windows::special,
+        random: windows::random,
+        count: 250,
     },
 ];
 
