@@ -35,6 +35,8 @@ pub const DIFFERENT_SIDES: u8 = 11;
 pub const RECORDS: u8 = 12;
 /// Req 10: the buffer can't hold all notes.
 pub const NOTES: u8 = 13;
+/// Req 12: the regions of two problems differ.
+pub const REGIONS: u8 = 15;
 
 /// The four fields of a refusal.
 #[derive(Clone, Copy, Debug, PartialEq, Eq)]

@@ -15,6 +15,7 @@ mod polynomial;
 mod problem;
 mod report;
 mod stream;
+mod sum;
 mod superseding;
 mod symmetries;
 #[cfg(test)]
@@ -24,7 +25,8 @@ mod window;
 pub use calls::{blocks, pair};
 
 use crate::records::{
-    hexadecimal, Record, BLOCKS, CHECK, OFFICE, PAIR, RECORD, REPORT, SYMMETRIES, TIGHTER, WINDOW,
+    hexadecimal, Record, BLOCKS, CHECK, OFFICE, PAIR, RECORD, REPORT, SUM, SYMMETRIES, TIGHTER,
+    WINDOW,
 };
 use crate::refusal::Refusal;
 
@@ -45,6 +47,7 @@ pub fn answer(record: &Record) -> Result<String, Refusal> {
         }
         OFFICE => office::office(run(0), run(1), run(2)).map(|verdict| verdict.to_string()),
         WINDOW => Ok(window::window(run(0))),
+        SUM => sum::sum([0, 1, 2, 3, 4, 5].map(run)).map(|sum| sum.to_string()),
         other => unreachable!("no record has the kind {other}"),
     }
 }

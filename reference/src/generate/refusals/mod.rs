@@ -8,6 +8,7 @@ mod equalities;
 mod notes;
 mod order;
 mod problems;
+mod regions;
 mod reports;
 mod rule_and_order;
 mod sums;
@@ -17,7 +18,7 @@ mod wide_factors;
 
 use crate::generate::samples;
 use crate::records::{Record, BLOCKS, CHECK, PAIR, SYMMETRIES};
-use crate::refusal::Refusal;
+use crate::refusal::{Refusal, SECOND};
 pub use table::print;
 
 /// Words of document 01 on both kinds of stream.
@@ -89,6 +90,7 @@ pub fn cases() -> Vec<Case> {
         superseding::cases(),
         reports::cases(),
         notes::cases(),
+        regions::cases(),
     ]
     .concat()
 }
@@ -136,7 +138,7 @@ fn case(
         words,
         text: None,
         runs: runs.into(),
-        calls: calls(expected.stream),
+        calls: calls(expected.stream.min(SECOND)),
         expected,
     }
 }
@@ -183,7 +185,9 @@ mod tests {
         let in_problem = (2..=7).map(|number| (number, 0));
         let in_certificate = [2, 3, 4, 5, 6, 8, 9, 10];
         let in_certificate = in_certificate.iter().flat_map(|&n| [(n, 1), (n, 2)]);
-        let of_requests = [(1, 0), (11, 2), (12, 0), (13, 1)];
+        let of_requests = [(1, 0), (11, 2), (12, 0), (13, 1), (15, 0)];
+        let of_requests = of_requests.into_iter().chain([2, 10].map(|n| (n, 4)));
+        let of_requests = of_requests.chain([(2, 3), (2, 5), (10, 5)]);
         let all = in_problem.chain(in_certificate).chain(of_requests);
         assert_eq!(met, all.collect());
     }

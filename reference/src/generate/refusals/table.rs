@@ -49,7 +49,7 @@ It stands in the line of the kind `w`, one for each arrival that is refused; the
 ";
 
 /// The words of document 01's table, and of the requests, for each number from 2 on.
-const TITLES: [&str; 12] = [
+const TITLES: [&str; 14] = [
     "stream ends in a command or without its end, or goes on after it",
     "command unknown in this stream or misplaced",
     "operand outside its rule",
@@ -62,12 +62,17 @@ const TITLES: [&str; 12] = [
     "of two certificates, both are accepted and their sides differ",
     "a record of a report is cut short, or a byte comes after the 64th",
     "the buffer can't hold all notes",
+    "a gap outside what a window holds",
+    "the regions of two problems differ",
 ];
 
-const STREAMS: [&str; 3] = [
+const STREAMS: [&str; 6] = [
     "in the problem, or of stream 0",
     "in the first certificate",
     "in the second certificate",
+    "in the second problem",
+    "in the lower certificate of the second problem",
+    "in the upper certificate of the second problem",
 ];
 
 /// Longer streams are not written out.
@@ -85,6 +90,9 @@ pub fn print() {
     let mut section = (1, 255);
     for case in &cases {
         let number = case.expected.number;
+        if section.0 < 14 && number > 14 {
+            print!("{FOURTEEN}");
+        }
         if number != section.0 {
             println!("\n## {number}: {}", TITLES[usize::from(number) - 2]);
         }
@@ -96,7 +104,6 @@ pub fn print() {
         section = (number, case.expected.stream);
         println!("{}", line(case, &corpus));
     }
-    print!("{FOURTEEN}");
 }
 
 fn line(case: &Case, corpus: &[Record]) -> String {

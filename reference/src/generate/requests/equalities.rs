@@ -30,6 +30,17 @@ pub fn change(rng: &mut Rng, streams: &mut Streams) {
     }
 }
 
+/// Makes constraint j an equality, with rows for it.
+pub fn equate(streams: &mut Streams, j: u8) {
+    let begun = places(&streams[0], 0x03);
+    if let Some(&place) = begun.get(usize::from(j) - 1) {
+        streams[0][place] = equality();
+        for certificate in &mut streams[1..] {
+            *certificate = rows(certificate, j, false);
+        }
+    }
+}
+
 /// The certificate's commands with every row on basis j as rows on an equality, of the other sign
 /// where `turned`. A weight above 32,767 makes two or three rows.
 fn rows(commands: &[Vec<u8>], j: u8, turned: bool) -> Vec<Vec<u8>> {

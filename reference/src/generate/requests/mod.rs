@@ -7,6 +7,7 @@ mod joining_rules;
 mod notes;
 mod orders;
 mod reports;
+mod sums;
 mod superseding;
 mod symmetries;
 mod wide_factors;
@@ -18,7 +19,9 @@ use crate::generate::certificates::{as_record, streams};
 use crate::generate::changes::{change_case, CHANGES};
 use crate::generate::damage::{self, damaged};
 use crate::generate::rng::Rng;
-use crate::records::{Record, BLOCKS, OFFICE, PAIR, RECORD, REPORT, SYMMETRIES, TIGHTER, WINDOW};
+use crate::records::{
+    Record, BLOCKS, OFFICE, PAIR, RECORD, REPORT, SUM, SYMMETRIES, TIGHTER, WINDOW,
+};
 
 pub use reports::packed;
 
@@ -69,6 +72,12 @@ pub const CALLS: &[Call] = &[
         kind: WINDOW,
         special: windows::special,
         random: windows::random,
+        count: 250,
+    },
+    Call {
+        kind: SUM,
+        special: sums::special,
+        random: sums::random,
         count: 250,
     },
 ];
