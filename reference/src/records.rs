@@ -11,7 +11,7 @@ pub const RUN: usize = 65_536;
 pub const BLOCKS: u8 = b'b';
 pub const CHECK: u8 = b'c';
 pub const PAIR: u8 = b'p';
-/// Those of the requests: 01, 02, 07, 14, 10, 11, 12.
+/// Those of the requests: 01, 02, 07, 14, 10, 11, 12, 13.
 pub const SYMMETRIES: u8 = b's';
 pub const TIGHTER: u8 = b't';
 pub const REPORT: u8 = b'r';
@@ -19,11 +19,14 @@ pub const RECORD: u8 = b'x';
 pub const OFFICE: u8 = b'n';
 pub const WINDOW: u8 = b'w';
 pub const SUM: u8 = b'd';
+pub const ADJUSTED: u8 = b'a';
 
 /// The number of runs of a kind. There is none for a byte that is no kind.
 pub fn run_count(kind: u8) -> Option<usize> {
     match kind {
-        BLOCKS | CHECK | PAIR | SYMMETRIES | TIGHTER | REPORT | OFFICE | WINDOW => Some(3),
+        BLOCKS | CHECK | PAIR | SYMMETRIES | TIGHTER | REPORT | OFFICE | WINDOW | ADJUSTED => {
+            Some(3)
+        }
         RECORD => Some(4),
         SUM => Some(6),
         _ => None,

@@ -6,6 +6,7 @@
 //! the baseline but monomials and the four fields of a refusal.
 
 mod accepting;
+mod adjusting;
 mod calls;
 mod certificate;
 mod joining;
@@ -25,8 +26,8 @@ mod window;
 pub use calls::{blocks, pair};
 
 use crate::records::{
-    hexadecimal, Record, BLOCKS, CHECK, OFFICE, PAIR, RECORD, REPORT, SUM, SYMMETRIES, TIGHTER,
-    WINDOW,
+    hexadecimal, Record, ADJUSTED, BLOCKS, CHECK, OFFICE, PAIR, RECORD, REPORT, SUM, SYMMETRIES,
+    TIGHTER, WINDOW,
 };
 use crate::refusal::Refusal;
 
@@ -48,6 +49,9 @@ pub fn answer(record: &Record) -> Result<String, Refusal> {
         OFFICE => office::office(run(0), run(1), run(2)).map(|verdict| verdict.to_string()),
         WINDOW => Ok(window::window(run(0))),
         SUM => sum::sum([0, 1, 2, 3, 4, 5].map(run)).map(|sum| sum.to_string()),
+        ADJUSTED => {
+            adjusting::adjusted(run(0), run(1), run(2)).map(|bound| format!("adjusted {bound}"))
+        }
         other => unreachable!("no record has the kind {other}"),
     }
 }

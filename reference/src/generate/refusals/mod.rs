@@ -3,6 +3,7 @@
 //! The answers stand in the lists and not in the program: the test below holds the reference to
 //! them, and the stored corpus holds the proved calls to them.
 
+mod adjusted;
 mod certificates;
 mod equalities;
 mod notes;
@@ -91,6 +92,7 @@ pub fn cases() -> Vec<Case> {
         reports::cases(),
         notes::cases(),
         regions::cases(),
+        adjusted::cases(),
     ]
     .concat()
 }
@@ -185,7 +187,7 @@ mod tests {
         let in_problem = (2..=7).map(|number| (number, 0));
         let in_certificate = [2, 3, 4, 5, 6, 8, 9, 10];
         let in_certificate = in_certificate.iter().flat_map(|&n| [(n, 1), (n, 2)]);
-        let of_requests = [(1, 0), (11, 2), (12, 0), (13, 1), (15, 0)];
+        let of_requests = [(1, 0), (11, 2), (12, 0), (13, 1), (15, 0), (16, 0), (17, 0)];
         let of_requests = of_requests.into_iter().chain([2, 10].map(|n| (n, 4)));
         let of_requests = of_requests.chain([(2, 3), (2, 5), (10, 5)]);
         let all = in_problem.chain(in_certificate).chain(of_requests);

@@ -49,7 +49,7 @@ It stands in the line of the kind `w`, one for each arrival that is refused; the
 ";
 
 /// The words of document 01's table, and of the requests, for each number from 2 on.
-const TITLES: [&str; 14] = [
+const TITLES: [&str; 16] = [
     "stream ends in a command or without its end, or goes on after it",
     "command unknown in this stream or misplaced",
     "operand outside its rule",
@@ -64,12 +64,14 @@ const TITLES: [&str; 14] = [
     "the buffer can't hold all notes",
     "a gap outside what a window holds",
     "the regions of two problems differ",
+    "some variable has no inequality that is exactly 1 − x_i²",
+    "an upper certificate where a lower one is asked for",
 ];
 
 const STREAMS: [&str; 6] = [
     "in the problem, or of stream 0",
     "in the first certificate",
-    "in the second certificate",
+    "in the second certificate, or of stream 2",
     "in the second problem",
     "in the lower certificate of the second problem",
     "in the upper certificate of the second problem",

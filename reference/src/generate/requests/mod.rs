@@ -1,5 +1,6 @@
 //! Records for the requests of document 02.
 
+mod adjusted;
 mod empty_region;
 mod equalities;
 mod for_c;
@@ -20,7 +21,7 @@ use crate::generate::changes::{change_case, CHANGES};
 use crate::generate::damage::{self, damaged};
 use crate::generate::rng::Rng;
 use crate::records::{
-    Record, BLOCKS, OFFICE, PAIR, RECORD, REPORT, SUM, SYMMETRIES, TIGHTER, WINDOW,
+    Record, ADJUSTED, BLOCKS, OFFICE, PAIR, RECORD, REPORT, SUM, SYMMETRIES, TIGHTER, WINDOW,
 };
 
 pub use reports::packed;
@@ -78,6 +79,12 @@ pub const CALLS: &[Call] = &[
         kind: SUM,
         special: sums::special,
         random: sums::random,
+        count: 250,
+    },
+    Call {
+        kind: ADJUSTED,
+        special: adjusted::special,
+        random: adjusted::random,
         count: 250,
     },
 ];
