@@ -5,6 +5,9 @@ use crate::generate::rng::Rng;
 use crate::monomial::Monomial;
 use crate::records::Record;
 
+/// A bound's p and q.
+type Bound = (i32, u16);
+
 /// The objective 0 with the conditions x >= 0 and -x - 1 >= 0, and 1 in every basis. A row on each of
 /// weight w, with the factor l, adds up to -w l², so that any p of that form is a lower bound, and an
 /// upper one.
@@ -36,7 +39,7 @@ fn bound_of(side: u8, value: i32, q: u16) -> DraftCertificate {
     }
 }
 
-fn pair((p, q): (i32, u16), (upper_p, upper_q): (i32, u16)) -> Record {
+fn pair((p, q): Bound, (upper_p, upper_q): Bound) -> Record {
     let [lower, upper] = [bound_of(0, p, q), bound_of(1, upper_p, upper_q)];
     Record::pair(contradictory().bytes(), lower.bytes(), upper.bytes())
 }
@@ -53,7 +56,7 @@ pub fn record(rng: &mut Rng) -> Record {
 }
 
 /// Pairs with the lines found by hand. S is 1 and x from the start, so that one round changes nothing.
-pub const LINES: [((i32, u16), (i32, u16), &str); 5] = [
+pub const LINES: [(Bound, Bound, &str); 5] = [
     ((1, 1), (-1, 1), "pair 1/1 -1/1 gap empty rounds 1 rule 1"),
     ((0, 1), (0, 1), "pair 0/1 0/1 gap 0/1 rounds 1 rule 1"),
     ((1, 2), (2, 4), "pair 1/2 2/4 gap 0/8 rounds 1 rule 1"),

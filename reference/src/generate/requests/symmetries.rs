@@ -11,9 +11,12 @@ fn record(problem: Vec<u8>) -> Record {
     record_of(SYMMETRIES, [problem, Vec::new(), Vec::new()])
 }
 
+/// The number of variables, exponents, and the masks.
+type Found = (u8, &'static [&'static [u8]], &'static [u8]);
+
 /// Problems with the masks found by hand, as the objective's exponents in so many variables.
 #[rustfmt::skip]
-pub const MASKS: [(u8, &[&[u8]], &[u8]); 8] = [
+pub const MASKS: [Found; 8] = [
     (1, &[], &[0, 1]),
     (1, &[&[1]], &[0]),
     (1, &[&[2]], &[0, 1]),
