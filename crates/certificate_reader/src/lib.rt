@@ -275,9 +275,9 @@ pub fn validate(sizes: &[usize], s: &[u8], starts: &mut [usize; 129]) -> Reading
         let i = decode_at(command, s, at);
         header = header_after(header, i);
         progress = progress_after(progress, i);
-        at = next;
         let begun = progress.rows;
-        starts[begun] = at;
+        starts[begun] = next;
+        at = next;
     }
     Reading {
         number: 2,
