@@ -44,7 +44,7 @@ loop-again c =
       (
         omega arith,
         scan-one (w .count) (placed (w .gaps)) (l .i) (t .loop-test .taken) (l .inv .0) (l .gap) (l .age) (l .inv .1 .1) true
-        (sym (c .if1 .taken) ∙ c .before .less .ensures),
+            (sym (c .if1 .taken) ∙ c .before .less .ensures),
       ),
     )
 
@@ -60,7 +60,7 @@ loop-again-2 c =
       (
         omega arith,
         scan-one (w .count) (placed (w .gaps)) (l .i) (t .loop-test .taken) (l .inv .0) (l .gap) (l .age) (l .inv .1 .1) false
-        (sym (c .if1 .left) ∙ c .before .less .ensures),
+            (sym (c .if1 .left) ∙ c .before .less .ensures),
       ),
     )
 

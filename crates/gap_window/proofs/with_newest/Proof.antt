@@ -58,7 +58,7 @@ loop-again c =
         (
           length-set (l .gaps) (l .i) (getD (s .window .gaps) (l .i - 1) none) ∙ h,
           fill-more (older (s .newest) (s .window .gaps)) (l .gaps) (l .i) (getD (s .window .gaps) (l .i - 1) none) (omega arith)
-          (one-older (s .newest) (s .window .gaps) (l .i) (l .inv .0)) (l .inv .1 .1 .1),
+              (one-older (s .newest) (s .window .gaps) (l .i) (l .inv .0)) (l .inv .1 .1 .1),
         ),
       ),
     )
