@@ -1,5 +1,5 @@
--- Request 11 of document 02, "Widest gap of the last 32": what each call returns, and the state that it leaves. Lists of
--- arrivals and of gaps have the newest first, so that a gap's age is its place.
+-- Request 11 of document 02, "Widest gap of the last 32": what each call returns, and the state that it leaves. Lists
+-- of arrivals and of gaps have the newest first, so that a gap's age is its place.
 use mathlib.Core.Path.{_≡_}
 use mathlib.Core.Bool.{Bool, cond, true, false, _||_}
 use mathlib.Core.List.{List, [], _∷_}
@@ -55,8 +55,8 @@ refusedArrival = record { refusal = record { number = 14; stream = 0; place = 0;
 abbrev pub foundWidest : AgedGap → WindowVerdict
 foundWidest w = record { refusal = noRefusal; widest = w .gap; age = w .age }
 
--- "each call's outcome is refusal 14 or the widest of the last 32 accepted so far, with its age": an arrival a after those
--- in past
+-- "each call's outcome is refusal 14 or the widest of the last 32 accepted so far, with its age": an arrival a after
+-- those in past
 unfoldable pub arrivalVerdict : List Fraction → Fraction → WindowVerdict
 arrivalVerdict past a = cond (isRefused a) refusedArrival (foundWidest (widestOf (lastAccepted (a ∷ past))))
 
@@ -96,8 +96,8 @@ pushVerdicts w (a ∷ l) = pushVerdict w a ∷ pushVerdicts (windowAfter w a) l
 abbrev pub StandsFor : GapWindow → List Fraction → Type 0
 StandsFor w past = held w ≡ lastAccepted past
 
--- "For every list of arrivals from an empty state": an empty state stands for no arrivals, and a call goes from any list
--- of arrivals to the list with one more
+-- "For every list of arrivals from an empty state": an empty state stands for no arrivals, and a call goes from any
+-- list of arrivals to the list with one more
 pub record AfterArrivals (w : GapWindow) (a : Fraction) (r : Pushed) : Type 0 where
   pub verdict : (past : List Fraction) → StandsFor w past → r .verdict ≡ arrivalVerdict past a
   pub window : (past : List Fraction) → StandsFor w past → StandsFor (r .window) (a ∷ past)

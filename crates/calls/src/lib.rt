@@ -1,5 +1,5 @@
-// What the calls return and leave, for all inputs, and what they promise: types here, definitions in specs/, theorems in
-// proofs/. No code.
+// What the calls return and leave, for all inputs, and what they promise: types here, definitions in specs/, theorems
+// in proofs/. No code.
 
 // A refusal, as document 01's table numbers them: number is 0 where nothing is refused, and then the other fields are
 // 0.
@@ -43,8 +43,8 @@ pub struct PairVerdict {
     pub rounds: usize,
 }
 
-// The latest gaps of a test line, the newest first: the gap of age j stands at place j, for the first `count` places, or
-// for all 32. Every value is a state.
+// The latest gaps of a test line, the newest first: the gap of age j stands at place j, for the first `count` places,
+// or for all 32. Every value is a state.
 pub struct GapWindow {
     pub gaps: [Fraction; 32],
     pub count: usize,

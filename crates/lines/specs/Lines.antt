@@ -98,7 +98,8 @@ checkLine v =
 abbrev pub pairLine : PairVerdict → List ℕ
 pairLine v = pairWords (ascii "pair ") (ascii " ") (ascii " gap ") (ascii " rounds ") v
 
--- the outcomes of the arrivals, in order: the widest gap and its age, or the number of the refusal, with "; " between them
+-- the outcomes of the arrivals, in order: the widest gap and its age, or the number of the refusal, with "; " between
+-- them
 unfoldable pub arrivalWord : WindowVerdict → List ℕ
 arrivalWord v =
     cond (ltb 0 (v .refusal .number)) (decimal (v .refusal .number)) (ratio (v .widest) ++ withNumber " " (v .age))
