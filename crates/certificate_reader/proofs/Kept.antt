@@ -6,10 +6,10 @@ use Prim.Native.Nat.{ℕ, _+_, _≤_, _<_}
 use native.Mathlib.Numerals.{add-one}
 use native.Mathlib.Omega.{arith}
 use lib.Dec.{ltb}
-use lib.ListN.{length, getD, length-append, length-set}
+use lib.ListN.{length, getD, set, length-append, length-set}
 use borrow.Author.Tests.{leb-true, leb-false, ltb-true}
 use Rattle.counting.proofs.Cases.{and-left, and-right}
-use Rattle.format.specs.Commands.{refused, given}
+use Rattle.format.specs.Commands.{refused}
 use Rattle.format.specs.Operands.{number}
 use Rattle.format.proofs.Run.{Left, left-start, left-end, left-refused, left-extra, left-given, left-next}
 use Rattle.format.specs.ProblemRules.{Problem}
@@ -17,13 +17,15 @@ use Rattle.format.proofs.WithinLimits.{Limits}
 use Rattle.format.specs.declared.certificate.Command.{Command}
 use Rattle.format.specs.declared.certificate.Command.the-variants as C
 use Rattle.format.specs.declared.certificate.Header.{Header}
-use Rattle.format.specs.CertificateLayout.{certificateSize, certificateDecoded}
+use Rattle.format.specs.CertificateLayout.{certificateDecoded}
 use Rattle.format.specs.CertificateRules.{Certificate, noHeader, noCertificate, lastRow, mostRows, certificatePlaced, certificateApplied, certificateCommandAt, certificateInstructionAt, certificateRefusalAt, certificateNext, certificateLanguage, readCertificate}
 use Rattle.format.proofs.CertificateChecks.{last-append, last-set, Passed, passed, taken-size, taken-whole}
-use Rattle.certificate_reader.specs.declared.Shape.{Shape}
 use Rattle.certificate_reader.specs.declared.Progress.{Progress}
-use Rattle.certificate_reader.specs.Kept.{shapeOf, progressOf, noProgress, headerOutcome, headed, advanced, ProgressWithin}
+use Rattle.certificate_reader.specs.declared.Reading.{Reading}
+use Rattle.certificate_reader.specs.Kept.{Sized, progressOf, noProgress, headed, advanced, ProgressWithin}
+use Rattle.certificate_reader.specs.Rows.{sizeAt, GivenRows, Validated}
 use Rattle.certificate_reader.proofs.Shapes.{rows-are, floor-more}
+use Rattle.certificate_reader.proofs.Rows.{Noted, noted-start, noted-next}
 
 -- the header and the progress of what has been read after a command
 module _ (c : Certificate) (s : List ℕ) (at : ℕ) where
@@ -53,57 +55,65 @@ module _ (c : Certificate) (s : List ℕ) (at : ℕ) where
   next-progress p = applied-progress (certificateCommandAt s at) p
 
 -- ---- what the reader's loop keeps, read against the problem p: from the command at the offset at on, the rules give what they give for
--- the whole stream s; of the certificate read so far, the header t and the progress g are at hand
-pub record Held (p : Problem) (s : List ℕ) (t : Header) (g : Progress) (at : ℕ) : Type 0 where
+-- the whole stream s; of the certificate read so far, the header t, the progress g and the offsets of the rows are at hand
+pub record Held (p : Problem) (s : List ℕ) (t : Header) (g : Progress) (starts : List ℕ) (at : ℕ) : Type 0 where
   pub read : Certificate
   pub header : t ≡ read .header
   pub progress : g ≡ progressOf read
   pub bounded : ProgressWithin g
   pub inside : at ≤ length s
+  pub noted : Noted s starts at (g .rows) (read .rows)
   pub left : Left (certificateLanguage p) s (readCertificate p s) read at
 
--- the same for every problem of the shape h
-abbrev pub HeldFor : Shape → List ℕ → Header → Progress → ℕ → Type 0
-HeldFor h s t g at = (p : Problem) → Limits p → h ≡ shapeOf p → Held p s t g at
+-- the same for every problem with these sizes
+abbrev pub HeldFor : List ℕ → List ℕ → Header → Progress → List ℕ → ℕ → Type 0
+HeldFor sizes s t g starts at = (p : Problem) → Limits p → Sized p sizes → Held p s t g starts at
 
 module _ (p : Problem) (s : List ℕ) where
-  pub held-start : Held p s noHeader noProgress 0
+  pub held-start : (starts : List ℕ) → length starts ≡ 129 → Held p s noHeader noProgress starts 0
   unfolding readCertificate progressOf
-  held-start = record {
+  held-start starts h = record {
     read = noCertificate;
     header = refl;
     progress = refl;
     bounded = record { rows = omega arith; basis = omega arith };
     inside = omega arith;
+    noted = noted-start s starts h;
     left = left-start (certificateLanguage p) s noCertificate;
   }
 
-  module _ (t : Header) (g : Progress) (at : ℕ) (k : Held p s t g at) where
+  -- a refusal
+  pub said : (r : Reading) (starts : List ℕ) → 0 < r .number → refused (r .number) (r .place) ≡ readCertificate p s → Validated p s r starts
+  said r starts h e = record { gives = λ z. absurd (omega arith); refuses = λ _. sym e }
+
+  module _ (t : Header) (g : Progress) (starts : List ℕ) (at : ℕ) (k : Held p s t g starts at) where
     -- the stream ends here
-    pub held-end : length s ≤ at → refused 2 at ≡ headerOutcome (readCertificate p s)
-    unfolding headerOutcome
+    pub held-end : length s ≤ at → refused 2 at ≡ readCertificate p s
     held-end e =
         let i = k .inside in
         let z : at ≡ length s = omega arith in
-        rw z (ap headerOutcome (left-end (certificateLanguage p) s _ (k .read) at (k .left) e))
+        rw z (left-end (certificateLanguage p) s _ (k .read) at (k .left) e)
 
     module _ (e : at < length s) where
-      pub held-refused : (v : ℕ) → v ≡ certificateRefusalAt p (k .read) s at → 0 < v → refused v at ≡ headerOutcome (readCertificate p s)
-      unfolding headerOutcome
-      held-refused v z o = rw z (ap headerOutcome (left-refused (certificateLanguage p) s _ (k .read) at (k .left) e (rw z at o)))
+      pub held-refused : (v : ℕ) → v ≡ certificateRefusalAt p (k .read) s at → 0 < v → refused v at ≡ readCertificate p s
+      held-refused v z o = rw z (left-refused (certificateLanguage p) s _ (k .read) at (k .left) e (rw z at o))
 
       module _ (v : certificateRefusalAt p (k .read) s at ≡ 0) where
         -- the end command
-        pub held-extra : getD s at 0 ≡ 0x13 → at + 1 < length s → refused 2 (at + 1) ≡ headerOutcome (readCertificate p s)
-        unfolding headerOutcome
-        held-extra b m = ap headerOutcome (left-extra (certificateLanguage p) s _ (k .read) at (k .left) e v b m)
+        pub held-extra : getD s at 0 ≡ 0x13 → at + 1 < length s → refused 2 (at + 1) ≡ readCertificate p s
+        held-extra b m = left-extra (certificateLanguage p) s _ (k .read) at (k .left) e v b m
 
-        pub held-given : getD s at 0 ≡ 0x13 → length s ≤ at + 1 → given t ≡ headerOutcome (readCertificate p s)
-        unfolding headerOutcome
-        held-given b m = rw (k .header) (ap headerOutcome (left-given (certificateLanguage p) s _ (k .read) at (k .left) e v b m))
+        pub held-given : getD s at 0 ≡ 0x13 → length s ≤ at + 1 → GivenRows p s t starts (g .rows)
+        held-given b m = record {
+          certificate = k .read;
+          read = sym (left-given (certificateLanguage p) s _ (k .read) at (k .left) e v b m);
+          header-is = k .header;
+          rows-are = k .noted .are;
+          stand = k .noted .stand;
+        }
 
         -- the progress keeps its limits
-        bounded-next : Limits p → ProgressWithin (advanced g (certificateInstructionAt s at))
+        pub bounded-next : Limits p → ProgressWithin (advanced g (certificateInstructionAt s at))
         bounded-next l = go (certificateCommandAt s at) (passed p (k .read) s at v)
           where
             go : (i : Command) → Passed p (k .read) s at i → ProgressWithin (advanced g (certificateDecoded i s at))
@@ -117,7 +127,9 @@ module _ (p : Problem) (s : List ℕ) where
             go C.End h = k .bounded
             go C.Unknown h = k .bounded
 
-        pub held-next : Limits p → (getD s at 0 ≡ 0x13 → ⊥) → Held p s (headed t (certificateInstructionAt s at)) (advanced g (certificateInstructionAt s at)) (at + certificateSize (certificateCommandAt s at))
+        pub held-next : Limits p → (getD s at 0 ≡ 0x13 → ⊥)
+            → let h = advanced g (certificateInstructionAt s at) in let x = at + sizeAt s at in
+            Held p s (headed t (certificateInstructionAt s at)) h (set starts (h .rows) x) x
         held-next l b = record {
           read = certificateNext (k .read) s at;
           header = ap (λ (x : Header). headed x (certificateInstructionAt s at)) (k .header) ∙ sym (next-header (k .read) s at);
@@ -126,5 +138,6 @@ module _ (p : Problem) (s : List ℕ) where
               ∙ sym (next-progress (k .read) s at (passed p (k .read) s at v .placed));
           bounded = bounded-next l;
           inside = taken-whole p (k .read) s at v;
+          noted = noted-next p s starts at (k .read) g (k .progress) (k .noted) v b;
           left = left-next (certificateLanguage p) s _ (k .read) at (k .left) e v b (taken-size p (k .read) s at v);
         }

@@ -1,233 +1,232 @@
--- The rows read off a stream's bytes again are all the rows of the certificate that the stream gives.
-use mathlib.Core.Path.{_≡_, refl, ap, sym, _∙_}
-use mathlib.Core.List.{List, [], _∷_, _++_, append-nil, append-assoc}
-use mathlib.Core.Bool.{Bool, true, false, cond, _&&_}
-use Prim.Native.Nat.{ℕ, zero, suc, _+_, _-_, _*_, _≤_, _<_}
+-- Laws of the rows by their offsets: a row begun, one entry more, and what the reader's loop notes.
+use mathlib.Core.Path.{_≡_, refl, ap, ap₂, sym, _∙_}
+use mathlib.Core.List.{List, [], _∷_, _++_}
+use mathlib.Core.Bool.{Bool, true, false, cond}
+use mathlib.Core.Logic.{⊎-elim}
+use Prim.Native.Nat.{ℕ, zero, suc, _+_, _-_, _≤_, _<_}
+use native.Mathlib.Nat.{eq-or-lt-of-le}
+use native.Mathlib.Numerals.{add-one}
 use native.Mathlib.Omega.{arith}
-use lib.Dec.{eqb, leb, ltb}
-use lib.ListN.{length, getD, set, length-append, length-set}
-use borrow.Author.Tests.{le-leb, leb-true, leb-false, ltb-true, not-false, eq-eqb, ne-eqb, eqb-true}
-use Rattle.counting.proofs.Cases.{and-left, and-right}
+use lib.Dec.{eqb, ltb}
+use lib.ListN.{length, getD, set, length-set}
+use lib.Seq.{getD-set-same, getD-set-other}
+use borrow.Author.Tests.{lt-ltb, le-ltb, leb-true, leb-false, ltb-true, eqb-true}
+use Rattle.counting.proofs.Cases.{clash, and-left, and-right}
 use Rattle.counting.specs.Counting.{listed}
-use Rattle.counting.proofs.Listed.{listed-same, listed-first}
-use Rattle.format.specs.Commands.{given}
-use Rattle.format.specs.Operands.{number, signed}
-use Rattle.format.proofs.Run.{Taken, read-induction}
+use Rattle.counting.proofs.Listed.{listed-at, listed-length, listed-more, listed-set}
 use Rattle.format.specs.declared.certificate.Command.{Command}
 use Rattle.format.specs.declared.certificate.Command.the-variants as C
 use Rattle.format.specs.ProblemRules.{Problem}
-use Rattle.format.specs.ProblemBases.{basisOf}
-use Rattle.format.proofs.WithinLimits.{Limits}
 use Rattle.format.specs.CertificateLayout.{certificateCommand, certificateSize, certificateDecoded}
-use Rattle.format.specs.CertificateRules.{Entry, Row, Certificate, noCertificate, noRow, lastRow, mostRows, withEntry, certificateApplied, certificateCommandAt, certificateRefusalAt, certificateNext, certificateLanguage, readCertificate}
-use Rattle.certificate_reader.specs.Kept.{floorOf}
-use Rattle.certificate_reader.specs.Rows.{stands, entryCount, entryAt, rowAt, afterRow, rowsFrom, rowsOf}
-use Rattle.format.proofs.CertificateChecks.{last-set, Passed, passed}
-use Rattle.certificate_reader.proofs.Shapes.{basis-few, floor-low, floor-more}
+use Rattle.format.specs.CertificateRules.{Entry, Row, Certificate, noRow, lastRow, mostRows, withEntry, certificateApplied, certificateCommandAt, certificateInstructionAt, certificateRefusalAt, certificateNext}
+use Rattle.format.proofs.CertificateChecks.{Passed, passed}
+use Rattle.certificate_reader.specs.declared.Progress.{Progress}
+use Rattle.certificate_reader.specs.Kept.{progressOf, advanced, ProgressWithin}
+use Rattle.certificate_reader.specs.Rows.{sizeAt, entryAt, entriesFrom, rowAt, rowsBy, EntriesStand, done, more, RowStands, RowsStand}
+use Rattle.certificate_reader.proofs.Shapes.{rows-are}
 
--- ---- rows that grow: the entries es join the last of them, and the rows after it follow
-abbrev withEntries : Row → List Entry → Row
-withEntries r es = record { basis = r .basis; weight = r .weight; entries = r .entries ++ es }
+-- ---- the walk over the entries
+none-left : (s : List ℕ) (n to : ℕ) → entriesFrom n s to to ≡ []
+unfolding entriesFrom
+none-left s zero to = refl
+none-left s (suc n) to = rw (le-ltb to to (omega arith))
 
-grown : List Row → List Entry → List Row → List Row
-grown [] es rest = rest
-grown (r ∷ []) es rest = withEntries r es ∷ rest
-grown (r ∷ q ∷ rs) es rest = r ∷ grown (q ∷ rs) es rest
+module _ {s : List ℕ} where
+  pub stand-low : {to at : ℕ} {es : List Entry} → EntriesStand s to at es → at + length es ≤ to
+  stand-low done = omega arith
+  stand-low (more e w) = let k = stand-low w in omega arith
 
-grown-none : (rs : List Row) → grown rs [] [] ≡ rs
-unfolding grown
-grown-none [] = refl
-grown-none (r ∷ []) = rw (append-nil (r .entries))
-grown-none (r ∷ q ∷ rs) = ap (λ (l : List Row). r ∷ l) (grown-none (q ∷ rs))
+  -- the entries that stand there are those that are defined
+  pub stand-is : {to at : ℕ} {es : List Entry} → EntriesStand s to at es → (n : ℕ) → to ≤ at + n → entriesFrom n s to at ≡ es
+  unfolding entriesFrom
+  stand-is {to} done n h = none-left s n to
+  stand-is (more e w) zero h = absurd (omega (arith, stand-low w))
+  stand-is {to} (more {at} {es} e w) (suc n) h =
+      let b = stand-low w in
+      let l : at < to = omega arith in
+      rw (lt-ltb at to l, e) (ap (λ (l : List Entry). entryAt s at ∷ l) (stand-is w n (omega arith)))
 
--- a row begun
-grown-row : (rs : List Row) (r : Row) (es : List Entry) (rest : List Row) → grown (rs ++ (r ∷ [])) es rest ≡ grown rs [] (withEntries r es ∷ rest)
-unfolding grown
-grown-row [] r es rest = refl
-grown-row (x ∷ []) r es rest = rw (append-nil (x .entries))
-grown-row (x ∷ y ∷ rs) r es rest = ap (λ (l : List Row). x ∷ l) (grown-row (y ∷ rs) r es rest)
+  stand-more : {to at : ℕ} {es : List Entry} → EntriesStand s to at es → certificateCommandAt s to ≡ C.Entry → EntriesStand s (to + 4) at (es ++ (entryAt s to ∷ []))
+  stand-more done e = more e done
+  stand-more (more f w) e = more f (stand-more w e)
 
--- one entry more
-grown-entry : (rs : List Row) (e : Entry) (es : List Entry) (rest : List Row) → 0 < length rs → grown (set rs (length rs - 1) (withEntry (lastRow rs) e)) es rest ≡ grown rs (e ∷ es) rest
-unfolding grown
-grown-entry [] e es rest h = absurd (omega arith)
-grown-entry (r ∷ rs) e es rest h = let z : length (r ∷ rs) - 1 ≡ length rs = omega arith in rw z (go r rs (length rs) refl)
-  where
-    beyond : (r : Row) (l : List Row) → 0 < length l → grown (r ∷ l) es rest ≡ r ∷ grown l es rest
-    beyond r [] h = absurd (omega arith)
-    beyond r (x ∷ l) h = refl
+-- ---- one row: begun, and with one entry more
+module _ (s : List ℕ) where
+  module _ (at : ℕ) (e : certificateCommandAt s at ≡ C.Row) where
+    begun-none : rowAt s at (at + 4) .entries ≡ []
+    begun-none = rw e (none-left s (at + 4 - at) (at + 4))
 
-    go : (r : Row) (rs : List Row) (n : ℕ) → length rs ≡ n → grown (set (r ∷ rs) n (withEntry (getD (r ∷ rs) n noRow) e)) es rest ≡ grown (r ∷ rs) (e ∷ es) rest
-    go r [] zero h = rw (append-assoc (r .entries) (e ∷ []) es)
-    go r [] (suc n) h = absurd (omega arith)
-    go r (q ∷ rs) zero h = absurd (omega arith)
-    go r (q ∷ rs) (suc n) h =
-        beyond r (set (q ∷ rs) n (withEntry (getD (q ∷ rs) n noRow) e)) (rw (length-set (q ∷ rs) n) (omega arith))
-        ∙ ap (λ (l : List Row). r ∷ l) (go q rs n (omega arith))
+    row-begun : at + 4 ≤ length s → RowStands s at (at + 4)
+    row-begun h = record { command = e; entries = rw begun-none done; inside = h }
 
--- ---- what stands at an offset
--- the byte of a command
-abbrev ByteIs : Command → ℕ → Type 0
-ByteIs C.Header b = b ≡ 0x10
-ByteIs C.Row b = b ≡ 0x11
-ByteIs C.Entry b = b ≡ 0x12
-ByteIs C.End b = b ≡ 0x13
-ByteIs C.Unknown b = Unit {0}
+  module _ (from at : ℕ) (k : RowStands s from at) (e : certificateCommandAt s at ≡ C.Entry) where
+    abbrev longer : List Entry
+    longer = rowAt s from at .entries ++ (entryAt s at ∷ [])
 
-byte-is : (b : ℕ) → ByteIs (certificateCommand b) b
+    stand-longer : EntriesStand s (at + 4) (from + 4) longer
+    stand-longer = stand-more (k .entries) e
+
+    entries-longer : rowAt s from (at + 4) .entries ≡ longer
+    entries-longer =
+        ap (λ (i : Command). entriesFrom (at + 4 - from) s (at + 4) (from + certificateSize i)) (k .command)
+        ∙ stand-is stand-longer (at + 4 - from) (omega arith)
+
+    row-longer : at + 4 ≤ length s → RowStands s from (at + 4)
+    row-longer h = record { command = k .command; entries = rw entries-longer stand-longer; inside = h }
+
+    row-entry : rowAt s from (at + 4) ≡ withEntry (rowAt s from at) (entryAt s at)
+    row-entry = rw entries-longer
+
+-- ---- all rows: the last offset stored anew
+module _ (s starts : List ℕ) (n x : ℕ) where
+  rows-begun : n + 1 < length starts → rowsBy s (set starts (n + 1) x) (n + 1) ≡ rowsBy s starts n ++ (rowAt s (getD starts n 0) x ∷ [])
+  unfolding rowsBy
+  rows-begun h =
+      listed-more n _ _ _
+      (λ i l. rw (getD-set-other starts (n + 1) i x 0 (λ q. omega arith), getD-set-other starts (n + 1) (i + 1) x 0 (λ q. omega arith)))
+      (rw (getD-set-other starts (n + 1) n x 0 (λ q. omega arith), getD-set-same starts (n + 1) x 0 h))
+
+  rows-longer : n + 1 < length starts → rowsBy s (set starts (n + 1) x) (n + 1) ≡ set (rowsBy s starts (n + 1)) n (rowAt s (getD starts n 0) x)
+  unfolding rowsBy
+  rows-longer h =
+      listed-set (n + 1) _ _ n _
+      (λ i l f. rw (getD-set-other starts (n + 1) i x 0 (λ q. omega arith), getD-set-other starts (n + 1) (i + 1) x 0 (λ q. f (omega arith))))
+      (λ l. rw (getD-set-other starts (n + 1) n x 0 (λ q. omega arith), getD-set-same starts (n + 1) x 0 h))
+
+  -- what stands before the last row stays
+  stand-set : n + 1 < length starts → n + 1 ≤ mostRows → ((r : ℕ) → r < n → RowStands s (getD starts r 0) (getD starts (r + 1) 0)) → RowStands s (getD starts n 0) x
+      → RowsStand s (set starts (n + 1) x) (n + 1)
+  stand-set h m k l =
+      record {
+        few = m;
+        each = λ r b.
+            ⊎-elim
+            (λ e. rw (e, getD-set-other starts (n + 1) n x 0 (λ q. omega arith), getD-set-same starts (n + 1) x 0 h) l)
+            (λ d. rw (getD-set-other starts (n + 1) r x 0 (λ q. omega arith), getD-set-other starts (n + 1) (r + 1) x 0 (λ q. omega arith)) (k r d))
+            (eq-or-lt-of-le {n = r} {m = n} (omega arith));
+      }
+
+pub rows-length : (s starts : List ℕ) (n : ℕ) → length (rowsBy s starts n) ≡ n
+unfolding rowsBy
+rows-length s starts n = listed-length n _
+
+-- row r of the rows by their offsets
+pub row-by : (s starts : List ℕ) (n r : ℕ) (d : Row) → r < n → getD (rowsBy s starts n) r d ≡ rowAt s (getD starts r 0) (getD starts (r + 1) 0)
+unfolding rowsBy
+row-by s starts n r d h = listed-at n _ r d h
+
+-- ---- what the reader's loop notes before the command at an offset: the offsets give the n rows rs read so far, and the last is where
+-- that command stands
+pub record Noted (s starts : List ℕ) (at n : ℕ) (rs : List Row) : Type 0 where
+  pub starts-length : length starts ≡ 129
+  pub first : at ≡ 0 → n ≡ 0
+  pub last : 0 < at → getD starts n 0 ≡ at
+  pub are : rs ≡ rowsBy s starts n
+  pub stand : RowsStand s starts n
+
+pub noted-start : (s starts : List ℕ) → length starts ≡ 129 → Noted s starts 0 0 []
+unfolding rowsBy listed
+noted-start s starts h = record {
+  starts-length = h;
+  first = λ _. refl;
+  last = λ z. absurd (omega arith);
+  are = refl;
+  stand = record { few = omega arith; each = λ r b. absurd (omega arith) };
+}
+
+-- the end command is that of the byte 13
+abbrev EndIs : Command → ℕ → Type 0
+EndIs C.End b = b ≡ 0x13
+EndIs C.Header b = Unit {0}
+EndIs C.Row b = Unit {0}
+EndIs C.Entry b = Unit {0}
+EndIs C.Unknown b = Unit {0}
+
+end-is : (b : ℕ) → EndIs (certificateCommand b) b
 unfolding certificateCommand
-byte-is b = go (eqb b 0x10) refl (eqb b 0x11) refl (eqb b 0x12) refl (eqb b 0x13) refl
+end-is b = go (eqb b 0x10) (eqb b 0x11) (eqb b 0x12) (eqb b 0x13) refl
   where
-    go : (t : Bool) → eqb b 0x10 ≡ t → (u : Bool) → eqb b 0x11 ≡ u → (v : Bool) → eqb b 0x12 ≡ v → (w : Bool) → eqb b 0x13 ≡ w
-        → ByteIs (cond t C.Header (cond u C.Row (cond v C.Entry (cond w C.End C.Unknown)))) b
-    go true e u f v g w h = eqb-true b 0x10 e
-    go false e true f v g w h = eqb-true b 0x11 f
-    go false e false f true g w h = eqb-true b 0x12 g
-    go false e false f false g true h = eqb-true b 0x13 h
-    go false e false f false g false h = tt
+    go : (t u v w : Bool) → eqb b 0x13 ≡ w → EndIs (cond t C.Header (cond u C.Row (cond v C.Entry (cond w C.End C.Unknown)))) b
+    go true u v w h = tt
+    go false true v w h = tt
+    go false false true w h = tt
+    go false false false true h = eqb-true b 0x13 h
+    go false false false false h = tt
 
-module _ (s : List ℕ) (at : ℕ) where
-  stands-here : (b : ℕ) → at + 4 ≤ length s → getD s at 0 ≡ b → stands b s at ≡ true
-  unfolding stands
-  stands-here b l e = rw (le-leb (at + 4) (length s) l, eq-eqb (getD s at 0) b e)
+module _ (p : Problem) (s starts : List ℕ) (at : ℕ) (c : Certificate) (g : Progress) (is : g ≡ progressOf c) (k : Noted s starts at (g .rows) (c .rows)) where
+  -- the offset after the command, stored
+  abbrev After : Command → Type 0
+  After i =
+      let a = certificateDecoded i s at in
+      let n = advanced g a .rows in
+      let x = at + certificateSize i in
+      Noted s (set starts n x) x n (certificateApplied c a at .rows)
 
-  stands-other : (x b : ℕ) → getD s at 0 ≡ x → (x ≡ b → ⊥) → stands b s at ≡ false
-  unfolding stands
-  stands-other x b e d = rw (ne-eqb (getD s at 0) b (λ q. d (sym e ∙ q))) (and-false (leb (at + 4) (length s)))
-    where
-      and-false : (t : Bool) → (t && false) ≡ false
-      and-false true = refl
-      and-false false = refl
+  noted-header : Passed p c s at C.Header → After C.Header
+  unfolding certificateApplied rowsBy listed
+  noted-header h =
+      let z = eqb-true at 0 (h .placed) in
+      let n = k .first z in
+      let l = k .starts-length in
+      record {
+        starts-length = length-set starts _ _ ∙ l;
+        first = λ q. n;
+        last = λ q. getD-set-same starts (g .rows) _ 0 (omega arith);
+        are = rw n (rw n at (k .are));
+        stand = record { few = omega arith; each = λ r b. absurd (omega arith) };
+      }
 
--- the entry whose command stands at an offset, and the entries from there on, up to m
-abbrev entryHere : List ℕ → ℕ → Entry
-entryHere s at = record { index = number 1 s (at + 1); factor = signed 15 (number 2 s (at + 2)); place = at }
-
-abbrev entriesFrom : ℕ → List ℕ → ℕ → List Entry
-entriesFrom m s at = listed (entryCount m s at) (entryAt s at)
-
-module _ (s : List ℕ) (at : ℕ) where
-  no-entry : (m : ℕ) → stands 0x12 s at ≡ false → entryCount m s at ≡ 0
-  unfolding entryCount
-  no-entry zero f = refl
-  no-entry (suc m) f = rw f
-
-  pub no-row : (n : ℕ) → stands 0x11 s at ≡ false → rowsFrom n s at ≡ []
-  unfolding rowsFrom
-  no-row zero f = refl
-  no-row (suc n) f = rw f
-
-  pub one-row : (n : ℕ) → stands 0x11 s at ≡ true → rowsFrom (suc n) s at ≡ rowAt s at ∷ rowsFrom n s (afterRow s at)
-  unfolding rowsFrom
-  one-row n t = rw t
-
-  one-entry : (m : ℕ) → stands 0x12 s at ≡ true → entryCount (suc m) s at ≡ suc (entryCount m s (at + 4))
-  unfolding entryCount
-  one-entry m t = rw t
-
-  -- the first entry and the others
-  first-entry : (m : ℕ) → stands 0x12 s at ≡ true → entriesFrom (suc m) s at ≡ entryHere s at ∷ entriesFrom m s (at + 4)
-  unfolding entryAt
-  first-entry m t =
-      let n = entryCount m s (at + 4) in
-      let z : at + 0 ≡ at = omega arith in
-      let here : entryAt s at 0 ≡ entryHere s at = rw z in
-      let there : listed n (λ i. entryAt s at (suc i)) ≡ entriesFrom m s (at + 4) = listed-same n _ _ (λ i p. let e : at + 4 * suc i ≡ at + 4 + 4 * i = omega arith in rw e) in
-      rw (one-entry m t) (listed-first n (entryAt s at) ∙ cc (here, there))
-
--- ---- from a command on
-module _ (p : Problem) (limits : Limits p) (s : List ℕ) where
-  -- what the stream gives has the rows read before an offset, with the entries and then the rows that stand there. As indices rise
-  -- below 64 and no more than 128 rows begin, the counts m and n never cut it short
-  abbrev Rest : Certificate → ℕ → Certificate → Type 0
-  Rest a at b = (n m : ℕ) → mostRows ≤ n + length (a .rows) → (0 < length (a .rows) → 64 ≤ m + floorOf (lastRow (a .rows) .entries))
-      → b .rows ≡ grown (a .rows) (entriesFrom m s at) (rowsFrom n s (at + 4 * entryCount m s at))
-
-  rest-end : (a : Certificate) (at : ℕ) → getD s at 0 ≡ 0x13 → Rest a at a
-  unfolding listed
-  rest-end a at e n m hn hm =
-      let z = no-entry s at m (stands-other s at 0x13 0x12 e (λ d. omega arith)) in
-      let y : at + 4 * entryCount m s at ≡ at = omega arith in
-      rw (y, z, no-row s at n (stands-other s at 0x13 0x11 e (λ d. omega arith))) (sym (grown-none (a .rows)))
-
-  rest-row : (a b : Certificate) (at : ℕ) → Passed p a s at C.Row → getD s at 0 ≡ 0x11 → Rest (certificateApplied a (certificateDecoded C.Row s at) at) (at + 4) b → Rest a at b
-  unfolding listed certificateApplied rowAt afterRow
-  rest-row a b at h e f zero m hn hm = absurd (omega (arith, leb-false mostRows (length (a .rows)) (h .full)))
-  rest-row a b at h e f (suc n) m hn hm =
-      let z = no-entry s at m (stands-other s at 0x11 0x12 e (λ d. omega arith)) in
-      let y : at + 4 * entryCount m s at ≡ at = omega arith in
-      rw (y, z, one-row s at n (stands-here s at 0x11 (leb-true _ _ (h .whole)) e))
-      (f n 64 (rw (length-append (a .rows)) (omega arith)) (λ _. omega arith) ∙ grown-row (a .rows) _ _ _)
-
-  rest-entry : (a b : Certificate) (at : ℕ) → Passed p a s at C.Entry → getD s at 0 ≡ 0x12 → Rest (certificateApplied a (certificateDecoded C.Entry s at) at) (at + 4) b → Rest a at b
+  noted-row : certificateCommandAt s at ≡ C.Row → Passed p c s at C.Row → After C.Row
   unfolding certificateApplied
-  rest-entry a b at h e f n m hn hm = go m (hm r)
+  noted-row e h =
+      let z = ltb-true 0 at (h .placed) in
+      let n = g .rows in
+      let m : n < mostRows = let f = leb-false mostRows (length (c .rows)) (h .full) in let q = rows-are c g is in omega arith in
+      let l = k .starts-length in
+      let y = k .last z in
+      record {
+        starts-length = length-set starts _ _ ∙ l;
+        first = λ q. absurd (omega arith);
+        last = λ q. getD-set-same starts (n + 1) _ 0 (omega arith);
+        are = sym (rows-begun s starts n (at + 4) (omega arith) ∙ rw (y, begun-none s at e, ← k .are));
+        stand = stand-set s starts n (at + 4) (omega arith) (omega arith) (k .stand .each) (rw y (row-begun s at e (leb-true _ _ (h .whole))));
+      }
+
+  noted-entry : certificateCommandAt s at ≡ C.Entry → Passed p c s at C.Entry → After C.Entry
+  unfolding certificateApplied entryAt
+  noted-entry e h = go (g .rows) (k .stand .few) (k .last z) (k .are) (k .stand .each) (omega (arith, ltb-true 0 (length (c .rows)) (and-right (ltb 0 at) _ (h .placed)), rows-are c g is))
     where
-      r : 0 < length (a .rows)
-      r = ltb-true 0 (length (a .rows)) (and-right (ltb 0 at) _ (h .placed))
+      z : 0 < at
+      z = ltb-true 0 at (and-left _ _ (h .placed))
 
-      low : floorOf (lastRow (a .rows) .entries) ≤ number 1 s (at + 1)
-      low = floor-low (lastRow (a .rows) .entries) (number 1 s (at + 1)) (not-false _ (h .repeated))
+      go : (n : ℕ) → n ≤ mostRows → getD starts n 0 ≡ at → c .rows ≡ rowsBy s starts n → ((r : ℕ) → r < n → RowStands s (getD starts r 0) (getD starts (r + 1) 0)) → 0 < n
+          → Noted s (set starts n (at + 4)) (at + 4) n (certificateApplied c (certificateDecoded C.Entry s at) at .rows)
+      go zero f y q w b = absurd (omega arith)
+      go (suc m) f y q w b =
+          let l = k .starts-length in
+          let here : RowStands s (getD starts m 0) at = rw y at (rw (add-one m) at (w m (omega arith))) in
+          let u : suc m - 1 ≡ m = omega arith in
+          let last : lastRow (rowsBy s starts (suc m)) ≡ rowAt s (getD starts m 0) at = rw (rows-length s starts (suc m), u, row-by s starts (suc m) m noRow (omega arith), add-one m, y) in
+          record {
+            starts-length = length-set starts _ _ ∙ l;
+            first = λ q. absurd (omega arith);
+            last = λ q. getD-set-same starts (suc m) _ 0 (omega arith);
+            are =
+                ap (λ (rs : List Row). set rs (length rs - 1) (withEntry (lastRow rs) (entryAt s at))) q
+                ∙ ap₂ (set (rowsBy s starts (suc m))) (ap (λ (n : ℕ). n - 1) (rows-length s starts (suc m)) ∙ u)
+                (ap (λ (r : Row). withEntry r (entryAt s at)) last ∙ sym (row-entry s (getD starts m 0) at here e))
+                ∙ sym (rw (add-one m) at (rows-longer s starts m (at + 4) (omega arith)));
+            stand = rw (add-one m) at (stand-set s starts m (at + 4) (omega arith) (omega arith) (λ r d. w r (omega arith)) (row-longer s (getD starts m 0) at here e (leb-true _ _ (h .whole))));
+          }
 
-      go : (m : ℕ) → 64 ≤ m + floorOf (lastRow (a .rows) .entries) → b .rows ≡ grown (a .rows) (entriesFrom m s at) (rowsFrom n s (at + 4 * entryCount m s at))
-      go zero hm =
-          let j = lastRow (a .rows) .basis in
-          let i = ltb-true (number 1 s (at + 1)) (length (basisOf p j)) (and-left _ _ (h .allowed)) in
-          absurd (omega (arith, low, basis-few p limits j))
-      go (suc m) hm =
-          let t = stands-here s at 0x12 (leb-true _ _ (h .whole)) e in
-          let x = one-entry s at m t in
-          let y : at + 4 * entryCount (suc m) s at ≡ at + 4 + 4 * entryCount m s (at + 4) = omega arith in
-          rw (y, first-entry s at m t)
-          (f n m (rw (length-set (a .rows)) hn) (λ _. rw (last-set (a .rows) _ r, floor-more (lastRow (a .rows) .entries)) (omega (arith, low))) ∙ grown-entry (a .rows) _ _ _ r)
-
-  -- a command after the first
-  rest-more : (a b : Certificate) (at : ℕ) → 0 < at → (k : Command) → ByteIs k (getD s at 0) → (getD s at 0 ≡ 0x13 → ⊥) → Passed p a s at k
-      → Rest (certificateApplied a (certificateDecoded k s at) at) (at + certificateSize k) b → Rest a at b
-  rest-more a b at z C.Header e d h f = absurd (let q = eqb-true at 0 (h .placed) in omega arith)
-  rest-more a b at z C.Row e d h f = rest-row a b at h e f
-  rest-more a b at z C.Entry e d h f = rest-entry a b at h e f
-  rest-more a b at z C.End e d h f = absurd (d e)
-  rest-more a b at z C.Unknown e d h f = absurd (let q : _≡_ {A = ℕ} 0 1 = let x = h .placed in cc in omega arith)
-
-  -- the first command is the header
-  rest-first : (a b : Certificate) (at : ℕ) → at ≡ 0 → a ≡ noCertificate → (k : Command) → Passed p a s at k
-      → (0 < at + certificateSize k → Rest (certificateApplied a (certificateDecoded k s at) at) (at + certificateSize k) b) → Rest noCertificate 10 b
-  unfolding certificateApplied
-  rest-first a b at z q C.Header h f = rw (z, q) at (f (omega arith))
-  rest-first a b at z q C.Row h f = absurd (let x = ltb-true 0 at (h .placed) in omega arith)
-  rest-first a b at z q C.Entry h f = absurd (let x = ltb-true 0 at (and-left _ _ (h .placed)) in omega arith)
-  rest-first a b at z q C.End h f = absurd (let x = ltb-true 0 at (h .placed) in omega arith)
-  rest-first a b at z q C.Unknown h f = absurd (let x : _≡_ {A = ℕ} 0 1 = let y = h .placed in cc in omega arith)
-
-  record Follows (a : Certificate) (at : ℕ) (b : Certificate) : Type 0 where
-    first : at ≡ 0 → a ≡ noCertificate → Rest noCertificate 10 b
-    later : 0 < at → Rest a at b
-
-  passing : (a : Certificate) (at : ℕ) → Taken (certificateLanguage p) s a at → Passed p a s at (certificateCommandAt s at)
-  passing a at t = passed p a s at (t .passed)
-
-  follows-end : (a : Certificate) (at : ℕ) → Taken (certificateLanguage p) s a at → getD s at 0 ≡ 0x13 → Follows a at a
-  unfolding certificateCommand
-  follows-end a at t e = record {
-    first = λ z q. absurd (let p = rw e at (passing a at t) in let x = ltb-true 0 at (p .placed) in omega arith);
-    later = λ _. rest-end a at e;
-  }
-
-  follows-more : (a b : Certificate) (at : ℕ) → Taken (certificateLanguage p) s a at → (getD s at 0 ≡ 0x13 → ⊥) → Follows (certificateNext a s at) (at + certificateSize (certificateCommandAt s at)) b → Follows a at b
+  pub noted-next : certificateRefusalAt p c s at ≡ 0 → (getD s at 0 ≡ 0x13 → ⊥)
+      → let n = advanced g (certificateInstructionAt s at) .rows in Noted s (set starts n (at + sizeAt s at)) (at + sizeAt s at) n (certificateNext c s at .rows)
   unfolding certificateNext
-  follows-more a b at t d f = record {
-    first = λ z q. rest-first a b at z q (certificateCommandAt s at) (passing a at t) (f .later);
-    later = λ z. rest-more a b at z (certificateCommandAt s at) (byte-is (getD s at 0)) d (passing a at t) (f .later (omega arith));
-  }
-
-  -- however many rows are asked for above 128
-  pub rows-again : (c : Certificate) → readCertificate p s ≡ given c → (n : ℕ) → mostRows ≤ n → rowsFrom n s 10 ≡ c .rows
-  unfolding readCertificate entryCount grown
-  rows-again c e n l =
-      sym (read-induction (certificateLanguage p) s (λ a at cs b. Follows a at b) follows-end (λ a b at cs. follows-more a b at) noCertificate c e .first refl refl n 0 (omega arith) (λ z. absurd (omega arith)))
-
--- the rows read again are all the rows that were validated
-pub rows-read : (p : Problem) → Limits p → (s : List ℕ) (c : Certificate) → readCertificate p s ≡ given c → rowsOf s ≡ c .rows
-unfolding rowsOf
-rows-read p l s c e = rows-again p l s c e mostRows (omega arith)
+  noted-next v d = go (certificateCommandAt s at) refl (end-is (getD s at 0)) (passed p c s at v)
+    where
+      go : (i : Command) → certificateCommandAt s at ≡ i → EndIs i (getD s at 0) → Passed p c s at i → After i
+      go C.Header e b h = noted-header h
+      go C.Row e b h = noted-row e h
+      go C.Entry e b h = noted-entry e h
+      go C.End e b h = absurd (d b)
+      go C.Unknown e b h = clash (let y = h .placed in cc)

@@ -1,39 +1,44 @@
--- The shape of a problem and the progress of a certificate hold what the checks of a command ask.
+-- The sizes of a problem and the progress of a certificate hold what the checks of a command ask.
 use mathlib.Core.Path.{_≡_, refl, ap, sym, _∙_}
 use mathlib.Core.List.{List, [], _∷_, _++_}
 use mathlib.Core.Bool.{Bool, true, false, not}
-use Prim.Native.Nat.{ℕ, suc, _≤_}
+use Prim.Native.Nat.{ℕ, suc, _*_, _≤_}
 use native.Mathlib.Omega.{arith}
 use lib.Dec.{leb, ltb}
+use lib.IntN.{ℤ}
 use lib.ListN.{length, getD}
 use borrow.Author.Tests.{le-leb, leb-true, leb-false, lt-ltb, le-ltb}
-use Rattle.counting.proofs.Listed.{listed-at}
 use Rattle.format.specs.ProblemRules.{Problem}
 use Rattle.format.specs.ProblemBases.{basisOf}
 use Rattle.format.proofs.WithinLimits.{Monomials, Limits as ProblemLimits, Limits}
 use Rattle.format.proofs.ProblemLimits.{all-at, monomials-none}
 use Rattle.format.specs.CertificateRules.{Entry, Certificate, lastRow, rises}
-use Rattle.certificate_reader.specs.declared.Shape.{Shape}
+use Rattle.flat.specs.Flat.{FlatProblem}
+use Rattle.flat.proofs.Flat.{part-length, basis-size}
 use Rattle.certificate_reader.specs.declared.Progress.{Progress}
-use Rattle.certificate_reader.specs.Kept.{shapeOf, floorOf, progressOf}
+use Rattle.certificate_reader.specs.Kept.{Sized, floorOf, progressOf}
 
 -- ---- the bases of a problem within its limits
 pub basis-few : (p : Problem) → Limits p → (j : ℕ) → length (basisOf p j) ≤ 64
 unfolding basisOf
 basis-few p l j = all-at (Monomials (p .variables) 8 64) (p .bases) j [] (l .members) (monomials-none (p .variables) 8 64) .count
 
-pub size-at : (p : Problem) (j : ℕ) → j ≤ 8 → getD (shapeOf p .sizes) j 0 ≡ length (basisOf p j)
-unfolding shapeOf
-size-at p j h = listed-at 9 (λ j. length (basisOf p j)) j 0 (omega arith)
+-- the sizes that stand beside a problem are its own
+pub flat-sized : {p : Problem} {keys : List ℕ} {coefficients : List ℤ} {sizes : List ℕ} → FlatProblem p keys coefficients sizes → Sized p sizes
+flat-sized {keys = keys} {sizes = sizes} f =
+    record {
+      sizes-length = f .limits .sizes-length;
+      bases = λ j h.
+          sym (part-length (getD sizes j 0) (64 * j) keys (omega (arith, basis-size (f .limits) j h, f .limits .keys-length)))
+          ∙ ap length (f .bases j h);
+      constraints = f .constraints;
+    }
 
 -- ---- "Indices rise within a row": an index rises exactly where it is at least the least that may follow
 rises-floor : (es : List Entry) (i : ℕ) → rises es i ≡ leb (floorOf es) i
 rises-floor [] i = sym (le-leb 0 i (omega arith))
 rises-floor (e ∷ []) i = refl
 rises-floor (e ∷ f ∷ es) i = rises-floor (f ∷ es) i
-
-pub floor-low : (es : List Entry) (i : ℕ) → rises es i ≡ true → floorOf es ≤ i
-floor-low es i h = leb-true _ _ (sym (rises-floor es i) ∙ h)
 
 pub not-rising : (es : List Entry) (i : ℕ) → ltb i (floorOf es) ≡ not (rises es i)
 not-rising es i = rw (rises-floor es i) (go (leb (floorOf es) i) refl)
@@ -64,10 +69,5 @@ module _ (c : Certificate) (g : Progress) (e : g ≡ progressOf c) where
   pub index-repeated : (i : ℕ) → ltb i (g .floor) ≡ not (rises (lastRow (c .rows) .entries) i)
   index-repeated i = ap (ltb i) floor-is ∙ not-rising (lastRow (c .rows) .entries) i
 
-  module _ (p : Problem) (h : Shape) (f : h ≡ shapeOf p) where
-    pub constraints-are : h .constraints ≡ length (p .constraints)
-    unfolding shapeOf
-    constraints-are = ap (λ (x : Shape). x .constraints) f
-
-    pub size-is : g .basis ≤ 8 → getD (h .sizes) (g .basis) 0 ≡ length (basisOf p (lastRow (c .rows) .basis))
-    size-is l = rw (f, size-at p (g .basis) l) (ap (λ (j : ℕ). length (basisOf p j)) basis-is)
+  pub size-is : (p : Problem) (sizes : List ℕ) → Sized p sizes → g .basis ≤ 8 → getD sizes (g .basis) 0 ≡ length (basisOf p (lastRow (c .rows) .basis))
+  size-is p sizes f l = f .bases (g .basis) (omega arith) ∙ ap (λ (j : ℕ). length (basisOf p j)) basis-is

@@ -1,92 +1,46 @@
--- Laws of a walk over the rows of a stream that is read: at each row it knows that the row keeps the limits, and it ends.
-use mathlib.Core.Path.{_≡_, refl, ap, sym, _∙_}
+-- Laws of the walks: over the entries of a row, and over the rows of a stream that is read.
+use mathlib.Core.Path.{_≡_, refl}
 use mathlib.Core.List.{List, [], _∷_}
-use mathlib.Core.Bool.{Bool, true, false, cond}
-use Prim.Native.Nat.{ℕ, zero, suc, _+_, _*_, _≤_, _<_}
+use Prim.Native.Nat.{ℕ, _+_, _≤_, _<_}
 use native.Mathlib.Omega.{arith}
 use lib.ListN.{length, getD}
-use Rattle.counting.proofs.Cases.{clash}
-use Rattle.counting.specs.Counting.{listed}
-use Rattle.counting.proofs.Listed.{listed-length, listed-at}
 use Rattle.format.specs.Commands.{given}
-use Rattle.format.specs.Operands.{number}
-use Rattle.format.specs.All.{All}
-use Rattle.format.proofs.WithinLimits.{Limits}
+use Rattle.format.specs.declared.certificate.Command.the-variants as C
 use Rattle.format.specs.ProblemRules.{Problem}
-use Rattle.format.specs.ProblemBases.{basisOf}
-use Rattle.certificate_reader.specs.declared.StoredRow.{StoredRow}
-use Rattle.format.specs.CertificateRules.{Entry, Row, Certificate, mostRows, readCertificate}
-use Rattle.certificate_reader.specs.Rows.{stands, entryCount, entryAt, rowAt, afterRow, rowsFrom, storedEntry, rowOf, HoldsRow, Chain, done, more}
+use Rattle.format.specs.CertificateRules.{Entry, noRow, certificateCommandAt}
+use Rattle.format.specs.declared.certificate.Header.{Header}
+use Rattle.format.proofs.WithinLimits.{Limits}
 use Rattle.format.proofs.CertificateLimits.{SoundRow, all-within, read-sound}
-use Rattle.certificate_reader.proofs.Stored.{stands-within}
-use Rattle.certificate_reader.proofs.Rows.{rows-again}
+use Rattle.certificate_reader.specs.Rows.{entryAt, rowAt, rowsBy, EntriesStand, done, more, GivenRows, Walkable}
+use Rattle.certificate_reader.proofs.Rows.{stand-low, rows-length, row-by}
 
-module _ (p : Problem) (s : List ℕ) where
-  chain-from : (n at : ℕ) → length (rowsFrom (suc n) s at) ≤ n → All (SoundRow p) (rowsFrom (suc n) s at) → Chain p s n at
-  unfolding rowsFrom All
-  chain-from zero at l a = go (stands 0x11 s at) refl l
-    where
-      go : (b : Bool) → stands 0x11 s at ≡ b → length (cond b (rowAt s at ∷ []) []) ≤ 0 → Chain p s 0 at
-      go true e l = absurd (omega arith)
-      go false e l = done e
-  chain-from (suc n) at l a = go (chain-from n (afterRow s at)) (stands 0x11 s at) refl l a
-    where
-      go : (length (rowsFrom (suc n) s (afterRow s at)) ≤ n → All (SoundRow p) (rowsFrom (suc n) s (afterRow s at)) → Chain p s n (afterRow s at)) → (b : Bool) → stands 0x11 s at ≡ b → length (cond b (rowAt s at ∷ rowsFrom (suc n) s (afterRow s at)) []) ≤ suc n → All (SoundRow p) (cond b (rowAt s at ∷ rowsFrom (suc n) s (afterRow s at)) []) → Chain p s (suc n) at
-      go f true e l a = more e (a .0) (f (omega arith) (a .1))
-      go f false e l a = done e
+-- ---- one entry: it stands at the offset, and the others after it
+pub record Step (s : List ℕ) (to at : ℕ) (es : List Entry) : Type 0 where
+  pub others : List Entry
+  pub is : es ≡ entryAt s at ∷ others
+  pub command : certificateCommandAt s at ≡ C.Entry
+  pub stand : EntriesStand s to (at + 4) others
+  pub within : at + 4 ≤ to
 
--- a stream that is read is a chain of rows within the limits
-pub chain-read : (p : Problem) → Limits p → (s : List ℕ) (c : Certificate) → readCertificate p s ≡ given c → Chain p s mostRows 10
-chain-read p l s c e =
-    let q = rows-again p l s c e (suc mostRows) (omega arith) in
-    let k = read-sound p s c e in
-    chain-from p s mostRows 10 (rw q (k .count)) (rw q (k .rows))
+pub step-of : {s : List ℕ} {to at : ℕ} {es : List Entry} → EntriesStand s to at es → at < to → Step s to at es
+step-of done h = absurd (omega arith)
+step-of (more e w) h = let b = stand-low w in record { others = _; is = refl; command = e; stand = w; within = omega arith }
+
+pub step-none : {s : List ℕ} {to at : ℕ} {es : List Entry} → EntriesStand s to at es → to ≤ at → es ≡ []
+step-none done h = refl
+step-none (more e w) h = absurd (omega (arith, stand-low w))
 
 -- ---- one row
--- at a row the walk has a row left, which keeps the limits, and goes on after it
-pub record Onward (p : Problem) (s : List ℕ) (n at : ℕ) : Type 0 where
-  pub left : ℕ
-  pub one-less : n ≡ suc left
-  pub row : SoundRow p (rowAt s at)
-  pub rest : Chain p s left (afterRow s at)
+-- a row keeps its limits
+pub walk-sound : {s starts : List ℕ} {rows : ℕ} (w : Walkable s starts rows) (r : ℕ) → r < rows → SoundRow (w .problem) (rowAt s (getD starts r 0) (getD starts (r + 1) 0))
+walk-sound {s} {starts} {rows} w r h =
+    let n = rows-length s starts rows in
+    rw (row-by s starts rows r noRow h) at (all-within (SoundRow (w .problem)) (rowsBy s starts rows) r noRow (omega arith) (w .rows-sound .sound))
 
-pub onward : {p : Problem} {s : List ℕ} {n at : ℕ} → Chain p s n at → stands 0x11 s at ≡ true → Onward p s n at
-onward (done f) t = clash (cc)
-onward (more e r c) t = record { left = _; one-less = refl; row = r; rest = c }
-
-pub after-more : (s : List ℕ) (at : ℕ) → at + 4 ≤ afterRow s at
-unfolding afterRow
-after-more s at = omega arith
-
--- ---- a row in arrays
-module _ (s : List ℕ) (at : ℕ) (r : StoredRow) (k : HoldsRow s at r) where
-  pub holds-basis : r .basis ≡ number 1 s (at + 1)
-  unfolding rowOf rowAt
-  holds-basis = ap (λ (x : Row). x .basis) (k .row)
-
-  pub holds-weight : r .weight ≡ number 2 s (at + 2)
-  unfolding rowOf rowAt
-  holds-weight = let e = ap (λ (x : Row). x .weight) (k .row) in cc
-
-  pub holds-entries : listed (r .count) (storedEntry r (at + 4)) ≡ listed (entryCount 64 s (at + 4)) (entryAt s (at + 4))
-  unfolding rowOf rowAt
-  holds-entries = ap (λ (x : Row). x .entries) (k .row)
-
-  pub holds-count : r .count ≡ entryCount 64 s (at + 4)
-  holds-count = sym (listed-length (r .count) _) ∙ ap length holds-entries ∙ listed-length (entryCount 64 s (at + 4)) _
-
-  pub holds-sound : (p : Problem) → SoundRow p (rowAt s at) → SoundRow p (rowOf r (at + 4))
-  holds-sound p q = rw (k .row) q
-
--- what the limits say of the arrays
-module _ (p : Problem) (r : StoredRow) (at : ℕ) (q : SoundRow p (rowOf r at)) where
-  pub sound-basis : r .basis ≤ length (p .constraints)
-  unfolding rowOf
-  sound-basis = q .basis
-
-  pub sound-index : (i : ℕ) → i < r .count → getD (r .indices) i 0 < length (basisOf p (r .basis))
-  unfolding rowOf
-  sound-index i b =
-      let f = storedEntry r at in
-      let n = listed-length (r .count) f in
-      rw (listed-at (r .count) f i (f 0) b) at (all-within (λ (e : Entry). e .index < length (basisOf p (r .basis))) (listed (r .count) f) i (f 0) (omega arith) (q .indices))
+-- ---- a stream that is read can be walked
+pub given-walkable : (p : Problem) → Limits p → (s : List ℕ) (t : Header) (starts : List ℕ) (rows : ℕ) → GivenRows p s t starts rows → Walkable s starts rows
+given-walkable p l s t starts rows g =
+    record {
+      problem = p;
+      rows-sound = record { limits = l; stand = g .stand; sound = rw (g .rows-are) at (read-sound p s (g .certificate) (g .read) .rows) };
+    }

@@ -1,12 +1,10 @@
--- What the reader keeps of a problem and of the certificate read so far: what the checks of a command ask, and no row.
+-- What the reader keeps of the certificate read so far: what the checks of a command ask. Of the problem they ask the
+-- sizes.
 use mathlib.Core.Path.{_≡_}
-use mathlib.Core.Bool.{cond}
 use mathlib.Core.List.{List, [], _∷_}
-use Prim.Native.Nat.{suc, ℕ, _+_, _≤_}
-use lib.Dec.{eqb}
-use lib.ListN.{length}
-use Rattle.counting.specs.Counting.{listed}
-use Rattle.format.specs.Commands.{Outcome, refused, given}
+use Prim.Native.Nat.{suc, ℕ, _+_, _≤_, _<_}
+use lib.ListN.{length, getD}
+use Rattle.format.specs.ProblemLimits.{mostBases}
 use Rattle.format.specs.ProblemRules.{Problem}
 use Rattle.format.specs.ProblemBases.{basisOf}
 use Rattle.format.proofs.WithinLimits.{Limits}
@@ -14,19 +12,20 @@ use Rattle.format.specs.CertificateRules.{Entry, Certificate, lastRow, mostRows
 use Rattle.format.specs.declared.certificate.Instruction.{Instruction}
 use Rattle.format.specs.declared.certificate.Instruction.the-variants as I
 use Rattle.format.specs.declared.certificate.Header.{Header}
-use Rattle.certificate_reader.specs.declared.Shape.{Shape}
+use Rattle.flat.specs.Flat.{constraintsAt}
 use Rattle.certificate_reader.specs.declared.Progress.{Progress}
-use Rattle.certificate_reader.specs.declared.Reading.{Reading}
 
--- ---- a problem's shape
-unfoldable pub shapeOf : Problem → Shape
-shapeOf p = record { constraints = length (p .constraints); sizes = listed 9 (λ j. length (basisOf p j)) }
+-- ---- a problem's sizes
+pub record Sized (p : Problem) (sizes : List ℕ) : Type 0 where
+  pub sizes-length : length sizes ≡ 20
+  pub bases : (j : ℕ) → j < mostBases → getD sizes j 0 ≡ length (basisOf p j)
+  pub constraints : getD sizes constraintsAt 0 ≡ length (p .constraints)
 
--- the shape of a problem within its limits
-pub record ProblemShape (h : Shape) : Type 0 where
+-- those of a problem within its limits
+pub record ProblemSizes (sizes : List ℕ) : Type 0 where
   pub problem : Problem
   pub limits : Limits problem
-  pub is : h ≡ shapeOf problem
+  pub sized : Sized problem sizes
 
 -- ---- a certificate's progress
 -- the least index that may follow in a row
@@ -62,11 +61,3 @@ advanced g (I.Header side d p q) = g
 advanced g (I.Row j w) = record { rows = g .rows + 1; basis = j; floor = 0 }
 advanced g (I.Entry i l) = record { rows = g .rows; basis = g .basis; floor = i + 1 }
 advanced g I.End = g
-
--- ---- what a stream gives, with the rows left out
-unfoldable pub headerOutcome : Outcome Certificate → Outcome Header
-headerOutcome (refused n at) = refused n at
-headerOutcome (given c) = given (c .header)
-
-unfoldable pub headerOutcomeOf : Reading → Outcome Header
-headerOutcomeOf r = cond (eqb (r .number) 0) (given (r .header)) (refused (r .number) (r .place))

@@ -1,75 +1,94 @@
--- The rows of a certificate stream, read off its bytes again: after the header, rows of at most 64 entries.
+-- The rows of a certificate stream by the offsets that the reader notes: row r stands from starts[r] to starts[r + 1],
+-- its command first and then its entries.
 use mathlib.Core.Path.{_≡_}
-use mathlib.Core.Bool.{Bool, true, false, cond, _&&_}
+use mathlib.Core.Bool.{cond}
 use mathlib.Core.List.{List, [], _∷_}
-use Prim.Native.Nat.{ℕ, zero, suc, _+_, _*_, _≤_}
-use lib.Dec.{eqb, leb}
-use lib.IntN.{pos}
+use Prim.Native.Nat.{ℕ, zero, suc, _+_, _-_, _≤_, _<_}
+use lib.Dec.{ltb}
+use lib.IntN.{ℤ, pos}
 use lib.ListN.{length, getD}
 use Rattle.counting.specs.Counting.{listed}
+use Rattle.format.specs.All.{All}
+use Rattle.format.specs.Commands.{refused, given}
 use Rattle.format.specs.Operands.{number, signed}
+use Rattle.format.specs.declared.certificate.Command.the-variants as C
+use Rattle.format.specs.declared.certificate.Header.{Header}
 use Rattle.format.specs.ProblemRules.{Problem}
-use Rattle.format.specs.CertificateRules.{Entry, Row, mostRows}
+use Rattle.format.specs.CertificateLayout.{certificateSize}
+use Rattle.format.specs.CertificateRules.{Entry, Row, Certificate, mostRows, certificateCommandAt, readCertificate}
+use Rattle.format.proofs.WithinLimits.{Limits}
 use Rattle.format.proofs.CertificateLimits.{SoundRow}
-use Rattle.certificate_reader.specs.declared.RowHead.{RowHead}
-use Rattle.certificate_reader.specs.declared.StoredRow.{StoredRow}
+use Rattle.certificate_reader.specs.declared.Reading.{Reading}
 
--- whether a whole command of four bytes stands at an offset, with the byte b
-unfoldable pub stands : ℕ → List ℕ → ℕ → Bool
-stands b s at = leb (at + 4) (length s) && eqb (getD s at 0) b
+-- ---- what stands at an offset
+-- the length of the command there
+abbrev pub sizeAt : List ℕ → ℕ → ℕ
+sizeAt s at = certificateSize (certificateCommandAt s at)
 
--- how many entries follow each other from an offset on, up to n
-unfoldable pub entryCount : ℕ → List ℕ → ℕ → ℕ
-entryCount zero s at = 0
-entryCount (suc n) s at = cond (stands 0x12 s at) (suc (entryCount n s (at + 4))) 0
+-- the entry whose command stands there
+unfoldable pub entryAt : List ℕ → ℕ → Entry
+entryAt s at = record { index = number 1 s (at + 1); factor = signed 15 (number 2 s (at + 2)); place = at }
 
--- entry i of those that begin at an offset
-unfoldable pub entryAt : List ℕ → ℕ → ℕ → Entry
-entryAt s at i = record {
-  index = number 1 s (at + 4 * i + 1);
-  factor = signed 15 (number 2 s (at + 4 * i + 2));
-  place = at + 4 * i;
+-- the basis and the weight of the row whose command stands there
+abbrev pub basisAt : List ℕ → ℕ → ℕ
+basisAt s at = number 1 s (at + 1)
+
+abbrev pub weightAt : List ℕ → ℕ → ℤ
+weightAt s at = pos (number 2 s (at + 2))
+
+-- ---- the walk over the entries of a row, from an offset up to another, each step as long as its command: at most n
+unfoldable pub entriesFrom : ℕ → List ℕ → ℕ → ℕ → List Entry
+entriesFrom zero s to at = []
+entriesFrom (suc n) s to at = cond (ltb at to) (entryAt s at ∷ entriesFrom n s to (at + sizeAt s at)) []
+
+-- the row between two offsets
+abbrev pub rowAt : List ℕ → ℕ → ℕ → Row
+rowAt s from to = record {
+  basis = basisAt s from;
+  weight = weightAt s from;
+  entries = entriesFrom (to - from) s to (from + sizeAt s from);
 }
 
--- the row that begins at an offset, and the offset of the command after it
-unfoldable pub rowAt : List ℕ → ℕ → Row
-rowAt s at = record {
-  basis = number 1 s (at + 1);
-  weight = pos (number 2 s (at + 2));
-  entries = listed (entryCount 64 s (at + 4)) (entryAt s (at + 4));
-}
+-- the rows by their offsets
+unfoldable pub rowsBy : List ℕ → List ℕ → ℕ → List Row
+rowsBy s starts rows = listed rows (λ r. rowAt s (getD starts r 0) (getD starts (r + 1) 0))
 
-unfoldable pub afterRow : List ℕ → ℕ → ℕ
-afterRow s at = at + 4 + 4 * entryCount 64 s (at + 4)
+-- ---- the commands stand there: entries es one after another, from an offset up to another
+pub data EntriesStand (s : List ℕ) (to : ℕ) : ℕ → List Entry → Type 0 where
+  done : EntriesStand s to to []
+  more : {at : ℕ} {es : List Entry} → certificateCommandAt s at ≡ C.Entry
+      → EntriesStand s to (at + certificateSize C.Entry) es → EntriesStand s to at (entryAt s at ∷ es)
 
-unfoldable pub headAt : List ℕ → ℕ → RowHead
-headAt s at = record { basis = number 1 s (at + 1); count = entryCount 64 s (at + 4); next = afterRow s at }
+-- a row between two offsets
+pub record RowStands (s : List ℕ) (from to : ℕ) : Type 0 where
+  pub command : certificateCommandAt s from ≡ C.Row
+  pub entries : EntriesStand s to (from + certificateSize C.Row) (rowAt s from to .entries)
+  pub inside : to ≤ length s
 
--- the rows from an offset on, up to n
-unfoldable pub rowsFrom : ℕ → List ℕ → ℕ → List Row
-rowsFrom zero s at = []
-rowsFrom (suc n) s at = cond (stands 0x11 s at) (rowAt s at ∷ rowsFrom n s (afterRow s at)) []
+pub record RowsStand (s starts : List ℕ) (rows : ℕ) : Type 0 where
+  pub few : rows ≤ mostRows
+  pub each : (r : ℕ) → r < rows → RowStands s (getD starts r 0) (getD starts (r + 1) 0)
 
-unfoldable pub rowsOf : List ℕ → List Row
-rowsOf s = rowsFrom mostRows s 10
+-- ---- what the reader says of a stream that is read against the problem p
+-- the stream gives a certificate, and the offsets give its rows
+pub record GivenRows (p : Problem) (s : List ℕ) (header : Header) (starts : List ℕ) (rows : ℕ) : Type 0 where
+  pub certificate : Certificate
+  pub read : readCertificate p s ≡ given certificate
+  pub header-is : header ≡ certificate .header
+  pub rows-are : certificate .rows ≡ rowsBy s starts rows
+  pub stand : RowsStand s starts rows
 
--- ---- a row in arrays
--- entry i of the arrays, and the row that they hold, whose entries begin at an offset
-abbrev pub storedEntry : StoredRow → ℕ → ℕ → Entry
-storedEntry r at i = record { index = getD (r .indices) i 0; factor = getD (r .factors) i (pos 0); place = at + 4 * i }
+-- number 0 says that it gives a certificate, another is that of the refusal at a place
+pub record Validated (p : Problem) (s : List ℕ) (r : Reading) (starts : List ℕ) : Type 0 where
+  pub gives : r .number ≡ 0 → GivenRows p s (r .header) starts (r .rows)
+  pub refuses : 0 < r .number → readCertificate p s ≡ refused (r .number) (r .place)
 
-unfoldable pub rowOf : StoredRow → ℕ → Row
-rowOf r at = record { basis = r .basis; weight = pos (r .weight); entries = listed (r .count) (storedEntry r at) }
+-- ---- what a walk over the rows needs: they stand there, and each keeps its limits against a problem within its own
+pub record SoundRows (p : Problem) (s starts : List ℕ) (rows : ℕ) : Type 0 where
+  pub limits : Limits p
+  pub stand : RowsStand s starts rows
+  pub sound : All (SoundRow p) (rowsBy s starts rows)
 
--- the arrays hold the row that begins at an offset
-pub record HoldsRow (s : List ℕ) (at : ℕ) (r : StoredRow) : Type 0 where
-  pub row : rowOf r (at + 4) ≡ rowAt s at
-  pub few : r .count ≤ 64
-  pub long-indices : length (r .indices) ≡ 64
-  pub long-factors : length (r .factors) ≡ 64
-
--- ---- what a walk over the rows needs: from an offset on there are at most n, and each keeps the limits
-pub data Chain (p : Problem) (s : List ℕ) : ℕ → ℕ → Type 0 where
-  done : {n at : ℕ} → stands 0x11 s at ≡ false → Chain p s n at
-  more : {n at : ℕ} → stands 0x11 s at ≡ true → SoundRow p (rowAt s at) → Chain p s n (afterRow s at)
-      → Chain p s (suc n) at
+pub record Walkable (s starts : List ℕ) (rows : ℕ) : Type 0 where
+  pub problem : Problem
+  pub rows-sound : SoundRows problem s starts rows

@@ -1,27 +1,18 @@
-// The certificate stream: its reader, which stores nothing, and its rows, read off the lent bytes one at a time.
+// The certificate stream: its reader, which notes the offsets of the rows, and what stands at an offset.
 ghost use mathlib.Core.Path.{_≡_};
-ghost use mathlib.Core.Bool.{true};
-ghost use Prim.Native.Nat.{_+_, _*_, _≤_, _<_};
+ghost use Prim.Native.Nat.{_+_, _≤_, _<_};
 ghost use lib.ListN.{length};
-ghost use Rattle.format.specs.Operands.{number, signed};
 ghost use Rattle.format.specs.ProblemRules.{Problem};
 ghost use Rattle.format.proofs.WithinLimits.{Limits};
 ghost use Rattle.format.specs.Layouts.{ZeroUnknown};
 ghost use Rattle.format.specs.declared.certificate.Command.the-variants as C;
 ghost use Rattle.format.specs.CertificateLayout.{certificateCommand, certificateSize, certificateDecoded};
-ghost use Rattle.format.specs.CertificateRules.{Certificate, noHeader, certificatePlaced, certificateOperandsFit, certificateRepeated, certificateFull, certificateRefusalAt, readCertificate};
-ghost use Rattle.certificate_reader.specs.Kept.{shapeOf, progressOf, ProblemShape, ProgressWithin};
-ghost use Rattle.certificate_reader.specs.Kept.{noProgress, headed, advanced, headerOutcome, headerOutcomeOf};
-ghost use Rattle.certificate_reader.specs.Rows.{stands, entryCount, headAt, HoldsRow};
+ghost use Rattle.format.specs.CertificateRules.{Certificate, noHeader, certificatePlaced, certificateOperandsFit, certificateRepeated, certificateFull, certificateCommandAt, certificateRefusalAt};
+ghost use Rattle.certificate_reader.specs.Kept.{Sized, ProblemSizes, progressOf, ProgressWithin, noProgress, headed, advanced};
+ghost use Rattle.certificate_reader.specs.Rows.{sizeAt, entryAt, basisAt, weightAt, Validated};
 use format::certificate::Command;
 use format::certificate::Header;
 use format::certificate::Instruction;
-
-// What a certificate is read against: how many constraints the problem has, and the length of each basis.
-pub struct Shape {
-    pub constraints: usize,
-    pub sizes: [usize; 9],
-}
 
 // What the checks of a command look at: how many rows have begun, the basis of the row begun last, and the least index
 // that its next entry may have.
@@ -53,27 +44,12 @@ fn no_progress() -> Progress
     }
 }
 
-// What a stream gives: number is 0 where the certificate is read, else the refusal's.
+// What a stream gives: number is 0 where the certificate is read, else the refusal's; and how many rows it has.
 pub struct Reading {
     pub number: u8,
     pub place: usize,
     pub header: Header,
-}
-
-// What a walk needs of a row: its basis, how many entries it has, and the offset of the command after it.
-pub struct RowHead {
-    pub basis: usize,
-    pub count: usize,
-    pub next: usize,
-}
-
-// A row in arrays, of which the first `count` places are used.
-pub struct StoredRow {
-    pub basis: usize,
-    pub weight: u16,
-    pub indices: [u8; 64],
-    pub factors: [i16; 64],
-    pub count: usize,
+    pub rows: usize,
 }
 
 fn command_of(byte: u8) -> Command
@@ -146,18 +122,19 @@ fn decode_at(command: Command, s: &[u8], at: usize) -> Instruction
 }
 
 // Whether a command's operands keep their rules.
-fn is_allowed(h: Shape, g: Progress, i: Instruction) -> bool
-    requires { ⌜ ProgressWithin g ⌝ }
+fn is_allowed(sizes: &[usize], g: Progress, i: Instruction) -> bool
+    requires { ⌜ ProgressWithin g × (length (now sizes) ≡ 20) ⌝ }
     ensures { λ r. ⌜
-        ((p : Problem) (c : Certificate) → h ≡ shapeOf p → g ≡ progressOf c → r ≡ certificateOperandsFit p c i)
+        ((p : Problem) (c : Certificate) → Sized p (now (sizes .entry)) → g ≡ progressOf c
+        → r ≡ certificateOperandsFit p c i)
         ⌝ }
 {
     match i {
         Instruction::Header(side, d, _, q) => side <= 1 && (1 <= d && 1 <= q),
-        Instruction::Row(j, w) => (j as usize) <= h.constraints && 1 <= w,
+        Instruction::Row(j, w) => (j as usize) <= sizes[flat::CONSTRAINTS] && 1 <= w,
         Instruction::Entry(k, l) => {
             let j = g.basis;
-            (k as usize) < h.sizes[j] && problem_reader::is_nonzero(l)
+            (k as usize) < sizes[j] && operand_reader::is_nonzero(l)
         }
         Instruction::End => true,
     }
@@ -188,10 +165,10 @@ fn is_full(g: Progress, i: Instruction) -> bool
 }
 
 // The number of the refusal that the command at an offset meets, or 0.
-fn verdict_at(h: Shape, g: Progress, s: &[u8], at: usize) -> u8
-    requires { ⌜ ProgressWithin g × (at < length (now s)) ⌝ }
+fn verdict_at(sizes: &[usize], g: Progress, s: &[u8], at: usize) -> u8
+    requires { ⌜ ProgressWithin g × (length (now sizes) ≡ 20) × (at < length (now s)) ⌝ }
     ensures { λ r. ⌜
-        ((p : Problem) (c : Certificate) → h ≡ shapeOf p → g ≡ progressOf c
+        ((p : Problem) (c : Certificate) → Sized p (now (sizes .entry)) → g ≡ progressOf c
         → r ≡ certificateRefusalAt p c (now (s .entry)) at)
         ⌝ }
 {
@@ -204,7 +181,7 @@ fn verdict_at(h: Shape, g: Progress, s: &[u8], at: usize) -> u8
         return 2;
     }
     let i = decode_at(command, s, at);
-    if !is_allowed(h, g, i) {
+    if !is_allowed(sizes, g, i) {
         return 4;
     }
     if is_repeated(g, i) {
@@ -260,24 +237,27 @@ fn progress_after(g: Progress, i: Instruction) -> Progress
     }
 }
 
-// Reads a certificate stream command by command. Of the rows it keeps what the next check needs.
-pub fn validate(h: Shape, s: &[u8]) -> Reading
-    requires { ⌜ ProblemShape h ⌝ }
+// Reads a certificate stream command by command, and notes the offsets of the rows: row r stands from starts[r] to
+// starts[r + 1]. The row begun last ends, so far, where the next command begins.
+pub fn validate(sizes: &[usize], s: &[u8], starts: &mut [usize; 129]) -> Reading
+    requires { ⌜ ProblemSizes (now sizes) × (length (now starts) ≡ 129) ⌝ }
     ensures { λ r. ⌜
-        ((p : Problem) → Limits p → h ≡ shapeOf p
-        → headerOutcomeOf r ≡ headerOutcome (readCertificate p (now (s .entry))))
+        ((p : Problem) → Limits p → Sized p (now (sizes .entry))
+        → Validated p (now (s .entry)) r (now (starts .exit)))
         ⌝ }
 {
     let mut header = no_header();
     let mut progress = no_progress();
     let mut at = 0;
     while at < s.len() {
-        let number = verdict_at(h, progress, s, at);
+        let number = verdict_at(sizes, progress, s, at);
+        let rows = progress.rows;
         if 0 < number {
             return Reading {
                 number,
                 place: at,
                 header,
+                rows,
             };
         }
         let byte = s[at];
@@ -289,90 +269,62 @@ pub fn validate(h: Shape, s: &[u8]) -> Reading
                 number,
                 place: next,
                 header,
+                rows,
             };
         }
         let i = decode_at(command, s, at);
         header = header_after(header, i);
         progress = progress_after(progress, i);
+        let begun = progress.rows;
+        starts[begun] = next;
         at = next;
     }
     Reading {
         number: 2,
         place: at,
         header,
+        rows: progress.rows,
     }
 }
 
-// Whether a whole command of four bytes stands at an offset, with the byte b.
-pub fn stands_at(b: u8, s: &[u8], at: usize) -> bool
-    ensures { λ r. ⌜ r ≡ stands b (now (s .entry)) at ⌝ }
+// The basis of the row whose command stands at an offset.
+pub fn basis_at(s: &[u8], at: usize) -> usize
+    requires { ⌜ at + certificateSize C.Row ≤ length (now s) ⌝ }
+    ensures { λ r. ⌜ r ≡ basisAt (now (s .entry)) at ⌝ }
 {
-    let n = s.len();
-    if n < 4 {
-        return false;
-    }
-    if n - 4 < at {
-        return false;
-    }
-    s[at] == b
+    operand_reader::number_at(s, at + 1, 1) as usize
 }
 
-// How many entries follow each other from an offset on, up to 64.
-fn count_at(s: &[u8], at: usize) -> usize
-    requires { ⌜ at ≤ length (now s) ⌝ }
-    ensures { λ r. ⌜ (r ≡ entryCount 64 (now (s .entry)) at) × (r ≤ 64) × (at + 4 * r ≤ length (now (s .entry))) ⌝ }
+// Its weight.
+pub fn weight_at(s: &[u8], at: usize) -> i64
+    requires { ⌜ at + certificateSize C.Row ≤ length (now s) ⌝ }
+    ensures { λ r. ⌜ r ≡ weightAt (now (s .entry)) at ⌝ }
 {
-    let mut n = 0;
-    while n < 64 {
-        if !stands_at(0x12, s, at + 4 * n) {
-            return n;
-        }
-        n += 1;
-    }
-    n
+    operand_reader::number_at(s, at + 2, 2) as i64
 }
 
-fn factor_at(s: &[u8], at: usize) -> i16
-    requires { ⌜ at + 2 ≤ length (now s) ⌝ }
-    ensures { λ r. ⌜ r ≡ signed 15 (number 2 (now (s .entry)) at) ⌝ }
+// The index of the entry whose command stands at an offset.
+pub fn index_at(s: &[u8], at: usize) -> u8
+    requires { ⌜ at + certificateSize C.Entry ≤ length (now s) ⌝ }
+    ensures { λ r. ⌜ r ≡ entryAt (now (s .entry)) at .index ⌝ }
 {
-    operand_reader::signed16(operand_reader::number_at(s, at, 2)) as i16
+    operand_reader::number_at(s, at + 1, 1) as u8
 }
 
-// The head of the row that begins at an offset: the step of every walk over the rows.
-pub fn head_at(s: &[u8], at: usize) -> RowHead
-    requires { ⌜ stands 0x11 (now s) at ≡ true ⌝ }
-    ensures { λ r. ⌜ r ≡ headAt (now (s .entry)) at ⌝ }
+// Its factor.
+pub fn factor_at(s: &[u8], at: usize) -> i32
+    requires { ⌜ at + certificateSize C.Entry ≤ length (now s) ⌝ }
+    ensures { λ r. ⌜ r ≡ entryAt (now (s .entry)) at .factor ⌝ }
 {
-    let here = at + 4;
-    let count = count_at(s, here);
-    RowHead {
-        basis: operand_reader::number_at(s, at + 1, 1) as usize,
-        count,
-        next: here + 4 * count,
-    }
+    operand_reader::signed16(operand_reader::number_at(s, at + 2, 2))
 }
 
-// The row that begins at an offset, with this head.
-pub fn row_at(s: &[u8], at: usize, head: RowHead) -> StoredRow
-    requires { ⌜ (stands 0x11 (now s) at ≡ true) × (head ≡ headAt (now s) at) ⌝ }
-    ensures { λ r. ⌜ HoldsRow (now (s .entry)) at r ⌝ }
+// The offset after it: the step of every walk over the entries of a row.
+pub fn after_entry(s: &[u8], at: usize) -> usize
+    requires { ⌜
+        (certificateCommandAt (now s) at ≡ C.Entry) × (at + certificateSize C.Entry ≤ length (now s))
+        ⌝ }
+    ensures { λ r. ⌜ r ≡ at + sizeAt (now (s .entry)) at ⌝ }
 {
-    let here = at + 4;
-    let count = head.count;
-    let mut indices: [u8; 64] = [0; 64];
-    let mut factors: [i16; 64] = [0; 64];
-    let mut i = 0;
-    while i < count {
-        indices[i] = operand_reader::number_at(s, here + 4 * i + 1, 1) as u8;
-        factors[i] = factor_at(s, here + 4 * i + 2);
-        i += 1;
-    }
-    StoredRow {
-        basis: head.basis,
-        weight: operand_reader::number_at(s, at + 2, 2) as u16,
-        indices,
-        factors,
-        count,
-    }
+    at + 4
 }

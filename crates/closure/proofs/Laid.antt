@@ -1,54 +1,92 @@
--- The arrays of a stored problem hold its bases and multipliers, so what is computed of the arrays is the problem's.
-use mathlib.Core.Path.{_≡_, sym, ap, _∙_}
-use Prim.Native.Nat.{ℕ, _*_, _<_}
+-- What the arrays that hold a problem give the functions of this crate: parts within the limits, and what is computed of
+-- them is the problem's.
+use mathlib.Core.Path.{_≡_, ap, _∙_}
+use mathlib.Core.List.{List}
+use mathlib.Core.Logic.{⊎-elim}
+use Prim.Native.Nat.{ℕ, _+_, _*_, _^_, _≤_, _<_}
 use native.Mathlib.Omega.{arith}
-use lib.ListN.{getD, drop, length-drop}
+use lib.IntN.{ℤ}
+use lib.ListN.{length, getD, take, drop}
+use Rattle.counting.specs.Counting.{Bounded}
+use Rattle.counting.proofs.Cases.{lt-or-le}
 use Rattle.polynomial.specs.Terms.{keysOf}
-use Rattle.problem_reader.specs.TermArrays.{objectiveTerms}
-use Rattle.problem_reader.proofs.TermArrays.{terms-keys}
-use Rattle.problem_reader.specs.declared.StoredProblem.{StoredProblem}
-use Rattle.problem_reader.specs.declared.Multipliers.{Multipliers}
-use Rattle.problem_reader.specs.Stored.{problemOf, Kept}
+use Rattle.format.specs.ProblemRules.{Problem}
 use Rattle.format.specs.ProblemBases.{basisOf, multiplierOf}
-use Rattle.problem_reader.specs.Flat.{Flat}
-use Rattle.problem_reader.proofs.Flattening.{basis-part}
-use Rattle.joining_rule.specs.Rounds.{Bases}
-use Rattle.joining_rule.specs.Rounds as Rounds
+use Rattle.flat.specs.Flat.{basisIn, FlatProblem}
+use Rattle.flat.proofs.Flat as Flat
+use Rattle.joining_rule.specs.Rounds.{Bases, closingOf}
+use Rattle.joining_rule.specs.Joining.{basesOf, startFrom, startSet, closing}
+use Rattle.joining_rule.proofs.Same.{closing-same}
+use Rattle.joining_rule.proofs.Start.{start-same}
 use Rattle.whole_rounds.specs.Parts.{basesIn}
 use Rattle.whole_rounds.specs.Arrays.{Arrays}
-use Rattle.joining_rule.proofs.Same.{closing-same}
-use Rattle.joining_rule.specs.Joining.{startFrom, startSet, closing}
-use Rattle.joining_rule.specs.Joining as J
-use Rattle.joining_rule.proofs.Start.{start-same}
+use Rattle.closure.specs.Tables.{FlatKeys, exponentsIn, startIn}
 
-module _ (p : StoredProblem) (kept : Kept p) (m : Multipliers) (flat : Flat (problemOf p) m) where
-  pub arrays : Arrays (p .keys) (p .sizes) (m .keys) (m .counts)
-  arrays = record {
-    sized = record { nine = kept .bases .sizes-length; small = kept .bases .sizes-low };
-    keys-long = kept .bases .keys-length;
-    keys-low = kept .bases .keys-low;
-    counts-nine = flat .counts-length;
-    counts-small = flat .counts-low;
-    exponents-long = flat .keys-length;
-    exponents-low = flat .keys-low;
-  }
+module _ (keys sizes : List ℕ) (k : FlatKeys keys sizes) where
+  -- the parts that are lent to the rounds
+  pub arrays : Arrays (take 576 keys) (take 9 sizes) (take 288 (drop 576 keys)) (take 9 (drop 9 sizes))
+  arrays =
+      let f = k .limits in
+      record {
+        sized = record { nine = Flat.sizes-length f; small = Flat.sizes-low f };
+        keys-long = Flat.bases-length f;
+        keys-low = Flat.bases-low f;
+        counts-nine = Flat.counts-length f;
+        counts-small = Flat.counts-low f;
+        exponents-long = Flat.exponents-length f;
+        exponents-low = Flat.exponents-low f;
+      }
 
-  abbrev laid : Bases
-  laid = basesIn (p .keys) (p .sizes) (m .keys) (m .counts)
+  -- polynomial j stands within the arrays, the objective being number 9
+  pub polynomial-counted : (j : ℕ) → j ≤ 9 → 9 + j < length sizes
+  polynomial-counted j h = omega (arith, k .limits .sizes-length)
 
-  same-basis : (j : ℕ) → j < 9 → laid .basis j ≡ basisOf (problemOf p) j
+  pub polynomial-fits : (j : ℕ) → j ≤ 9 → 576 + 32 * j + getD sizes (9 + j) 0 ≤ length keys
+  polynomial-fits j h =
+      let e = k .limits .keys-length in
+      ⊎-elim
+      (λ b. omega (arith, Flat.multiplier-size (k .limits) j b))
+      (λ b.
+      let q : j ≡ 9 = omega arith in
+      let m : getD sizes (9 + j) 0 ≤ 256 = rw q (Flat.objective-size (k .limits)) in
+      omega arith)
+      (lt-or-le j 9)
+
+  pub basis-fits : 64 * 0 + getD sizes 0 0 ≤ length keys
+  basis-fits = omega (arith, Flat.basis-size (k .limits) 0 (omega arith), k .limits .keys-length)
+
+  -- no key is of a degree above 32
+  pub all-low : Bounded (32 * 2 ^ 56) keys
+  all-low i =
+      let b = k .limits .keys-low i in
+      ⊎-elim
+      (λ h. let d : getD keys i 0 ≤ 8 * 2 ^ 56 = rw (Flat.basis-degree i h) at b in omega arith)
+      (λ h.
+      ⊎-elim
+      (λ l. let d : getD keys i 0 ≤ 16 * 2 ^ 56 = rw (Flat.multiplier-degree i h l) at b in omega arith)
+      (λ l. let d : getD keys i 0 ≤ 32 * 2 ^ 56 = rw (Flat.objective-degree i l) at b in omega arith)
+      (lt-or-le i 864))
+      (lt-or-le i 576)
+
+module _ (p : Problem) (keys : List ℕ) (coefficients : List ℤ) (sizes : List ℕ) (f : FlatProblem p keys coefficients sizes) where
+  abbrev lent : Bases
+  lent = basesIn (take 576 keys) (take 9 sizes) (take 288 (drop 576 keys)) (take 9 (drop 9 sizes))
+
+  same-basis : (j : ℕ) → j < 9 → lent .basis j ≡ basisOf p j
   unfolding basesIn
-  same-basis j h = sym (basis-part p kept j)
+  same-basis j h = Flat.basis-lent f j h
 
-  same-multiplier : (j : ℕ) → j < 9 → laid .multiplier j ≡ multiplierOf (problemOf p) j
-  unfolding basesIn multiplierOf
-  same-multiplier j h =
-      sym (terms-keys (getD (m .counts) j 0) (drop (32 * j) (m .keys)) (drop (32 * j) (m .coefficients)) (simp length-drop (omega (arith, flat .counts-low j, flat .keys-length)))) ∙ ap keysOf (flat .each j)
+  same-multiplier : (j : ℕ) → j < 9 → lent .multiplier j ≡ multiplierOf p j
+  unfolding basesIn
+  same-multiplier j h = Flat.exponents-lent f j h
 
-  pub laid-start : startFrom (keysOf (objectiveTerms (p .objective))) laid ≡ startSet (problemOf p)
-  unfolding startSet problemOf
-  laid-start = start-same _ laid (J.basesOf (problemOf p)) same-basis same-multiplier
+  abbrev held : Bases
+  held = record { basis = basisIn keys sizes; multiplier = exponentsIn keys sizes }
 
-  pub laid-closing : Rounds.closingOf laid (startFrom (keysOf (objectiveTerms (p .objective))) laid) ≡ closing (problemOf p)
+  pub start-held : startIn keys sizes ≡ startSet p
+  unfolding startSet
+  start-held = ap (λ (l : List ℕ). startFrom l held) (Flat.objective-part f) ∙ start-same (keysOf (p .objective)) held (basesOf p) (f .bases) (Flat.multiplier-part f)
+
+  pub closing-lent : (S : List ℕ) → S ≡ startIn keys sizes → closingOf lent S ≡ closing p
   unfolding closing
-  laid-closing = rw laid-start (closing-same laid (J.basesOf (problemOf p)) same-basis same-multiplier (startSet (problemOf p)))
+  closing-lent S e = ap (closingOf lent) (e ∙ start-held) ∙ closing-same lent (basesOf p) same-basis same-multiplier (startSet p)

@@ -1,4 +1,5 @@
--- Where a set on the way to the closed S is too large, the closed S with the zero exponent is.
+-- What is left on each way out: where a set on the way to the closed S is too large, the closed S with the zero exponent
+-- is.
 use mathlib.Core.Path.{_≡_, sym, ap, _∙_}
 use mathlib.Core.Bool.{Bool, true, false}
 use mathlib.Core.List.{List}
@@ -21,6 +22,8 @@ use Rattle.joining_rule.proofs.Numbered.{lowestIn, different-lowest}
 use Rattle.counting.proofs.Sums.{sumTo-same}
 use Rattle.whole_rounds.specs.declared.Closed.{Closed}
 use Rattle.whole_rounds.proofs.Rounding.{close-extends}
+use Rattle.closure.specs.Tables.{ClosureLeft}
+use Rattle.closure.specs.declared.Joined.{Joined}
 
 -- the test for refusal 7
 abbrev large : Closing → Bool
@@ -35,7 +38,7 @@ module _ (g : Bases) (S₀ t : List ℕ) (n : ℕ) (t₁ : List ℕ) (grown : Gr
   pub start-large : 2048 < n → true ≡ large (closingOf g S₀)
   start-large h = sym (lt-ltb 2048 (length (closedWithZero (closingOf g S₀))) (omega (arith, grown .count, start-few)))
 
-module _ (o : Closing) (n : ℕ) (t : List ℕ) (r : Closed) (t₁ idx₁ : List ℕ) (settled : Settled o n t r t₁ idx₁) where
+module _ (o : Closing) (n : ℕ) (t : List ℕ) (r : Closed) (t₁ idx₁ l₁ : List ℕ) (settled : Settled o n t r t₁ idx₁ l₁) where
   pub close-large : 2048 < r .len → true ≡ large o
   close-large h = sym (lt-ltb 2048 (length (closedWithZero o)) (omega (arith, settled .stored .grown .count, insert-grows 0 (o .state .support))))
 
@@ -80,5 +83,35 @@ module _ (keys sizes exponents counts : List ℕ) (a : Arrays keys sizes exponen
       ∙ sumTo-same 9 _ _ (λ j h. sym (different-lowest _ (closing-numbered (basesIn keys sizes exponents counts) S₀ .at j h)))
 
 -- a test that holds does not fail
-pub never : {b : Bool} {P : Type 0} → b ≡ true → b ≡ false → P
+never : {b : Bool} {P : Type 0} → b ≡ true → b ≡ false → P
 never p q = clash (cc)
+
+-- what is left of a table that is kept beyond its first 2,048 numbers
+module _ (o : Closing) (t : List ℕ) (r : Joined) (t′ idx′ l′ : List ℕ) where
+  -- where S is too large
+  pub left-full : r .full ≡ true → true ≡ large o → length t′ ≡ length t → drop 2048 t′ ≡ drop 2048 t → ClosureLeft o t r t′ idx′ l′
+  left-full e f a b = record {
+    full = e ∙ f;
+    labels = λ h. never e h;
+    rounds = λ h. never e h;
+    blocks = λ h. never e h;
+    len = λ h. never e h;
+    keys = λ h. never e h;
+    index = λ h. never e h;
+    long = a;
+    rest = b;
+  }
+
+  -- where the table came from another
+  pub left-from : (t₀ : List ℕ) → length t ≡ length t₀ → drop 2048 t ≡ drop 2048 t₀ → ClosureLeft o t r t′ idx′ l′ → ClosureLeft o t₀ r t′ idx′ l′
+  left-from t₀ a b w = record {
+    full = w .full;
+    labels = w .labels;
+    rounds = w .rounds;
+    blocks = w .blocks;
+    len = w .len;
+    keys = w .keys;
+    index = w .index;
+    long = w .long ∙ a;
+    rest = w .rest ∙ b;
+  }

@@ -1,19 +1,12 @@
 -- Laws of the start of S: what putting keys into a set gives.
-use mathlib.Core.Path.{_≡_, refl, ap, sym, _∙_}
-use mathlib.Core.List.{List, [], _∷_, _++_, map-append}
-use lib.IntN.{ℤ, pos}
+use mathlib.Core.Path.{_≡_, refl, ap, _∙_}
+use mathlib.Core.List.{List}
 use Prim.Native.Nat.{ℕ, zero, suc, _+_, _*_, _^_, _≤_, _<_}
 use native.Mathlib.Numerals.{add-one}
 use native.Mathlib.Omega.{arith}
-use lib.ListN.{length, take, drop, getD, drop-of-length-le}
+use lib.ListN.{length, drop, getD, drop-of-length-le}
 use lib.Seq.{drop-cons}
-use Rattle.counting.proofs.Bounded.{bounded-part}
 use Rattle.joining_rule.specs.Sets.{insert, insertAll}
-use Rattle.whole_rounds.specs.Parts.{part}
-use Rattle.counting.specs.Counting.{listed, Bounded}
-use Rattle.counting.proofs.Listed.{listed-take}
-use Rattle.polynomial.specs.Terms.{term, keysOf}
-use Rattle.problem_reader.specs.TermArrays.{termsIn}
 use Rattle.key_set.specs.Table.{keysIn, Stored}
 use Rattle.joining_rule.specs.Joining.{multiples}
 
@@ -33,19 +26,6 @@ product-fits zero k h b = omega arith
 product-fits (suc zero) k h b = omega arith
 product-fits (suc (suc zero)) k h b = omega arith
 product-fits (suc (suc (suc c))) k h b = absurd (omega arith)
-
--- a part of a list that has no number above m has none
-pub part-low : (m w : ℕ) (counts l : List ℕ) (j : ℕ) → Bounded m l → Bounded m (part w counts l j)
-part-low m w counts l j h = bounded-part m (w * j) (getD counts j 0) l h
-
--- ---- the objective's keys
-pub keys-listed : (n : ℕ) (keys : List ℕ) (coefficients : List ℤ) → keysOf (termsIn n keys coefficients) ≡ listed n (λ i. getD keys i 0)
-unfolding keysOf termsIn listed
-keys-listed zero keys cs = refl
-keys-listed (suc n) keys cs = map-append _ (listed n (λ i. term (getD keys i 0) (getD cs i (pos 0)))) (term (getD keys n 0) (getD cs n (pos 0)) ∷ []) ∙ ap (λ (l : List ℕ). l ++ (getD keys n 0 ∷ [])) (keys-listed n keys cs)
-
-pub first-keys : (n : ℕ) (keys : List ℕ) (coefficients : List ℤ) → n ≤ length keys → take n keys ≡ keysOf (termsIn n keys coefficients)
-first-keys n keys cs h = sym (keys-listed n keys cs ∙ listed-take n keys 0 h)
 
 -- ---- one growth of an empty table after another
 module _ (S t : List ℕ) (n : ℕ) (t₁ idx₁ : List ℕ) (g : Stored 0 S t n t₁ idx₁) where

@@ -1,29 +1,39 @@
--- What the functions that compute the joining rule ask of their arrays and leave in the lent table.
+-- What the functions that compute the joining rule ask of their arrays and leave in the lent ones.
 use mathlib.Core.Path.{_≡_}
 use mathlib.Core.Bool.{false}
 use mathlib.Core.List.{List}
-use Prim.Native.Nat.{ℕ, _*_, _^_}
+use Prim.Native.Nat.{ℕ}
 use lib.Dec.{ltb}
-use lib.ListN.{length, drop}
+use lib.IntN.{ℤ}
+use lib.ListN.{length, getD, take, drop}
+use Rattle.flat.specs.Flat.{objectiveNumber, exponentsAt, countAt, basisIn, FlatLimits}
 use Rattle.key_set.specs.Table.{keysIn, Indexed}
 use Rattle.joining_rule.specs.Rounds.{Closing, blocksIn, closedWithZero}
 use Rattle.joining_rule.specs.Bytes.{blockBytes}
-use Rattle.joining_rule.specs.Joining.{mostKeys}
+use Rattle.joining_rule.specs.Joining.{startFrom, mostKeys}
 use Rattle.closure.specs.declared.Joined.{Joined}
-use Rattle.counting.specs.Counting.{Bounded}
 
--- nine multipliers of at most 32 terms of degree at most 16
-pub record Multipliers (exponents counts : List ℕ) : Type 0 where
-  pub counts-nine : length counts ≡ 9
-  pub counts-small : Bounded 32 counts
-  pub exponents-long : length exponents ≡ 288
-  pub exponents-low : Bounded (16 * 2 ^ 56) exponents
+-- arrays that a problem within the limits can stand in, whatever its coefficients are: the joining rule does not look
+-- at them
+pub record FlatKeys (keys sizes : List ℕ) : Type 0 where
+  pub coefficients : List ℤ
+  pub limits : FlatLimits keys coefficients sizes
 
--- what is left where the rounds end in o: the table t′ holds the closed S with the zero exponent, and idx′ is its
--- index, unless it has more than 2,048 members
-pub record ClosureLeft (o : Closing) (t : List ℕ) (r : Joined) (t′ idx′ : List ℕ) : Type 0 where
+-- the exponents of polynomial j
+abbrev pub exponentsIn : List ℕ → List ℕ → ℕ → List ℕ
+exponentsIn keys sizes j = take (getD sizes (countAt j) 0) (drop (exponentsAt j) keys)
+
+-- the start of S, by the places of the arrays
+abbrev pub startIn : List ℕ → List ℕ → List ℕ
+startIn keys sizes =
+    startFrom (exponentsIn keys sizes objectiveNumber)
+    (record { basis = basisIn keys sizes; multiplier = exponentsIn keys sizes })
+
+-- what is left where the rounds end in o: the table t′ holds the closed S with the zero exponent, idx′ is its index,
+-- and l′ has the block numbers, unless it has more than 2,048 members
+pub record ClosureLeft (o : Closing) (t : List ℕ) (r : Joined) (t′ idx′ l′ : List ℕ) : Type 0 where
   pub full : r .full ≡ ltb mostKeys (length (closedWithZero o))
-  pub labels : r .full ≡ false → r .labels ≡ blockBytes (o .state .labels)
+  pub labels : r .full ≡ false → l′ ≡ blockBytes (o .state .labels)
   pub rounds : r .full ≡ false → r .rounds ≡ o .rounds
   pub blocks : r .full ≡ false → r .blocks ≡ blocksIn (o .state .labels)
   pub len : r .full ≡ false → r .len ≡ length (closedWithZero o)

@@ -1,25 +1,22 @@
-// The joining rule applied to a problem: from its start to the closed support and the blocks. Basis j stands from place
-// 64j on in `keys`, the exponents of its multiplier from place 32j on in `exponents`, as in the crate whole_rounds. The
-// first `len` numbers of `table` are the support, in the order in which they came, with `index`.
+// The joining rule applied to a problem that stands in the arrays of the crate flat: from its start to the closed
+// support and the blocks. The first `len` numbers of `table` are the support, in the order in which they came, with
+// `index`.
 ghost use mathlib.Core.Path.{_≡_};
 ghost use mathlib.Core.Bool.{true};
-ghost use mathlib.Core.List.{[]};
-ghost use Prim.Native.Nat.{_+_, _*_, _^_, _≤_, _<_};
+ghost use mathlib.Core.List.{List};
+ghost use Prim.Native.Nat.{_*_, _^_, _≤_};
+ghost use lib.IntN.{ℤ};
 ghost use lib.ListN.{length};
 ghost use Rattle.counting.specs.Counting.{fromTo, Bounded};
+ghost use Rattle.format.specs.ProblemRules.{Problem};
 ghost use Rattle.joining_rule.specs.Sets.{insertAll};
-ghost use Rattle.key_set.specs.Table.{keysIn, Holds, Indexed, Stored};
-ghost use Rattle.whole_rounds.specs.Parts.{part, basesIn};
 ghost use Rattle.joining_rule.specs.Rounds.{closingOf};
-ghost use Rattle.closure.specs.Tables.{Multipliers, ClosureLeft};
+ghost use Rattle.joining_rule.specs.Joining.{multiples, closing};
+ghost use Rattle.key_set.specs.Table.{keysIn, Holds, Indexed, Stored};
+ghost use Rattle.flat.specs.Flat.{FlatProblem};
+ghost use Rattle.whole_rounds.specs.Parts.{basesIn};
 ghost use Rattle.whole_rounds.specs.Arrays.{Arrays};
-ghost use Rattle.polynomial.specs.Terms.{keysOf};
-ghost use Rattle.problem_reader.specs.TermArrays.{objectiveTerms};
-ghost use Rattle.joining_rule.specs.Joining.{multiples, startFrom};
-ghost use Rattle.problem_reader.specs.Stored.{problemOf, Kept};
-ghost use Rattle.joining_rule.specs.Joining as J;
-use problem_reader::Objective;
-use problem_reader::StoredProblem;
+ghost use Rattle.closure.specs.Tables.{FlatKeys, exponentsIn, startIn, ClosureLeft};
 
 // The support with each key times `factor` put in; 2,049 where it has too many.
 fn put_keys(table: &mut [u64], index: &mut [u16], len: usize, keys: &[u64], factor: u64) -> usize
@@ -45,29 +42,26 @@ fn put_keys(table: &mut [u64], index: &mut [u16], len: usize, keys: &[u64], fact
     n
 }
 
-// The exponents of multiplier j put in.
-fn put_multiplier(
+// The exponents of polynomial j put in.
+fn put_polynomial(
     table: &mut [u64],
     index: &mut [u16],
     len: usize,
-    exponents: &[u64],
-    counts: &[usize],
+    keys: &[u64],
+    sizes: &[usize],
     j: usize,
 ) -> usize
     requires { ⌜
-        (Holds (now table) len × Indexed (now index) (now table) len)
-        × Multipliers (now exponents) (now counts)
-        × (j < 9)
+        (Holds (now table) len × Indexed (now index) (now table) len) × FlatKeys (now keys) (now sizes) × (j ≤ 9)
         ⌝ }
     ensures { λ r. ⌜
         Stored len
-        (insertAll (part 32 (now (counts .entry)) (now (exponents .entry)) j) (keysIn len (now (table .entry))))
+        (insertAll (exponentsIn (now (keys .entry)) (now (sizes .entry)) j) (keysIn len (now (table .entry))))
         (now (table .entry)) r (now (table .exit)) (now (index .exit))
         ⌝ }
 {
-    let a = 32 * j;
-    let e = a + counts[j];
-    put_keys(table, index, len, &exponents[a..e], 1)
+    let exponents = flat::exponents(keys, sizes, j);
+    put_keys(table, index, len, exponents, 1)
 }
 
 // The exponents of every constraint put in.
@@ -75,22 +69,22 @@ fn put_constraints(
     table: &mut [u64],
     index: &mut [u16],
     len: usize,
-    exponents: &[u64],
-    counts: &[usize],
+    keys: &[u64],
+    sizes: &[usize],
 ) -> usize
     requires { ⌜
-        (Holds (now table) len × Indexed (now index) (now table) len) × Multipliers (now exponents) (now counts)
+        (Holds (now table) len × Indexed (now index) (now table) len) × FlatKeys (now keys) (now sizes)
         ⌝ }
     ensures { λ r. ⌜
         Stored len
-        (fromTo 1 9 (λ j. insertAll (part 32 (now (counts .entry)) (now (exponents .entry)) j))
+        (fromTo 1 9 (λ j. insertAll (exponentsIn (now (keys .entry)) (now (sizes .entry)) j))
         (keysIn len (now (table .entry)))) (now (table .entry)) r (now (table .exit)) (now (index .exit))
         ⌝ }
 {
     let mut n = len;
     let mut j = 1;
     while j < 9 {
-        n = put_multiplier(table, index, n, exponents, counts, j);
+        n = put_polynomial(table, index, n, keys, sizes, j);
         if 2048 < n {
             return n;
         }
@@ -99,145 +93,119 @@ fn put_constraints(
     n
 }
 
-// The exponents of the objective alone.
-fn put_objective(q: Objective, table: &mut [u64], index: &mut [u16]) -> usize
+// The start of the support: the exponents of the objective and of the constraints, and twice those of basis 0.
+fn seed(keys: &[u64], sizes: &[usize], table: &mut [u64], index: &mut [u16]) -> usize
     requires { ⌜
-        (2048 ≤ length (now table))
-        × Indexed (now index) (now table) 0
-        × (q .count ≤ 256)
-        × Bounded (32 * 2 ^ 56) (q .keys)
+        (2048 ≤ length (now table)) × Indexed (now index) (now table) 0 × FlatKeys (now keys) (now sizes)
         ⌝ }
     ensures { λ r. ⌜
-        Stored 0 (insertAll (keysOf (objectiveTerms q)) []) (now (table .entry)) r (now (table .exit))
+        Stored 0 (startIn (now (keys .entry)) (now (sizes .entry))) (now (table .entry)) r (now (table .exit))
         (now (index .exit))
         ⌝ }
 {
-    let keys = q.keys;
-    let n = q.count;
-    put_keys(table, index, 0, &keys[..n], 1)
-}
-
-// The start of the support: the exponents of the objective and of the constraints, and twice those of basis 0.
-fn seed(
-    q: Objective,
-    keys: &[u64],
-    sizes: &[usize],
-    exponents: &[u64],
-    counts: &[usize],
-    table: &mut [u64],
-    index: &mut [u16],
-) -> usize
-    requires { ⌜
-        (2048 ≤ length (now table))
-        × Indexed (now index) (now table) 0
-        × (q .count ≤ 256)
-        × Bounded (32 * 2 ^ 56) (q .keys)
-        × Arrays (now keys) (now sizes) (now exponents) (now counts)
-        ⌝ }
-    ensures { λ r. ⌜
-        Stored 0
-        (startFrom (keysOf (objectiveTerms q))
-        (basesIn (now (keys .entry)) (now (sizes .entry)) (now (exponents .entry)) (now (counts .entry))))
-        (now (table .entry)) r (now (table .exit)) (now (index .exit))
-        ⌝ }
-{
-    let a = put_objective(q, table, index);
+    let a = put_polynomial(table, index, 0, keys, sizes, flat::OBJECTIVE);
     if 2048 < a {
         return a;
     }
-    let b = put_constraints(table, index, a, exponents, counts);
+    let b = put_constraints(table, index, a, keys, sizes);
     if 2048 < b {
         return b;
     }
-    let n = sizes[0];
-    put_keys(table, index, b, &keys[..n], 2)
+    let basis = flat::basis(keys, sizes, 0);
+    put_keys(table, index, b, basis, 2)
 }
 
-// What the joining rule leaves: the block numbers, the number of rounds and of blocks, and how many keys the closed
-// support has with the zero exponent. Where that is more than 2,048, `full` says so and the other fields say nothing.
+// What the joining rule leaves beside the block numbers: the number of rounds and of blocks, and how many keys the
+// closed support has with the zero exponent. Where that is more than 2,048, `full` says so and the rest says nothing.
 pub struct Joined {
     pub full: bool,
-    pub labels: [u8; 576],
     pub rounds: usize,
     pub blocks: usize,
     pub len: usize,
 }
 
-fn too_many(labels: [u8; 576]) -> Joined
+fn too_many() -> Joined
     ensures { λ r. ⌜ r .full ≡ true ⌝ }
 {
     Joined {
         full: true,
-        labels,
         rounds: 0,
         blocks: 0,
         len: 0,
     }
 }
 
-// The joining rule from its start to its end, with an index that holds nothing. The table's first numbers are then the
-// closed support with the zero exponent, and the index is theirs.
-pub fn settle(
-    q: Objective,
+// The joining rule from its start, the first `count` numbers of the table, to its end. Basis j stands from place 64j on
+// in `keys`, the exponents of its multiplier from place 32j on in `exponents`, as in the crate whole_rounds.
+fn settle(
     keys: &[u64],
     sizes: &[usize],
     exponents: &[u64],
     counts: &[usize],
+    labels: &mut [u8; 576],
     table: &mut [u64],
     index: &mut [u16],
+    count: usize,
 ) -> Joined
     requires { ⌜
-        (2048 ≤ length (now table))
-        × Indexed (now index) (now table) 0
-        × (q .count ≤ 256)
-        × Bounded (32 * 2 ^ 56) (q .keys)
+        (Holds (now table) count × Indexed (now index) (now table) count)
         × Arrays (now keys) (now sizes) (now exponents) (now counts)
         ⌝ }
     ensures { λ r. ⌜
         ClosureLeft
         (closingOf (basesIn (now (keys .entry)) (now (sizes .entry)) (now (exponents .entry)) (now (counts .entry)))
-        (startFrom (keysOf (objectiveTerms q))
-        (basesIn (now (keys .entry)) (now (sizes .entry)) (now (exponents .entry)) (now (counts .entry)))))
-        (now (table .entry)) r (now (table .exit)) (now (index .exit))
+        (keysIn count (now (table .entry)))) (now (table .entry)) r (now (table .exit)) (now (index .exit))
+        (now (labels .exit))
         ⌝ }
 {
-    let start = whole_rounds::start_labels(sizes);
-    let n = seed(q, keys, sizes, exponents, counts, table, index);
-    if 2048 < n {
-        return too_many(start);
-    }
-    let c = whole_rounds::close(start, keys, sizes, exponents, counts, table, index, n);
-    let labels = c.labels;
+    *labels = [255u8; 576];
+    whole_rounds::start_labels(labels, sizes);
+    let c = whole_rounds::close(labels, keys, sizes, exponents, counts, table, index, count);
     let m = c.len;
     if 2048 < m {
-        return too_many(labels);
+        return too_many();
     }
     let len = key_set::put(table, index, m, 0);
     if 2048 < len {
-        return too_many(labels);
+        return too_many();
     }
     Joined {
         full: false,
-        labels,
         rounds: c.rounds,
-        blocks: whole_rounds::count(&labels, sizes),
+        blocks: whole_rounds::count(labels, sizes),
         len,
     }
 }
 
-// The joining rule of a stored problem.
-pub fn join(p: StoredProblem, table: &mut [u64], index: &mut [u16]) -> Joined
-    requires { ⌜ (2048 ≤ length (now table)) × Indexed (now index) (now table) 0 × Kept p ⌝ }
+// The joining rule of the problem in the arrays, with an index that holds nothing. The table's first numbers are then
+// the closed support with the zero exponent, and the index is theirs.
+pub fn join(
+    keys: &[u64],
+    sizes: &[usize],
+    labels: &mut [u8; 576],
+    table: &mut [u64],
+    index: &mut [u16],
+) -> Joined
+    requires { ⌜
+        (2048 ≤ length (now table)) × Indexed (now index) (now table) 0 × FlatKeys (now keys) (now sizes)
+        ⌝ }
     ensures { λ r. ⌜
-        ClosureLeft (J.closing (problemOf p)) (now (table .entry)) r (now (table .exit)) (now (index .exit))
+        ((p : Problem) (coefficients : List ℤ) → FlatProblem p (now (keys .entry)) coefficients (now (sizes .entry))
+        → ClosureLeft (closing p) (now (table .entry)) r (now (table .exit)) (now (index .exit)) (now (labels .exit)))
         ⌝ }
 {
-    let constraints = p.constraints;
-    let m = problem_reader::multipliers_of(constraints, p.count);
-    let q = p.objective;
-    let keys = p.keys;
-    let sizes = p.sizes;
-    let exponents = m.keys;
-    let counts = m.counts;
-    settle(q, &keys, &sizes, &exponents, &counts, table, index)
+    let n = seed(keys, sizes, table, index);
+    if 2048 < n {
+        return too_many();
+    }
+    settle(
+        &keys[..576],
+        &sizes[..9],
+        &keys[576..864],
+        &sizes[9..18],
+        labels,
+        table,
+        index,
+        n,
+    )
 }

@@ -3,6 +3,7 @@ ghost use mathlib.Core.Path.{_≡_};
 ghost use Prim.Native.Nat.{_+_, _^_, _≤_, _<_};
 ghost use lib.ListN.{length};
 ghost use Rattle.format.specs.Operands.{number, signed};
+ghost use Rattle.format.specs.ProblemRules.{nonzero};
 
 // The number that `width` bytes at an offset give. It starts from the last byte, the highest.
 pub fn number_at(s: &[u8], at: usize, width: usize) -> u64
@@ -40,4 +41,10 @@ pub fn signed32(x: u64) -> i32
     } else {
         ((x as i64) - 4294967296) as i32
     }
+}
+
+pub fn is_nonzero(c: i32) -> bool
+    ensures { λ r. ⌜ r ≡ nonzero c ⌝ }
+{
+    c != 0
 }

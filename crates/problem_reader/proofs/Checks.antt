@@ -9,13 +9,13 @@ use lib.Dec.{eqb}
 use lib.IntN.{ℤ, pos, negsuc}
 use mir.Syntax.{w32}
 use mir.Val.{ofZ, SFits}
-use borrow.Author.Tests.{lt-ltb, le-leb, lt-leb, ne-eqb, leb-true}
+use borrow.Author.Tests.{lt-ltb, le-leb, lt-leb, ne-eqb, leb-true, leb-false}
 use Rattle.format.specs.Commands.{firstRefusal}
 use Rattle.format.specs.declared.problem.Instruction.{Instruction}
 use Rattle.format.specs.declared.problem.Instruction.the-variants as I
 use Rattle.format.specs.ProblemLayout.{problemCommand, problemSize}
 use Rattle.format.specs.ProblemRules.{Problem, problemPlaced, nonzero, problemOperandsFit, problemCommandAt, problemInstructionAt, problemRefusalAt}
-use Rattle.problem_reader.specs.Checks.{early, late}
+use Rattle.problem_reader.specs.Checks.{early, late, lateIn}
 use Rattle.format.proofs.ProblemChecks.{placed-size, end-command, end-byte}
 
 -- a signed number is 0 exactly where its bits are
@@ -66,6 +66,16 @@ module _ (a b c : Bool) where
       go true false c h = absurd (omega arith)
       go true true false h = absurd (omega arith)
       go true true true h = (refl, refl, refl)
+
+-- no check fails, so the list is not full
+not-full : (a f : Bool) → firstRefusal true true true a f ≡ 0 → f ≡ false
+unfolding firstRefusal
+not-full false false h = refl
+not-full false true h = absurd (omega arith)
+not-full true f h = absurd (omega arith)
+
+pub space : (keys : List ℕ) (from n k most : ℕ) → lateIn keys from n k most ≡ 0 → n < most
+space keys from n k most h = leb-false most n (not-full _ _ h)
 
 -- a command that passed them, with its operands and the place of the next: the last two checks decide
 pub record Passes (p : Problem) (s : List ℕ) (at : ℕ) (i : Instruction) (next : ℕ) : Type 0 where

@@ -1,5 +1,5 @@
 pub mod Checks
-pub mod TermArrays
-pub mod Stored
+pub mod Arrays
+pub mod Problems
+pub mod Held
 pub mod Steps
-pub mod Flattening

@@ -1,134 +1,149 @@
 -- One command of the reading loop: what it stores is what the definition says, and the loop's invariant goes on.
 use mathlib.Core.Path.{_≡_, refl, sym, _∙_}
-use mathlib.Core.List.{List}
-use mathlib.Core.Bool.{Bool, true, false}
+use mathlib.Core.List.{List, [], _∷_}
+use mathlib.Core.Bool.{Bool, true, false, cond}
 use Prim.Native.Nat.{ℕ, _+_, _-_, _*_, _^_, _≤_, _<_, zero-le}
 use native.Mathlib.Omega.{arith}
-use lib.Dec.{leb, ltb}
-use lib.IntN.{ℤ}
-use lib.ListN.{length, take, drop, set, getD, replicate, length-drop, length-replicate, getD-replicate}
-use lib.Seq.{length-take-le}
-use borrow.Author.Tests.{ne-eqb, le-leb, lt-leb, leb-true, leb-false, ltb-true}
+use lib.Dec.{eqb, leb, ltb}
+use lib.IntN.{ℤ, pos}
+use lib.ListN.{length, take, drop, set, getD, length-drop}
+use lib.Seq.{length-take-le, paste}
+use borrow.Author.Tests.{le-leb, lt-leb, leb-true, ltb-true, eqb-true, eqb-false}
 use Rattle.counting.proofs.Cases.{clash, and-left, and-right}
-use Rattle.counting.proofs.Bounded.{bounded-zeros}
-use Rattle.format.specs.Commands.{firstRefusal}
+use Rattle.format.specs.Commands.{firstRefusal, refused}
 use Rattle.format.proofs.Run.{Left, left-start, left-end, left-refused, left-extra, left-given, left-next}
-use Rattle.counting.specs.Counting.{listed}
-use Rattle.polynomial.specs.Monomial.{degree, within}
-use Rattle.polynomial.specs.Terms.{term}
-use Rattle.problem_reader.specs.TermArrays.{termsIn, FilledTerms}
-use Rattle.problem_reader.specs.declared.Objective.{Objective}
-use Rattle.problem_reader.specs.declared.Polynomial.{Polynomial}
+use Rattle.polynomial.specs.Monomial.{degree, within, among}
+use Rattle.polynomial.specs.Terms.{Term, term, keysOf}
 use Rattle.polynomial.proofs.Monomials.{key-low}
-use Rattle.problem_reader.proofs.TermArrays.{terms-more, filled-more}
 use Rattle.format.specs.declared.problem.Command.{Command}
 use Rattle.format.specs.declared.problem.Command.the-variants as C
 use Rattle.format.specs.declared.problem.Instruction.{Instruction}
 use Rattle.format.specs.declared.problem.Instruction.the-variants as I
-use Rattle.problem_reader.specs.declared.StoredProblem.{StoredProblem}
-use Rattle.problem_reader.specs.declared.Reading.{Reading}
 use Rattle.format.specs.ProblemLayout.{problemCommand, problemDecoded}
-use Rattle.format.specs.ProblemRules.{Problem, problemPlaced, fitting, nonzero, problemApplied, problemCommandAt, problemRefusalAt, problemNext, problemLanguage, noProblem, readProblem}
+use Rattle.format.specs.ProblemRules.{Problem, lastOf, problemPlaced, fitting, nonzero, problemApplied, problemCommandAt, problemRefusalAt, problemNext, problemLanguage, noProblem, readProblem}
+use Rattle.format.specs.ProblemBases.{basisOf}
+use Rattle.flat.specs.TermArrays.{termsIn, FilledTerms}
+use Rattle.flat.specs.Flat.{exponentsAt, coefficientsAt, FlatLimits, FlatZero}
+use Rattle.flat.proofs.TermArrays.{terms-length, terms-keys}
+use Rattle.flat.proofs.Flat.{basis-size}
 use Rattle.problem_reader.specs.Checks.{early, late, lateIn}
-use Rattle.problem_reader.specs.Stored.{noTerms, constraintsOf, basesHeld, problemOf, outcomeOf, Kept}
-use Rattle.problem_reader.proofs.Checks.{Passes, passes-size, passes-end, passes-on}
-use Rattle.problem_reader.proofs.Stored.{terms-room, constraints-count, last-stored, constraint-begun, term-added, constraints-kept, basis-stored, member-added, bases-kept}
+use Rattle.problem_reader.specs.Storing.{terms, noTerms, storedIf, ReadFlat}
+use Rattle.problem_reader.specs.declared.Polynomial.{Polynomial}
+use Rattle.problem_reader.specs.declared.Reading.{Reading}
+use Rattle.problem_reader.proofs.Checks.{Passes, passes-size, passes-end, passes-on, space}
+use Rattle.problem_reader.proofs.Problems.{multiplier-at}
+use Rattle.problem_reader.proofs.Held.{Held, held-variables, held-member, held-objective, held-term, held-constraint, held-end, held-start}
 
-abbrev pub stored : ℕ → Objective → List Polynomial → ℕ → List ℕ → List ℕ → StoredProblem
-stored v o qs n keys sizes = record { variables = v; objective = o; constraints = qs; count = n; keys = keys; sizes = sizes }
+abbrev pub reading : ℕ → ℕ → Reading
+reading n at = record { number = n; place = at }
 
-abbrev pub reading : ℕ → ℕ → StoredProblem → Reading
-reading n at p = record { number = n; place = at; problem = p }
-
--- what the loop of `read` keeps. s is the stream, p what was stored of the commands before the one at hand, number the
--- refusal that the reading has if the loop ends here, and at the offset of the command at hand
-pub record Going (s : List ℕ) (p : StoredProblem) (number at : ℕ) : Type 0 where
+-- what the loop of `read` keeps. s is the stream; keys, coefficients, sizes, v, last and n hold what was read of the
+-- commands before the one at hand (Held.antt); number is the refusal that the reading has if the loop ends here, and at
+-- the offset of the command at hand
+pub record Going (s keys : List ℕ) (coefficients : List ℤ) (sizes : List ℕ) (v : ℕ) (last : Polynomial) (n number at : ℕ) : Type 0 where
+  pub problem : Problem
+  pub held : Held problem keys coefficients sizes v last n
   -- nothing is decided: a stream that ends here has no end command
   pub undecided : number ≡ 2
   pub reached : at ≤ length s
-  -- the arrays are in order
-  pub kept : Kept p
   -- from the command at hand on the definition gives what it gives for the whole stream
-  pub left : Left problemLanguage s (readProblem s) (problemOf p) at
+  pub left : Left problemLanguage s (readProblem s) problem at
 
--- what the function promises
-abbrev pub Done : List ℕ → Reading → Type 0
-Done s r = (outcomeOf r ≡ readProblem s) × Kept (r .problem)
+-- what the arm of a command leaves: number is the refusal of the last two checks, or 0 and what was read is stored
+pub record Stepped (p : Problem) (i : Instruction) (keys : List ℕ) (coefficients : List ℤ) (sizes : List ℕ) (v : ℕ) (last : Polynomial) (n number : ℕ) : Type 0 where
+  pub decided : number ≡ late p i
+  pub limits : FlatLimits keys coefficients sizes
+  pub held : number ≡ 0 → Held (problemApplied p i) keys coefficients sizes v last n
+  pub on : I.End ≡ i → ⊥
 
-module _ (s : List ℕ) (p : StoredProblem) (number at : ℕ) (g : Going s p number at) where
+pub stepped-as : {p : Problem} {i i′ : Instruction} {keys keys′ : List ℕ} {coefficients coefficients′ : List ℤ} {sizes sizes′ : List ℕ} {v v′ : ℕ} {last last′ : Polynomial} {n n′ m m′ : ℕ}
+    → i ≡ i′ → keys ≡ keys′ → coefficients ≡ coefficients′ → sizes ≡ sizes′ → v ≡ v′ → last ≡ last′ → n ≡ n′ → m ≡ m′ → Stepped p i′ keys′ coefficients′ sizes′ v′ last′ n′ m′
+    → Stepped p i keys coefficients sizes v last n m
+stepped-as e k c s v l n m q = rw (e, k, c, s, v, l, n, m) q
+
+-- a refusal
+refusal : (s keys : List ℕ) (coefficients : List ℤ) (sizes : List ℕ) (n at : ℕ) → FlatLimits keys coefficients sizes → 0 < n → readProblem s ≡ refused n at
+    → ReadFlat s (reading n at) keys coefficients sizes
+refusal s keys coefficients sizes n at f h e = record { limits = f; gives = λ z. absurd (omega arith); refuses = λ _. e }
+
+module _ {s keys : List ℕ} {coefficients : List ℤ} {sizes : List ℕ} {v : ℕ} {last : Polynomial} {n number at : ℕ} (g : Going s keys coefficients sizes v last n number at) where
+  abbrev here : Problem
+  here = g .problem
+
   -- the stream has no end command
-  pub ended : length s ≤ at → Done s (reading number at p)
-  unfolding outcomeOf
+  pub ended : length s ≤ at → ReadFlat s (reading number at) keys coefficients sizes
   ended h =
-      let e : at ≡ length s = let r = g .reached in omega arith in
-      (rw (g .undecided, e) (left-end problemLanguage s _ _ at (g .left) h), g .kept)
+      let r = g .reached in
+      let e : at ≡ length s = omega arith in
+      let u = g .undecided in
+      refusal s keys coefficients sizes number at (g .held .limits) (omega arith) (rw (u, e) (sym (left-end problemLanguage s _ _ at (g .left) h)))
+
+  -- what the first checks say of these numbers, they say of this problem
+  pub first-checks : (r : ℕ) → ((p : Problem) → p .variables ≡ v → length (p .constraints) ≡ n → r ≡ early p s at) → r ≡ early here s at
+  first-checks r e = e here (g .held .variables) (g .held .count)
 
   module _ (h : at < length s) where
-    pub refusing : (n : ℕ) → 0 < n → problemRefusalAt (problemOf p) s at ≡ n → Done s (reading n at p)
-    unfolding outcomeOf
-    refusing n l v = (rw (ne-eqb n 0 (λ e. omega arith), ← v) (left-refused problemLanguage s _ _ at (g .left) h (omega arith)), g .kept)
+    refusing : (keys′ : List ℕ) (coefficients′ : List ℤ) (sizes′ : List ℕ) → FlatLimits keys′ coefficients′ sizes′ → (m : ℕ) → 0 < m → problemRefusalAt here s at ≡ m
+        → ReadFlat s (reading m at) keys′ coefficients′ sizes′
+    refusing keys′ coefficients′ sizes′ f m l e =
+        refusal s keys′ coefficients′ sizes′ m at f l (rw e at (sym (left-refused problemLanguage s _ _ at (g .left) h (omega arith))))
 
-    module _ (i : Instruction) (after : ℕ) (t : Passes (problemOf p) s at i after) where
-      pub late-refusal : (n : ℕ) → 0 < n → n ≡ late (problemOf p) i → Done s (reading n at p)
-      late-refusal n l e = refusing n l (t .decides ∙ sym e)
+    pub early-refusing : (m : ℕ) → 0 < m → problemRefusalAt here s at ≡ m → ReadFlat s (reading m at) keys coefficients sizes
+    early-refusing = refusing keys coefficients sizes (g .held .limits)
 
-      pub going-on : (q : StoredProblem) → late (problemOf p) i ≡ 0 → (I.End ≡ i → ⊥) → problemOf q ≡ problemApplied (problemOf p) i → Kept q → Going s q number after
+    -- past the arm of a command
+    module _ {i : Instruction} {after : ℕ} (t : Passes here s at i after) {keys′ : List ℕ} {coefficients′ : List ℤ} {sizes′ : List ℕ} {v′ : ℕ} {last′ : Polynomial} {n′ m : ℕ}
+        (q : Stepped here i keys′ coefficients′ sizes′ v′ last′ n′ m) where
+      pub late-refusing : 0 < m → ReadFlat s (reading m at) keys′ coefficients′ sizes′
+      late-refusing l = refusing keys′ coefficients′ sizes′ (q .limits) m l (t .decides ∙ sym (q .decided))
+
+      pub going-on : m ≡ 0 → Going s keys′ coefficients′ sizes′ v′ last′ n′ 2 after
       unfolding problemNext
-      going-on q v d e k =
+      going-on z =
           record {
-            undecided = g .undecided;
+            problem = problemApplied here i;
+            held = q .held z;
+            undecided = refl;
             reached = t .whole;
-            kept = k;
-            left = rw (e, t .step, ← t .instruction) (left-next problemLanguage s _ _ at (g .left) h (t .decides ∙ v) (λ b. d (passes-on _ s at i after t b)) (passes-size _ s at i after t));
+            left =
+                rw (t .step, ← t .instruction)
+                (left-next problemLanguage s _ _ at (g .left) h (t .decides ∙ sym (q .decided) ∙ z) (λ b. q .on (passes-on _ s at i after t b)) (passes-size _ s at i after t));
           }
 
     -- the end command
-    module _ (after : ℕ) (t : Passes (problemOf p) s at I.End after) where
+    module _ {after : ℕ} (t : Passes here s at I.End after) where
       last-byte : after ≡ at + 1
       unfolding problemCommand
       last-byte = rw (passes-end _ s at I.End after t refl) at (t .step)
 
-      none : problemRefusalAt (problemOf p) s at ≡ 0
+      none : problemRefusalAt here s at ≡ 0
       unfolding firstRefusal
       none = t .decides
 
-      pub extra : after < length s → Done s (reading number after p)
-      unfolding outcomeOf
-      extra m = (rw (g .undecided, last-byte) (left-extra problemLanguage s _ _ at (g .left) h none (passes-end _ s at I.End after t refl) (rw last-byte at m)), g .kept)
+      pub extra : after < length s → ReadFlat s (reading 2 after) keys coefficients sizes
+      extra m =
+          refusal s keys coefficients sizes 2 after (g .held .limits) (omega arith)
+          (rw last-byte (sym (left-extra problemLanguage s _ _ at (g .left) h none (passes-end _ s at I.End after t refl) (rw last-byte at m))))
 
-      pub complete : length s ≤ after → Done s (reading 0 at p)
-      unfolding outcomeOf
-      complete m = (left-given problemLanguage s _ _ at (g .left) h none (passes-end _ s at I.End after t refl) (rw last-byte at m), g .kept)
+      pub complete : length s ≤ after → (r : ℕ) → r ≡ 0 → (keys′ : List ℕ) (coefficients′ : List ℤ) → keys′ ≡ paste keys (exponentsAt n) (last .keys) (last .count) → coefficients′ ≡ paste coefficients (coefficientsAt n) (last .coefficients) (last .count)
+          → ReadFlat s (reading r at) keys′ coefficients′ (set (set sizes (9 + n) (last .count)) 19 n)
+      complete m r z keys′ coefficients′ x y =
+          let f = held-end (g .held) in
+          rw (x, y)
+          (record {
+            limits = f .limits;
+            gives = λ _. record { problem = here; read = sym (left-given problemLanguage s _ _ at (g .left) h none (passes-end _ s at I.End after t refl) (rw last-byte at m)); flat = f };
+            refuses = λ l. absurd (omega arith);
+          })
 
 -- before the first command
-pub starting : (s : List ℕ) (o : Objective) (q : Polynomial) → FilledTerms 32 256 (o .keys) (o .coefficients) (o .count) × (o .count ≡ 0)
-    → FilledTerms 16 32 (q .keys) (q .coefficients) (q .count) × (q .count ≡ 0) → Going s (stored 0 o (replicate 8 q) 0 (replicate 576 0) (replicate 9 0)) 2 0
-unfolding problemOf constraintsOf basesHeld termsIn listed readProblem
-starting s o q f e =
-    record {
-      undecided = refl;
-      reached = zero-le;
-      kept =
-          record {
-            variables-low = zero-le;
-            objective = f .0;
-            constraints = record { count-low = zero-le; places = refl; each = λ j h. rw (getD-replicate 8 j q noTerms h) (e .0) };
-            bases = record { sizes-length = refl; sizes-low = λ j. bounded-zeros 64 9 j; keys-length = length-replicate {A = ℕ} 576 0; keys-low = bounded-zeros _ 576 };
-          };
-      left = rw (f .1) (left-start problemLanguage s noProblem);
-    }
+pub starting : (s keys : List ℕ) (coefficients : List ℤ) (sizes : List ℕ) (one : Polynomial) → FlatZero keys coefficients sizes
+    → FilledTerms 16 32 (one .keys) (one .coefficients) (one .count) → terms one ≡ term 0 (pos 1) ∷ [] → Going s keys coefficients sizes 0 one 0 2 0
+unfolding readProblem
+starting s keys coefficients sizes one z f e =
+    record { problem = noProblem; held = held-start keys coefficients sizes one z f e; undecided = refl; reached = zero-le; left = left-start problemLanguage s noProblem }
 
--- ---- what each command stores
--- no check fails, so the list is not full
-not-full : (a f : Bool) → firstRefusal true true true a f ≡ 0 → f ≡ false
-unfolding firstRefusal
-not-full false false h = refl
-not-full false true h = absurd (omega arith)
-not-full true f h = absurd (omega arith)
-
-pub space : (keys : List ℕ) (from n k most : ℕ) → lateIn keys from n k most ≡ 0 → n < most
-space keys from n k most h = leb-false most n (not-full _ _ h)
-
+-- ---- what the arm of each command leaves
 -- a 04 stands after a 03
 term-placed : (p : Problem) (s : List ℕ) (at : ℕ) (w : Command) (k : ℕ) (c : ℤ) → problemPlaced p at w ≡ true → problemDecoded w s at ≡ I.Term k c → 0 < length (p .constraints)
 term-placed p s at C.Variables k c h e = clash (cc)
@@ -145,126 +160,97 @@ unfolding fitting
 fitting-low n d k h e =
     key-low n d k h (leb-true (degree k) d (and-left (leb (degree k) d) (within n k) e)) (and-right (leb (degree k) d) (within n k) e)
 
-module _ (s : List ℕ) (v : ℕ) (o : Objective) (qs : List Polynomial) (n : ℕ) (keys sizes : List ℕ) (number at after : ℕ)
-    (g : Going s (stored v o qs n keys sizes) number at) (h : at < length s) where
-  abbrev here : StoredProblem
-  here = stored v o qs n keys sizes
+-- the checks 5 and 6 of the keys in an array are those of the terms that it holds
+terms-room : (n most k : ℕ) (keys : List ℕ) (coefficients : List ℤ) (ts : List Term) → n ≤ length keys → termsIn n keys coefficients ≡ ts
+    → lateIn keys 0 n k most ≡ firstRefusal true true true (among k (keysOf ts)) (leb most (length ts))
+terms-room n most k keys coefficients ts h e = rw (← e, terms-keys n keys coefficients h, terms-length n keys coefficients)
 
-  abbrev kept : Kept here
-  kept = g .kept
+module _ {p : Problem} {keys : List ℕ} {coefficients : List ℤ} {sizes : List ℕ} {v : ℕ} {last : Polynomial} {n : ℕ} (held : Held p keys coefficients sizes v last n) where
+  -- a monomial that passed the first checks
+  low : (d k : ℕ) → fitting (p .variables) d k ≡ true → k ≤ d * 2 ^ 56
+  low d k e = let u = held .variables in let w = held .variables-low in fitting-low (p .variables) d k (omega arith) e
 
-  -- what the first checks say of these numbers, they say of this problem
-  pub first-checks : (r : ℕ) → ((p : Problem) → p .variables ≡ v → length (p .constraints) ≡ n → r ≡ early p s at) → r ≡ early (problemOf here) s at
-  unfolding problemOf
-  first-checks r e = e (problemOf here) refl (constraints-count n qs)
+  pub stepped-full : 8 ≤ n → Stepped p I.Constraint keys coefficients sizes v last n 6
+  unfolding firstRefusal
+  stepped-full h = record { decided = rw (held .count, le-leb 8 n h); limits = held .limits; held = λ z. absurd (omega arith); on = λ e. clash (cc) }
 
-  pub after-variables : (m : ℕ) → Passes (problemOf here) s at (I.Variables m) after → Going s (stored m o qs n keys sizes) number after
-  unfolding problemOf problemApplied firstRefusal
-  after-variables m t =
-      going-on s here number at g h (I.Variables m) after t (stored m o qs n keys sizes) refl (λ e. clash (cc)) refl
-      (record { variables-low = leb-true m 8 (and-right (leb 1 m) (leb m 8) (t .operands)); objective = kept .objective; constraints = kept .constraints; bases = kept .bases })
+  pub stepped-begun : n < 8 → (r : ℕ) → r ≡ 0 → (keys′ : List ℕ) (coefficients′ : List ℤ) (last′ : Polynomial)
+      → keys′ ≡ paste keys (exponentsAt n) (last .keys) (last .count) → coefficients′ ≡ paste coefficients (coefficientsAt n) (last .coefficients) (last .count) → last′ ≡ noTerms
+      → Stepped p I.Constraint keys′ coefficients′ (set sizes (9 + n) (last .count)) v last′ (n + 1) r
+  unfolding firstRefusal
+  stepped-begun h r z keys′ coefficients′ last′ x y e =
+      let m = held-constraint held h in
+      rw (x, y, e) (record { decided = rw (held .count, lt-leb 8 n h) z; limits = m .limits; held = λ _. m; on = λ e. clash (cc) })
 
-  module _ (k : ℕ) (c : ℤ) (t : Passes (problemOf here) s at (I.Objective k c) after) where
-    pub objective-room : lateIn (o .keys) 0 (o .count) k 256 ≡ late (problemOf here) (I.Objective k c)
-    unfolding problemOf
-    objective-room = let f = kept .objective in terms-room (o .count) 256 k (o .keys) (o .coefficients) (omega arith)
+  module _ {s : List ℕ} {at after : ℕ} where
+    pub stepped-variables : {m : ℕ} → Passes p s at (I.Variables m) after → (r : ℕ) → r ≡ 0 → Stepped p (I.Variables m) keys coefficients sizes m last n r
+    unfolding firstRefusal
+    stepped-variables {m} t r z =
+        record { decided = z; limits = held .limits; held = λ _. held-variables held m (leb-true m 8 (and-right (leb 1 m) (leb m 8) (t .operands))); on = λ e. clash (cc) }
 
-    pub after-objective : lateIn (o .keys) 0 (o .count) k 256 ≡ 0
-        → Going s (stored v (record { keys = set (o .keys) (o .count) k; coefficients = set (o .coefficients) (o .count) c; count = o .count + 1 }) qs n keys sizes) number after
-    unfolding problemOf problemApplied
-    after-objective e =
-        let f = kept .objective in
-        let l : o .count < 256 = space (o .keys) 0 (o .count) k 256 e in
-        let b = fitting-low v 32 k (kept .variables-low) (and-left (fitting v 32 k) (nonzero c) (t .operands)) in
-        going-on s here number at g h (I.Objective k c) after t _ (sym objective-room ∙ e) (λ e. clash (cc))
-        (rw (terms-more (o .count) (o .keys) (o .coefficients) k c (omega arith) (omega arith)))
-        (record {
-          variables-low = kept .variables-low;
-          objective = filled-more 32 256 (o .keys) (o .coefficients) (o .count) k c f l b;
-          constraints = kept .constraints;
-          bases = kept .bases;
-        })
+    module _ {k : ℕ} {c : ℤ} (t : Passes p s at (I.Objective k c) after) where
+      objective-room : lateIn keys 864 (getD sizes 18 0) k 256 ≡ late p (I.Objective k c)
+      objective-room =
+          let b = held .limits .sizes-low 18 in
+          let l = held .limits .keys-length in
+          terms-room (getD sizes 18 0) 256 k (drop 864 keys) (drop 288 coefficients) (p .objective) (rw (length-drop 864 keys) (omega arith)) (held .objective)
 
-  module _ (t : Passes (problemOf here) s at I.Constraint after) where
-    pub constraint-full : 8 ≤ n → 6 ≡ late (problemOf here) I.Constraint
-    unfolding problemOf firstRefusal
-    constraint-full l = rw (constraints-count n qs, le-leb 8 n l)
+      pub stepped-objective : (r : ℕ) (keys′ : List ℕ) (coefficients′ : List ℤ) (sizes′ : List ℕ) → r ≡ lateIn keys 864 (getD sizes 18 0) k 256
+          → keys′ ≡ storedIf r keys (864 + getD sizes 18 0) k → coefficients′ ≡ storedIf r coefficients (288 + getD sizes 18 0) c → sizes′ ≡ storedIf r sizes 18 (getD sizes 18 0 + 1)
+          → Stepped p (I.Objective k c) keys′ coefficients′ sizes′ v last n r
+      stepped-objective r keys′ coefficients′ sizes′ e = go (eqb r 0) refl
+        where
+          go : (b : Bool) → eqb r 0 ≡ b → keys′ ≡ cond b (set keys (864 + getD sizes 18 0) k) keys → coefficients′ ≡ cond b (set coefficients (288 + getD sizes 18 0) c) coefficients → sizes′ ≡ cond b (set sizes 18 (getD sizes 18 0 + 1)) sizes
+              → Stepped p (I.Objective k c) keys′ coefficients′ sizes′ v last n r
+          go true q x y z =
+              let f = space keys 864 (getD sizes 18 0) k 256 (sym e ∙ eqb-true r 0 q) in
+              let m = held-objective held k c f (low 32 k (and-left (fitting (p .variables) 32 k) (nonzero c) (t .operands))) in
+              rw (x, y, z) (record { decided = e ∙ objective-room; limits = m .limits; held = λ _. m; on = λ e. clash (cc) })
+          go false q x y z = rw (x, y, z) (record { decided = e ∙ objective-room; limits = held .limits; held = λ z. absurd (eqb-false r 0 q z); on = λ e. clash (cc) })
 
-    pub after-constraint : (q : Polynomial) → n < 8 → FilledTerms 16 32 (q .keys) (q .coefficients) (q .count) × (q .count ≡ 0) → Going s (stored v o (set qs n q) (n + 1) keys sizes) number after
-    unfolding problemOf problemApplied firstRefusal
-    after-constraint q l f =
-        let w = kept .constraints .places in
-        going-on s here number at g h I.Constraint after t _ (rw (constraints-count n qs, lt-leb 8 n l)) (λ e. clash (cc))
-        (rw (constraint-begun n qs q (omega arith) (f .1)))
-        (record {
-          variables-low = kept .variables-low;
-          objective = kept .objective;
-          constraints = constraints-kept n qs n (n + 1) q (kept .constraints) (omega arith) (f .0);
-          bases = kept .bases;
-        })
+    module _ {k : ℕ} {c : ℤ} (t : Passes p s at (I.Term k c) after) where
+      begun : 0 < n
+      begun = rw (held .count) at (term-placed p s at (problemCommandAt s at) k c (t .stands) (t .instruction))
 
-  module _ (k : ℕ) (c : ℤ) (t : Passes (problemOf here) s at (I.Term k c) after) where
-    pub term-begun : 0 < n
-    unfolding problemOf
-    term-begun = rw (constraints-count n qs) at (term-placed (problemOf here) s at (problemCommandAt s at) k c (t .stands) (t .instruction))
+      latest : terms last ≡ lastOf (p .constraints)
+      latest = held .latest ∙ rw (held .count) (multiplier-at p n begun)
 
-    abbrev last : Polynomial
-    last = getD qs (n - 1) noTerms
+      term-room : lateIn (last .keys) 0 (last .count) k 32 ≡ late p (I.Term k c)
+      term-room = let f = held .filled in terms-room (last .count) 32 k (last .keys) (last .coefficients) (lastOf (p .constraints)) (omega arith) latest
 
-    pub last-filled : FilledTerms 16 32 (last .keys) (last .coefficients) (last .count)
-    last-filled = let w = kept .constraints .count-low in let b = term-begun in kept .constraints .each (n - 1) (omega arith)
+      pub stepped-refused : (r : ℕ) → (r ≡ 0 → ⊥) → r ≡ lateIn (last .keys) 0 (last .count) k 32 → Stepped p (I.Term k c) keys coefficients sizes v last n r
+      stepped-refused r d e = record { decided = e ∙ term-room; limits = held .limits; held = λ z. absurd (d z); on = λ e. clash (cc) }
 
-    pub term-room : lateIn (last .keys) 0 (last .count) k 32 ≡ late (problemOf here) (I.Term k c)
-    unfolding problemOf
-    term-room = let f = last-filled in rw (last-stored n qs term-begun) (terms-room (last .count) 32 k (last .keys) (last .coefficients) (omega arith))
+      pub stepped-term : (r : ℕ) → r ≡ 0 → r ≡ lateIn (last .keys) 0 (last .count) k 32
+          → Stepped p (I.Term k c) keys coefficients sizes v (record { keys = set (last .keys) (last .count) k; coefficients = set (last .coefficients) (last .count) c; count = last .count + 1 }) n r
+      stepped-term r z e =
+          let f = space (last .keys) 0 (last .count) k 32 (sym e ∙ z) in
+          let m = held-term held k c begun f (low 16 k (and-left (fitting (p .variables) 16 k) (nonzero c) (t .operands))) in
+          record { decided = e ∙ term-room; limits = held .limits; held = λ _. m; on = λ e. clash (cc) }
 
-    pub after-term : lateIn (last .keys) 0 (last .count) k 32 ≡ 0
-        → Going s (stored v o (set qs (n - 1) (record { keys = set (last .keys) (last .count) k; coefficients = set (last .coefficients) (last .count) c; count = last .count + 1 })) n keys sizes) number after
-    unfolding problemOf problemApplied
-    after-term e =
-        let f = last-filled in
-        let b = term-begun in
-        let w = kept .constraints .places in
-        let u = kept .constraints .count-low in
-        let l : last .count < 32 = space (last .keys) 0 (last .count) k 32 e in
-        let m = fitting-low v 16 k (kept .variables-low) (and-left (fitting v 16 k) (nonzero c) (t .operands)) in
-        let d = terms-more (last .count) (last .keys) (last .coefficients) k c (omega arith) (omega arith) in
-        going-on s here number at g h (I.Term k c) after t _ (sym term-room ∙ e) (λ e. clash (cc))
-        (rw (constraints-count n qs, term-added n qs (n - 1) _ (term k c) (omega arith) (omega arith) d))
-        (record {
-          variables-low = kept .variables-low;
-          objective = kept .objective;
-          constraints = constraints-kept n qs (n - 1) n _ (kept .constraints) u (filled-more 16 32 (last .keys) (last .coefficients) (last .count) k c f l m);
-          bases = kept .bases;
-        })
+    module _ {j k : ℕ} (t : Passes p s at (I.Member j k) after) where
+      pub named : j < 9
+      named =
+          let e = held .count in
+          let u = held .count-low in
+          omega (arith, leb-true j (length (p .constraints)) (and-left (leb j (length (p .constraints))) (fitting (p .variables) 8 k) (t .operands)))
 
-  module _ (j k : ℕ) (t : Passes (problemOf here) s at (I.Member j k) after) where
-    pub member-begun : j < 9
-    unfolding problemOf
-    member-begun =
-        let u = kept .constraints .count-low in
-        omega (arith, rw (constraints-count n qs) at (leb-true j (length (constraintsOf n qs)) (and-left (leb j (length (constraintsOf n qs))) (fitting v 8 k) (t .operands))))
+      member-room : lateIn keys (64 * j) (getD sizes j 0) k 64 ≡ late p (I.Member j k)
+      unfolding basisOf
+      member-room =
+          let w = held .limits .keys-length in
+          let m = named in
+          let b = basis-size (held .limits) j named in
+          let l : length (take (getD sizes j 0) (drop (64 * j) keys)) ≡ getD sizes j 0 = length-take-le (getD sizes j 0) (drop (64 * j) keys) (rw (length-drop (64 * j) keys) (omega arith)) in
+          rw (← held .bases j named, l)
 
-    pub member-room : lateIn keys (64 * j) (getD sizes j 0) k 64 ≡ late (problemOf here) (I.Member j k)
-    unfolding problemOf
-    member-room =
-        let w = kept .bases .keys-length in
-        let b = kept .bases .sizes-low j in
-        let m = member-begun in
-        let l : length (take (getD sizes j 0) (drop (64 * j) keys)) ≡ getD sizes j 0 = length-take-le (getD sizes j 0) (drop (64 * j) keys) (rw (length-drop (64 * j) keys) (omega arith)) in
-        rw (basis-stored sizes keys j member-begun, l)
-
-    pub after-member : lateIn keys (64 * j) (getD sizes j 0) k 64 ≡ 0
-        → Going s (stored v o qs n (set keys (64 * j + getD sizes j 0) k) (set sizes j (getD sizes j 0 + 1))) number after
-    unfolding problemOf problemApplied
-    after-member e =
-        let l : getD sizes j 0 < 64 = space keys (64 * j) (getD sizes j 0) k 64 e in
-        let b = fitting-low v 8 k (kept .variables-low) (and-right (leb j (length (constraintsOf n qs))) (fitting v 8 k) (t .operands)) in
-        going-on s here number at g h (I.Member j k) after t _ (sym member-room ∙ e) (λ e. clash (cc))
-        (rw (member-added sizes keys (kept .bases) j k member-begun l))
-        (record {
-          variables-low = kept .variables-low;
-          objective = kept .objective;
-          constraints = kept .constraints;
-          bases = bases-kept sizes keys (kept .bases) j k member-begun l b;
-        })
+      pub stepped-member : (r : ℕ) (keys′ sizes′ : List ℕ) → r ≡ lateIn keys (64 * j) (getD sizes j 0) k 64 → keys′ ≡ storedIf r keys (64 * j + getD sizes j 0) k → sizes′ ≡ storedIf r sizes j (getD sizes j 0 + 1)
+          → Stepped p (I.Member j k) keys′ coefficients sizes′ v last n r
+      stepped-member r keys′ sizes′ e = go (eqb r 0) refl
+        where
+          go : (b : Bool) → eqb r 0 ≡ b → keys′ ≡ cond b (set keys (64 * j + getD sizes j 0) k) keys → sizes′ ≡ cond b (set sizes j (getD sizes j 0 + 1)) sizes → Stepped p (I.Member j k) keys′ coefficients sizes′ v last n r
+          go true q x z =
+              let f = space keys (64 * j) (getD sizes j 0) k 64 (sym e ∙ eqb-true r 0 q) in
+              let m = held-member held j k named f (low 8 k (and-right (leb j (length (p .constraints))) (fitting (p .variables) 8 k) (t .operands))) in
+              rw (x, z) (record { decided = e ∙ member-room; limits = m .limits; held = λ _. m; on = λ e. clash (cc) })
+          go false q x z = rw (x, z) (record { decided = e ∙ member-room; limits = held .limits; held = λ z. absurd (eqb-false r 0 q z); on = λ e. clash (cc) })

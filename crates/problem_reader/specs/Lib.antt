@@ -1,4 +1,2 @@
 pub mod Checks
-pub mod TermArrays
-pub mod Stored
-pub mod Flat
+pub mod Storing

@@ -1,54 +1,56 @@
 // The reader of the problem stream.
 ghost use mathlib.Core.Path.{_≡_};
 ghost use Prim.Native.Nat.{_+_, _≤_, _<_};
-ghost use lib.ListN.{length};
+ghost use lib.ListN.{length, getD};
 ghost use Rattle.format.specs.Layouts.{ZeroUnknown};
 ghost use Rattle.format.specs.declared.problem.Command.the-variants as C;
+ghost use mathlib.Core.List.{[], _∷_};
+ghost use lib.IntN.{pos};
+ghost use lib.Seq.{paste};
+ghost use Rattle.format.specs.ProblemLimits.{mostObjectiveTerms};
 ghost use Rattle.format.specs.ProblemLayout.{problemCommand, problemSize, problemDecoded};
-ghost use Rattle.format.specs.ProblemRules.{Problem, problemPlaced, fitting, nonzero, problemOperandsFit, problemCommandAt, readProblem};
+ghost use Rattle.format.specs.ProblemRules.{Problem, problemPlaced, fitting, nonzero, problemOperandsFit, problemCommandAt};
 ghost use Rattle.problem_reader.specs.Checks.{early, lateIn};
-ghost use Rattle.problem_reader.specs.Stored.{outcomeOf, constraintsOf, KeptConstraints, Kept};
-ghost use Rattle.problem_reader.specs.Flat.{Flat};
+ghost use Rattle.problem_reader.specs.Storing.{noTerms, terms, storedIf, ReadFlat};
+ghost use Rattle.flat.specs.Flat.{objectiveNumber, exponentsAt, coefficientsAt, countAt, FlatLimits, FlatZero};
+ghost use Rattle.flat.specs.TermArrays.{FilledTerms};
 ghost use Rattle.polynomial.specs.Monomial.{degree, within, among};
-ghost use Rattle.problem_reader.specs.TermArrays.{FilledTerms};
+ghost use Rattle.polynomial.specs.Terms.{term};
+use flat::CONSTRAINTS;
+use flat::OBJECTIVE;
+use flat::TERMS;
 use format::problem::Command;
 use format::problem::Instruction;
 
-// A polynomial of up to 256 terms: packed exponents (keys) and coefficients, place by place, and the number of terms.
-pub struct Objective {
-    pub keys: [u64; 256],
-    pub coefficients: [i32; 256],
-    pub count: usize,
-}
-
-// A polynomial of up to 32 terms, as a constraint is.
+// A polynomial of up to 32 terms, as a constraint is: packed exponents (keys) and coefficients, place by place, and the
+// number of terms.
 pub struct Polynomial {
     pub keys: [u64; 32],
     pub coefficients: [i32; 32],
     pub count: usize,
 }
 
-impl Objective {
-    pub fn empty() -> Self
-        ensures { λ r. ⌜ FilledTerms 32 256 (r .keys) (r .coefficients) (r .count) × (r .count ≡ 0) ⌝ }
-    {
-        Objective {
-            keys: [0; 256],
-            coefficients: [0; 256],
-            count: 0,
-        }
-    }
-}
-
 impl Polynomial {
     pub fn empty() -> Self
-        ensures { λ r. ⌜ FilledTerms 16 32 (r .keys) (r .coefficients) (r .count) × (r .count ≡ 0) ⌝ }
+        ensures { λ r. ⌜ r ≡ noTerms ⌝ }
     {
         Polynomial {
             keys: [0; 32],
             coefficients: [0; 32],
             count: 0,
         }
+    }
+
+    // The number 1.
+    fn one() -> Self
+        ensures { λ r. ⌜
+            FilledTerms 16 32 (r .keys) (r .coefficients) (r .count) × (terms r ≡ term 0 (pos 1) ∷ [])
+            ⌝ }
+    {
+        let mut q = Polynomial::empty();
+        q.coefficients[0] = 1;
+        q.count = 1;
+        q
     }
 }
 
@@ -94,29 +96,10 @@ pub fn is_among(keys: &[u64], key: u64) -> bool
     false
 }
 
-// A problem as it is stored: count is the number of constraints begun; basis j has sizes[j] keys, from place 64 j of
-// keys on.
-pub struct StoredProblem {
-    pub variables: usize,
-    pub objective: Objective,
-    pub constraints: [Polynomial; 8],
-    pub count: usize,
-    pub keys: [u64; 576],
-    pub sizes: [usize; 9],
-}
-
 // What a stream gives: number is 0 where the problem is read, else the refusal's.
 pub struct Reading {
     pub number: u8,
     pub place: usize,
-    pub problem: StoredProblem,
-}
-
-// The multipliers: g_j has counts[j] terms, from place 32 j of keys and of coefficients on.
-pub struct Multipliers {
-    pub keys: [u64; 288],
-    pub coefficients: [i32; 288],
-    pub counts: [usize; 9],
 }
 
 fn command_of(byte: u8) -> Command
@@ -249,8 +232,7 @@ fn check_room(keys: &[u64], from: usize, count: usize, key: u64, limit: usize) -
     requires { ⌜ from + count ≤ length (now keys) ⌝ }
     ensures { λ r. ⌜ r ≡ lateIn (now (keys .entry)) from count key limit ⌝ }
 {
-    let part = &keys[from..from + count];
-    if is_among(part, key) {
+    if is_among(flat::part(keys, from, count), key) {
         return 5;
     }
     if limit <= count {
@@ -259,26 +241,112 @@ fn check_room(keys: &[u64], from: usize, count: usize, key: u64, limit: usize) -
     0
 }
 
-// Reads a problem stream. The arrays are stored to in place; number is 2, as of a stream that ends here, until it is
-// decided.
-pub fn read(s: &[u8]) -> Reading
-    ensures { λ r. ⌜ (outcomeOf r ≡ readProblem (now (s .entry))) × Kept (r .problem) ⌝ }
+// One monomial more, where the checks 5 and 6 let it in, for a list of at most `limit` from a place of the keys on. Its
+// length is sizes[which].
+fn put(
+    keys: &mut [u64; 1120],
+    sizes: &mut [usize; 20],
+    which: usize,
+    from: usize,
+    key: u64,
+    limit: usize,
+) -> u8
+    requires { ⌜ (which < 20) × (getD (now sizes) which 0 ≤ limit) × (from + limit ≤ 1120) ⌝ }
+    ensures { λ r. let n = getD (now (sizes .entry)) which 0 in ⌜
+        (r ≡ lateIn (now (keys .entry)) from n key limit)
+        × (now (keys .exit) ≡ storedIf r (now (keys .entry)) (from + n) key)
+        × (now (sizes .exit) ≡ storedIf r (now (sizes .entry)) which (n + 1))
+        ⌝ }
+{
+    let n = sizes[which];
+    let found = check_room(keys, from, n, key, limit);
+    if 0 < found {
+        return found;
+    }
+    keys[from + n] = key;
+    sizes[which] = n + 1;
+    0
+}
+
+// One term more for the objective, where the checks 5 and 6 let it in.
+fn put_objective(
+    keys: &mut [u64; 1120],
+    coefficients: &mut [i32; 544],
+    sizes: &mut [usize; 20],
+    key: u64,
+    c: i32,
+) -> u8
+    requires { ⌜ FlatLimits (now keys) (now coefficients) (now sizes) ⌝ }
+    ensures { λ r. let j = objectiveNumber in let n = getD (now (sizes .entry)) (countAt j) 0 in ⌜
+        (r ≡ lateIn (now (keys .entry)) (exponentsAt j) n key mostObjectiveTerms)
+        × (now (keys .exit) ≡ storedIf r (now (keys .entry)) (exponentsAt j + n) key)
+        × (now (coefficients .exit) ≡ storedIf r (now (coefficients .entry)) (coefficientsAt j + n) c)
+        × (now (sizes .exit) ≡ storedIf r (now (sizes .entry)) (countAt j) (n + 1))
+        ⌝ }
+{
+    let n = sizes[9 + OBJECTIVE];
+    let found = put(keys, sizes, 9 + OBJECTIVE, TERMS + 32 * OBJECTIVE, key, 256);
+    if 0 < found {
+        return found;
+    }
+    coefficients[32 * OBJECTIVE + n] = c;
+    0
+}
+
+// The n terms of a polynomial laid out as number j.
+fn lay_out<'a>(
+    keys: &mut [u64; 1120],
+    coefficients: &mut [i32; 544],
+    j: usize,
+    from: &'a [u64; 32],
+    with: &'a [i32; 32],
+    n: usize,
+)
+    requires { ⌜
+        (length (now keys) ≡ 1120)
+        × (length (now coefficients) ≡ 544)
+        × (j < 9)
+        × FilledTerms 16 32 (now from) (now with) n
+        ⌝ }
+    ensures { λ _. ⌜
+        (now (keys .exit) ≡ paste (now (keys .entry)) (exponentsAt j) (now (from .entry)) n)
+        × (now (coefficients .exit) ≡ paste (now (coefficients .entry)) (coefficientsAt j) (now (with .entry)) n)
+        ⌝ }
+{
+    let mut i = 0;
+    while i < n {
+        let to = 32 * j + i;
+        keys[TERMS + to] = from[i];
+        coefficients[to] = with[i];
+        i += 1;
+    }
+}
+
+// Reads a problem stream into arrays that hold zeros. The constraint begun last is a polynomial by itself, until the
+// next begins or the stream ends: then it is laid out. Before the first, that is g_0, which is 1. number is 2, as of a
+// stream that ends here, until it is decided.
+pub fn read(
+    s: &[u8],
+    keys: &mut [u64; 1120],
+    coefficients: &mut [i32; 544],
+    sizes: &mut [usize; 20],
+) -> Reading
+    requires { ⌜ FlatZero (now keys) (now coefficients) (now sizes) ⌝ }
+    ensures { λ r. ⌜
+        ReadFlat (now (s .entry)) r (now (keys .exit)) (now (coefficients .exit)) (now (sizes .exit))
+        ⌝ }
 {
     let mut variables = 0;
-    let mut objective = Objective::empty();
-    let mut constraints = [Polynomial::empty(); 8];
+    let mut last = Polynomial::one();
     let mut count = 0;
-    let mut keys: [u64; 576] = [0; 576];
-    let mut sizes: [usize; 9] = [0; 9];
     let mut number: u8 = 2;
     let mut at = 0;
     while at < s.len() {
         let byte = s[at];
         let command = command_of(byte);
         let len = length_of(byte);
-        let found = check_at(variables, count, command, len, s, at);
-        if 0 < found {
-            number = found;
+        number = check_at(variables, count, command, len, s, at);
+        if 0 < number {
             break;
         }
         let next = at + len;
@@ -287,117 +355,56 @@ pub fn read(s: &[u8]) -> Reading
                 variables = n;
             }
             Instruction::Objective(key, c) => {
-                let n = objective.count;
-                let found = check_room(&objective.keys, 0, n, key, 256);
-                if 0 < found {
-                    number = found;
-                    break;
-                }
-                objective.keys[n] = key;
-                objective.coefficients[n] = c;
-                objective.count = n + 1;
+                number = put_objective(keys, coefficients, sizes, key, c);
             }
             Instruction::Constraint => {
                 if 8 <= count {
                     number = 6;
-                    break;
+                } else {
+                    let n = last.count;
+                    lay_out(keys, coefficients, count, &last.keys, &last.coefficients, n);
+                    sizes[9 + count] = n;
+                    last = Polynomial::empty();
+                    count += 1;
                 }
-                constraints[count] = Polynomial::empty();
-                count += 1;
             }
             Instruction::Term(key, c) => {
-                let last = count - 1;
-                let mut q = constraints[last];
-                let n = q.count;
-                let found = check_room(&q.keys, 0, n, key, 32);
-                if 0 < found {
-                    number = found;
-                    break;
+                let n = last.count;
+                number = check_room(&last.keys, 0, n, key, 32);
+                if number == 0 {
+                    last.keys[n] = key;
+                    last.coefficients[n] = c;
+                    last.count = n + 1;
                 }
-                q.keys[n] = key;
-                q.coefficients[n] = c;
-                q.count = n + 1;
-                constraints[last] = q;
             }
             Instruction::Member(j, key) => {
-                let n = sizes[j];
-                let found = check_room(&keys, 64 * j, n, key, 64);
-                if 0 < found {
-                    number = found;
-                    break;
-                }
-                keys[64 * j + n] = key;
-                sizes[j] = n + 1;
+                number = put(keys, sizes, j, 64 * j, key, 64);
             }
             Instruction::End => {
                 if next < s.len() {
+                    number = 2;
                     at = next;
                 } else {
-                    number = 0;
+                    let terms = last.count;
+                    lay_out(
+                        keys,
+                        coefficients,
+                        count,
+                        &last.keys,
+                        &last.coefficients,
+                        terms,
+                    );
+                    sizes[9 + count] = terms;
+                    sizes[CONSTRAINTS] = count;
                 }
                 break;
             }
         }
+        if 0 < number {
+            break;
+        }
         at = next;
+        number = 2;
     }
-    Reading {
-        number,
-        place: at,
-        problem: StoredProblem {
-            variables,
-            objective,
-            constraints,
-            count,
-            keys,
-            sizes,
-        },
-    }
-}
-
-fn copy_all(to: &mut [u64], from: &[u64])
-    requires { ⌜ length (now to) ≡ length (now from) ⌝ }
-    ensures { λ _. ⌜ now (to .exit) ≡ now (from .entry) ⌝ }
-{
-    let mut i = 0;
-    while i < from.len() {
-        to[i] = from[i];
-        i += 1;
-    }
-}
-
-fn copy_signed(to: &mut [i32], from: &[i32])
-    requires { ⌜ length (now to) ≡ length (now from) ⌝ }
-    ensures { λ _. ⌜ now (to .exit) ≡ now (from .entry) ⌝ }
-{
-    let mut i = 0;
-    while i < from.len() {
-        to[i] = from[i];
-        i += 1;
-    }
-}
-
-// The multipliers of a problem's bases, so that parts of the arrays can be lent: each constraint is copied once. g_0 is
-// 1.
-pub fn multipliers_of(constraints: [Polynomial; 8], count: usize) -> Multipliers
-    requires { ⌜ KeptConstraints count constraints ⌝ }
-    ensures { λ r. ⌜ ((p : Problem) → p .constraints ≡ constraintsOf count constraints → Flat p r) ⌝ }
-{
-    let mut keys: [u64; 288] = [0; 288];
-    let mut coefficients: [i32; 288] = [0; 288];
-    let mut counts: [usize; 9] = [0; 9];
-    coefficients[0] = 1;
-    counts[0] = 1;
-    let mut j = 0;
-    while j < count {
-        let q = constraints[j];
-        j += 1;
-        counts[j] = q.count;
-        copy_all(&mut keys[32 * j..32 * j + 32], &q.keys);
-        copy_signed(&mut coefficients[32 * j..32 * j + 32], &q.coefficients);
-    }
-    Multipliers {
-        keys,
-        coefficients,
-        counts,
-    }
+    Reading { number, place: at }
 }

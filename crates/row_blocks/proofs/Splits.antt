@@ -1,16 +1,14 @@
 -- Refusal 8: the loop over a row's entries, the walk over the rows, and the bytes as the problem's block numbers.
 use mathlib.Core.Path.{_≡_, refl, sym, ap, _∙_}
-use mathlib.Core.Bool.{true, false}
 use mathlib.Core.List.{List, [], _∷_}
 use mathlib.Core.Option.{Option, none, some}
-use Prim.Native.Nat.{ℕ, zero, suc, _+_, _*_, _≤_, _<_}
+use Prim.Native.Nat.{ℕ, _+_, _≤_, _<_}
+use native.Mathlib.Numerals.{add-one}
 use native.Mathlib.Omega.{arith}
 use borrow.Author.Tests.{eq-eqb, ne-eqb}
 use lib.ListN.{length, getD, drop}
 use lib.Seq.{drop-cons, drop-length}
 use Rattle.counting.proofs.Cases.{clash}
-use Rattle.counting.specs.Counting.{listed}
-use Rattle.counting.proofs.Listed.{listed-at, listed-length}
 use Rattle.format.specs.Commands.{given}
 use Rattle.format.specs.ProblemRules.{Problem}
 use Rattle.format.specs.ProblemBases.{basisOf}
@@ -20,89 +18,78 @@ use Rattle.joining_rule.specs.Bytes.{blockBytes, blockAt}
 use Rattle.joining_rule.proofs.Bytes.{byte-at}
 use Rattle.joining_rule.proofs.Closing.{closing-shaped}
 use Rattle.joining_rule.specs.Joining.{basesOf, startSet, closing}
-use Rattle.format.specs.CertificateRules.{Entry, Row, Certificate, mostRows, readCertificate}
-use Rattle.certificate_reader.specs.Rows.{stands, afterRow, headAt, rowsFrom, rowsOf, storedEntry, rowOf, HoldsRow, Chain}
-use Rattle.certificate_reader.specs.declared.RowHead.{RowHead}
-use Rattle.certificate_reader.specs.declared.StoredRow.{StoredRow}
+use Rattle.format.specs.CertificateRules.{Entry, Row, Certificate, noRow, readCertificate}
+use Rattle.certificate_reader.specs.Rows.{basisAt, entryAt, rowAt, rowsBy, EntriesStand, Walkable}
 use Rattle.certificate_reader.proofs.Shapes.{basis-few}
-use Rattle.certificate_reader.proofs.Stored.{head-next}
-use Rattle.certificate_reader.proofs.Rows.{no-row, one-row, rows-read}
-use Rattle.certificate_reader.proofs.Walk.{onward, holds-sound, sound-basis, sound-index}
+use Rattle.certificate_reader.proofs.Rows.{rows-length, row-by}
+use Rattle.certificate_reader.proofs.Walk.{Step, step-of, step-none, walk-sound}
 use Rattle.accepting.specs.Identity.{blockOf}
 use Rattle.accepting.specs.Judgement.{firstOutside, rowSplit, orElse, splitBy, splitPlace}
 use Rattle.format.proofs.All.{all-map}
 use Rattle.format.proofs.CertificateLimits.{SoundRow, read-sound}
 use Rattle.row_blocks.specs.declared.Place.the-variants.{At, Nowhere}
-use Rattle.row_blocks.specs.Places.{placeOf, Walkable, RowIndexed}
+use Rattle.row_blocks.specs.Places.{placeOf, RowIndexed}
 
--- ---- the entries of a row
-module _ (b : ℕ → ℕ) where
-  from-first : (e : Entry) (es : List Entry) → rowSplit b (e ∷ es) ≡ firstOutside b (b (e .index)) (e ∷ es)
-  unfolding rowSplit firstOutside
-  from-first e es = rw (eq-eqb (b (e .index)) (b (e .index)) refl)
-
-  module _ (l : ℕ) (es : List Entry) (d : Entry) where
-    -- entries in the block are passed over
-    passed : (k : ℕ) → k ≤ length es → ((i : ℕ) → i < k → b (getD es i d .index) ≡ l) → firstOutside b l es ≡ firstOutside b l (drop k es)
-    unfolding firstOutside
-    passed zero h f = refl
-    passed (suc k) h f =
-        passed k (omega arith) (λ i q. f i (omega arith))
-        ∙ rw (drop-cons es k d (omega arith), firstOutside, eq-eqb (b (getD es k d .index)) l (f k (omega arith)))
-
-    stopped : (k : ℕ) → k < length es → (b (getD es k d .index) ≡ l → ⊥) → firstOutside b l (drop k es) ≡ some (getD es k d .place)
-    unfolding firstOutside
-    stopped k h f = rw (drop-cons es k d h, firstOutside, ne-eqb (b (getD es k d .index)) l f)
-
-    ended : firstOutside b l (drop (length es) es) ≡ none
-    unfolding firstOutside
-    ended = rw (drop-length es)
-
--- the same of a row in arrays
-module _ (r : StoredRow) (labels : List ℕ) (at : ℕ) where
+-- ---- the loop over the entries of a row: those from the offset x on give the answer
+module _ (s labels : List ℕ) (from to : ℕ) where
   abbrev block : ℕ → ℕ
-  block = blockAt labels (r .basis)
+  block = blockAt labels (basisAt s from)
 
-  abbrev entryBlock : ℕ → ℕ
-  entryBlock k = getD labels (64 * r .basis + getD (r .indices) k 0) 0
+  abbrev answer : Option ℕ
+  answer = rowSplit block (rowAt s from to .entries)
 
-  entries : rowOf r at .entries ≡ listed (r .count) (storedEntry r at)
-  unfolding rowOf
-  entries = refl
+  pub record Searching (first x : ℕ) : Type 0 where
+    pub rest : List Entry
+    pub stand : EntriesStand s to x rest
+    pub low : All (λ (e : Entry). e .index < 64) rest
+    pub same : firstOutside block first rest ≡ answer
 
-  entry-at : (k : ℕ) → k < r .count → getD (listed (r .count) (storedEntry r at)) k (storedEntry r at 0) ≡ storedEntry r at k
-  entry-at k h = listed-at (r .count) (storedEntry r at) k (storedEntry r at 0) h
+  -- at the row's first entry
+  module _ (k : RowIndexed s from to labels) where
+    pub searching-none : to ≤ from + 4 → answer ≡ none
+    unfolding rowSplit
+    searching-none h = rw (step-none (k .stands .entries) h)
 
-  pub row-none : r .count ≡ 0 → rowSplit block (rowOf r at .entries) ≡ none
-  unfolding rowOf rowSplit listed
-  row-none e = rw e
+    pub searching-start : from + 4 < to → Searching (block (entryAt s (from + 4) .index)) (from + 4)
+    unfolding rowSplit firstOutside
+    searching-start h =
+        let t = step-of (k .stands .entries) h in
+        let b = block (entryAt s (from + 4) .index) in
+        record {
+          rest = rowAt s from to .entries;
+          stand = k .stands .entries;
+          low = k .indices;
+          same = rw (t .is, eq-eqb b b refl);
+        }
 
-  -- the entries before k are in the row's first block
-  module _ (k : ℕ) (within : 1 ≤ k) (few : k ≤ r .count) (same : (i : ℕ) → i < k → entryBlock i ≡ entryBlock 0) where
-    first-passed : rowSplit block (rowOf r at .entries) ≡ firstOutside block (entryBlock 0) (drop k (listed (r .count) (storedEntry r at)))
-    first-passed = rw entries (go (listed (r .count) (storedEntry r at)) refl)
-      where
-        go : (es : List Entry) → es ≡ listed (r .count) (storedEntry r at) → rowSplit block es ≡ firstOutside block (entryBlock 0) (drop k es)
-        go [] e = let n = ap length e ∙ listed-length (r .count) (storedEntry r at) in absurd (omega arith)
-        go (x ∷ es) e =
-            let n : length (x ∷ es) ≡ r .count = ap length e ∙ listed-length (r .count) (storedEntry r at) in
-            let f : x ≡ storedEntry r at 0 = ap (λ (l : List Entry). getD l 0 (storedEntry r at 0)) e ∙ entry-at 0 (omega arith) in
-            from-first block x es
-            ∙ rw (ap (λ (y : Entry). block (y .index)) f)
-            (passed block (entryBlock 0) (x ∷ es) (storedEntry r at 0) k (omega arith) (λ i q. rw (e, entry-at i (omega arith)) (same i q)))
+  module _ (first x : ℕ) (k : Searching first x) where
+    pub searching-end : to ≤ x → answer ≡ none
+    unfolding firstOutside
+    searching-end h = sym (k .same) ∙ rw (step-none (k .stand) h)
 
-    pub row-first : k < r .count → (entryBlock k ≡ entryBlock 0 → ⊥) → rowSplit block (rowOf r at .entries) ≡ some (at + 4 * k)
-    row-first h f =
-        let n = listed-length (r .count) (storedEntry r at) in
-        first-passed
-        ∙ stopped block (entryBlock 0) (listed (r .count) (storedEntry r at)) (storedEntry r at 0) k (omega arith) (rw (entry-at k h) f)
-        ∙ ap (λ (y : Entry). some (y .place)) (entry-at k h)
+    module _ (h : x < to) where
+      abbrev t : Step s to x (k .rest)
+      t = step-of (k .stand) h
 
-    pub row-all : r .count ≤ k → rowSplit block (rowOf r at .entries) ≡ none
-    row-all h =
-        let n = listed-length (r .count) (storedEntry r at) in
-        let e : k ≡ length (listed (r .count) (storedEntry r at)) = omega arith in
-        first-passed ∙ rw e (ended block (entryBlock 0) (listed (r .count) (storedEntry r at)) (storedEntry r at 0))
+      both : (entryAt s x .index < 64) × All (λ (e : Entry). e .index < 64) (t .others)
+      unfolding All
+      both = rw (t .is) at (k .low)
+
+      pub searching-low : entryAt s x .index < 64
+      searching-low = both .0
+
+      pub searching-found : (block (entryAt s x .index) ≡ first → ⊥) → answer ≡ some x
+      unfolding firstOutside entryAt
+      searching-found f = sym (k .same) ∙ rw (t .is, firstOutside, ne-eqb (block (entryAt s x .index)) first f)
+
+      pub searching-more : block (entryAt s x .index) ≡ first → Searching first (x + 4)
+      unfolding firstOutside
+      searching-more e = record {
+        rest = t .others;
+        stand = t .stand;
+        low = both .1;
+        same = (rw (t .is, eq-eqb (block (entryAt s x .index)) first e) at (k .same));
+      }
 
 pub place-some : (o : Option ℕ) (x : ℕ) → placeOf o ≡ At x → o ≡ some x
 place-some (some y) x e = cc
@@ -112,53 +99,60 @@ pub place-none : (o : Option ℕ) → placeOf o ≡ Nowhere → o ≡ none
 place-none (some y) e = clash (cc)
 place-none none e = refl
 
--- ---- the walk over the rows: those from here on give the answer
-pub record Splitting (s labels : List ℕ) (at : ℕ) : Type 0 where
-  pub problem : Problem
-  pub limits : Limits problem
-  pub left : ℕ
-  pub chain : Chain problem s left at
-  pub same : splitBy (blockAt labels) (rowsFrom left s at) ≡ splitBy (blockAt labels) (rowsOf s)
+-- ---- the walk over the rows: those from row r on give the answer
+module _ (s starts labels : List ℕ) (rows : ℕ) where
+  abbrev all : List Row
+  all = rowsBy s starts rows
 
-module _ (s labels : List ℕ) where
-  pub splitting-start : Walkable s → Splitting s labels 10
-  unfolding rowsOf
-  splitting-start w = record { problem = w .problem; limits = w .rows .limits; left = mostRows; chain = w .rows .chain; same = refl }
+  pub record Splitting (r : ℕ) : Type 0 where
+    pub within : r ≤ rows
+    pub same : splitBy (blockAt labels) (drop r all) ≡ splitBy (blockAt labels) all
 
-  module _ (at : ℕ) (k : Splitting s labels at) where
-    pub splitting-end : stands 0x11 s at ≡ false → splitBy (blockAt labels) (rowsOf s) ≡ none
+  pub splitting-start : Splitting 0
+  splitting-start = record { within = omega arith; same = refl }
+
+  module _ (r : ℕ) (k : Splitting r) where
+    pub splitting-end : rows ≤ r → splitBy (blockAt labels) all ≡ none
     unfolding splitBy
-    splitting-end f = sym (k .same) ∙ ap (splitBy (blockAt labels)) (no-row s at (k .left) f)
+    splitting-end h =
+        let n = rows-length s starts rows in
+        let w = k .within in
+        let e : r ≡ length all = omega arith in
+        sym (k .same) ∙ rw (e, drop-length all)
 
-    module _ (t : stands 0x11 s at ≡ true) (r : StoredRow) (q : HoldsRow s at r) where
-      pub splitting-indexed : length labels ≡ 576 → RowIndexed r labels
-      splitting-indexed n =
-          let o = onward (k .chain) t in
-          let sound = holds-sound s at r q (k .problem) (o .row) in
-          let b = sound-basis (k .problem) r (at + 4) sound in
-          let w = k .limits .constraints in
+    module _ (h : r < rows) where
+      abbrev from : ℕ
+      from = getD starts r 0
+
+      abbrev to : ℕ
+      to = getD starts (r + 1) 0
+
+      pub splitting-indexed : Walkable s starts rows → length labels ≡ 576 → RowIndexed s from to labels
+      splitting-indexed w l =
+          let q = walk-sound w r h in
+          let z = w .rows-sound .limits in
+          let b = q .basis in
+          let m = z .constraints in
+          let f = basis-few (w .problem) z (basisAt s from) in
           record {
-            few = q .few;
-            long = q .long-indices;
-            within = omega arith;
-            indices = λ i h. omega (arith, sound-index (k .problem) r (at + 4) sound i h, basis-few (k .problem) (k .limits) (r .basis));
+            stands = w .rows-sound .stand .each r h;
+            labels-length = l;
+            basis = omega arith;
+            indices = all-map _ _ (λ (e : Entry) i. omega arith) (rowAt s from to .entries) (q .indices);
           }
 
-      abbrev here : Option ℕ
-      here = rowSplit (blockAt labels (r .basis)) (rowOf r (at + 4) .entries)
+      next : orElse (rowSplit (blockAt labels (basisAt s from)) (rowAt s from to .entries)) (splitBy (blockAt labels) (drop (r + 1) all)) ≡ splitBy (blockAt labels) all
+      unfolding splitBy
+      next =
+          let n = rows-length s starts rows in
+          ap (λ (m : ℕ). orElse (rowSplit (blockAt labels (basisAt s from)) (rowAt s from to .entries)) (splitBy (blockAt labels) (drop m all))) (add-one r)
+          ∙ (rw (drop-cons all r noRow (omega arith), row-by s starts rows r noRow h) at (k .same))
 
-      next : (n : ℕ) → k .left ≡ suc n → orElse here (splitBy (blockAt labels) (rowsFrom n s (afterRow s at))) ≡ splitBy (blockAt labels) (rowsOf s)
-      unfolding splitBy rowOf
-      next n e = rw (← k .same, e, one-row s at n t, ← q .row)
+      pub splitting-found : (x : ℕ) → rowSplit (blockAt labels (basisAt s from)) (rowAt s from to .entries) ≡ some x → splitBy (blockAt labels) all ≡ some x
+      splitting-found x e = sym (rw e at next)
 
-      pub splitting-found : (x : ℕ) → here ≡ some x → splitBy (blockAt labels) (rowsOf s) ≡ some x
-      splitting-found x e = let o = onward (k .chain) t in sym (rw e at (next (o .left) (o .one-less)))
-
-      pub splitting-more : (head : RowHead) → head ≡ headAt s at → here ≡ none → Splitting s labels (head .next)
-      splitting-more head f e =
-          let o = onward (k .chain) t in
-          rw (head-next s at head f)
-          record { problem = k .problem; limits = k .limits; left = o .left; chain = o .rest; same = rw e at (next (o .left) (o .one-less)) }
+      pub splitting-more : rowSplit (blockAt labels (basisAt s from)) (rowAt s from to .entries) ≡ none → Splitting (r + 1)
+      splitting-more e = record { within = omega arith; same = rw e at next }
 
 -- ---- the bytes are the problem's block numbers
 row-same : (b b′ : ℕ → ℕ) (es : List Entry) → All (λ (e : Entry). b (e .index) ≡ b′ (e .index)) es → rowSplit b es ≡ rowSplit b′ es
@@ -189,5 +183,6 @@ module _ (p : Problem) (limits : Limits p) where
       rw (e, rows-same rs (f .1))
 
   -- what the walk decides by the bytes is refusal 8
-  pub split-is : (s labels : List ℕ) (c : Certificate) → readCertificate p s ≡ given c → labels ≡ blockBytes (closing p .state .labels) → splitBy (blockAt labels) (rowsOf s) ≡ splitPlace p (c .rows)
-  split-is s labels c e q = rw (q, rows-read p limits s c e) (rows-same (c .rows) (read-sound p s c e .rows))
+  pub split-is : (s starts labels : List ℕ) (rows : ℕ) (c : Certificate) → readCertificate p s ≡ given c → c .rows ≡ rowsBy s starts rows → labels ≡ blockBytes (closing p .state .labels)
+      → splitBy (blockAt labels) (rowsBy s starts rows) ≡ splitPlace p (c .rows)
+  split-is s starts labels rows c e f q = rw (q, ← f) (rows-same (c .rows) (read-sound p s c e .rows))

@@ -1,5 +1,5 @@
 // Refusal 8: whether each row of a certificate that was read keeps to one block, and the place of the first entry that
-// does not. The rows are read off the certificate's bytes again, one at a time.
+// does not. The rows are walked by their offsets.
 ghost use mathlib.Core.Path.{_≡_};
 ghost use Prim.Native.Nat.{_+_, _*_, _^_, _<_};
 ghost use lib.ListN.{length};
@@ -9,9 +9,9 @@ ghost use Rattle.format.proofs.WithinLimits.{Limits};
 ghost use Rattle.joining_rule.specs.Bytes.{blockBytes, blockAt};
 ghost use Rattle.joining_rule.specs.Joining.{closing};
 ghost use Rattle.format.specs.CertificateRules.{Certificate, readCertificate};
-ghost use Rattle.certificate_reader.specs.Rows.{rowOf};
+ghost use Rattle.certificate_reader.specs.Rows.{rowAt, rowsBy, Walkable};
 ghost use Rattle.accepting.specs.Judgement.{rowSplit, splitPlace};
-ghost use Rattle.row_blocks.specs.Places.{placeOf, Walkable, RowIndexed};
+ghost use Rattle.row_blocks.specs.Places.{placeOf, RowIndexed};
 
 // Where a row leaves its block.
 pub enum Place {
@@ -19,48 +19,47 @@ pub enum Place {
     Nowhere,
 }
 
-// The place of the first entry outside the row's first block, for a row whose entries begin at an offset.
-fn row_split(row: certificate_reader::StoredRow, labels: &[u8], at: usize) -> Place
-    requires { ⌜ RowIndexed row (now labels) × (at + 256 < 2 ^ 64) ⌝ }
-    ensures { λ r. ⌜ r ≡ placeOf (rowSplit (blockAt (now (labels .entry)) (row .basis)) (rowOf row at .entries)) ⌝ }
+// The place of the first entry outside the row's first block, for the row between two offsets.
+fn row_split(s: &[u8], from: usize, to: usize, labels: &[u8]) -> Place
+    requires { ⌜ RowIndexed (now s) from to (now labels) ⌝ }
+    ensures { λ r. let row = rowAt (now (s .entry)) from to in ⌜
+        r ≡ placeOf (rowSplit (blockAt (now (labels .entry)) (row .basis)) (row .entries))
+        ⌝ }
 {
-    let indices = row.indices;
-    let count = row.count;
-    if count == 0 {
+    let mut x = from + 4;
+    if to <= x {
         return Place::Nowhere;
     }
-    let from = 64 * row.basis;
-    let i = from + (indices[0] as usize);
+    let part = 64 * certificate_reader::basis_at(s, from);
+    let i = part + (certificate_reader::index_at(s, x) as usize);
     let first = labels[i];
-    let mut k = 1;
-    while k < count {
-        let i = from + (indices[k] as usize);
+    while x < to {
+        let i = part + (certificate_reader::index_at(s, x) as usize);
         if labels[i] != first {
-            return Place::At(at + 4 * k);
+            return Place::At(x);
         }
-        k += 1;
+        x = certificate_reader::after_entry(s, x);
     }
     Place::Nowhere
 }
 
 // The place of the first entry of a certificate outside its row's first block. Byte 64j + i of `labels` is the block
 // number of index i in basis j.
-pub fn split_place(s: &[u8], labels: &[u8]) -> Place
-    requires { ⌜ Walkable (now s) × (length (now labels) ≡ 576) ⌝ }
+pub fn split_place(s: &[u8], starts: &[usize; 129], rows: usize, labels: &[u8]) -> Place
+    requires { ⌜ Walkable (now s) (now starts) rows × (length (now labels) ≡ 576) ⌝ }
     ensures { λ r. ⌜
         ((p : Problem) (c : Certificate) → Limits p → readCertificate p (now (s .entry)) ≡ given c
+        → c .rows ≡ rowsBy (now (s .entry)) (now (starts .entry)) rows
         → now (labels .entry) ≡ blockBytes (closing p .state .labels) → r ≡ placeOf (splitPlace p (c .rows)))
         ⌝ }
 {
-    let mut at = 10;
-    while certificate_reader::stands_at(0x11, s, at) {
-        let head = certificate_reader::head_at(s, at);
-        let row = certificate_reader::row_at(s, at, head);
-        let found = row_split(row, labels, at + 4);
+    let mut r = 0;
+    while r < rows {
+        let found = row_split(s, starts[r], starts[r + 1], labels);
         if let Place::At(place) = found {
             return Place::At(place);
         }
-        at = head.next;
+        r += 1;
     }
     Place::Nowhere
 }

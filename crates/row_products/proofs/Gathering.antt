@@ -3,43 +3,43 @@ use mathlib.Core.Path.{_≡_, refl, sym, ap, _∙_}
 use mathlib.Core.Bool.{Bool, true, false, cond}
 use mathlib.Core.List.{List, [], _∷_, _++_, append-assoc, append-nil}
 use mathlib.Core.Logic.{⊎-elim}
-use Prim.Native.Nat.{ℕ, zero, suc, _+_, _-_, _*_, _/_, _%_, _^_, _≤_, _<_}
+use Prim.Native.Nat.{ℕ, zero, suc, _+_, _*_, _/_, _%_, _^_, _≤_, _<_}
 use native.Mathlib.Nat.{eq-or-lt-of-le}
+use native.Mathlib.Numerals.{add-one}
 use native.Mathlib.Omega.{arith}
-use borrow.Author.Tests.{eq-eqb, ne-eqb}
-use lib.Dec.{leb}
-use lib.IntN.{ℤ, pos, natAbs, _+ℤ_, _*ℤ_, *ℤ-zero}
-use lib.ListN.{length, getD}
+use borrow.Author.Tests.{eq-eqb, ne-eqb, lt-ltb, ltb-true, ltb-false}
+use lib.Dec.{eqb, leb, ltb}
+use lib.IntN.{ℤ, pos, natAbs, _+ℤ_, _-ℤ_, _*ℤ_, *ℤ-zero}
+use lib.ListN.{length, getD, set, take, length-append, length-set}
+use lib.Seq.{take-suc, take-all}
+use mir.Syntax.{w16}
+use mir.Val.{SFits}
 use Rattle.integers.proofs.Ranges.{abs-zero, abs-sum, fits-abs}
 use Rattle.counting.specs.Counting.{listed}
-use Rattle.counting.proofs.Listed.{listed-at, listed-length, same-or-not}
-use Rattle.format.specs.Operands.{number}
+use Rattle.counting.proofs.Listed.{listed-at, same-or-not}
+use Rattle.format.specs.Operands.{number, signed}
 use Rattle.polynomial.specs.Terms.{Term, term}
-use Rattle.problem_reader.specs.TermArrays.{termsIn}
+use Rattle.flat.specs.TermArrays.{termsIn}
+use Rattle.flat.proofs.TermArrays.{terms-more}
 use Rattle.polynomial.specs.Algebra.{sum, match, coefficient, _⊗_}
 use Rattle.polynomial.proofs.Keys.{Keys}
 use Rattle.polynomial.proofs.Products.{keys-append, keys-scale, keys-⊗, keys-map}
 use Rattle.format.specs.All.{All}
-use Rattle.format.specs.CertificateRules.{Entry, Row, mostRows}
-use Rattle.format.specs.ProblemRules.{Problem}
+use Rattle.format.specs.CertificateRules.{Entry, Row, noRow, mostRows}
 use Rattle.format.specs.ProblemBases.{basisOf}
-use Rattle.format.proofs.WithinLimits.{Limits}
-use Rattle.format.proofs.CertificateLimits.{IndicesRise, SoundRow}
-use Rattle.certificate_reader.specs.Rows.{stands, entryCount, entryAt, rowAt, afterRow, rowsFrom, rowsOf, storedEntry, rowOf, HoldsRow, Chain, done, more}
-use Rattle.certificate_reader.specs.declared.StoredRow.{StoredRow}
-use Rattle.certificate_reader.proofs.Shapes.{basis-few, size-at}
-use Rattle.certificate_reader.proofs.Stored.{signed-fits}
-use Rattle.certificate_reader.proofs.Rows.{no-row, one-row}
-use Rattle.certificate_reader.proofs.Walk.{Onward, onward, holds-entries, holds-weight, holds-count, holds-sound, sound-index}
-use Rattle.row_products.specs.Gram.{factors, rekeyed, outer, gram, upper, rowsOn}
+use Rattle.format.proofs.CertificateLimits.{IndicesRise, SoundRow, all-within}
+use Rattle.certificate_reader.specs.Rows.{entryAt, weightAt, rowAt, rowsBy, EntriesStand, done, more, Walkable}
+use Rattle.certificate_reader.proofs.Shapes.{basis-few}
+use Rattle.certificate_reader.proofs.Rows.{rows-length, row-by}
+use Rattle.certificate_reader.proofs.Walk.{Step, step-of, step-none, walk-sound}
+use Rattle.row_products.specs.Gram.{factorTerms, rekeyed, outer, gram, upper, rowsOn}
 use Rattle.accepting.proofs.Reach.{all-both}
 use Rattle.row_products.proofs.Halves.{sum-alike, sum-zeros}
 use Rattle.format.proofs.All.{all-map}
 use Rattle.row_products.proofs.Gram.{sum-same, keys-rekeyed, factors-small, gram-more, outer-coefficient, rows-on, rows-all}
-use Rattle.row_blocks.specs.Places.{Walkable}
-use Rattle.row_products.specs.Outer.{rowUnit, Entries, Below, Raised, above, inRow, outerAt}
-use Rattle.row_products.specs.Gather.{ShapedRows, Gathered}
-use Rattle.row_products.proofs.Outers.{match-other, above-other, outer-bound}
+use Rattle.row_products.specs.Outer.{rowUnit, Entries, HoldsEntries, Below, Raised, above, inRow, outerAt}
+use Rattle.row_products.specs.Gather.{ShapedRows, LowRow, RowAdded, Gathered}
+use Rattle.row_products.proofs.Outers.{match-other, above-other, outer-bound, raised-same}
 
 -- ---- the upper half
 module _ (x : ℕ) where
@@ -82,29 +82,29 @@ module _ (x : ℕ) where
       go false = sum-alike _ _ (λ i. sum-zeros F) F ∙ sum-zeros F
 
 -- ---- a row in arrays, as the table of sums takes it
-module _ (r : StoredRow) (at : ℕ) where
-  factors-append : (es fs : List Entry) → factors (es ++ fs) ≡ factors es ++ factors fs
-  factors-append [] fs = refl
-  factors-append (e ∷ es) fs = rw (factors-append es fs)
+abbrev noEntry : Entry
+noEntry = record { index = 0; factor = pos 0; place = 0 }
 
-  factors-listed : (n : ℕ) (f : ℕ → Entry) → factors (listed n f) ≡ listed n (λ i. term (f i .index) (f i .factor))
-  unfolding listed
-  factors-listed zero f = refl
-  factors-listed (suc n) f = rw (factors-append (listed n f) (f n ∷ []), factors-listed n f)
+factors-append : (es fs : List Entry) → factorTerms (es ++ fs) ≡ factorTerms es ++ factorTerms fs
+factors-append [] fs = refl
+factors-append (e ∷ es) fs = rw (factors-append es fs)
 
-  row-factors : factors (rowOf r at .entries) ≡ termsIn (r .count) (r .indices) (r .factors)
-  unfolding rowOf termsIn
-  row-factors = factors-listed (r .count) (storedEntry r at)
+-- entry k of some entries
+factors-at : (es : List Entry) (k : ℕ) (d : Entry) (t : Term) → k < length es → getD (factorTerms es) k t ≡ term (getD es k d .index) (getD es k d .factor)
+factors-at [] k d t h = absurd (omega arith)
+factors-at (e ∷ es) zero d t h = refl
+factors-at (e ∷ es) (suc k) d t h = factors-at es k d t (omega arith)
 
-  -- the upper half of the products
-  pub outer-is : All (λ (e : Entry). e .index < 64) (rowOf r at .entries) → (x : ℕ) → outerAt (r .weight) (termsIn (r .count) (r .indices) (r .factors)) x ≡ upper x (coefficient x (outer (rowOf r at)))
-  unfolding outerAt
-  outer-is low x =
-      let F = factors (rowOf r at .entries) in
-      ap (λ (P : List Term). pos (r .weight) *ℤ sum (inRow P x) P) (sym row-factors)
-      ∙ ap (λ (z : ℤ). pos (r .weight) *ℤ z) (outer-upper x F (factors-small (rowOf r at .entries) low))
-      ∙ upper-times x (pos (r .weight)) (sum (λ i. sum (λ i′. match x (64 * i + i′)) F) F)
-      ∙ ap (upper x) (sym (unfold rowOf in outer-coefficient x (rowOf r at)))
+-- the upper half of the products
+outer-is : (r : Row) (indices : List ℕ) (factors : List ℤ) (count : ℕ) → HoldsEntries (r .entries) indices factors count → All (λ (e : Entry). e .index < 64) (r .entries)
+    → (x : ℕ) → outerAt (r .weight) (termsIn count indices factors) x ≡ upper x (coefficient x (outer r))
+unfolding outerAt
+outer-is r indices factors count k low x =
+    let F = factorTerms (r .entries) in
+    ap (λ (P : List Term). r .weight *ℤ sum (inRow P x) P) (k .terms)
+    ∙ ap (λ (z : ℤ). r .weight *ℤ z) (outer-upper x F (factors-small (r .entries) low))
+    ∙ upper-times x (r .weight) (sum (λ i. sum (λ i′. match x (64 * i + i′)) F) F)
+    ∙ ap (upper x) (sym (outer-coefficient x r))
 
 rising-next : (es : List Entry) (d : Entry) → IndicesRise es → (k : ℕ) → suc k < length es → getD es k d .index < getD es (suc k) d .index
 unfolding IndicesRise
@@ -119,45 +119,67 @@ rising-any es d r i (suc k) a b =
     let n = rising-next es d r k b in
     ⊎-elim (λ e. rw e n) (λ l. omega (arith, rising-any es d r i k l (omega arith))) (eq-or-lt-of-le {n = i} {m = k} (omega arith))
 
+-- rising indices below 64 are at most 64
+rising-above : (es : List Entry) (d : Entry) → IndicesRise es → (k : ℕ) → k < length es → k ≤ getD es k d .index
+rising-above es d r zero h = omega arith
+rising-above es d r (suc k) h = omega (arith, rising-next es d r k h, rising-above es d r k (omega arith))
+
+pub rising-few : (es : List Entry) → IndicesRise es → All (λ (e : Entry). e .index < 64) es → length es ≤ 64
+rising-few es r low = go (length es) refl
+  where
+    go : (n : ℕ) → length es ≡ n → n ≤ 64
+    go zero h = omega arith
+    go (suc k) h =
+        omega (arith, rising-above es noEntry r k (omega arith), all-within (λ (e : Entry). e .index < 64) es k noEntry (omega arith) low)
+
+-- ---- factors of 16 bits
 number-low : (s : List ℕ) → ((i : ℕ) → getD s i 0 < 256) → (at : ℕ) → number 2 s at < 256 ^ 2
 unfolding number
 number-low s b at = omega (arith, b at, b (at + 1))
 
-module _ (p : Problem) (limits : Limits p) (s : List ℕ) (bytes : (i : ℕ) → getD s i 0 < 256) (at : ℕ) (r : StoredRow) (q : HoldsRow s at r) (sound : SoundRow p (rowAt s at)) where
-  abbrev here : ℕ → Entry
-  here = storedEntry r (at + 4)
+signed-fits : (x : ℕ) → x < 256 ^ 2 → SFits w16 (signed 15 x)
+unfolding signed
+signed-fits x h = go (ltb x (2 ^ 15)) refl
+  where
+    go : (b : Bool) → ltb x (2 ^ 15) ≡ b → SFits w16 (cond b (pos x) (pos x -ℤ pos (2 ^ 16)))
+    go true e = let k = ltb-true x (2 ^ 15) e in record { sfits = omega arith }
+    go false e =
+        let k = ltb-false x (2 ^ 15) e in
+        let l : x < 2 ^ 16 = omega arith in
+        rw (lt-ltb x (2 ^ 16) l) (record { sfits = omega arith })
 
-  stored-sound : SoundRow p (rowOf r (at + 4))
-  stored-sound = holds-sound s at r q p sound
+module _ (s : List ℕ) (bytes : (i : ℕ) → getD s i 0 < 256) where
+  stand-small : {to at : ℕ} {es : List Entry} → EntriesStand s to at es → All (λ (e : Entry). natAbs (e .factor) ≤ 2 ^ 15) es
+  unfolding All entryAt
+  stand-small done = tt
+  stand-small (more {at} e w) = (fits-abs (signed-fits _ (number-low s bytes (at + 2))), stand-small w)
 
-  stored-rising : IndicesRise (listed (r .count) here)
-  unfolding rowOf
-  stored-rising = stored-sound .rising
+  pub weight-small : (at : ℕ) → natAbs (weightAt s at) ≤ 2 ^ 16
+  weight-small at = omega (arith, number-low s bytes (at + 2))
 
-  entry-is : (k : ℕ) → k < r .count → here k ≡ entryAt s (at + 4) k
-  entry-is k b =
-      let n = holds-count s at r q in
-      sym (listed-at (r .count) here k (here 0) b)
-      ∙ ap (λ (es : List Entry). getD es k (here 0)) (holds-entries s at r q)
-      ∙ listed-at (entryCount 64 s (at + 4)) (entryAt s (at + 4)) k (here 0) (omega arith)
+-- the entries of a row that keeps its limits, in arrays
+module _ (es : List Entry) (indices : List ℕ) (factors : List ℤ) (count : ℕ) (q : HoldsEntries es indices factors count)
+    (rise : IndicesRise es) (low : All (λ (e : Entry). e .index < 64) es) (small : All (λ (e : Entry). natAbs (e .factor) ≤ 2 ^ 15) es) where
+  entry-held : (k : ℕ) → k < count → term (getD indices k 0) (getD factors k (pos 0)) ≡ term (getD es k noEntry .index) (getD es k noEntry .factor)
+  unfolding termsIn
+  entry-held k b =
+      sym (listed-at count (λ i. term (getD indices i 0) (getD factors i (pos 0))) k (term 0 (pos 0)) b)
+      ∙ ap (λ (l : List Term). getD l k (term 0 (pos 0))) (q .terms)
+      ∙ factors-at es k noEntry (term 0 (pos 0)) (omega (arith, q .count-is))
 
-  factor-small : (k : ℕ) → k < r .count → natAbs (getD (r .factors) k (pos 0)) ≤ 2 ^ 15
-  unfolding entryAt
-  factor-small k b = rw (ap (λ (e : Entry). e .factor) (entry-is k b)) (fits-abs (signed-fits _ (number-low s bytes _)))
+  index-held : (k : ℕ) → k < count → getD indices k 0 ≡ getD es k noEntry .index
+  index-held k b = ap (λ (t : Term). t .key) (entry-held k b)
 
-  index-rising : (i k : ℕ) → i < k → k < r .count → getD (r .indices) i 0 < getD (r .indices) k 0
-  index-rising i k a b =
-      let n = listed-length (r .count) here in
-      rw (listed-at (r .count) here i (here 0) (omega arith), listed-at (r .count) here k (here 0) b) at
-      (rising-any (listed (r .count) here) (here 0) stored-rising i k a (omega arith))
-
-  pub row-entries : Entries (r .indices) (r .factors) (r .count)
-  row-entries = record {
-    few = q .few;
-    indices-low = λ k b. omega (arith, sound-index p r (at + 4) stored-sound k b, basis-few p limits (r .basis));
-    rising = index-rising;
-    factors-small = factor-small;
-  }
+  pub row-entries : Entries indices factors count
+  row-entries =
+      let n = q .count-is in
+      record {
+        few = omega (arith, rising-few es rise low);
+        indices-low = λ k b. rw (index-held k b) (all-within (λ (e : Entry). e .index < 64) es k noEntry (omega arith) low);
+        rising = λ i k a b. rw (index-held i (omega arith), index-held k b) (rising-any es noEntry rise i k a (omega arith));
+        factors-small = λ k b.
+            rw (ap (λ (t : Term). t .coefficient) (entry-held k b)) (all-within (λ (e : Entry). natAbs (e .factor) ≤ 2 ^ 15) es k noEntry (omega arith) small);
+      }
 
 -- ---- the products of rows with low indices are at low indices
 module _ (m : ℕ) where
@@ -167,7 +189,7 @@ module _ (m : ℕ) where
   abbrev pub Framing : ℕ → Type 0
   Framing x = (x / 64 < m) × (x % 64 < m)
 
-  factors-low : (es : List Entry) → All (λ (e : Entry). e .index < m) es → Keys (λ i. i < m) (factors es)
+  factors-low : (es : List Entry) → All (λ (e : Entry). e .index < m) es → Keys (λ i. i < m) (factorTerms es)
   unfolding All
   factors-low [] h = tt
   factors-low (e ∷ es) h = (h .0, factors-low es (h .1))
@@ -175,7 +197,7 @@ module _ (m : ℕ) where
   module _ (few : m ≤ 64) where
     outer-framed : (r : Row) → Low r → Keys Framing (outer r)
     outer-framed r h =
-        let F = factors (r .entries) in
+        let F = factorTerms (r .entries) in
         let b = factors-low (r .entries) h in
         keys-scale _ (r .weight) (rekeyed (λ i. 64 * i) F ⊗ F)
         (keys-⊗ _ (rekeyed (λ i. 64 * i) F) F (keys-rekeyed _ (λ i. 64 * i) F (keys-map _ _ (λ i l. keys-map _ _ (λ i′ l′. (omega arith, omega arith)) F b) F b)))
@@ -186,142 +208,183 @@ module _ (m : ℕ) where
     gram-framed (r ∷ rs) h = keys-append _ (outer r) (gram rs) (outer-framed r (h .0)) (gram-framed rs (h .1))
 
 -- ---- the rows of a stream keep the limits
-chain-sound : {p : Problem} {s : List ℕ} {n at : ℕ} → Chain p s n at → All (SoundRow p) (rowsFrom n s at)
-unfolding All
-chain-sound {s = s} {n = n} {at = at} (done f) = rw (no-row s at n f) tt
-chain-sound {s = s} {at = at} (more {n} t r c) = rw (one-row s at n t) (r, chain-sound c)
+module _ {sizes s starts : List ℕ} {rows : ℕ} (w : ShapedRows sizes s starts rows) where
+  abbrev all : List Row
+  all = rowsBy s starts rows
 
-module _ {sizes s : List ℕ} (w : ShapedRows sizes s) where
-  sound : All (SoundRow (w .problem)) (rowsOf s)
-  unfolding rowsOf
-  sound = chain-sound (w .rows .chain)
-
-  pub on-bases : All (λ (r : Row). r .basis < 9) (rowsOf s)
-  on-bases = all-map _ _ (λ (r : Row) q. omega (arith, q .basis, w .rows .limits .constraints)) (rowsOf s) sound
+  pub on-bases : All (λ (r : Row). r .basis < 9) all
+  on-bases = all-map _ _ (λ (r : Row) q. omega (arith, q .basis, w .rows-sound .limits .constraints)) all (w .rows-sound .sound)
 
   -- those on basis j have its indices
-  pub on-low : (j : ℕ) → All (Low (getD sizes j 0)) (rowsOn j (rowsOf s))
+  pub on-low : (j : ℕ) → All (Low (getD sizes j 0)) (rowsOn j all)
   on-low j =
-      all-both _ _ _ (λ (r : Row) e q. low r e q) (rowsOn j (rowsOf s)) (rows-on j (rowsOf s)) (rows-all _ j (rowsOf s) sound)
+      all-both _ _ _ (λ (r : Row) e q. low r e q) (rowsOn j all) (rows-on j all) (rows-all _ j all (w .rows-sound .sound))
     where
       low : (r : Row) → r .basis ≡ j → SoundRow (w .problem) r → Low (getD sizes j 0) r
       low r e q =
-          let n : length (basisOf (w .problem) j) ≡ getD sizes j 0 = rw (← w .sizes-are) (sym (size-at (w .problem) j (omega (arith, q .basis, w .rows .limits .constraints)))) in
+          let n : length (basisOf (w .problem) j) ≡ getD sizes j 0 = sym (w .sized .bases j (omega (arith, q .basis, w .rows-sound .limits .constraints))) in
           rw (e, n) at (q .indices)
 
 pub zero-below : (g : List ℤ) → Below 0 g → (x : ℕ) → x < 4096 → getD g x (pos 0) ≡ pos 0
 zero-below g b x h = abs-zero _ (omega (arith, b .small x h))
 
--- ---- the walk for basis j: the table of sums holds the products of the rows on it so far
-pub record Gathering (s : List ℕ) (j at : ℕ) (g : List ℤ) : Type 0 where
-  pub problem : Problem
-  pub limits : Limits problem
-  pub left : ℕ
-  pub few : left ≤ mostRows
-  pub chain : Chain problem s left at
-  pub run : List Row
-  pub holds : (x : ℕ) → x < 4096 → getD g x (pos 0) ≡ upper x (coefficient x (gram run))
-  pub below : Below ((mostRows - left) * rowUnit) g
-  pub same : run ++ rowsOn j (rowsFrom left s at) ≡ rowsOn j (rowsOf s)
+-- ---- the rows on basis j, with one more row at the end
+on-more : (j : ℕ) (rs : List Row) (r : Row) → r .basis ≡ j → rowsOn j (rs ++ (r ∷ [])) ≡ rowsOn j rs ++ (r ∷ [])
+unfolding rowsOn
+on-more j [] r e = rw (eq-eqb (r .basis) j e)
+on-more j (x ∷ rs) r e = rw (on-more j rs r e) (go (eqb (x .basis) j))
+  where
+    go : (b : Bool) → cond b (x ∷ rowsOn j rs ++ (r ∷ [])) (rowsOn j rs ++ (r ∷ [])) ≡ cond b (x ∷ rowsOn j rs) (rowsOn j rs) ++ (r ∷ [])
+    go true = refl
+    go false = refl
 
-module _ {s : List ℕ} {j : ℕ} where
-  pub gathering-start : {g : List ℤ} → Below 0 g → Walkable s → Gathering s j 10 g
-  unfolding gram coefficient rowsOf
-  gathering-start {g} z w =
+on-other : (j : ℕ) (rs : List Row) (r : Row) → (r .basis ≡ j → ⊥) → rowsOn j (rs ++ (r ∷ [])) ≡ rowsOn j rs
+unfolding rowsOn
+on-other j [] r f = rw (ne-eqb (r .basis) j f)
+on-other j (x ∷ rs) r f = rw (on-other j rs r f)
+
+-- ---- the walk for basis j: the table of sums holds the products of the first t rows
+pub record Gathering (rs : List Row) (j t : ℕ) (g : List ℤ) : Type 0 where
+  pub within : t ≤ length rs
+  pub holds : (x : ℕ) → x < 4096 → getD g x (pos 0) ≡ upper x (coefficient x (gram (rowsOn j (take t rs))))
+  pub below : Below (t * rowUnit) g
+
+pub gathering-start : {rs : List Row} {j : ℕ} {g : List ℤ} → Below 0 g → Gathering rs j 0 g
+unfolding gram coefficient rowsOn
+gathering-start {g = g} z =
+    record {
+      within = omega arith;
+      holds = λ x h. zero-below g z x h ∙ sym (upper-none x (pos 0) refl);
+      below = record { long = z .long; small = λ x h. omega (arith, z .small x h) };
+    }
+
+module _ {rs : List Row} {j t : ℕ} {g : List ℤ} (w : Gathering rs j t g) where
+  pub gathering-small : length rs ≤ mostRows → Below (2 ^ 53) g
+  gathering-small n = record { long = w .below .long; small = λ x h. omega (arith, w .below .small x h, w .within) }
+
+  pub gathering-end : length rs ≤ mostRows → length rs ≤ t → Gathered rs j g
+  gathering-end n f =
       record {
-        problem = w .problem;
-        limits = w .rows .limits;
-        left = mostRows;
-        few = omega arith;
-        chain = w .rows .chain;
-        run = [];
-        holds = λ x h. zero-below g z x h ∙ sym (upper-none x (pos 0) refl);
-        below = record { long = z .long; small = λ x h. omega (arith, z .small x h) };
-        same = refl;
+        holds = λ x h. w .holds x h ∙ ap (λ (l : List Row). upper x (coefficient x (gram (rowsOn j l)))) (take-all t rs f);
+        below = gathering-small n;
       }
 
-  module _ {at : ℕ} {g : List ℤ} (w : Gathering s j at g) where
-    small : Below (2 ^ 53) g
-    small = record { long = w .below .long; small = λ x h. omega (arith, w .below .small x h, w .few) }
+  -- one row more
+  module _ (h : t < length rs) (r : Row) (is : getD rs t noRow ≡ r) where
+    taken : take (t + 1) rs ≡ take t rs ++ (r ∷ [])
+    taken = rw (add-one t, take-suc rs t noRow h, is)
 
-    pub gathering-end : stands 0x11 s at ≡ false → Gathered s j g
-    unfolding rowsOn
-    gathering-end f =
-        let e : w .run ≡ rowsOn j (rowsOf s) = sym (append-nil (w .run)) ∙ ap (λ (rs : List Row). w .run ++ rowsOn j rs) (sym (no-row s at (w .left) f)) ∙ w .same in
-        record { holds = λ x h. w .holds x h ∙ ap (λ (rs : List Row). upper x (coefficient x (gram rs))) e; below = small }
+    pub gathering-other : (r .basis ≡ j → ⊥) → Gathering rs j (t + 1) g
+    gathering-other f =
+        record {
+          within = omega arith;
+          holds = λ x b. w .holds x b ∙ ap (λ (l : List Row). upper x (coefficient x (gram l))) (sym (ap (rowsOn j) taken ∙ on-other j (take t rs) r f));
+          below = record { long = w .below .long; small = λ x b. omega (arith, w .below .small x b) };
+        }
 
-    -- one row more
-    module _ (t : stands 0x11 s at ≡ true) where
-      abbrev o : Onward (w .problem) s (w .left) at
-      o = onward (w .chain) t
+    pub gathering-row : {g₂ : List ℤ} → r .basis ≡ j → RowAdded r g g₂ → Gathering rs j (t + 1) g₂
+    gathering-row {g₂} e a =
+        let on = rowsOn j (take t rs) in
+        let d = a .raised in
+        record {
+          within = omega arith;
+          holds = λ x b.
+              d .there x b
+              ∙ ap (λ (z : ℤ). z +ℤ upper x (coefficient x (outer r))) (w .holds x b)
+              ∙ upper-plus x (coefficient x (gram on)) (coefficient x (outer r))
+              ∙ ap (upper x) (sym (gram-more x on r))
+              ∙ ap (λ (l : List Row). upper x (coefficient x (gram l))) (sym (ap (rowsOn j) taken ∙ on-more j (take t rs) r e));
+          below = record {
+            long = d .long;
+            small = λ x b.
+                let v = ap natAbs (d .there x b) in
+                omega (arith, abs-sum (getD g x (pos 0)) (upper x (coefficient x (outer r))), w .below .small x b, a .small x);
+          };
+        }
 
-      rows-left : rowsFrom (w .left) s at ≡ rowAt s at ∷ rowsFrom (o .left) s (afterRow s at)
-      rows-left = ap (λ (m : ℕ). rowsFrom m s at) (o .one-less) ∙ one-row s at (o .left) t
+-- ---- a row that keeps its limits, in arrays: what is added for it
+module _ {s : List ℕ} {from to : ℕ} (bytes : (i : ℕ) → getD s i 0 < 256) (k : LowRow s from to) where
+  abbrev here : Row
+  here = rowAt s from to
 
-      pub gathering-other : (rowAt s at .basis ≡ j → ⊥) → Gathering s j (afterRow s at) g
-      unfolding rowsOn
-      gathering-other f =
+  pub low-few : length (here .entries) ≤ 64
+  low-few = rising-few (here .entries) (k .rising) (k .low)
+
+  module _ {indices : List ℕ} {factors : List ℤ} {count : ℕ} (q : HoldsEntries (here .entries) indices factors count) where
+    pub low-entries : Entries indices factors count
+    low-entries = row-entries (here .entries) indices factors count q (k .rising) (k .low) (stand-small s bytes (k .stands .entries))
+
+    products : (x : ℕ) → outerAt (here .weight) (termsIn count indices factors) x ≡ upper x (coefficient x (outer here))
+    products = outer-is here indices factors count q (k .low)
+
+    products-small : (x : ℕ) → natAbs (outerAt (here .weight) (termsIn count indices factors) x) ≤ rowUnit
+    unfolding outerAt
+    products-small x = outer-bound _ _ _ low-entries (here .weight) (weight-small s bytes from) x count (omega arith)
+
+    pub low-added : {g g₂ : List ℤ} → Raised g (outerAt (here .weight) (termsIn count indices factors)) g₂ → RowAdded here g g₂
+    low-added d = record { raised = raised-same d products; small = λ x. rw (← products x) (products-small x) }
+
+-- a row that is walked
+module _ {s starts : List ℕ} {rows : ℕ} (w : Walkable s starts rows) (t : ℕ) (h : t < rows) where
+  pub walked-low : LowRow s (getD starts t 0) (getD starts (t + 1) 0)
+  walked-low =
+      let r = rowAt s (getD starts t 0) (getD starts (t + 1) 0) in
+      let q = walk-sound w t h in
+      record {
+        stands = w .rows-sound .stand .each t h;
+        rising = q .rising;
+        low = all-map _ _ (λ (e : Entry) b. omega (arith, basis-few (w .problem) (w .rows-sound .limits) (r .basis))) (r .entries) (q .indices);
+      }
+
+-- ---- the loop of `read_row`: the arrays hold the entries before the offset x, and the others stand from there on
+pub record Filling (s : List ℕ) (to : ℕ) (es : List Entry) (indices : List ℕ) (factors : List ℤ) (n x : ℕ) : Type 0 where
+  pub before : List Entry
+  pub rest : List Entry
+  pub all-are : before ++ rest ≡ es
+  pub stand : EntriesStand s to x rest
+  pub held : HoldsEntries before indices factors n
+
+module _ {s : List ℕ} {to : ℕ} {es : List Entry} {indices : List ℕ} {factors : List ℤ} where
+  pub filling-start : {x : ℕ} → EntriesStand s to x es → length indices ≡ 64 → length factors ≡ 64 → Filling s to es indices factors 0 x
+  unfolding termsIn listed
+  filling-start w a b =
+      record { before = []; rest = es; all-are = refl; stand = w; held = record { indices-length = a; factors-length = b; count-is = refl; terms = refl } }
+
+  module _ {n x : ℕ} (k : Filling s to es indices factors n x) where
+    pub filling-end : to ≤ x → HoldsEntries es indices factors n
+    filling-end h =
+        let e : k .before ≡ es = sym (append-nil (k .before)) ∙ ap (λ (l : List Entry). k .before ++ l) (sym (step-none (k .stand) h)) ∙ k .all-are in
+        rw e at (k .held)
+
+    module _ (h : x < to) where
+      abbrev step : Step s to x (k .rest)
+      step = step-of (k .stand) h
+
+      pub filling-few : length es ≤ 64 → n < 64
+      filling-few f =
+          let a = ap length (k .all-are) in
+          let b = length-append (k .before) (k .rest) in
+          let c = ap length (step .is) in
+          let d = k .held .count-is in
+          omega arith
+
+      pub filling-more : length es ≤ 64 → Filling s to es (set indices n (entryAt s x .index)) (set factors n (entryAt s x .factor)) (n + 1) (x + 4)
+      filling-more f =
+          let l = filling-few f in
+          let i = k .held .indices-length in
+          let j = k .held .factors-length in
+          let d = k .held .count-is in
           record {
-            problem = w .problem;
-            limits = w .limits;
-            left = o .left;
-            few = omega (arith, w .few, o .one-less);
-            chain = o .rest;
-            run = w .run;
-            holds = w .holds;
-            below = record { long = w .below .long; small = λ x h. omega (arith, w .below .small x h, w .few, o .one-less) };
-            same = ap (λ (rs : List Row). w .run ++ rs) (sym (rw (rows-left, ne-eqb (rowAt s at .basis) j f))) ∙ w .same;
+            before = k .before ++ (entryAt s x ∷ []);
+            rest = step .others;
+            all-are = append-assoc (k .before) (entryAt s x ∷ []) (step .others) ∙ (rw (step .is) at (k .all-are));
+            stand = step .stand;
+            held = record {
+              indices-length = length-set indices n _ ∙ i;
+              factors-length = length-set factors n _ ∙ j;
+              count-is = rw (length-append (k .before)) (omega arith);
+              terms =
+                  terms-more n indices factors (entryAt s x .index) (entryAt s x .factor) (omega arith) (omega arith)
+                  ∙ rw (k .held .terms) (sym (factors-append (k .before) (entryAt s x ∷ [])));
+            };
           }
-
-      module _ (bytes : (i : ℕ) → getD s i 0 < 256) (r : StoredRow) (q : HoldsRow s at r) where
-        pub gathering-entries : Entries (r .indices) (r .factors) (r .count)
-        gathering-entries = row-entries (w .problem) (w .limits) s bytes at r q (o .row)
-
-        pub gathering-below : Below (2 ^ 53) g
-        gathering-below = small
-
-        abbrev added : ℕ → ℤ
-        added = outerAt (r .weight) (termsIn (r .count) (r .indices) (r .factors))
-
-        row-low : All (λ (e : Entry). e .index < 64) (rowOf r (at + 4) .entries)
-        row-low =
-            let h = holds-sound s at r q (w .problem) (o .row) in
-            all-map _ _ (λ (e : Entry) b. omega (arith, basis-few (w .problem) (w .limits) (rowOf r (at + 4) .basis))) (rowOf r (at + 4) .entries) (h .indices)
-
-        weight-low : r .weight < 2 ^ 16
-        weight-low = rw (holds-weight s at r q) (number-low s bytes (at + 2))
-
-        added-small : (x : ℕ) → natAbs (added x) ≤ rowUnit
-        unfolding outerAt
-        added-small x = outer-bound _ _ _ gathering-entries (r .weight) weight-low x (r .count) (omega arith)
-
-        row-is : (x : ℕ) → added x ≡ upper x (coefficient x (outer (rowAt s at)))
-        row-is x = outer-is r (at + 4) row-low x ∙ ap (λ (y : Row). upper x (coefficient x (outer y))) (q .row)
-
-        pub gathering-row : {g₂ : List ℤ} → rowAt s at .basis ≡ j → Raised g added g₂ → Gathering s j (afterRow s at) g₂
-        unfolding rowsOn
-        gathering-row {g₂} e d =
-            record {
-              problem = w .problem;
-              limits = w .limits;
-              left = o .left;
-              few = omega (arith, w .few, o .one-less);
-              chain = o .rest;
-              run = w .run ++ (rowAt s at ∷ []);
-              holds = λ x h.
-                  d .there x h
-                  ∙ ap (λ (z : ℤ). z +ℤ added x) (w .holds x h)
-                  ∙ ap (λ (z : ℤ). upper x (coefficient x (gram (w .run))) +ℤ z) (row-is x)
-                  ∙ upper-plus x (coefficient x (gram (w .run))) (coefficient x (outer (rowAt s at)))
-                  ∙ ap (upper x) (sym (gram-more x (w .run) (rowAt s at)));
-              below = record {
-                long = d .long;
-                small = λ x h.
-                    let v = ap natAbs (d .there x h) in
-                    omega (arith, abs-sum (getD g x (pos 0)) (added x), w .below .small x h, added-small x, w .few, o .one-less);
-              };
-              same =
-                  append-assoc (w .run) (rowAt s at ∷ []) (rowsOn j (rowsFrom (o .left) s (afterRow s at)))
-                  ∙ ap (λ (rs : List Row). w .run ++ rs) (sym (rw (rows-left, eq-eqb (rowAt s at .basis) j e)))
-                  ∙ w .same;
-            }

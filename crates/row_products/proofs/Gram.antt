@@ -22,7 +22,7 @@ use Rattle.format.specs.ProblemBases.{basisOf, multiplier}
 use Rattle.format.specs.All.{All}
 use Rattle.format.specs.CertificateRules.{Entry, Row}
 use Rattle.accepting.specs.Identity.{combination, square, squares}
-use Rattle.row_products.specs.Gram.{factors, rekeyed, outer, gram, pairKey, expanded, rowsOn, byBasis}
+use Rattle.row_products.specs.Gram.{factorTerms, rekeyed, outer, gram, pairKey, expanded, rowsOn, byBasis}
 
 -- ---- sums under another m
 pub sum-same : (A : ℕ → Type 0) (m m′ : ℕ → ℤ) → ((k : ℕ) → A k → m k ≡ m′ k) → (P : List Term) → Keys A P → sum m P ≡ sum m′ P
@@ -33,11 +33,11 @@ pub sum-rekeyed : (m : ℕ → ℤ) (f : ℕ → ℕ) (P : List Term) → sum m 
 sum-rekeyed m f [] = refl
 sum-rekeyed m f (t ∷ P) = rw (sum-rekeyed m f P)
 
-combination-factors : (B : List ℕ) (es : List Entry) → combination B es ≡ rekeyed (λ i. getD B i 0) (factors es)
+combination-factors : (B : List ℕ) (es : List Entry) → combination B es ≡ rekeyed (λ i. getD B i 0) (factorTerms es)
 combination-factors B [] = refl
 combination-factors B (e ∷ es) = rw (combination-factors B es)
 
-pub factors-small : (es : List Entry) → All (λ (e : Entry). e .index < 64) es → Keys (λ i. i < 64) (factors es)
+pub factors-small : (es : List Entry) → All (λ (e : Entry). e .index < 64) es → Keys (λ i. i < 64) (factorTerms es)
 unfolding All
 factors-small [] h = tt
 factors-small (e ∷ es) h = (h .0, factors-small es (h .1))
@@ -49,7 +49,7 @@ keys-rekeyed A f (t ∷ P) h = (h .0, keys-rekeyed A f P (h .1))
 -- the places of the products are below 64 × 64
 outer-keys : (r : Row) → All (λ (e : Entry). e .index < 64) (r .entries) → Keys (λ n. n < 4096) (outer r)
 outer-keys r h =
-    let F = factors (r .entries) in
+    let F = factorTerms (r .entries) in
     let b = factors-small (r .entries) h in
     keys-scale _ (r .weight) (rekeyed (λ i. 64 * i) F ⊗ F)
     (keys-⊗ _ (rekeyed (λ i. 64 * i) F) F (keys-rekeyed _ (λ i. 64 * i) F (keys-map _ _ (λ i l. keys-map _ _ (λ i′ l′. omega arith) F b) F b)))
@@ -98,16 +98,16 @@ module _ (p : Problem) (j : ℕ) where
     -- a weighted square times g_j, as a sum over two entries
     square-sum : (w : ℤ) (es : List Entry)
         → let L = combination (basisOf p j) es in
-        sum m (scale w (L ⊗ L ⊗ multiplier p j)) ≡ w *ℤ sum (λ i. sum (λ i′. under m (getD (basisOf p j) i 0 + getD (basisOf p j) i′ 0)) (factors es)) (factors es)
+        sum m (scale w (L ⊗ L ⊗ multiplier p j)) ≡ w *ℤ sum (λ i. sum (λ i′. under m (getD (basisOf p j) i 0 + getD (basisOf p j) i′ 0)) (factorTerms es)) (factorTerms es)
     square-sum w es =
-        let L = rekeyed (λ i. getD (basisOf p j) i 0) (factors es) in
+        let L = rekeyed (λ i. getD (basisOf p j) i 0) (factorTerms es) in
         rw (combination-factors (basisOf p j) es, sum-scale m w (L ⊗ L ⊗ multiplier p j), sum-⊗ m (L ⊗ L) (multiplier p j), sum-⊗ (under m) L L) (simp sum-rekeyed)
 
     -- the row's products, each under what its place gives, are the same sum
     outer-sum : (r : Row) → All (λ (e : Entry). e .index < 64) (r .entries)
-        → sum (at m) (outer r) ≡ r .weight *ℤ sum (λ i. sum (λ i′. under m (getD (basisOf p j) i 0 + getD (basisOf p j) i′ 0)) (factors (r .entries))) (factors (r .entries))
+        → sum (at m) (outer r) ≡ r .weight *ℤ sum (λ i. sum (λ i′. under m (getD (basisOf p j) i 0 + getD (basisOf p j) i′ 0)) (factorTerms (r .entries))) (factorTerms (r .entries))
     outer-sum r h =
-        let F = factors (r .entries) in
+        let F = factorTerms (r .entries) in
         let small = factors-small (r .entries) h in
         sum-scale (at m) (r .weight) (rekeyed (λ i. 64 * i) F ⊗ F)
         ∙ ap (λ (z : ℤ). r .weight *ℤ z) (sum-⊗ (at m) (rekeyed (λ i. 64 * i) F) F ∙ sum-rekeyed _ (λ i. 64 * i) F
@@ -134,10 +134,10 @@ module _ (p : Problem) (j : ℕ) where
 
 -- ---- what the two loops add up
 -- a row adds w × l × l' at the place of each two entries
-pub outer-coefficient : (n : ℕ) (r : Row) → coefficient n (outer r) ≡ r .weight *ℤ sum (λ i. sum (λ i′. match n (64 * i + i′)) (factors (r .entries))) (factors (r .entries))
+pub outer-coefficient : (n : ℕ) (r : Row) → coefficient n (outer r) ≡ r .weight *ℤ sum (λ i. sum (λ i′. match n (64 * i + i′)) (factorTerms (r .entries))) (factorTerms (r .entries))
 unfolding coefficient
 outer-coefficient n r =
-    let F = factors (r .entries) in
+    let F = factorTerms (r .entries) in
     rw (sum-scale (match n) (r .weight) (rekeyed (λ i. 64 * i) F ⊗ F), sum-⊗ (match n) (rekeyed (λ i. 64 * i) F) F, sum-rekeyed (λ j. sum (λ k. match n (j + k)) F) (λ i. 64 * i) F)
 
 -- one row more at the end

@@ -21,7 +21,7 @@ use Rattle.format.specs.ProblemBases.{basisOf, multiplier}
 use Rattle.format.specs.All.{All}
 use Rattle.format.specs.CertificateRules.{Entry, Row}
 use Rattle.accepting.specs.Identity.{squares}
-use Rattle.row_products.specs.Gram.{factors, rekeyed, outer, gram, pairKey, tableTerms, upper, times}
+use Rattle.row_products.specs.Gram.{factorTerms, rekeyed, outer, gram, pairKey, tableTerms, upper, times}
 use Rattle.row_products.proofs.Gram.{sum-same, sum-rekeyed, factors-small, gram-places, at, under, place-key, rows-gram}
 
 -- ---- sums over one list and over two
@@ -114,9 +114,9 @@ module _ (M : ℕ → ℤ) (symmetric : (i k : ℕ) → i < 64 → k < 64 → M 
   abbrev half : ℕ → ℤ
   half n = upper n (times n) *ℤ M n
 
-  outer-pairs : (m : ℕ → ℤ) (r : Row) → sum m (outer r) ≡ r .weight *ℤ pairs (λ i k. m (64 * i + k)) (factors (r .entries))
+  outer-pairs : (m : ℕ → ℤ) (r : Row) → sum m (outer r) ≡ r .weight *ℤ pairs (λ i k. m (64 * i + k)) (factorTerms (r .entries))
   outer-pairs m r =
-      let F = factors (r .entries) in
+      let F = factorTerms (r .entries) in
       sum-scale m (r .weight) (rekeyed (λ i. 64 * i) F ⊗ F)
       ∙ ap (λ (z : ℤ). r .weight *ℤ z) (sum-⊗ m (rekeyed (λ i. 64 * i) F) F ∙ sum-rekeyed _ (λ i. 64 * i) F)
 
@@ -128,7 +128,7 @@ module _ (M : ℕ → ℤ) (symmetric : (i k : ℕ) → i < 64 → k < 64 → M 
 
   outer-half : (r : Row) → All (λ (e : Entry). e .index < 64) (r .entries) → sum M (outer r) ≡ sum half (outer r)
   outer-half r h =
-      let F = factors (r .entries) in
+      let F = factorTerms (r .entries) in
       let low = factors-small (r .entries) h in
       outer-pairs M r
       ∙ ap (λ (z : ℤ). r .weight *ℤ z)

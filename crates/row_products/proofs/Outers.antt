@@ -15,7 +15,7 @@ use lib.Seq.{getD-set-same, getD-set-other}
 use Rattle.integers.proofs.Ranges.{abs-sum, abs-mul-le}
 use Rattle.counting.proofs.Listed.{same-or-not}
 use Rattle.polynomial.specs.Terms.{Term}
-use Rattle.problem_reader.specs.TermArrays.{termsIn}
+use Rattle.flat.specs.TermArrays.{termsIn}
 use Rattle.polynomial.specs.Algebra.{sum, match}
 use Rattle.row_products.specs.Outer.{rowUnit, Entries, Below, Raised, above, inRow, outerAt}
 use Rattle.row_products.proofs.Prefixes.{at, sum-none, sum-more, times-more}
@@ -119,8 +119,8 @@ module _ (E : List ℕ) (C : List ℤ) (count : ℕ) (e : Entries E C count) whe
   pub inner-bound : (a : ℤ) → natAbs a ≤ 2 ^ 31 → (x i n : ℕ) → n ≤ count → natAbs (a *ℤ inRow (termsIn n E C) x i) ≤ rowUnit
   inner-bound a h x i n l = abs-mul-le a (inRow (termsIn n E C) x i) (2 ^ 31) (2 ^ 15) h (inner-small x i n l)
 
-  pub outer-bound : (w : ℕ) → w < 2 ^ 16 → (x n : ℕ) → n ≤ count → natAbs (pos w *ℤ sum (inRow F x) (termsIn n E C)) ≤ rowUnit
-  outer-bound w h x n l = abs-mul-le (pos w) (sum (inRow F x) (termsIn n E C)) (2 ^ 16) (2 ^ 30) (omega arith) (outer-small x n l)
+  pub outer-bound : (w : ℤ) → natAbs w ≤ 2 ^ 16 → (x n : ℕ) → n ≤ count → natAbs (w *ℤ sum (inRow F x) (termsIn n E C)) ≤ rowUnit
+  outer-bound w h x n l = abs-mul-le w (sum (inRow F x) (termsIn n E C)) (2 ^ 16) (2 ^ 30) h (outer-small x n l)
 
 -- ---- the turns of the loops: x times the sum over the first t entries
 pub record Raising (g₀ : List ℤ) (m : ℕ → ℕ → ℤ) (x : ℤ) (E : List ℕ) (C : List ℤ) (t : ℕ) (g₁ : List ℤ) : Type 0 where
@@ -162,9 +162,9 @@ pub raised-same : {g₀ g₁ : List ℤ} {f h : ℕ → ℤ} → Raised g₀ f g
 raised-same {g₀} r e = record { long = r .long; there = λ y b. r .there y b ∙ ap (λ (z : ℤ). getD g₀ y (pos 0) +ℤ z) (e y) }
 
 -- all entries with all
-pub raising-all : {g₀ g₁ : List ℤ} {w count t : ℕ} {E : List ℕ} {C : List ℤ} → Raising g₀ (inRow (termsIn count E C)) (pos w) E C t g₁ → t ≡ count → Raised g₀ (outerAt w (termsIn count E C)) g₁
+pub raising-all : {g₀ g₁ : List ℤ} {w : ℤ} {count t : ℕ} {E : List ℕ} {C : List ℤ} → Raising g₀ (inRow (termsIn count E C)) w E C t g₁ → t ≡ count → Raised g₀ (outerAt w (termsIn count E C)) g₁
 unfolding outerAt
-raising-all {g₀} {g₁} {w} {count} {t} {E} {C} h e = subst (λ (n : ℕ). Raised g₀ (λ y. pos w *ℤ sum (inRow (termsIn count E C) y) (termsIn n E C)) g₁) e (h .raised)
+raising-all {g₀} {g₁} {w} {count} {t} {E} {C} h e = subst (λ (n : ℕ). Raised g₀ (λ y. w *ℤ sum (inRow (termsIn count E C) y) (termsIn n E C)) g₁) e (h .raised)
 
 -- a table of zeros
 pub none-below : Below 0 (replicate 4096 (pos 0))

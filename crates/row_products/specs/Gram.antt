@@ -16,9 +16,9 @@ use Rattle.format.specs.CertificateRules.{Entry, Row}
 use Rattle.accepting.specs.Identity.{squares}
 
 -- a row's factors, each at its index
-abbrev pub factors : List Entry → List Term
-factors [] = []
-factors (e ∷ es) = term (e .index) (e .factor) ∷ factors es
+abbrev pub factorTerms : List Entry → List Term
+factorTerms [] = []
+factorTerms (e ∷ es) = term (e .index) (e .factor) ∷ factorTerms es
 
 -- each key replaced by f of it
 abbrev pub rekeyed : (ℕ → ℕ) → List Term → List Term
@@ -27,7 +27,7 @@ rekeyed f (t ∷ P) = term (f (t .key)) (t .coefficient) ∷ rekeyed f P
 
 -- w × l × l' for each two entries of a row, at its place
 abbrev pub outer : Row → List Term
-outer r = scale (r .weight) (rekeyed (λ i. 64 * i) (factors (r .entries)) ⊗ factors (r .entries))
+outer r = scale (r .weight) (rekeyed (λ i. 64 * i) (factorTerms (r .entries)) ⊗ factorTerms (r .entries))
 
 -- the Gram matrix of some rows: the products of all of them
 unfoldable pub gram : List Row → List Term

@@ -1,5 +1,5 @@
-pub mod Outer
 pub mod Gram
+pub mod Outer
 pub mod Frame
 pub mod Fold
 pub mod Gather

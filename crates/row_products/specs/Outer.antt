@@ -9,6 +9,9 @@ use lib.IntN.{ℤ, pos, natAbs, _+ℤ_, _*ℤ_}
 use lib.ListN.{length, getD}
 use Rattle.polynomial.specs.Terms.{Term}
 use Rattle.polynomial.specs.Algebra.{sum, match}
+use Rattle.flat.specs.TermArrays.{termsIn}
+use Rattle.format.specs.CertificateRules.{Entry}
+use Rattle.row_products.specs.Gram.{factorTerms}
 
 -- what one row at most adds to an entry: its indices rise, so each place gets one product
 abbrev pub rowUnit : ℕ
@@ -20,6 +23,13 @@ pub record Entries (indices : List ℕ) (factors : List ℤ) (count : ℕ) : Typ
   pub indices-low : (k : ℕ) → k < count → getD indices k 0 < 64
   pub rising : (i k : ℕ) → i < k → k < count → getD indices i 0 < getD indices k 0
   pub factors-small : (k : ℕ) → k < count → natAbs (getD factors k (pos 0)) ≤ 2 ^ 15
+
+-- the arrays hold the entries es of a row, place by place
+pub record HoldsEntries (es : List Entry) (indices : List ℕ) (factors : List ℤ) (count : ℕ) : Type 0 where
+  pub indices-length : length indices ≡ 64
+  pub factors-length : length factors ≡ 64
+  pub count-is : count ≡ length es
+  pub terms : termsIn count indices factors ≡ factorTerms es
 
 -- the table has 4,096 entries, none above m
 pub record Below (m : ℕ) (g : List ℤ) : Type 0 where
@@ -40,5 +50,5 @@ abbrev pub inRow : List Term → ℕ → ℕ → ℤ
 inRow F x i = sum (above x i) F
 
 -- w × l × l' for each two entries, at its place on or above the diagonal
-unfoldable pub outerAt : ℕ → List Term → ℕ → ℤ
-outerAt w F x = pos w *ℤ sum (inRow F x) F
+unfoldable pub outerAt : ℤ → List Term → ℕ → ℤ
+outerAt w F x = w *ℤ sum (inRow F x) F

@@ -1,6 +1,6 @@
-// The table of 64 x 64 sums: the products w * l * l' of the rows on one basis, read off the certificate's bytes, are
-// summed by their indices; then the entries with the same product b * b' are summed at one place. The compared keys
-// have no part in it.
+// The table of 64 x 64 sums: the products w * l * l' of the rows on one basis, read off the certificate's bytes by
+// their offsets, are summed by their indices; then the entries with the same product b * b' are summed at one place.
+// The compared keys have no part in it.
 ghost use mathlib.Core.Path.{_≡_};
 ghost use mathlib.Core.Bool.{true};
 ghost use mathlib.Core.List.{List};
@@ -8,20 +8,49 @@ ghost use Prim.Native.Nat.{ℕ, _+_, _*_, _^_, _≤_, _<_};
 ghost use lib.IntN.{pos, natAbs, _*ℤ_};
 ghost use lib.ListN.{length, getD};
 ghost use Rattle.polynomial.specs.Terms.{Term};
-ghost use Rattle.problem_reader.specs.TermArrays.{termsIn};
+ghost use Rattle.flat.specs.TermArrays.{termsIn};
 ghost use Rattle.counting.specs.Counting.{Bounded};
 ghost use Rattle.row_products.specs.Gram.{times};
-ghost use Rattle.row_blocks.specs.Places.{Walkable};
+ghost use Rattle.certificate_reader.specs.Rows.{rowAt, rowsBy, RowStands, Walkable};
 ghost use Rattle.row_products.specs.Frame.{spreadAt, halfAt, Next, Framed, Entered};
 ghost use Rattle.row_products.specs.Fold.{WithProduct, Folded};
-ghost use Rattle.row_products.specs.Outer.{Entries, Below, Raised, inRow, outerAt};
-ghost use Rattle.row_products.specs.Gather.{Gathered};
+ghost use Rattle.row_products.specs.Outer.{Entries, HoldsEntries, Below, Raised, inRow, outerAt};
+ghost use Rattle.row_products.specs.Gather.{LowRow, RowAdded, Gathered};
+
+// The entries of the row between two offsets, put into arrays; how many they are.
+fn read_row(
+    s: &[u8],
+    from: usize,
+    to: usize,
+    indices: &mut [u8; 64],
+    factors: &mut [i32; 64],
+) -> usize
+    requires { ⌜
+        RowStands (now s) from to
+        × (length (rowAt (now s) from to .entries) ≤ 64)
+        × (length (now indices) ≡ 64)
+        × (length (now factors) ≡ 64)
+        ⌝ }
+    ensures { λ r. ⌜
+        HoldsEntries (rowAt (now (s .entry)) from to .entries) (now (indices .exit)) (now (factors .exit)) r
+        ⌝ }
+{
+    let mut n = 0;
+    let mut x = from + 4;
+    while x < to {
+        indices[n] = certificate_reader::index_at(s, x);
+        factors[n] = certificate_reader::factor_at(s, x);
+        n += 1;
+        x = certificate_reader::after_entry(s, x);
+    }
+    n
+}
 
 // Adds a times each factor of a row from entry `first` on, in the table's row of that entry's index.
 fn add_products(
     g: &mut [i64; 4096],
     indices: &[u8; 64],
-    factors: &[i16; 64],
+    factors: &[i32; 64],
     count: usize,
     first: usize,
     a: i64,
@@ -48,38 +77,45 @@ fn add_products(
 
 // Adds the products w * l * l' of each two entries of a row, an entry with itself and with those after it, to the table
 // of sums.
-fn add_outer(g: &mut [i64; 4096], row: certificate_reader::StoredRow)
-    requires { ⌜ Entries (row .indices) (row .factors) (row .count) × Below (2 ^ 53) (now g) ⌝ }
+fn add_outer(g: &mut [i64; 4096], indices: &[u8; 64], factors: &[i32; 64], count: usize, w: i64)
+    requires { ⌜ Entries (now indices) (now factors) count × Below (2 ^ 53) (now g) × (natAbs w ≤ 2 ^ 16) ⌝ }
     ensures { λ _. ⌜
-        Raised (now (g .entry)) (outerAt (row .weight) (termsIn (row .count) (row .indices) (row .factors)))
+        Raised (now (g .entry)) (outerAt w (termsIn count (now (indices .entry)) (now (factors .entry))))
         (now (g .exit))
         ⌝ }
 {
-    let indices = row.indices;
-    let factors = row.factors;
-    let count = row.count;
-    let w = row.weight as i64;
     let mut k = 0;
     while k < count {
         let a = w * (factors[k] as i64);
-        add_products(g, &indices, &factors, count, k, a);
+        add_products(g, indices, factors, count, k, a);
         k += 1;
     }
 }
 
-// Adds the products of the rows on basis j to the table of sums, which is empty. Other rows are stepped over.
-pub fn add_basis_rows(g: &mut [i64; 4096], s: &[u8], j: usize)
-    requires { ⌜ Below 0 (now g) × Walkable (now s) ⌝ }
-    ensures { λ _. ⌜ Gathered (now (s .entry)) j (now (g .exit)) ⌝ }
+// Adds the products of the row between two offsets.
+fn add_row(g: &mut [i64; 4096], s: &[u8], from: usize, to: usize)
+    requires { ⌜ Below (2 ^ 53) (now g) × LowRow (now s) from to ⌝ }
+    ensures { λ _. ⌜ RowAdded (rowAt (now (s .entry)) from to) (now (g .entry)) (now (g .exit)) ⌝ }
 {
-    let mut at = 10;
-    while certificate_reader::stands_at(0x11, s, at) {
-        let head = certificate_reader::head_at(s, at);
-        if head.basis == j {
-            let row = certificate_reader::row_at(s, at, head);
-            add_outer(g, row);
+    let mut indices: [u8; 64] = [0; 64];
+    let mut factors: [i32; 64] = [0; 64];
+    let n = read_row(s, from, to, &mut indices, &mut factors);
+    let w = certificate_reader::weight_at(s, from);
+    add_outer(g, &indices, &factors, n, w);
+}
+
+// Adds the products of the rows on basis j to the table of sums, which is empty. Other rows are stepped over.
+pub fn add_basis_rows(g: &mut [i64; 4096], s: &[u8], starts: &[usize; 129], rows: usize, j: usize)
+    requires { ⌜ Below 0 (now g) × Walkable (now s) (now starts) rows ⌝ }
+    ensures { λ _. ⌜ Gathered (rowsBy (now (s .entry)) (now (starts .entry)) rows) j (now (g .exit)) ⌝ }
+{
+    let mut r = 0;
+    while r < rows {
+        let at = starts[r];
+        if certificate_reader::basis_at(s, at) == j {
+            add_row(g, s, at, starts[r + 1]);
         }
-        at = head.next;
+        r += 1;
     }
 }
 

@@ -114,12 +114,12 @@ module _ (keys sizes exponents counts : List ℕ) where
     }
 
     -- what another run from here leaves
-    pub between-then : (x : Closed) (t′ idx′ : List ℕ) → Settled (closeAfter g c sizes l n t) n t x t′ idx′ → Settled o n₀ t₀ x t′ idx′
-    between-then x t′ idx′ w =
-        let u : Settled o n t x t′ idx′ = rw (r .leads) at w in
+    pub between-then : (x : Closed) (t′ idx′ l′ : List ℕ) → Settled (closeAfter g c sizes l n t) n t x t′ idx′ l′ → Settled o n₀ t₀ x t′ idx′ l′
+    between-then x t′ idx′ l′ w =
+        let u : Settled o n t x t′ idx′ l′ = rw (r .leads) at w in
         record { stored = go u (ltb 2048 (x .len)) refl; rounds = u .rounds; labels = u .labels }
       where
-        go : Settled o n t x t′ idx′ → (b : Bool) → ltb 2048 (x .len) ≡ b → Stored n₀ (o .state .support) t₀ (x .len) t′ idx′
+        go : Settled o n t x t′ idx′ l′ → (b : Bool) → ltb 2048 (x .len) ≡ b → Stored n₀ (o .state .support) t₀ (x .len) t′ idx′
         go u true q = growing-stop t₀ n₀ (o .state .support) _ n t idx growing (o .state .support) (x .len) t′ idx′ (u .stored) (λ X. X) (growing .todo) (ltb-true 2048 (x .len) q) (extends-refl _)
         go u false q =
             let b = ltb-false 2048 (x .len) q in
@@ -128,7 +128,7 @@ module _ (keys sizes exponents counts : List ℕ) where
             refl
 
     -- all 578 rounds are made
-    between-out : 578 ≤ c → Settled o n₀ t₀ (record { labels = l; len = n; rounds = c }) t idx
+    between-out : 578 ≤ c → Settled o n₀ t₀ (record { len = n; rounds = c }) t idx l
     unfolding closeFrom
     between-out h =
         let z : 578 - c ≡ 0 = omega (arith, r .upto) in
@@ -154,7 +154,7 @@ module _ (keys sizes exponents counts : List ℕ) where
       step : closeFrom g (578 - c) old c ≡ cond (sameState old (round g old)) (record { state = round g old; rounds = c + 1 }) (closeFrom g (578 - (c + 1)) (round g old) (c + 1))
       step = let z : 578 - c ≡ suc (578 - (c + 1)) = omega arith in rw z (close-next g _ old c)
 
-      full : 2048 < n′ → Settled o n₀ t₀ (record { labels = l′; len = n′; rounds = c + 1 }) t′ idx′
+      full : 2048 < n′ → Settled o n₀ t₀ (record { len = n′; rounds = c + 1 }) t′ idx′ l′
       full b = record {
         stored = growing-stop t₀ n₀ (o .state .support) _ n t idx growing _ n′ t′ idx′ (k .support) after (ap (λ (v : Closing). v .state .support) step) b (more (sameState old (round g old)));
         rounds = λ q. absurd (omega arith);
@@ -171,7 +171,7 @@ module _ (keys sizes exponents counts : List ℕ) where
       size : length (keysIn n t) ≡ n
       size = growing .holds .apart
 
-      done : n′ ≤ 2048 → n′ ≡ n → l ≡ l′ → Settled o n₀ t₀ (record { labels = l′; len = n′; rounds = c + 1 }) t′ idx′
+      done : n′ ≤ 2048 → n′ ≡ n → l ≡ l′ → Settled o n₀ t₀ (record { len = n′; rounds = c + 1 }) t′ idx′ l′
       done b e f =
           let x = round-extends g old in
           let p : round g old .support ≡ keysIn n t = x .same (grown-length _ t n′ t′ (k .support .grown) b ∙ e ∙ sym size) in
@@ -186,7 +186,7 @@ module _ (keys sizes exponents counts : List ℕ) where
             labels = λ _. k .labels ∙ ap (λ (y : Closing). blockBytes (y .state .labels)) v;
           }
 
-      pub between-last : cond (ltb 2048 n′) true (cond (eqb n′ n) (same l l′) false) ≡ true → Settled o n₀ t₀ (record { labels = l′; len = n′; rounds = c + 1 }) t′ idx′
+      pub between-last : cond (ltb 2048 n′) true (cond (eqb n′ n) (same l l′) false) ≡ true → Settled o n₀ t₀ (record { len = n′; rounds = c + 1 }) t′ idx′ l′
       between-last = last-true n n′ l l′ full done
 
       pub between-more : cond (ltb 2048 n′) true (cond (eqb n′ n) (same l l′) false) ≡ false → Between o n₀ t₀ keys sizes exponents counts l′ n n′ t′ idx′ (c + 1)
@@ -218,10 +218,10 @@ module _ (keys sizes exponents counts : List ℕ) where
           }
 
   -- a run to the last round
-  pub advanced-out : (o : Closing) (n₀ : ℕ) (t₀ : List ℕ) (r : Progress) (t idx : List ℕ) → Advanced o n₀ t₀ keys sizes exponents counts 578 r t idx
-      → Settled o n₀ t₀ (record { labels = r .labels; len = r .len; rounds = r .rounds }) t idx
-  advanced-out o n₀ t₀ r t idx a = go (r .ended) refl
+  pub advanced-out : (o : Closing) (n₀ : ℕ) (t₀ : List ℕ) (r : Progress) (t idx l : List ℕ) → Advanced o n₀ t₀ keys sizes exponents counts 578 r t idx l
+      → Settled o n₀ t₀ (record { len = r .len; rounds = r .rounds }) t idx l
+  advanced-out o n₀ t₀ r t idx l a = go (r .ended) refl
     where
-      go : (b : Bool) → r .ended ≡ b → Settled o n₀ t₀ (record { labels = r .labels; len = r .len; rounds = r .rounds }) t idx
+      go : (b : Bool) → r .ended ≡ b → Settled o n₀ t₀ (record { len = r .len; rounds = r .rounds }) t idx l
       go true e = a .done e
-      go false e = between-out t₀ n₀ o (r .labels) (r .since) (r .len) t idx (r .rounds) (a .left e) (omega (arith, a .most e))
+      go false e = between-out t₀ n₀ o l (r .since) (r .len) t idx (r .rounds) (a .left e) (omega (arith, a .most e))

@@ -120,7 +120,7 @@ pub record Starting (t idx : List ℕ) (len : ℕ) (keys sizes exponents counts 
   pub labels : l ≡ blockBytes (singles (basesIn keys sizes exponents counts))
 
 -- what the closing leaves: the outcome o, where its S has at most 2,048 members; else 2,049 as their number
-pub record Settled (o : Closing) (n : ℕ) (t : List ℕ) (r : Closed) (t′ idx′ : List ℕ) : Type 0 where
+pub record Settled (o : Closing) (n : ℕ) (t : List ℕ) (r : Closed) (t′ idx′ l′ : List ℕ) : Type 0 where
   pub stored : Stored n (o .state .support) t (r .len) t′ idx′
   pub rounds : r .len ≤ 2048 → r .rounds ≡ o .rounds
-  pub labels : r .len ≤ 2048 → r .labels ≡ blockBytes (o .state .labels)
+  pub labels : r .len ≤ 2048 → l′ ≡ blockBytes (o .state .labels)

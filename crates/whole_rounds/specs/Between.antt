@@ -36,8 +36,8 @@ pub record Running (keys sizes exponents counts l : List ℕ) (since n : ℕ) (t
 -- what it leaves: the outcome o, where one of its rounds was the last; else it has made m rounds, and stands between
 -- two
 pub record Advanced (o : Closing) (n₀ : ℕ) (t₀ keys sizes exponents counts : List ℕ) (m : ℕ) (r : Progress)
-    (t idx : List ℕ) : Type 0 where
-  pub done : r .ended ≡ true → Settled o n₀ t₀ (record { labels = r .labels; len = r .len; rounds = r .rounds }) t idx
+    (t idx l : List ℕ) : Type 0 where
+  pub done : r .ended ≡ true → Settled o n₀ t₀ (record { len = r .len; rounds = r .rounds }) t idx l
   pub left : r .ended ≡ false
-      → Between o n₀ t₀ keys sizes exponents counts (r .labels) (r .since) (r .len) t idx (r .rounds)
+      → Between o n₀ t₀ keys sizes exponents counts l (r .since) (r .len) t idx (r .rounds)
   pub most : r .ended ≡ false → r .rounds ≡ m

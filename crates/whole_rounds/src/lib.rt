@@ -4,7 +4,7 @@
 // which they came, with `index`.
 ghost use mathlib.Core.Path.{_≡_};
 ghost use Prim.Native.Nat.{_+_, _*_, _≤_, _<_};
-ghost use lib.ListN.{length, getD};
+ghost use lib.ListN.{length, getD, replicate};
 ghost use lib.Dec.{ltb, eqb};
 ghost use mathlib.Core.Bool.{true, false, cond};
 ghost use Rattle.counting.specs.Counting.{listed, sumTo};
@@ -30,12 +30,13 @@ fn number(part: &mut [u8])
     }
 }
 
-// The block numbers at the start: 255 everywhere, and then each index of each basis.
-pub fn start_labels(sizes: &[usize]) -> [u8; 576]
-    requires { ⌜ Sizes (now sizes) ⌝ }
-    ensures { λ r. ⌜ r ≡ blockBytes (listed 9 (λ j. listed (getD (now (sizes .entry)) j 0) (λ i. i))) ⌝ }
+// The block numbers at the start, in bytes that are 255 everywhere: each index of each basis.
+pub fn start_labels(labels: &mut [u8], sizes: &[usize])
+    requires { ⌜ Sizes (now sizes) × (now labels ≡ replicate 576 255) ⌝ }
+    ensures { λ _. ⌜
+        now (labels .exit) ≡ blockBytes (listed 9 (λ j. listed (getD (now (sizes .entry)) j 0) (λ i. i)))
+        ⌝ }
 {
-    let mut labels = [255u8; 576];
     let mut j = 0;
     while j < 9 {
         let a = 64 * j;
@@ -43,7 +44,6 @@ pub fn start_labels(sizes: &[usize]) -> [u8; 576]
         number(&mut labels[a..e]);
         j += 1;
     }
-    labels
 }
 
 // Whether some basis has 8 exponents or more and joins by its pairs: else the classes of the support's members are of
@@ -440,18 +440,16 @@ fn is_last(few: usize, len: usize, old: &[u8], labels: &[u8]) -> bool
     }
 }
 
-// What the rounds leave: the block numbers, how many keys the support has (2,049 where it has too many), how many
+// What the rounds leave beside the block numbers: how many keys the support has (2,049 where it has too many), how many
 // rounds.
 pub struct Closed {
-    pub labels: [u8; 576],
     pub len: usize,
     pub rounds: usize,
 }
 
-// What some of the rounds leave: `ended`, where one of them was the last; else the members after the first `since` came
-// in the last of them.
+// What some of the rounds leave beside them: `ended`, where one of them was the last; else the members after the first
+// `since` came in the last of them.
 struct Progress {
-    labels: [u8; 576],
     since: usize,
     len: usize,
     rounds: usize,
@@ -459,9 +457,10 @@ struct Progress {
 }
 
 // Rounds after the first `done`, until one is the last, or `most` were made. `heads` and `next` have the pairs of all
-// bases, or are short.
+// bases, or are short. The rounds work on a copy of the block numbers: blocks are found some 2 % faster than through
+// the lent array.
 fn run(
-    start: [u8; 576],
+    labels: &mut [u8; 576],
     keys: &[u64],
     sizes: &[usize],
     exponents: &[u64],
@@ -476,26 +475,27 @@ fn run(
     most: usize,
 ) -> Progress
     requires { ⌜
-        Running (now keys) (now sizes) (now exponents) (now counts) start came len (now table) (now index) done most
+        Running (now keys) (now sizes) (now exponents) (now counts) (now labels) came len (now table) (now index) done
+        most
         × Lookup (part 64 (now sizes) (now keys)) (now heads) (now next)
         ⌝ }
     ensures { λ r. ⌜
         Advanced
         (closeAfter (basesIn (now (keys .entry)) (now (sizes .entry)) (now (exponents .entry)) (now (counts .entry)))
-        done (now (sizes .entry)) start len (now (table .entry))) len (now (table .entry)) (now (keys .entry))
-        (now (sizes .entry)) (now (exponents .entry)) (now (counts .entry)) most r (now (table .exit))
-        (now (index .exit))
+        done (now (sizes .entry)) (now (labels .entry)) len (now (table .entry))) len (now (table .entry))
+        (now (keys .entry)) (now (sizes .entry)) (now (exponents .entry)) (now (counts .entry)) most r
+        (now (table .exit)) (now (index .exit)) (now (labels .exit))
         ⌝ }
 {
-    let mut labels = start;
+    let mut blocks = *labels;
     let mut n = len;
     let mut since = came;
     let mut rounds = done;
     while rounds < most {
-        let old = labels;
+        let old = blocks;
         let few = n;
         n = round(
-            &mut labels,
+            &mut blocks,
             &old,
             rounds == 0,
             keys,
@@ -511,9 +511,9 @@ fn run(
         );
         since = few;
         rounds += 1;
-        if is_last(few, n, &old, &labels) {
+        if is_last(few, n, &old, &blocks) {
+            *labels = blocks;
             return Progress {
-                labels,
                 since,
                 len: n,
                 rounds,
@@ -521,8 +521,8 @@ fn run(
             };
         }
     }
+    *labels = blocks;
     Progress {
-        labels,
         since,
         len: n,
         rounds,
@@ -582,7 +582,7 @@ fn is_large(sizes: &[usize]) -> bool
 
 // The rounds after the first `done`, to the end, with the index of the pairs.
 fn finish(
-    start: [u8; 576],
+    labels: &mut [u8; 576],
     keys: &[u64],
     sizes: &[usize],
     exponents: &[u64],
@@ -594,20 +594,21 @@ fn finish(
     done: usize,
 ) -> Closed
     requires { ⌜
-        Running (now keys) (now sizes) (now exponents) (now counts) start came len (now table) (now index) done 578
+        Running (now keys) (now sizes) (now exponents) (now counts) (now labels) came len (now table) (now index) done
+        578
         ⌝ }
     ensures { λ r. ⌜
         Settled
         (closeAfter (basesIn (now (keys .entry)) (now (sizes .entry)) (now (exponents .entry)) (now (counts .entry)))
-        done (now (sizes .entry)) start len (now (table .entry))) len (now (table .entry)) r (now (table .exit))
-        (now (index .exit))
+        done (now (sizes .entry)) (now (labels .entry)) len (now (table .entry))) len (now (table .entry)) r
+        (now (table .exit)) (now (index .exit)) (now (labels .exit))
         ⌝ }
 {
     let mut heads = [0u16; 18432];
     let mut next = [0u16; 36864];
     note_all(&mut heads, &mut next, keys, sizes);
     let p = run(
-        start,
+        labels,
         keys,
         sizes,
         exponents,
@@ -621,9 +622,7 @@ fn finish(
         done,
         578,
     );
-    let labels = p.labels;
     Closed {
-        labels,
         len: p.len,
         rounds: p.rounds,
     }
@@ -631,7 +630,7 @@ fn finish(
 
 // The rounds after the first `done`, to the end, without the index until eight were made.
 fn go_on(
-    start: [u8; 576],
+    labels: &mut [u8; 576],
     keys: &[u64],
     sizes: &[usize],
     exponents: &[u64],
@@ -643,18 +642,18 @@ fn go_on(
     done: usize,
 ) -> Closed
     requires { ⌜
-        Running (now keys) (now sizes) (now exponents) (now counts) start came len (now table) (now index) done 8
+        Running (now keys) (now sizes) (now exponents) (now counts) (now labels) came len (now table) (now index) done 8
         ⌝ }
     ensures { λ r. ⌜
         Settled
         (closeAfter (basesIn (now (keys .entry)) (now (sizes .entry)) (now (exponents .entry)) (now (counts .entry)))
-        done (now (sizes .entry)) start len (now (table .entry))) len (now (table .entry)) r (now (table .exit))
-        (now (index .exit))
+        done (now (sizes .entry)) (now (labels .entry)) len (now (table .entry))) len (now (table .entry)) r
+        (now (table .exit)) (now (index .exit)) (now (labels .exit))
         ⌝ }
 {
     let none = [0u16; 1];
     let p = run(
-        start,
+        labels,
         keys,
         sizes,
         exponents,
@@ -668,10 +667,8 @@ fn go_on(
         done,
         8,
     );
-    let labels = p.labels;
     if p.ended {
         return Closed {
-            labels,
             len: p.len,
             rounds: p.rounds,
         };
@@ -693,7 +690,7 @@ fn go_on(
 // Rounds until one changes neither a block nor the support, or the support has too many keys. The
 // index of the pairs is made only after two rounds, or eight where the bases are small: most problems end before.
 pub fn close(
-    start: [u8; 576],
+    labels: &mut [u8; 576],
     keys: &[u64],
     sizes: &[usize],
     exponents: &[u64],
@@ -702,16 +699,19 @@ pub fn close(
     index: &mut [u16],
     len: usize,
 ) -> Closed
-    requires { ⌜ Starting (now table) (now index) len (now keys) (now sizes) (now exponents) (now counts) start ⌝ }
+    requires { ⌜
+        Starting (now table) (now index) len (now keys) (now sizes) (now exponents) (now counts) (now labels)
+        ⌝ }
     ensures { λ r. ⌜
         Settled
         (closingOf (basesIn (now (keys .entry)) (now (sizes .entry)) (now (exponents .entry)) (now (counts .entry)))
         (keysIn len (now (table .entry)))) len (now (table .entry)) r (now (table .exit)) (now (index .exit))
+        (now (labels .exit))
         ⌝ }
 {
     let none = [0u16; 1];
     let p = run(
-        start,
+        labels,
         keys,
         sizes,
         exponents,
@@ -725,10 +725,8 @@ pub fn close(
         0,
         2,
     );
-    let labels = p.labels;
     if p.ended {
         return Closed {
-            labels,
             len: p.len,
             rounds: p.rounds,
         };

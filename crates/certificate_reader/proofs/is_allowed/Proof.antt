@@ -4,7 +4,7 @@ use mir.Syntax.{w32}
 use mir.Val.{toZ, ofZ}
 use borrow.Author.Tests.{le-leb, lt-leb, lt-ltb, le-ltb}
 use borrow.Author.Needs.{needs}
-use Rattle.certificate_reader.proofs.Shapes.{constraints-are, size-is}
+use Rattle.certificate_reader.proofs.Shapes.{size-is}
 use Rattle.certificate_reader.proofs.is_allowed.Statement.{statement}
 use Rattle.certificate_reader.proofs.is_allowed.Tie as tie
 
@@ -17,6 +17,9 @@ enum-known-i-2 c = search needs
 cast-if3 : tie.Need-cast-if3
 cast-if3 c = search needs
 
+shared-slice-read-if3 : tie.Need-shared-slice-read-if3
+shared-slice-read-if3 c = search needs
+
 enum-known-i-3 : tie.Need-enum-known-i-3
 enum-known-i-3 c = search needs
 
@@ -26,8 +29,8 @@ cast-if4 c = search needs
 mul-if4 : tie.Need-mul-if4
 mul-if4 c = search needs
 
-element-copy-out-if4 : tie.Need-element-copy-out-if4
-element-copy-out-if4 c = search needs
+shared-slice-read-if4 : tie.Need-shared-slice-read-if4
+shared-slice-read-if4 c = search needs
 
 is-nonzero-requires : tie.Need-is-nonzero-requires
 is-nonzero-requires c κs = search needs
@@ -45,22 +48,22 @@ returns-3 : tie.Need-returns-3
 returns-3 c = λ p k e f. let g = c .before .before .i .given in rw (g .1, lt-leb (g .0 .0) 1 (c .if1 .left))
 
 returns-4 : tie.Need-returns-4
-returns-4 c = λ p k e f. let g = c .before .before .i2 .given in let n = constraints-are k _ f p _ e in rw (g .1, ← n, le-leb (g .0 .0) _ (c .if3 .taken))
+returns-4 c = λ p k e f. let g = c .before .before .before .i2 .given in let n = e .constraints in rw (g .1, ← n, le-leb (g .0 .0) _ (c .if3 .taken))
 
 returns-5 : tie.Need-returns-5
-returns-5 c = λ p k e f. let g = c .before .before .i2 .given in let n = constraints-are k _ f p _ e in rw (g .1, ← n, lt-leb (g .0 .0) _ (c .if3 .left))
+returns-5 c = λ p k e f. let g = c .before .before .before .i2 .given in let n = e .constraints in rw (g .1, ← n, lt-leb (g .0 .0) _ (c .if3 .left))
 
 returns-6 : tie.Need-returns-6
 returns-6 c = λ p k e f.
     let g = c .before .before .before .before .i3 .given in
-    let n = size-is k _ f p _ e (c .before .before .before .before .before .before .pre .basis) in
+    let n = size-is k _ f p _ e (c .before .before .before .before .before .before .before .pre .0 .basis) in
     let l : toZ w32 (ofZ w32 (g .0 .1 .0)) ≡ g .0 .1 .0 = search needs in
     rw (g .1, ← n, lt-ltb (g .0 .0) _ (c .before .if4 .taken), c .is-nonzero .ensures, l)
 
 returns-7 : tie.Need-returns-7
 returns-7 c = λ p k e f.
     let g = c .before .before .before .i3 .given in
-    let n = size-is k _ f p _ e (c .before .before .before .before .before .pre .basis) in
+    let n = size-is k _ f p _ e (c .before .before .before .before .before .before .pre .0 .basis) in
     rw (g .1, ← n, le-ltb (g .0 .0) _ (c .if4 .left))
 
 returns-8 : tie.Need-returns-8
@@ -73,10 +76,11 @@ is-allowed-spec =
     enum-known-i
     enum-known-i-2
     cast-if3
+    shared-slice-read-if3
     enum-known-i-3
     cast-if4
     mul-if4
-    element-copy-out-if4
+    shared-slice-read-if4
     is-nonzero-requires
     enum-told
     returns

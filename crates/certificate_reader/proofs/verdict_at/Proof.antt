@@ -10,7 +10,7 @@ use borrow.Author.Tests.{not-true, not-false}
 use Rattle.format.specs.ProblemRules.{Problem}
 use Rattle.format.specs.CertificateLayout.{certificateSize}
 use Rattle.format.specs.CertificateRules.{Certificate, certificatePlaced, certificateOperandsFit, certificateRepeated, certificateCommandAt, certificateInstructionAt}
-use Rattle.certificate_reader.specs.Kept.{shapeOf, progressOf}
+use Rattle.certificate_reader.specs.Kept.{Sized, progressOf}
 use Rattle.certificate_reader.proofs.Checks.{verdict-3, verdict-2, verdict-4, verdict-5, verdict-6, verdict-0}
 use Rattle.certificate_reader.proofs.verdict_at.Statement.{statement}
 use Rattle.certificate_reader.proofs.verdict_at.Tie as tie
@@ -30,21 +30,21 @@ sub-if2 c = search needs
 length-of-requires : tie.Need-length-of-requires
 length-of-requires c κs = search needs
 
-length-is : (c : tie.After-length-of) → let a = c .before .before .before .before .before .before .args in c .length-of .result ≡ certificateSize (certificateCommandAt (a .s .now) (a .at))
+length-is : (c : tie.After-length-of) → let a = c .before .before .before .before .before .before .before .args in c .length-of .result ≡ certificateSize (certificateCommandAt (a .s .now) (a .at))
 length-is c = c .length-of .ensures .0
 
 -- past the second check the whole command is there
-whole : (c : tie.Else2) → let a = c .before .before .before .before .before .before .before .args in a .at + certificateSize (certificateCommandAt (a .s .now) (a .at)) ≤ length (a .s .now)
+whole : (c : tie.Else2) → let a = c .before .before .before .before .before .before .before .before .args in a .at + certificateSize (certificateCommandAt (a .s .now) (a .at)) ≤ length (a .s .now)
 whole c = let k = length-is (c .before) in omega arith
 
 decode-at-requires : tie.Need-decode-at-requires
 decode-at-requires c κs = let k = whole c in let e = ap certificateSize (c .before .before .before .before .command-of .ensures) in omega arith
 
-decoded : (c : tie.After-decode-at) → let a = c .before .before .before .before .before .before .before .before .args in c .decode-at .result ≡ certificateInstructionAt (a .s .now) (a .at)
+decoded : (c : tie.After-decode-at) → let a = c .before .before .before .before .before .before .before .before .before .args in c .decode-at .result ≡ certificateInstructionAt (a .s .now) (a .at)
 decoded c = rw (c .decode-at .ensures, c .before .before .before .before .before .command-of .ensures)
 
 is-allowed-requires : tie.Need-is-allowed-requires
-is-allowed-requires c κs = search needs
+is-allowed-requires c κs = let s = c .before .before .before .before .before .before .before .before .before in (s .pre .0, s .pre .1)
 
 is-repeated-requires : tie.Need-is-repeated-requires
 is-repeated-requires c κs = search needs
@@ -55,12 +55,12 @@ is-full-requires c κs = search needs
 -- ---- past each check, for every problem of the shape and every certificate with the progress
 module _ (c : tie.After-is-placed) where
   abbrev s : List ℕ
-  s = c .before .before .before .before .args .s .now
+  s = c .before .before .before .before .before .args .s .now
 
   abbrev at : ℕ
-  at = c .before .before .before .before .args .at
+  at = c .before .before .before .before .before .args .at
 
-  module _ (k : Certificate) (f : c .before .before .before .before .args .g ≡ progressOf k) where
+  module _ (k : Certificate) (f : c .before .before .before .before .before .args .g ≡ progressOf k) where
     placed-as : {b : Bool} → c .is-placed .result ≡ b → certificatePlaced k at (certificateCommandAt s at) ≡ b
     placed-as e = rw (c .before .command-of .ensures) at (sym (c .is-placed .ensures k f) ∙ e)
 
@@ -81,7 +81,7 @@ returns-3 c = λ p k e f.
     (rw (decoded d) at (sym (c .before .is-allowed .ensures p k e f) ∙ not-true _ (c .if3 .taken)))
 
 -- past the third
-kept : (c : tie.Else3) → let a = c .before .before .before .before .before .before .before .before .before .before .args in (p : Problem) (k : Certificate) → a .h ≡ shapeOf p → a .g ≡ progressOf k → certificateOperandsFit p k (certificateInstructionAt (a .s .now) (a .at)) ≡ true
+kept : (c : tie.Else3) → let a = c .before .before .before .before .before .before .before .before .before .before .before .args in (p : Problem) (k : Certificate) → Sized p (a .sizes .now) → a .g ≡ progressOf k → certificateOperandsFit p k (certificateInstructionAt (a .s .now) (a .at)) ≡ true
 kept c p k e f = rw (decoded (c .before .before)) at (sym (c .before .is-allowed .ensures p k e f) ∙ not-false _ (c .if3 .left))
 
 returns-4 : tie.Need-returns-4
@@ -92,7 +92,7 @@ returns-4 c = λ p k e f.
     (rw (decoded d) at (sym (c .before .is-repeated .ensures k f) ∙ c .if4 .taken))
 
 -- past the fourth
-fresh : (c : tie.Else4) → let a = c .before .before .before .before .before .before .before .before .before .before .before .before .args in (k : Certificate) → a .g ≡ progressOf k → certificateRepeated k (certificateInstructionAt (a .s .now) (a .at)) ≡ false
+fresh : (c : tie.Else4) → let a = c .before .before .before .before .before .before .before .before .before .before .before .before .before .args in (k : Certificate) → a .g ≡ progressOf k → certificateRepeated k (certificateInstructionAt (a .s .now) (a .at)) ≡ false
 fresh c k f = rw (decoded (c .before .before .before .before)) at (sym (c .before .is-repeated .ensures k f) ∙ c .if4 .left)
 
 returns-5 : tie.Need-returns-5

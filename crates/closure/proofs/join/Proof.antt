@@ -1,36 +1,21 @@
 -- `join`: what is computed of the arrays is the problem's.
 use borrow.Author.Needs.{needs}
-use mathlib.Core.Path.{refl}
-use Rattle.problem_reader.specs.Stored.{problemOf}
-use Rattle.problem_reader.specs.Flat.{Flat}
-use Rattle.closure.proofs.Laid.{arrays, laid-closing}
+use native.Mathlib.Omega.{arith}
+use mathlib.Core.Path.{sym}
+use Rattle.key_set.specs.Table.{Grown}
+use Rattle.key_set.proofs.Keys.{grown-holds}
+use Rattle.flat.proofs.Flat as Flat
+use Rattle.joining_rule.specs.Joining.{basesOf, startSet, closing}
+use Rattle.closure.proofs.Settled.{start-large, left-full, left-from}
+use Rattle.closure.proofs.Laid.{arrays, start-held, closing-lent}
 use Rattle.closure.proofs.join.Statement.{statement}
 use Rattle.closure.proofs.join.Tie as tie
 
-flat : (c : tie.After-multipliers-of) → Flat (problemOf (c .before .before .before .before .args .p)) (c .multipliers-of .result)
-unfolding problemOf
-flat c = c .multipliers-of .ensures (problemOf (c .before .before .before .before .args .p)) refl
+seed-requires : tie.Need-seed-requires
+seed-requires c κs = search needs
 
-multipliers-of-requires : tie.Need-multipliers-of-requires
-multipliers-of-requires c κs = search needs
-
-slice-aggregate-settle : tie.Need-slice-aggregate-settle
-slice-aggregate-settle c = search needs
-
-slice-aggregate-settle-2 : tie.Need-slice-aggregate-settle-2
-slice-aggregate-settle-2 c = search needs
-
-slice-aggregate-settle-3 : tie.Need-slice-aggregate-settle-3
-slice-aggregate-settle-3 c = search needs
-
-slice-aggregate-settle-4 : tie.Need-slice-aggregate-settle-4
-slice-aggregate-settle-4 c = search needs
-
-settle-requires : tie.Need-settle-requires
-settle-requires c κs =
-    let m = c .before .before .before .before .before .before .before .before .before .before .before in
-    let s = m .before .before .before .before in
-    (s .pre .0, s .pre .1, s .pre .2 .objective .count-low, s .pre .2 .objective .keys-low, arrays (s .args .p) (s .pre .2) (m .multipliers-of .result) (flat m))
+too-many-requires : tie.Need-too-many-requires
+too-many-requires c κs = tt
 
 same-length : tie.Need-same-length
 same-length c = search needs
@@ -39,22 +24,72 @@ same-length-2 : tie.Need-same-length-2
 same-length-2 c = search needs
 
 returns : tie.Need-returns
-returns c =
-    let e = c .before .before .before .before in
-    let m = e .before .before .before .before .before .before .before .before .before .before .before .before in
-    let s = m .before .before .before .before in
-    rw (laid-closing (s .args .p) (s .pre .2) (m .multipliers-of .result) (flat m)) at (e .settle .ensures)
+unfolding closing
+returns c p coefficients f =
+    let g = c .before .before .before .before .before .before .seed .ensures .grown in
+    let h : Grown (startSet p) _ _ _ = rw (start-held p _ coefficients _ f) at g in
+    left-full _ _ _ _ _ _ (c .too-many .ensures) (start-large (basesOf p) (startSet p) _ _ _ h (c .before .if1 .taken)) (g .long) (g .rest)
+
+slice-aggregate-settle : tie.Need-slice-aggregate-settle
+slice-aggregate-settle c = sym (Flat.bases-length (c .before .before .before .before .before .before .before .before .before .before .before .before .before .pre .2 .limits))
+
+slice-aggregate-settle-2 : tie.Need-slice-aggregate-settle-2
+slice-aggregate-settle-2 c = sym (Flat.sizes-length (c .before .before .before .before .before .before .before .before .before .before .before .before .before .before .pre .2 .limits))
+
+sub-settle : tie.Need-sub-settle
+sub-settle c = search needs
+
+part-settle-start : tie.Need-part-settle-start
+part-settle-start c = search needs
+
+part-settle-end : tie.Need-part-settle-end
+part-settle-end c = omega (arith, c .before .before .before .before .before .before .before .before .before .before .before .before .before .before .pre .2 .limits .keys-length)
+
+sub-settle-2 : tie.Need-sub-settle-2
+sub-settle-2 c = search needs
+
+part-settle-start-2 : tie.Need-part-settle-start-2
+part-settle-start-2 c = search needs
+
+part-settle-end-2 : tie.Need-part-settle-end-2
+part-settle-end-2 c = omega (arith, c .before .before .before .before .before .before .before .before .before .before .before .before .before .before .before .pre .2 .limits .sizes-length)
+
+settle-requires : tie.Need-settle-requires
+settle-requires c κs =
+    let s = c .before .before .before .before .before .before .before .before .before .before .before .before .before .before .before .before .before .before .before in
+    let w = c .before .before .before .before .before .before .before .before .before .before .before .before .seed .ensures in
+    let few = c .before .before .before .before .before .before .before .if1 .left in
+    ((grown-holds (w .grown) (s .pre .0) few, w .index few), arrays _ _ (s .pre .2))
+
+same-length-3 : tie.Need-same-length-3
+same-length-3 c = search needs
+
+same-length-4 : tie.Need-same-length-4
+same-length-4 c = search needs
+
+returns-2 : tie.Need-returns-2
+returns-2 c p coefficients f =
+    let g = c .before .before .before .before .before .before .before .before .before .before .before .before .before .before .before .before .before .seed .ensures .grown in
+    left-from _ _ _ _ _ _ _ (g .long) (g .rest) (rw (closing-lent p _ coefficients _ f _ (g .keys (c .before .before .before .before .before .before .before .before .before .before .before .before .if1 .left))) at (c .before .before .before .before .settle .ensures))
 
 pub join-spec : {M : Type 1} → statement M
 join-spec =
     tie.close
     (tie.spec
-    multipliers-of-requires
-    slice-aggregate-settle
-    slice-aggregate-settle-2
-    slice-aggregate-settle-3
-    slice-aggregate-settle-4
-    settle-requires
+    seed-requires
+    too-many-requires
     same-length
     same-length-2
-    returns)
+    returns
+    slice-aggregate-settle
+    slice-aggregate-settle-2
+    sub-settle
+    part-settle-start
+    part-settle-end
+    sub-settle-2
+    part-settle-start-2
+    part-settle-end-2
+    settle-requires
+    same-length-3
+    same-length-4
+    returns-2)

@@ -1,4 +1,4 @@
--- `put_constraints`: what is left of the multipliers, put into the support so far, gives the whole set.
+-- `put_constraints`: what is left of the constraints, put into the support so far, gives the whole set.
 use borrow.Author.Needs.{needs}
 use native.Mathlib.Omega.{arith}
 use mathlib.Core.Path.{sym, _∙_}
@@ -10,41 +10,41 @@ use Rattle.joining_rule.specs.Sets.{insertAll}
 use Rattle.key_set.specs.Table.{keysIn}
 use Rattle.half_rounds.proofs.Growth.{Growing, growing-start, growing-step, growing-stop, growing-end}
 use Rattle.joining_rule.proofs.Extending.{fromTo-extends}
-use Rattle.whole_rounds.specs.Parts.{part}
 use Rattle.joining_rule.proofs.Start.{insertAll-extends}
+use Rattle.closure.specs.Tables.{exponentsIn}
 use Rattle.closure.proofs.put_constraints.Statement.{statement}
 use Rattle.closure.proofs.put_constraints.Tie as tie
 
--- the exponents of multiplier j put in
+-- the exponents of polynomial j put in
 abbrev step : List ℕ → List ℕ → ℕ → List ℕ → List ℕ
-step exponents counts j = insertAll (part 32 counts exponents j)
+step keys sizes j = insertAll (exponentsIn keys sizes j)
 
 abbrev Inv-loop : tie.InvT-loop
-Inv-loop table₀ index₀ len exponents counts n₀ j₀ table index n j = (j ≤ 9) × Growing table₀ len (fromTo 1 9 (step exponents counts) (keysIn len table₀)) (fromTo j 9 (step exponents counts)) n table index
+Inv-loop table₀ index₀ len keys sizes n₀ j₀ table index n j = (j ≤ 9) × Growing table₀ len (fromTo 1 9 (step keys sizes) (keysIn len table₀)) (fromTo j 9 (step keys sizes)) n table index
 
 abbrev μ-loop : tie.MeasureT-loop
-μ-loop table₀ index₀ len exponents counts n₀ j₀ table index n j = 9 - j
+μ-loop table₀ index₀ len keys sizes n₀ j₀ table index n j = 9 - j
 
 loop-holds : tie.Need-loop-holds Inv-loop μ-loop
 loop-holds c = let s = c .before .before .before .before in (omega arith, growing-start _ _ _ _ (s .pre .0 .0) (s .pre .0 .1))
 
-put-multiplier-requires : tie.Need-put-multiplier-requires Inv-loop μ-loop
-put-multiplier-requires c κs =
+put-polynomial-requires : tie.Need-put-polynomial-requires Inv-loop μ-loop
+put-polynomial-requires c κs =
     let l = c .before .before .before in
     let s = l .before .before .before .before .before in
     ((l .loop .inv .1 .holds, l .loop .inv .1 .index), s .pre .1, omega arith)
 
 same-length : tie.Need-same-length Inv-loop μ-loop
-same-length c = c .before .before .before .before .before .put-multiplier .kept .0 ∙ c .before .before .before .before .before .before .before .before .before .loop .inv .1 .long
+same-length c = c .before .before .before .before .before .put-polynomial .kept .0 ∙ c .before .before .before .before .before .before .before .before .before .loop .inv .1 .long
 
 same-length-2 : tie.Need-same-length-2 Inv-loop μ-loop
-same-length-2 c = let l = c .before .before .before .before .before .before .before .before .before in c .before .before .before .before .before .put-multiplier .kept .1 .0 ∙ l .loop .inv .1 .index .long ∙ sym (l .before .before .before .before .before .pre .0 .1 .long)
+same-length-2 c = let l = c .before .before .before .before .before .before .before .before .before in c .before .before .before .before .before .put-polynomial .kept .1 .0 ∙ l .loop .inv .1 .index .long ∙ sym (l .before .before .before .before .before .pre .0 .1 .long)
 
 returns : tie.Need-returns Inv-loop μ-loop
 returns c =
     let l = c .before .before .before .before .before .before .before .before .before in
     let s = l .before .before .before .before .before in
-    growing-stop _ _ _ _ _ _ _ (l .loop .inv .1) _ _ _ _ (c .before .before .before .before .before .put-multiplier .ensures) (fromTo (l .loop .j + 1) 9 (step (s .args .exponents .now) (s .args .counts .now))) (fromTo-more _ _ _ _ (omega arith)) (c .if1 .taken) (fromTo-extends (step (s .args .exponents .now) (s .args .counts .now)) (λ j X. insertAll-extends _ X) _ 9 _)
+    growing-stop _ _ _ _ _ _ _ (l .loop .inv .1) _ _ _ _ (c .before .before .before .before .before .put-polynomial .ensures) (fromTo (l .loop .j + 1) 9 (step (s .args .keys .now) (s .args .sizes .now))) (fromTo-more _ _ _ _ (omega arith)) (c .if1 .taken) (fromTo-extends (step (s .args .keys .now) (s .args .sizes .now)) (λ j X. insertAll-extends _ X) _ 9 _)
 
 add-j : tie.Need-add-j Inv-loop μ-loop
 add-j c = search needs
@@ -55,7 +55,7 @@ loop-less c = search needs
 loop-again : tie.Need-loop-again Inv-loop μ-loop
 loop-again c =
     let l = c .before .before .before .before .before .before .before .before .before in
-    (omega arith, growing-step _ _ _ _ _ _ _ (l .loop .inv .1) _ _ _ _ (c .before .before .before .before .before .put-multiplier .ensures) _ (fromTo-more _ _ _ _ (omega arith)) (c .if1 .left) (insertAll-extends _ _))
+    (omega arith, growing-step _ _ _ _ _ _ _ (l .loop .inv .1) _ _ _ _ (c .before .before .before .before .before .put-polynomial .ensures) _ (fromTo-more _ _ _ _ (omega arith)) (c .if1 .left) (insertAll-extends _ _))
 
 same-length-3 : tie.Need-same-length-3 Inv-loop μ-loop
 same-length-3 c = c .before .loop .inv .1 .long
@@ -73,7 +73,7 @@ put-constraints-spec =
     Inv-loop
     μ-loop
     loop-holds
-    put-multiplier-requires
+    put-polynomial-requires
     same-length
     same-length-2
     returns

@@ -2,61 +2,63 @@
 use borrow.Author.Needs.{needs}
 use native.Mathlib.Omega.{arith}
 use native.Mathlib.Nat.{le-trans}
-use mathlib.Core.Path.{_≡_, refl, sym}
+use mathlib.Core.Path.{_≡_, refl, ap}
 use mathlib.Core.List.{List, []}
-use Prim.Native.Nat.{ℕ, _-_}
-use lib.ListN.{getD, take}
-use lib.Seq.{length-take-le}
-use Rattle.counting.proofs.Bounded.{bounded-take}
+use Prim.Native.Nat.{ℕ, _*_}
+use lib.ListN.{length, getD}
+use Rattle.counting.proofs.Bounded.{bounded-part}
 use Rattle.counting.specs.Counting.{fromTo}
-use Rattle.polynomial.specs.Terms.{keysOf}
-use Rattle.problem_reader.specs.TermArrays.{objectiveTerms}
 use Rattle.joining_rule.specs.Sets.{insertAll}
 use Rattle.key_set.specs.Table.{Stored}
-use Rattle.key_set.proofs.Keys.{grown-holds}
+use Rattle.key_set.proofs.Keys.{grown-holds, keys-none}
+use Rattle.flat.specs.Flat.{basisIn}
 use Rattle.joining_rule.proofs.Extending.{Extends, fromTo-extends}
-use Rattle.whole_rounds.specs.Parts.{part, basesIn}
 use Rattle.joining_rule.specs.Joining.{multiples, startFrom}
 use Rattle.joining_rule.proofs.Start.{insertAll-extends}
+use Rattle.closure.specs.Tables.{exponentsIn, startIn}
 use Rattle.closure.proofs.Start.{stored-over, stored-then}
+use Rattle.closure.proofs.Laid.{basis-fits, all-low}
 use Rattle.closure.proofs.seed.Statement.{statement}
 use Rattle.closure.proofs.seed.Tie as tie
 
 -- ---- the three sets, and what each has more than the one before
 module _ (s : tie.Start) where
+  abbrev keys : List ℕ
+  keys = s .args .keys .now
+
+  abbrev sizes : List ℕ
+  sizes = s .args .sizes .now
+
   abbrev first : List ℕ
-  first = insertAll (keysOf (objectiveTerms (s .args .q))) []
+  first = insertAll (exponentsIn keys sizes 9) []
 
   abbrev constraints : List ℕ → List ℕ
-  constraints = fromTo 1 9 (λ j. insertAll (part 32 (s .args .counts .now) (s .args .exponents .now) j))
+  constraints = fromTo 1 9 (λ j. insertAll (exponentsIn keys sizes j))
 
   abbrev doubled : List ℕ → List ℕ
-  doubled = insertAll (multiples 2 (take (getD (s .args .sizes .now) 0 0) (s .args .keys .now)))
+  doubled = insertAll (multiples 2 (basisIn keys sizes 0))
 
   more-constraints : (S : List ℕ) → Extends S (constraints S)
-  more-constraints S = fromTo-extends (λ j. insertAll (part 32 (s .args .counts .now) (s .args .exponents .now) j)) (λ j X. insertAll-extends _ X) 1 9 S
+  more-constraints S = fromTo-extends (λ j. insertAll (exponentsIn keys sizes j)) (λ j X. insertAll-extends _ X) 1 9 S
 
   more-doubled : (S : List ℕ) → Extends S (doubled S)
-  more-doubled S = insertAll-extends (multiples 2 (take (getD (s .args .sizes .now) 0 0) (s .args .keys .now))) S
+  more-doubled S = insertAll-extends (multiples 2 (basisIn keys sizes 0)) S
 
-  whole : doubled (constraints first) ≡ startFrom (keysOf (objectiveTerms (s .args .q))) (basesIn (s .args .keys .now) (s .args .sizes .now) (s .args .exponents .now) (s .args .counts .now))
-  unfolding startFrom basesIn
+  whole : doubled (constraints first) ≡ startIn keys sizes
+  unfolding startFrom
   whole = refl
 
-abbrev start : tie.After-put-objective → tie.Start
-start c = c .before .before .before .before .before .before .before .before .before
+-- the table after the first growth, and after the second
+one : (c : tie.After-put-polynomial) → let s = c .before .before .before .before .before .before .before in Stored 0 (first s) (s .args .table .now) (c .put-polynomial .result) (c .put-polynomial .last .0) (c .put-polynomial .last .1 .0)
+one c = rw (keys-none (c .before .before .before .before .before .before .before .args .table .now)) at (c .put-polynomial .ensures)
 
-abbrev objective : tie.After-put-constraints → tie.After-put-objective
-objective c = c .before .before .before .before .before .before .before .before
-
--- the table after the second growth
-two : (c : tie.After-put-constraints) → let s = start (objective c) in Stored 0 (constraints s (first s)) (s .args .table .now) (c .put-constraints .result) (c .put-constraints .last .0) (c .put-constraints .last .1 .0)
+two : (c : tie.After-put-constraints) → let s = c .before .before .before .before .before .before .before .before .before .before .before .before .before .before .before in Stored 0 (constraints s (first s)) (s .args .table .now) (c .put-constraints .result) (c .put-constraints .last .0) (c .put-constraints .last .1 .0)
 two c =
-    let s = start (objective c) in
-    stored-then _ _ _ _ _ (objective c .put-objective .ensures) (c .before .before .before .if1 .left) (constraints s) _ _ _ (c .put-constraints .ensures)
+    let s = c .before .before .before .before .before .before .before .before .before .before .before .before .before .before .before in
+    stored-then _ _ _ _ _ (one (c .before .before .before .before .before .before .before .before)) (c .before .before .before .if1 .left) (constraints s) _ _ _ (c .put-constraints .ensures)
 
-put-objective-requires : tie.Need-put-objective-requires
-put-objective-requires c κs = search needs
+put-polynomial-requires : tie.Need-put-polynomial-requires
+put-polynomial-requires c κs = let s = c .before .before .before .before .before .before in ((record { few = omega arith; room = s .pre .0; apart = ap length (keys-none _) }, s .pre .1), s .pre .2, omega arith)
 
 same-length : tie.Need-same-length
 same-length c = search needs
@@ -66,18 +68,15 @@ same-length-2 c = search needs
 
 returns : tie.Need-returns
 returns c =
-    let o = c .before .before .before .before .before in
-    let s = start o in
-    rw (← whole s) (stored-over _ _ _ _ _ (o .put-objective .ensures) (c .if1 .taken) _ (le-trans (more-constraints s (first s) .more) (more-doubled s (constraints s (first s)) .more)))
+    let s = c .before .before .before .before .before .before .before .before .before .before .before .before in
+    rw (← whole s) (stored-over _ _ _ _ _ (one (c .before .before .before .before .before)) (c .if1 .taken) _ (le-trans (more-constraints s (first s) .more) (more-doubled s (constraints s (first s)) .more)))
 
 put-constraints-requires : tie.Need-put-constraints-requires
 put-constraints-requires c κs =
-    let o = c .before .before .before .before .before .before .before in
-    let s = start o in
-    let few = c .before .before .if1 .left in (
-      (grown-holds (o .put-objective .ensures .grown) (s .pre .0) few, o .put-objective .ensures .index few),
-      record { counts-nine = s .pre .4 .counts-nine; counts-small = s .pre .4 .counts-small; exponents-long = s .pre .4 .exponents-long; exponents-low = s .pre .4 .exponents-low },
-    )
+    let o = one (c .before .before .before .before .before .before .before) in
+    let s = c .before .before .before .before .before .before .before .before .before .before .before .before .before .before in
+    let few = c .before .before .if1 .left in
+    ((grown-holds (o .grown) (s .pre .0) few, o .index few), s .pre .2)
 
 same-length-3 : tie.Need-same-length-3
 same-length-3 c = search needs
@@ -87,27 +86,18 @@ same-length-4 c = search needs
 
 returns-2 : tie.Need-returns-2
 returns-2 c =
-    let d = c .before .before .before .before .before in
-    let s = start (objective d) in
-    rw (← whole s) (stored-over _ _ _ _ _ (two d) (c .if2 .taken) _ (more-doubled s (constraints s (first s)) .more))
+    let s = c .before .before .before .before .before .before .before .before .before .before .before .before .before .before .before .before .before .before .before .before in
+    rw (← whole s) (stored-over _ _ _ _ _ (two (c .before .before .before .before .before)) (c .if2 .taken) _ (more-doubled s (constraints s (first s)) .more))
 
-shared-slice-read-n : tie.Need-shared-slice-read-n
-shared-slice-read-n c = search needs
-
-slice-aggregate-put-keys : tie.Need-slice-aggregate-put-keys
-slice-aggregate-put-keys c =
-    let s = start (objective (c .before .before .before .before .before .before .before .before .before)) in
-    sym (length-take-le (getD (s .args .sizes .now) 0 0) (s .args .keys .now) (omega (arith, s .pre .4 .sized .small 0, s .pre .4 .keys-long)))
+basis-requires : tie.Need-basis-requires
+basis-requires c κs = let s = c .before .before .before .before .before .before .before .before .before .before .before .before .before .before .before .before .before .before .before .before in (omega (arith, s .pre .2 .limits .sizes-length), basis-fits _ _ (s .pre .2))
 
 put-keys-requires : tie.Need-put-keys-requires
 put-keys-requires c κs =
-    let d = c .before .before .before .before .before .before .before .before .before in
-    let s = start (objective d) in
-    let few = c .before .before .before .before .if2 .left in (
-      (grown-holds (two d .grown) (s .pre .0) few, two d .index few),
-      (λ i. omega (arith, bounded-take _ (getD (s .args .sizes .now) 0 0) (s .args .keys .now) (s .pre .4 .keys-low) i)),
-      omega arith,
-    )
+    let d = two (c .before .before .before .before .before .before .before .before) in
+    let s = c .before .before .before .before .before .before .before .before .before .before .before .before .before .before .before .before .before .before .before .before .before .before .before in
+    let few = c .before .before .before .if2 .left in
+    ((grown-holds (d .grown) (s .pre .0) few, d .index few), (λ i. rw (c .before .before .basis .ensures) (bounded-part _ (64 * 0) (getD (sizes s) 0 0) (keys s) (all-low _ _ (s .pre .2)) i)), omega arith)
 
 same-length-5 : tie.Need-same-length-5
 same-length-5 c = search needs
@@ -117,16 +107,14 @@ same-length-6 c = search needs
 
 returns-3 : tie.Need-returns-3
 returns-3 c =
-    let k = c .before .before .before .before in
-    let d = k .before .before .before .before .before .before .before .before .before .before in
-    let s = start (objective d) in
-    rw (← whole s) (stored-then _ _ _ _ _ (two d) (k .before .before .before .before .before .if2 .left) (doubled s) _ _ _ (k .put-keys .ensures))
+    let s = c .before .before .before .before .before .before .before .before .before .before .before .before .before .before .before .before .before .before .before .before .before .before .before .before .before .before .before .before in
+    rw (← whole s) (stored-then _ _ _ _ _ (two (c .before .before .before .before .before .before .before .before .before .before .before .before .before)) (c .before .before .before .before .before .before .before .before .if2 .left) (doubled s) _ _ _ (rw (c .before .before .before .before .before .before .before .basis .ensures) at (c .before .before .before .before .put-keys .ensures)))
 
 pub seed-spec : {M : Type 1} → statement M
 seed-spec =
     tie.close
     (tie.spec
-    put-objective-requires
+    put-polynomial-requires
     same-length
     same-length-2
     returns
@@ -134,8 +122,7 @@ seed-spec =
     same-length-3
     same-length-4
     returns-2
-    shared-slice-read-n
-    slice-aggregate-put-keys
+    basis-requires
     put-keys-requires
     same-length-5
     same-length-6

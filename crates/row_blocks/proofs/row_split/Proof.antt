@@ -1,74 +1,143 @@
--- `row_split`: the entries before k are in the row's first block.
-use mathlib.Core.Path.{_≡_, sym, ap}
-use Prim.Native.Nat.{ℕ, _+_, _-_, _≤_, _<_}
+-- `row_split`: the entries from the offset x on give the answer.
+use mathlib.Core.Path.{_≡_, sym, ap, ap₂, _∙_}
+use Prim.Native.Nat.{ℕ, _+_, _-_, _*_, _≤_, _<_}
 use native.Mathlib.Omega.{arith}
 use borrow.Author.Needs.{needs}
-use borrow.Author.Count.{below-more}
-use lib.ListN.{getD}
+use lib.ListN.{length, getD}
+use Rattle.joining_rule.specs.Bytes.{blockAt}
+use Rattle.certificate_reader.specs.Rows.{basisAt, entryAt}
+use Rattle.certificate_reader.proofs.Rows.{stand-low}
+use Rattle.certificate_reader.proofs.Walk.{step-of}
 use Rattle.row_blocks.specs.Places.{placeOf}
-use Rattle.row_blocks.proofs.Splits.{row-none, row-first, row-all}
+use Rattle.row_blocks.proofs.Splits.{Searching, searching-none, searching-start, searching-end, searching-low, searching-found, searching-more}
 use Rattle.row_blocks.proofs.row_split.Statement.{statement}
 use Rattle.row_blocks.proofs.row_split.Tie as tie
 
 abbrev Inv-loop : tie.InvT-loop
-Inv-loop labels at indices count from i first k₀ k = (1 ≤ k) × (k ≤ count) × ((j : ℕ) → j < k → getD labels (from + getD indices j 0) 0 ≡ first)
+Inv-loop s from to labels x₀ part i first x = Searching s labels from to first x
 
 abbrev μ-loop : tie.MeasureT-loop
-μ-loop labels at indices count from i first k₀ k = count - k
+μ-loop s from to labels x₀ part i first x = to - x
+
+-- before the loop
+module _ (c : tie.After-shared-slice-known2 Inv-loop μ-loop) where
+  abbrev start : tie.Start Inv-loop μ-loop
+  start = c .before .before
+
+  row-inside : start .args .from + 4 ≤ length (start .args .s .now)
+  row-inside = let k = start .pre .stands in omega (arith, stand-low (k .entries), k .inside)
+
+-- at an entry
+module _ (c : tie.In-loop Inv-loop μ-loop) where
+  abbrev l : tie.At-loop Inv-loop μ-loop
+  l = c .before
+
+  abbrev known : tie.After-shared-slice-known2 Inv-loop μ-loop
+  known = l .before .before .before .before .before
+
+  entry-inside : l .loop .x + 4 ≤ length (start known .args .s .now)
+  entry-inside = omega (arith, step-of (l .loop .inv .stand) (c .loop-test .taken) .within, start known .pre .stands .inside)
+
+  index-low : entryAt (start known .args .s .now) (l .loop .x) .index < 64
+  index-low = searching-low _ _ _ _ _ _ (l .loop .inv) (c .loop-test .taken)
+
+add-x : tie.Need-add-x Inv-loop μ-loop
+add-x c = let w = row-inside c in omega (arith, start c .good .0 .0)
 
 returns : tie.Need-returns Inv-loop μ-loop
-returns c = let s = c .before .before in ap placeOf (sym (row-none (s .args .row) (s .args .labels .now) (s .args .at) (c .if1 .taken)))
+returns c = let s = start (c .before) in ap placeOf (sym (searching-none _ _ _ _ (s .pre) (c .if1 .taken)))
 
-mul-from : tie.Need-mul-from Inv-loop μ-loop
-mul-from c = search needs
+basis-at-requires : tie.Need-basis-at-requires Inv-loop μ-loop
+basis-at-requires c κs = row-inside (c .before)
 
-array-read-i : tie.Need-array-read-i Inv-loop μ-loop
-array-read-i c = search needs
+mul-part : tie.Need-mul-part Inv-loop μ-loop
+mul-part c = let s = start (c .before .before) in omega (arith, c .basis-at .ensures, s .pre .basis)
+
+index-at-requires : tie.Need-index-at-requires Inv-loop μ-loop
+index-at-requires c κs = let s = start (c .before .before) in let t = step-of (s .pre .stands .entries) (c .before .if1 .left) in omega (arith, t .within, s .pre .stands .inside)
+
+-- the first entry's index
+module _ (c : tie.After-index-at Inv-loop μ-loop) where
+  abbrev s : tie.Start Inv-loop μ-loop
+  s = start (c .before .before .before)
+
+  first-low : c .index-at .result < 64
+  first-low = rw (c .index-at .ensures) (searching-low _ _ _ _ _ _ (searching-start _ _ _ _ (s .pre) (c .before .before .if1 .left)) (c .before .before .if1 .left))
+
+  part-low : c .before .basis-at .result < 9
+  part-low = rw (c .before .basis-at .ensures) (s .pre .basis)
 
 cast-i : tie.Need-cast-i Inv-loop μ-loop
 cast-i c = search needs
 
 add-i : tie.Need-add-i Inv-loop μ-loop
-add-i c = let s = c .before .before .before in let l = s .pre .0 .indices 0 (omega arith) in let n = s .pre .0 in omega arith
+add-i c = let a = first-low c in let b = part-low c in omega arith
 
 shared-slice-read-first : tie.Need-shared-slice-read-first Inv-loop μ-loop
-shared-slice-read-first c = let s = c .before .before .before .before in let l = s .pre .0 .indices 0 (omega arith) in let n = s .pre .0 in omega arith
+shared-slice-read-first c = let a = first-low (c .before) in let b = part-low (c .before) in let n = s (c .before) .pre .labels-length in omega arith
 
 loop-holds : tie.Need-loop-holds Inv-loop μ-loop
-loop-holds c = (omega arith, omega arith, λ j q. let e : j ≡ 0 = omega arith in rw e)
+loop-holds c =
+    let i = c .before in
+    rw (i .index-at .ensures, i .before .basis-at .ensures) (searching-start _ _ _ _ (s i .pre) (i .before .before .if1 .left))
 
-array-read-i-2 : tie.Need-array-read-i-2 Inv-loop μ-loop
-array-read-i-2 c = let s = c .before .before .before .before .before .before in let n = s .pre .0 in omega arith
+index-at-requires-2 : tie.Need-index-at-requires-2 Inv-loop μ-loop
+index-at-requires-2 c κs = entry-inside c
+
+-- where the entry's block number is
+module _ (c : tie.After-index-at2 Inv-loop μ-loop) where
+  abbrev first : tie.After-index-at Inv-loop μ-loop
+  first = c .before .before .before .before
+
+  other-low : c .index-at2 .result < 64
+  other-low = rw (c .index-at2 .ensures) (index-low (c .before))
+
+  block-is : blockAt (s first .args .labels .now) (basisAt (s first .args .s .now) (s first .args .from)) (entryAt (s first .args .s .now) (c .before .before .loop .x) .index)
+      ≡ getD (s first .args .labels .now) (64 * first .before .basis-at .result + c .index-at2 .result) 0
+  block-is = ap₂ (λ (j i : ℕ). getD (s first .args .labels .now) (64 * j + i) 0) (sym (first .before .basis-at .ensures)) (sym (c .index-at2 .ensures))
 
 cast-i-2 : tie.Need-cast-i-2 Inv-loop μ-loop
 cast-i-2 c = search needs
 
 add-i-2 : tie.Need-add-i-2 Inv-loop μ-loop
-add-i-2 c = let s = c .before .before .before .before .before .before in let l = s .pre .0 .indices (c .before .loop .k) (c .loop-test .taken) in let n = s .pre .0 in omega arith
+add-i-2 c = let a = other-low c in let b = part-low (first c) in omega arith
 
 shared-slice-read-if2 : tie.Need-shared-slice-read-if2 Inv-loop μ-loop
-shared-slice-read-if2 c = let s = c .before .before .before .before .before .before .before in let l = s .pre .0 .indices (c .before .before .loop .k) (c .before .loop-test .taken) in let n = s .pre .0 in omega arith
-
-mul-t23 : tie.Need-mul-t23 Inv-loop μ-loop
-mul-t23 c = search needs
-
-add-t24 : tie.Need-add-t24 Inv-loop μ-loop
-add-t24 c = search needs
+shared-slice-read-if2 c = let i = c .before in let a = other-low i in let b = part-low (first i) in let n = s (first i) .pre .labels-length in omega arith
 
 returns-2 : tie.Need-returns-2 Inv-loop μ-loop
-returns-2 c = let l = c .before .before .before in let s = l .before .before .before .before .before in ap placeOf (sym (row-first (s .args .row) (s .args .labels .now) (s .args .at) (l .loop .k) (l .loop .inv .0) (l .loop .inv .1) (l .loop .inv .2) (c .before .before .loop-test .taken) (c .if2 .taken)))
+returns-2 c =
+    let i = c .before .before in
+    let l = i .before .before in
+    ap placeOf (sym (searching-found _ _ _ _ _ _ (l .loop .inv) (i .before .loop-test .taken) (λ q. c .if2 .taken (sym (block-is i) ∙ q))))
 
-add-k : tie.Need-add-k Inv-loop μ-loop
-add-k c = search needs
+after-entry-requires : tie.Need-after-entry-requires Inv-loop μ-loop
+after-entry-requires c κs =
+    let i = c .before .before in
+    let l = i .before .before in
+    (step-of (l .loop .inv .stand) (i .before .loop-test .taken) .command, entry-inside (i .before))
+
+-- the step
+module _ (c : tie.After-after-entry Inv-loop μ-loop) where
+  abbrev index : tie.After-index-at2 Inv-loop μ-loop
+  index = c .before .before .before
+
+  stepped : c .after-entry .result ≡ index .before .before .loop .x + 4
+  stepped =
+      let l = index .before .before in
+      rw (step-of (l .loop .inv .stand) (index .before .loop-test .taken) .command) at (c .after-entry .ensures)
 
 loop-less : tie.Need-loop-less Inv-loop μ-loop
-loop-less c = search needs
+loop-less c = let e = stepped c in let t = index c .before .loop-test .taken in omega arith
 
 loop-again : tie.Need-loop-again Inv-loop μ-loop
-loop-again c = let l = c .before .before .before in (omega arith, omega arith, below-more _ _ (l .loop .inv .2) (c .if2 .left))
+loop-again c =
+    let i = index c in
+    let l = i .before .before in
+    rw (stepped c) (searching-more _ _ _ _ _ _ (l .loop .inv) (i .before .loop-test .taken) (block-is i ∙ c .before .if2 .left))
 
 returns-3 : tie.Need-returns-3 Inv-loop μ-loop
-returns-3 c = let l = c .before in let s = l .before .before .before .before .before in ap placeOf (sym (row-all (s .args .row) (s .args .labels .now) (s .args .at) (l .loop .k) (l .loop .inv .0) (l .loop .inv .1) (l .loop .inv .2) (c .loop-test .left)))
+returns-3 c = let l = c .before in ap placeOf (sym (searching-end _ _ _ _ _ _ (l .loop .inv) (c .loop-test .left)))
 
 pub row-split-spec : {M : Type 1} → statement M
 row-split-spec =
@@ -76,21 +145,21 @@ row-split-spec =
     (tie.spec
     Inv-loop
     μ-loop
+    add-x
     returns
-    mul-from
-    array-read-i
+    basis-at-requires
+    mul-part
+    index-at-requires
     cast-i
     add-i
     shared-slice-read-first
     loop-holds
-    array-read-i-2
+    index-at-requires-2
     cast-i-2
     add-i-2
     shared-slice-read-if2
-    mul-t23
-    add-t24
     returns-2
-    add-k
+    after-entry-requires
     loop-less
     loop-again
     returns-3)

@@ -1,90 +1,82 @@
--- `split_place`: the rows from here on give the answer, and the walk ends where the chain of rows does.
-use mathlib.Core.Bool.{true}
-use mathlib.Core.List.{List}
+-- `split_place`: the rows from row r on give the answer.
 use mathlib.Core.Path.{_≡_, sym, ap, _∙_}
-use Prim.Native.Nat.{_-_}
+use Prim.Native.Nat.{_-_, _<_}
 use native.Mathlib.Omega.{arith}
 use borrow.Author.Needs.{needs}
-use lib.ListN.{length}
-use Rattle.certificate_reader.specs.Rows.{stands}
-use Rattle.certificate_reader.proofs.Stored.{stands-within, head-next}
-use Rattle.certificate_reader.proofs.Walk.{after-more}
 use Rattle.row_blocks.specs.Places.{placeOf}
 use Rattle.row_blocks.proofs.Splits.{Splitting, splitting-start, splitting-end, splitting-indexed, splitting-found, splitting-more, place-some, place-none, split-is}
 use Rattle.row_blocks.proofs.split_place.Statement.{statement}
 use Rattle.row_blocks.proofs.split_place.Tie as tie
 
 abbrev Inv-loop : tie.InvT-loop
-Inv-loop s labels at₀ at = Splitting s labels at
+Inv-loop s starts rows labels r₀ r = Splitting s starts labels rows r
 
 abbrev μ-loop : tie.MeasureT-loop
-μ-loop s labels at₀ at = length s - at
+μ-loop s starts rows labels r₀ r = rows - r
 
--- where a row stands
-module _ (c : tie.Then1 Inv-loop μ-loop) where
+-- at a row
+module _ (c : tie.In-loop Inv-loop μ-loop) where
   abbrev l : tie.At-loop Inv-loop μ-loop
-  l = c .before .before
+  l = c .before
 
   abbrev start : tie.Start Inv-loop μ-loop
   start = l .before .before .before
 
-  standing : stands 0x11 (start .args .s .now) (l .loop .at) ≡ true
-  standing = sym (c .before .stands-at .ensures) ∙ c .if1 .taken
+  row-low : l .loop .r < 128
+  row-low = omega (arith, c .loop-test .taken, start .pre .0 .rows-sound .stand .few)
 
 loop-holds : tie.Need-loop-holds Inv-loop μ-loop
-loop-holds c = splitting-start _ _ (c .before .before .pre .0)
+loop-holds c = splitting-start _ _ _ _
 
-stands-at-requires : tie.Need-stands-at-requires Inv-loop μ-loop
-stands-at-requires c κs = search needs
+mul-row-split : tie.Need-mul-row-split Inv-loop μ-loop
+mul-row-split c = let b = row-low c in omega arith
 
-head-at-requires : tie.Need-head-at-requires Inv-loop μ-loop
-head-at-requires c κs = standing c
-
-row-at-requires : tie.Need-row-at-requires Inv-loop μ-loop
-row-at-requires c κs = (standing (c .before), c .head-at .ensures)
+element-copy-out-row-split : tie.Need-element-copy-out-row-split Inv-loop μ-loop
+element-copy-out-row-split c = let b = row-low c in omega arith
 
 add-row-split : tie.Need-add-row-split Inv-loop μ-loop
-add-row-split c = let w = stands-within 0x11 _ _ (standing (c .before .before)) in omega arith
+add-row-split c = let b = row-low (c .before) in omega arith
+
+mul-row-split-2 : tie.Need-mul-row-split-2 Inv-loop μ-loop
+mul-row-split-2 c = let b = row-low (c .before) in omega arith
+
+element-copy-out-row-split-2 : tie.Need-element-copy-out-row-split-2 Inv-loop μ-loop
+element-copy-out-row-split-2 c = let b = row-low (c .before) in omega arith
 
 row-split-requires : tie.Need-row-split-requires Inv-loop μ-loop
 row-split-requires c κs =
     let i = c .before .before in
-    let w = stands-within 0x11 _ _ (standing i) in
-    (splitting-indexed _ _ _ (l i .loop .inv) (standing i) _ (c .row-at .ensures) (start i .pre .1), omega (arith, start i .good .0))
+    splitting-indexed _ _ _ _ _ (l i .loop .inv) (i .loop-test .taken) (start i .pre .0) (start i .pre .1)
 
 enum-known-found : tie.Need-enum-known-found Inv-loop μ-loop
 enum-known-found c = search needs
 
 returns : tie.Need-returns Inv-loop μ-loop
-returns c = λ p k limits read labels.
+returns c = λ p k limits read rows labels.
     let m = c .before .before .before in
-    let r = m .before in
-    let i = r .before .before in
+    let i = m .before .before .before in
     ap placeOf
-    (sym (splitting-found _ _ _ (l i .loop .inv) (standing i) _ (r .row-at .ensures) _ (place-some _ _ (sym (m .row-split .ensures) ∙ c .before .found .given .1)))
-    ∙ split-is p limits _ _ k read labels)
+    (sym (splitting-found _ _ _ _ _ (l i .loop .inv) (i .loop-test .taken) _ (place-some _ _ (sym (m .row-split .ensures) ∙ c .before .found .given .1)))
+    ∙ split-is p limits _ _ _ _ k read rows labels)
 
 enum-told : tie.Need-enum-told Inv-loop μ-loop
 enum-told c = search needs
 
+add-r : tie.Need-add-r Inv-loop μ-loop
+add-r c = let b = row-low (c .before .before .before .before .before) in omega arith
+
 loop-less : tie.Need-loop-less Inv-loop μ-loop
-loop-less c =
-    let h = c .before .before .before .before in
-    let i = h .before in
-    let w = stands-within 0x11 _ _ (standing i) in
-    omega (arith, head-next _ _ _ (h .head-at .ensures), after-more (start i .args .s .now) (l i .loop .at))
+loop-less c = let t = c .before .before .before .before .before .loop-test .taken in omega arith
 
 loop-again : tie.Need-loop-again Inv-loop μ-loop
 loop-again c =
     let m = c .before .before in
-    let r = m .before in
-    let h = r .before in
-    let i = h .before in
-    splitting-more _ _ _ (l i .loop .inv) (standing i) _ (r .row-at .ensures) _ (h .head-at .ensures) (place-none _ (sym (m .row-split .ensures) ∙ c .enum-told .given .1))
+    let i = m .before .before .before in
+    splitting-more _ _ _ _ _ (l i .loop .inv) (i .loop-test .taken) (place-none _ (sym (m .row-split .ensures) ∙ c .enum-told .given .1))
 
 returns-2 : tie.Need-returns-2 Inv-loop μ-loop
-returns-2 c = λ p k limits read labels.
-    ap placeOf (sym (splitting-end _ _ _ (c .before .before .loop .inv) (sym (c .before .stands-at .ensures) ∙ c .if1 .left)) ∙ split-is p limits _ _ k read labels)
+returns-2 c = λ p k limits read rows labels.
+    ap placeOf (sym (splitting-end _ _ _ _ _ (c .before .loop .inv) (c .loop-test .left)) ∙ split-is p limits _ _ _ _ k read rows labels)
 
 pub split-place-spec : {M : Type 1} → statement M
 split-place-spec =
@@ -93,14 +85,16 @@ split-place-spec =
     Inv-loop
     μ-loop
     loop-holds
-    stands-at-requires
-    head-at-requires
-    row-at-requires
+    mul-row-split
+    element-copy-out-row-split
     add-row-split
+    mul-row-split-2
+    element-copy-out-row-split-2
     row-split-requires
     enum-known-found
     returns
     enum-told
+    add-r
     loop-less
     loop-again
     returns-2)

@@ -1,85 +1,94 @@
--- `add_basis_rows`: the table of sums holds the products of the rows on basis j that were passed.
-use mathlib.Core.Bool.{true}
+-- `add_basis_rows`: the table of sums holds the products of the first r rows on basis j.
 use mathlib.Core.Path.{_≡_, sym, _∙_}
-use Prim.Native.Nat.{ℕ, _-_, _<_}
+use mathlib.Core.Logic.{⊎-elim}
+use Prim.Native.Nat.{_+_, _-_, _≤_, _<_}
 use native.Mathlib.Omega.{arith}
 use borrow.Author.Needs.{needs}
 use lib.ListN.{length, getD}
-use Rattle.certificate_reader.specs.Rows.{stands, rowAt, afterRow}
-use Rattle.certificate_reader.proofs.Stored.{stands-within, head-basis, head-next}
-use Rattle.certificate_reader.proofs.Walk.{after-more}
-use Rattle.row_products.proofs.Gathering.{Gathering, gathering-start, gathering-end, gathering-entries, gathering-below, gathering-row, gathering-other}
+use Rattle.format.specs.CertificateRules.{noRow}
+use Rattle.certificate_reader.specs.Rows.{rowsBy, RowStands}
+use Rattle.certificate_reader.proofs.Rows.{stand-low, rows-length, row-by}
+use Rattle.row_products.proofs.Gathering.{Gathering, gathering-start, gathering-small, gathering-end, gathering-row, gathering-other, walked-low}
 use Rattle.row_products.proofs.add_basis_rows.Statement.{statement}
 use Rattle.row_products.proofs.add_basis_rows.Tie as tie
 
 abbrev Inv-loop : tie.InvT-loop
-Inv-loop g₀ s j at₀ g at = Gathering s j at g
+Inv-loop g₀ s starts rows j r₀ g r = Gathering (rowsBy s starts rows) j r g
 
 abbrev μ-loop : tie.MeasureT-loop
-μ-loop g₀ s j at₀ g at = length s - at
+μ-loop g₀ s starts rows j r₀ g r = rows - r
 
--- where a row stands
-module _ (h : tie.After-head-at Inv-loop μ-loop) where
+-- at a row
+module _ (c : tie.In-loop Inv-loop μ-loop) where
   abbrev l : tie.At-loop Inv-loop μ-loop
-  l = h .before .before .before
+  l = c .before
 
-  abbrev s : tie.Start Inv-loop μ-loop
-  s = l .before .before
+  abbrev start : tie.Start Inv-loop μ-loop
+  start = l .before .before
 
-  bytes : (i : ℕ) → getD (s .args .s .now) i 0 < 256
-  bytes i = let b = l .before .shared-slice-known .given i in omega arith
+  few : start .args .rows ≤ 128
+  few = start .pre .1 .rows-sound .stand .few
 
-  standing : stands 0x11 (s .args .s .now) (l .loop .at) ≡ true
-  standing = sym (h .before .before .stands-at .ensures) ∙ h .before .if1 .taken
+  row-low : l .loop .r < 128
+  row-low = omega (arith, c .loop-test .taken, few)
 
-  next-is : h .head-at .result .next ≡ afterRow (s .args .s .now) (l .loop .at)
-  next-is = head-next _ _ _ (h .head-at .ensures)
+  stands : RowStands (start .args .s .now) (getD (start .args .starts .now) (l .loop .r) 0) (getD (start .args .starts .now) (l .loop .r + 1) 0)
+  stands = start .pre .1 .rows-sound .stand .each (l .loop .r) (c .loop-test .taken)
 
-  basis-is : h .head-at .result .basis ≡ rowAt (s .args .s .now) (l .loop .at) .basis
-  unfolding rowAt
-  basis-is = head-basis _ _ _ (h .head-at .ensures)
+  inside : getD (start .args .starts .now) (l .loop .r) 0 + 4 ≤ length (start .args .s .now)
+  inside = omega (arith, stand-low (stands .entries), stands .inside)
 
-  less : length (s .args .s .now) - h .head-at .result .next < length (s .args .s .now) - l .loop .at
-  less = let w = stands-within 0x11 _ _ standing in omega (arith, next-is, after-more (s .args .s .now) (l .loop .at))
+  count : length (rowsBy (start .args .s .now) (start .args .starts .now) (start .args .rows)) ≡ start .args .rows
+  count = rows-length _ _ _
 
 loop-holds : tie.Need-loop-holds Inv-loop μ-loop
-loop-holds c = gathering-start (c .before .pre .0) (c .before .pre .1)
+loop-holds c = gathering-start (c .before .pre .0)
 
-stands-at-requires : tie.Need-stands-at-requires Inv-loop μ-loop
-stands-at-requires c κs = search needs
+mul-at : tie.Need-mul-at Inv-loop μ-loop
+mul-at c = let b = row-low c in omega arith
 
-head-at-requires : tie.Need-head-at-requires Inv-loop μ-loop
-head-at-requires c κs = sym (c .before .stands-at .ensures) ∙ c .if1 .taken
+element-copy-out-at : tie.Need-element-copy-out-at Inv-loop μ-loop
+element-copy-out-at c = let b = row-low c in omega arith
 
-row-at-requires : tie.Need-row-at-requires Inv-loop μ-loop
-row-at-requires c κs = (standing (c .before .before), c .before .before .head-at .ensures)
+basis-at-requires : tie.Need-basis-at-requires Inv-loop μ-loop
+basis-at-requires c κs = inside (c .before)
 
-add-outer-requires : tie.Need-add-outer-requires Inv-loop μ-loop
-add-outer-requires c κs =
-    let r = c .before in
-    let h = r .before .before .before in
-    let w = l h .loop .inv in
-    (gathering-entries w (standing h) (bytes h) _ (r .row-at .ensures), gathering-below w (standing h) (bytes h) _ (r .row-at .ensures))
+add-add-row : tie.Need-add-add-row Inv-loop μ-loop
+add-add-row c = let b = row-low (c .before .before .before .before) in omega arith
+
+mul-add-row : tie.Need-mul-add-row Inv-loop μ-loop
+mul-add-row c = let b = row-low (c .before .before .before .before) in omega arith
+
+element-copy-out-add-row : tie.Need-element-copy-out-add-row Inv-loop μ-loop
+element-copy-out-add-row c = let b = row-low (c .before .before .before .before) in omega arith
+
+add-row-requires : tie.Need-add-row-requires Inv-loop μ-loop
+add-row-requires c κs =
+    let i = c .before .before .before .before .before in
+    (gathering-small (l i .loop .inv) (omega (arith, few i, count i)), walked-low (start i .pre .1) (l i .loop .r) (i .loop-test .taken))
+
+add-r : tie.Need-add-r Inv-loop μ-loop
+add-r c = let b = row-low (c .before .before .before) in omega arith
 
 loop-less : tie.Need-loop-less Inv-loop μ-loop
-loop-less c = less (c .before .before .before .before .before)
+loop-less c = let t = c .before .before .before .loop-test .taken in omega arith
 
 loop-again : tie.Need-loop-again Inv-loop μ-loop
 loop-again c =
-    let r = c .before .before in
-    let h = r .before .before .before in
-    rw (next-is h) (gathering-row (l h .loop .inv) (standing h) (bytes h) _ (r .row-at .ensures) (sym (basis-is h) ∙ r .before .if2 .taken) (c .add-outer .ensures))
-
-loop-less-2 : tie.Need-loop-less-2 Inv-loop μ-loop
-loop-less-2 c = less (c .before .before)
-
-loop-again-2 : tie.Need-loop-again-2 Inv-loop μ-loop
-loop-again-2 c =
-    let h = c .before .before in
-    rw (next-is h) (gathering-other (l h .loop .inv) (standing h) (λ e. c .if2 .left (basis-is h ∙ e)))
+    let b = c .before in
+    let i = b .before .before in
+    let h = i .loop-test .taken in
+    let is = row-by (start i .args .s .now) (start i .args .starts .now) (start i .args .rows) (l i .loop .r) noRow h in
+    ⊎-elim
+    (λ t. rw (t .4) (gathering-row (l i .loop .inv) (omega (arith, count i)) _ is (sym (b .basis-at .ensures) ∙ t .0 .taken) (t .3 .ensures)))
+    (λ f. rw (f .1) (gathering-other (l i .loop .inv) (omega (arith, count i)) _ is (λ e. f .0 .left (b .basis-at .ensures ∙ e))))
+    (c .if1 .came)
 
 returns : tie.Need-returns Inv-loop μ-loop
-returns c = gathering-end (c .before .before .loop .inv) (sym (c .before .stands-at .ensures) ∙ c .if1 .left)
+returns c =
+    let s = c .before .before .before in
+    let n = rows-length (s .args .s .now) (s .args .starts .now) (s .args .rows) in
+    gathering-end (c .before .loop .inv) (omega (arith, s .pre .1 .rows-sound .stand .few)) (omega (arith, c .loop-test .left))
 
 pub add-basis-rows-spec : {M : Type 1} → statement M
 add-basis-rows-spec =
@@ -88,12 +97,14 @@ add-basis-rows-spec =
     Inv-loop
     μ-loop
     loop-holds
-    stands-at-requires
-    head-at-requires
-    row-at-requires
-    add-outer-requires
+    mul-at
+    element-copy-out-at
+    basis-at-requires
+    add-add-row
+    mul-add-row
+    element-copy-out-add-row
+    add-row-requires
+    add-r
     loop-less
     loop-again
-    loop-less-2
-    loop-again-2
     returns)

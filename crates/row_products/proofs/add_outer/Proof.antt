@@ -6,10 +6,10 @@ use borrow.Author.Needs.{needs, sfits-of}
 use lib.IntN.{ℤ, pos, natAbs, _*ℤ_}
 use lib.ListN.{getD}
 use mir.Facts.{toZ-ofZ, sfits-widen}
-use mir.Syntax.{w16, w64}
+use mir.Syntax.{w32, w64}
 use mir.Val.{SFits, toZ}
 use Rattle.integers.proofs.Ranges.{abs-fits, abs-mul-le}
-use Rattle.problem_reader.specs.TermArrays.{termsIn}
+use Rattle.flat.specs.TermArrays.{termsIn}
 use Rattle.row_products.specs.Outer.{Below, inRow}
 use Rattle.row_products.proofs.Outers.{Raising, raising-start, raising-more, raising-below, raising-all, outer-bound}
 use Rattle.row_products.proofs.add_outer.Statement.{statement}
@@ -22,71 +22,59 @@ Inv-loop g₀ indices factors count w k₀ g k =
 abbrev μ-loop : tie.MeasureT-loop
 μ-loop g₀ indices factors count w k₀ g k = count - k
 
-weight-low : (c : tie.After-struct-known Inv-loop μ-loop) → c .before .before .before .args .row .weight < 2 ^ 16
-weight-low c = search needs
-
 -- one entry
 module _ (l : tie.At-loop Inv-loop μ-loop) where
   abbrev s : tie.Start Inv-loop μ-loop
-  s = l .before .before .before .before
-
-  abbrev weight : ℤ
-  weight = pos (s .args .row .weight)
+  s = l .before
 
   abbrev factor : ℤ
-  factor = getD (s .args .row .factors) (l .loop .k) (pos 0)
+  factor = getD (s .args .factors .now) (l .loop .k) (pos 0)
 
-  fits-weight : SFits w64 weight
-  fits-weight = abs-fits (omega (arith, weight-low (l .before)))
+  turning : Raising (s .args .g .now) (inRow (termsIn (s .args .count) (s .args .indices .now) (s .args .factors .now))) (s .args .w) (s .args .indices .now) (s .args .factors .now) (l .loop .k) (l .loop .g)
+  turning = simp (toZ-ofZ (s .fits .w)) at (l .loop .inv .1)
 
-  turning : Raising (s .args .g .now) (inRow (termsIn (s .args .row .count) (s .args .row .indices) (s .args .row .factors))) weight (s .args .row .indices) (s .args .row .factors) (l .loop .k) (l .loop .g)
-  turning = simp (toZ-ofZ fits-weight) at (l .loop .inv .1)
+  module _ (here : l .loop .k < s .args .count) where
+    product-small : natAbs (s .args .w *ℤ factor) ≤ 2 ^ 31
+    product-small = abs-mul-le (s .args .w) factor (2 ^ 16) (2 ^ 15) (s .pre .2) (s .pre .0 .factors-small (l .loop .k) here)
 
-  module _ (here : l .loop .k < s .args .row .count) where
-    product-small : natAbs (weight *ℤ factor) ≤ 2 ^ 31
-    product-small = abs-mul-le weight factor (2 ^ 16) (2 ^ 15) (omega (arith, weight-low (l .before))) (s .pre .0 .factors-small (l .loop .k) here)
-
-    fits-product : SFits w64 (weight *ℤ factor)
+    fits-product : SFits w64 (s .args .w *ℤ factor)
     fits-product = abs-fits (omega (arith, product-small))
 
     below : Below (2 ^ 54) (l .loop .g)
     below =
-        let b = raising-below turning (s .pre .1) (λ y. outer-bound _ _ _ (s .pre .0) (s .args .row .weight) (weight-low (l .before)) y (l .loop .k) (omega arith)) in
+        let b = raising-below turning (s .pre .1) (λ y. outer-bound _ _ _ (s .pre .0) (s .args .w) (s .pre .2) y (l .loop .k) (omega arith)) in
         record { long = b .long; small = λ x h. omega (arith, b .small x h) }
 
-cast-w : tie.Need-cast-w Inv-loop μ-loop
-cast-w c = search needs
-
 loop-holds : tie.Need-loop-holds Inv-loop μ-loop
-loop-holds c = let s = c .before .before .before in (omega arith, raising-start (s .pre .1 .long))
+loop-holds c = (omega arith, raising-start (c .pre .1 .long))
 
 mul-a : tie.Need-mul-a Inv-loop μ-loop
 mul-a c = search needs
 
-array-copy-out-a : tie.Need-array-copy-out-a Inv-loop μ-loop
-array-copy-out-a c = let s = c .before .before .before .before .before in omega (arith, s .pre .0 .few)
+element-copy-out-a : tie.Need-element-copy-out-a Inv-loop μ-loop
+element-copy-out-a c = omega (arith, c .before .before .pre .0 .few, c .loop-test .taken)
 
 cast-a : tie.Need-cast-a Inv-loop μ-loop
 cast-a c =
     let l = c .before .before in
-    let v : SFits w16 (factor l) = sfits-of (c .a .given) in
+    let v : SFits w32 (factor l) = sfits-of (c .a .given) in
     simp (toZ-ofZ v) (sfits-widen tt v)
 
 mul-a-2 : tie.Need-mul-a-2 Inv-loop μ-loop
 mul-a-2 c =
     let l = c .before .before in
-    let v : SFits w16 (factor l) = sfits-of (c .a .given) in
+    let v : SFits w32 (factor l) = sfits-of (c .a .given) in
     let u : SFits w64 (factor l) = sfits-widen tt v in
-    simp (toZ-ofZ, fits-weight l, v, u) (fits-product l (c .before .loop-test .taken))
+    simp (toZ-ofZ, s l .fits .w, v, u) (fits-product l (c .before .loop-test .taken))
 
 add-products-requires : tie.Need-add-products-requires Inv-loop μ-loop
 add-products-requires c κs =
-    let a = c .before .before .before in
+    let a = c .before in
     let l = a .before .before in
     let h = a .before .loop-test .taken in
-    let v : SFits w16 (factor l) = sfits-of (a .a .given) in
+    let v : SFits w32 (factor l) = sfits-of (a .a .given) in
     let u : SFits w64 (factor l) = sfits-widen tt v in
-    (s l .pre .0, below l h, h, simp (toZ-ofZ, fits-weight l, v, u, fits-product l h) (product-small l h))
+    (s l .pre .0, below l h, h, simp (toZ-ofZ, s l .fits .w, v, u, fits-product l h) (product-small l h))
 
 add-k : tie.Need-add-k Inv-loop μ-loop
 add-k c = search needs
@@ -96,17 +84,17 @@ loop-less c = search needs
 
 loop-again : tie.Need-loop-again Inv-loop μ-loop
 loop-again c =
-    let a = c .before .before .before .before in
+    let a = c .before .before in
     let l = a .before .before in
     let h = a .before .loop-test .taken in
-    let v : SFits w16 (factor l) = sfits-of (a .a .given) in
+    let v : SFits w32 (factor l) = sfits-of (a .a .given) in
     let u : SFits w64 (factor l) = sfits-widen tt v in
-    (omega arith, simp (toZ-ofZ (fits-weight l)) (raising-more (turning l) (simp (toZ-ofZ, fits-weight l, v, u, fits-product l h) at (c .add-products .ensures))))
+    (omega arith, simp (toZ-ofZ (s l .fits .w)) (raising-more (turning l) (simp (toZ-ofZ, s l .fits .w, v, u, fits-product l h) at (c .add-products .ensures))))
 
 returns : tie.Need-returns Inv-loop μ-loop
 returns c =
     let l = c .before in
-    let e : l .loop .k ≡ s l .args .row .count = omega (arith, l .loop .inv .0, c .loop-test .left) in
+    let e : l .loop .k ≡ s l .args .count = omega (arith, l .loop .inv .0, c .loop-test .left) in
     raising-all (turning l) e
 
 pub add-outer-spec : {M : Type 1} → statement M
@@ -115,10 +103,9 @@ add-outer-spec =
     (tie.spec
     Inv-loop
     μ-loop
-    cast-w
     loop-holds
     mul-a
-    array-copy-out-a
+    element-copy-out-a
     cast-a
     mul-a-2
     add-products-requires

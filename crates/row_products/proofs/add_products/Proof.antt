@@ -7,7 +7,7 @@ use borrow.Author.Needs.{needs, sfits-of}
 use lib.IntN.{ℤ, pos, natAbs, _+ℤ_, _*ℤ_}
 use lib.ListN.{getD, set}
 use mir.Facts.{toZ-ofZ, sfits-widen}
-use mir.Syntax.{w16, w64}
+use mir.Syntax.{w32, w64}
 use mir.Val.{SFits, toZ}
 use Rattle.integers.proofs.Ranges.{abs-fits, abs-sum, abs-mul-le}
 use Rattle.row_products.specs.Outer.{rowUnit, Below, Raised, above}
@@ -45,7 +45,7 @@ module _ (c : tie.After-y Inv-loop μ-loop) where
   place-in : place < 4096
   place-in = omega (arith, s .pre .0 .indices-low (l .loop .k) here, s .pre .0 .indices-low (s .args .first) (s .pre .2))
 
-  fits-factor : SFits w16 factor
+  fits-factor : SFits w32 factor
   fits-factor = sfits-of (c .y .given)
 
   wide-factor : SFits w64 factor

@@ -15,7 +15,7 @@ slice-aggregate-run-2 : tie.Need-slice-aggregate-run-2
 slice-aggregate-run-2 c = search needs
 
 run-requires : tie.Need-run-requires
-run-requires c κs = (c .before .before .before .before .before .before .before .before .before .before .pre, lookup-none _ _ _ (omega (arith, length-replicate {A = ℕ} 1 0)))
+run-requires c κs = (c .before .before .before .before .before .before .before .before .before .before .before .pre, lookup-none _ _ _ (omega (arith, length-replicate {A = ℕ} 1 0)))
 
 same-length : tie.Need-same-length
 same-length c = search needs
@@ -24,10 +24,10 @@ same-length-2 : tie.Need-same-length-2
 same-length-2 c = search needs
 
 returns : tie.Need-returns
-returns c = c .before .before .before .before .before .before .run .ensures .done (c .if1 .taken)
+returns c = c .before .before .before .before .before .run .ensures .done (c .if1 .taken)
 
 finish-requires : tie.Need-finish-requires
-finish-requires c κs = let w = c .before .before .before .before .before .before .before .before .run .ensures .left (c .before .before .if1 .left) in record { asks = w .asks; some = w .upto; most = omega arith }
+finish-requires c κs = let w = c .before .before .before .before .before .before .before .before .run .ensures .left (c .before .before .before .if1 .left) in record { asks = w .asks; some = w .upto; most = omega arith }
 
 same-length-3 : tie.Need-same-length-3
 same-length-3 c = search needs
@@ -37,8 +37,8 @@ same-length-4 c = search needs
 
 returns-2 : tie.Need-returns-2
 returns-2 c =
-    let s = c .before .before .before .before .before .before .before .before .before .before .before .before .before .before .before .before .before .before .before .before .before .before .before .before in
-    between-then (s .args .keys .now) (s .args .sizes .now) (s .args .exponents .now) (s .args .counts .now) _ _ _ _ _ _ _ _ _ (c .before .before .before .before .before .before .before .before .before .before .before .before .before .run .ensures .left (c .before .before .before .before .before .before .before .if1 .left)) _ _ _ (c .before .before .before .before .finish .ensures)
+    let s = c .before .before .before .before .before .before .before .before .before .before .before .before .before .before .before .before .before .before .before .before .before .before .before .before .before in
+    between-then (s .args .keys .now) (s .args .sizes .now) (s .args .exponents .now) (s .args .counts .now) _ _ _ _ _ _ _ _ _ (c .before .before .before .before .before .before .before .before .before .before .before .before .before .run .ensures .left (c .before .before .before .before .before .before .before .before .if1 .left)) _ _ _ _ (c .before .before .before .before .finish .ensures)
 
 pub go-on-spec : {M : Type 1} → statement M
 go-on-spec =

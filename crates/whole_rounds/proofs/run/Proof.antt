@@ -12,18 +12,18 @@ use Rattle.whole_rounds.proofs.run.Statement.{statement}
 use Rattle.whole_rounds.proofs.run.Tie as tie
 
 abbrev Inv-loop : tie.InvT-loop
-Inv-loop keys sizes exponents counts heads next table₀ index₀ came len done most labels₀ n₀ since₀ rounds₀ table index labels n since rounds = (rounds ≤ most) × Between (closeAfter (basesIn keys sizes exponents counts) done sizes labels₀ len table₀) len table₀ keys sizes exponents counts labels since n table index rounds
+Inv-loop labels₀ keys sizes exponents counts heads next table₀ index₀ came len done most blocks₀ n₀ since₀ rounds₀ labels table index blocks n since rounds = (rounds ≤ most) × Between (closeAfter (basesIn keys sizes exponents counts) done sizes labels₀ len table₀) len table₀ keys sizes exponents counts blocks since n table index rounds
 
 abbrev μ-loop : tie.MeasureT-loop
-μ-loop keys sizes exponents counts heads next table₀ index₀ came len done most labels₀ n₀ since₀ rounds₀ table index labels n since rounds = most - rounds
+μ-loop labels₀ keys sizes exponents counts heads next table₀ index₀ came len done most blocks₀ n₀ since₀ rounds₀ labels table index blocks n since rounds = most - rounds
 
 -- ---- where the loop begins
 abbrev started : tie.At-loop Inv-loop μ-loop → tie.Start Inv-loop μ-loop
-started l = l .before .before .before .before .before .before .before .before .before
+started l = l .before .before .before .before .before .before .before .before .before .before
 
 loop-holds : tie.Need-loop-holds Inv-loop μ-loop
 loop-holds c =
-    let s = c .before .before .before .before .before .before .before .before in
+    let s = c .before .before .before .before .before .before .before .before .before in
     (s .pre .0 .some, between-start (s .args .keys .now) (s .args .sizes .now) (s .args .exponents .now) (s .args .counts .now) _ _ _ _ _ _ (omega (arith, s .pre .0 .some, s .pre .0 .most)) (s .pre .0 .asks))
 
 slice-aggregate-round : tie.Need-slice-aggregate-round Inv-loop μ-loop

@@ -1,0 +1,21 @@
+-- `index_at`: the first operand.
+use borrow.Author.Needs.{needs}
+use Rattle.certificate_reader.specs.Rows.{entryAt}
+use Rattle.certificate_reader.proofs.index_at.Statement.{statement}
+use Rattle.certificate_reader.proofs.index_at.Tie as tie
+
+add-number-at : tie.Need-add-number-at
+add-number-at c = search needs
+
+number-at-requires : tie.Need-number-at-requires
+number-at-requires c κs = search needs
+
+cast-result : tie.Need-cast-result
+cast-result c = search needs
+
+returns : tie.Need-returns
+unfolding entryAt
+returns c = c .number-at .ensures .0
+
+pub index-at-spec : {M : Type 1} → statement M
+index-at-spec = tie.close (tie.spec add-number-at number-at-requires cast-result returns)

@@ -1,0 +1,158 @@
+-- Laws of the arrays that hold a problem: what stands at each place is within the limits, and what is lent of the arrays
+-- are the problem's bases, exponents and coefficients.
+use mathlib.Core.Path.{_≡_, refl, sym, ap, _∙_}
+use mathlib.Core.List.{List, [], _∷_}
+use mathlib.Core.Logic.{⊎-elim}
+use Prim.Native.Nat.{ℕ, zero, suc, _+_, _*_, _^_, _≤_, _<_, zero-le}
+use native.Mathlib.Omega.{arith}
+use lib.IntN.{ℤ}
+use lib.ListN.{length, getD, take, drop, length-drop}
+use lib.Seq.{length-take-le, take-take, drop-drop, getD-take, getD-drop}
+use borrow.Author.Tests.{lt-ltb, le-ltb}
+use Rattle.counting.specs.Counting.{Bounded}
+use Rattle.counting.proofs.Cases.{lt-or-le}
+use Rattle.polynomial.specs.Terms.{keysOf}
+use Rattle.format.specs.ProblemRules.{Problem}
+use Rattle.format.specs.ProblemBases.{basisOf, multiplier, multiplierOf}
+use Rattle.flat.specs.TermArrays.{termsIn, Low}
+use Rattle.flat.specs.Flat.{mostAt, degreeAt, FlatLimits, FlatProblem}
+use Rattle.flat.proofs.TermArrays.{terms-keys, terms-same}
+
+-- ---- the limits of each kind of place
+pub basis-most : (i : ℕ) → i < 9 → mostAt i ≡ 64
+basis-most i h = rw (lt-ltb i 9 h)
+
+pub multiplier-most : (i : ℕ) → 9 ≤ i → i < 18 → mostAt i ≡ 32
+multiplier-most i h k = rw (le-ltb i 9 h, lt-ltb i 18 k)
+
+pub basis-degree : (i : ℕ) → i < 576 → degreeAt i ≡ 8
+basis-degree i h = rw (lt-ltb i 576 h)
+
+pub multiplier-degree : (i : ℕ) → 576 ≤ i → i < 864 → degreeAt i ≡ 16
+multiplier-degree i h k = rw (le-ltb i 576 h, lt-ltb i 864 k)
+
+pub objective-degree : (i : ℕ) → 864 ≤ i → degreeAt i ≡ 32
+objective-degree i h = rw (le-ltb i 576 (omega arith), le-ltb i 864 h)
+
+-- ---- parts of parts
+module _ {A : Type 0} where
+  pub part-take : (m b n : ℕ) (l : List A) → b + m ≤ n → take m (drop b (take n l)) ≡ take m (drop b l)
+  part-take m zero n l h = take-take m n l (omega arith)
+  part-take m (suc b) zero l h = absurd (omega arith)
+  part-take m (suc b) (suc n) [] h = refl
+  part-take m (suc b) (suc n) (x ∷ l) h = part-take m b n l (omega arith)
+
+  -- a part of what stands from a place on
+  pub part-lent : (m b n a : ℕ) (l : List A) → b + m ≤ n → take m (drop b (take n (drop a l))) ≡ take m (drop (a + b) l)
+  part-lent m b n a l h = part-take m b n (drop a l) h ∙ ap (take m) (drop-drop b a l)
+
+  pub part-length : (n a : ℕ) (l : List A) → a + n ≤ length l → length (take n (drop a l)) ≡ n
+  part-length n a l h = length-take-le n (drop a l) (rw (length-drop a l) (omega arith))
+
+beyond : (n : ℕ) (l : List ℕ) (i : ℕ) → n ≤ i → getD (take n l) i 0 ≡ 0
+beyond zero l i h = refl
+beyond (suc n) [] i h = refl
+beyond (suc n) (x ∷ l) zero h = absurd (omega arith)
+beyond (suc n) (x ∷ l) (suc i) h = beyond n l i (omega arith)
+
+-- a part in which every number is at most m
+pub part-bounded : (m n a : ℕ) (l : List ℕ) → ((i : ℕ) → a ≤ i → i < a + n → getD l i 0 ≤ m) → Bounded m (take n (drop a l))
+part-bounded m n a l h i =
+    ⊎-elim
+    (λ b. rw (getD-take n (drop a l) i 0 b, getD-drop a l i 0) (h (a + i) (omega arith) (omega arith)))
+    (λ b. rw (beyond n (drop a l) i b) zero-le)
+    (lt-or-le i n)
+
+-- ---- what is lent of the arrays: the bases are `take 576 keys` with `take 9 sizes`, the multipliers
+-- `take 288 (drop 576 keys)` and `take 288 coefficients` with `take 9 (drop 9 sizes)`
+module _ {keys : List ℕ} {coefficients : List ℤ} {sizes : List ℕ} (f : FlatLimits keys coefficients sizes) where
+  pub basis-size : (j : ℕ) → j < 9 → getD sizes j 0 ≤ 64
+  basis-size j h = rw (basis-most j h) at (f .sizes-low j)
+
+  pub multiplier-size : (j : ℕ) → j < 9 → getD sizes (9 + j) 0 ≤ 32
+  multiplier-size j h = rw (multiplier-most (9 + j) (omega arith) (omega arith)) at (f .sizes-low (9 + j))
+
+  pub objective-size : getD sizes 18 0 ≤ 256
+  objective-size = f .sizes-low 18
+
+  pub constraints-few : getD sizes 19 0 ≤ 8
+  constraints-few = f .sizes-low 19
+
+  pub bases-length : length (take 576 keys) ≡ 576
+  bases-length = let e = f .keys-length in length-take-le 576 keys (omega arith)
+
+  pub bases-low : Low 8 (take 576 keys)
+  bases-low = part-bounded (8 * 2 ^ 56) 576 0 keys (λ i a b. rw (basis-degree i (omega arith)) at (f .keys-low i))
+
+  pub sizes-length : length (take 9 sizes) ≡ 9
+  sizes-length = let e = f .sizes-length in length-take-le 9 sizes (omega arith)
+
+  pub sizes-low : Bounded 64 (take 9 sizes)
+  sizes-low = part-bounded 64 9 0 sizes (λ i a b. basis-size i (omega arith))
+
+  pub exponents-length : length (take 288 (drop 576 keys)) ≡ 288
+  exponents-length = let e = f .keys-length in part-length 288 576 keys (omega arith)
+
+  pub exponents-low : Low 16 (take 288 (drop 576 keys))
+  exponents-low = part-bounded (16 * 2 ^ 56) 288 576 keys (λ i a b. rw (multiplier-degree i a (omega arith)) at (f .keys-low i))
+
+  pub coefficients-length : length (take 288 coefficients) ≡ 288
+  coefficients-length = let e = f .coefficients-length in length-take-le 288 coefficients (omega arith)
+
+  pub counts-length : length (take 9 (drop 9 sizes)) ≡ 9
+  counts-length = let e = f .sizes-length in part-length 9 9 sizes (omega arith)
+
+  pub counts-low : Bounded 32 (take 9 (drop 9 sizes))
+  counts-low = part-bounded 32 9 9 sizes (λ i a b. rw (multiplier-most i a b) at (f .sizes-low i))
+
+  -- the objective's exponents, with room for 256
+  pub objective-length : length (drop 864 keys) ≡ 256
+  objective-length = let e = f .keys-length in rw (length-drop 864 keys) (omega arith)
+
+  pub objective-low : Low 32 (drop 864 keys)
+  objective-low i = rw (getD-drop 864 keys i 0) (rw (objective-degree (864 + i) (omega arith)) at (f .keys-low (864 + i)))
+
+module _ {p : Problem} {keys : List ℕ} {coefficients : List ℤ} {sizes : List ℕ} (f : FlatProblem p keys coefficients sizes) where
+  -- the exponents of a multiplier and of the objective
+  pub multiplier-part : (j : ℕ) → j < 9 → take (getD sizes (9 + j) 0) (drop (576 + 32 * j) keys) ≡ multiplierOf p j
+  unfolding multiplierOf
+  multiplier-part j h =
+      let e = f .limits .keys-length in
+      let b = multiplier-size (f .limits) j h in
+      sym (terms-keys (getD sizes (9 + j) 0) (drop (576 + 32 * j) keys) (drop (32 * j) coefficients) (rw (length-drop (576 + 32 * j) keys) (omega arith)))
+      ∙ ap keysOf (f .multipliers j h)
+
+  pub objective-part : take (getD sizes 18 0) (drop 864 keys) ≡ keysOf (p .objective)
+  objective-part =
+      let e = f .limits .keys-length in
+      let b = f .limits .sizes-low 18 in
+      sym (terms-keys (getD sizes 18 0) (drop 864 keys) (drop 288 coefficients) (rw (length-drop 864 keys) (omega arith))) ∙ ap keysOf (f .objective)
+
+  -- the same by the parts that are lent
+  pub basis-lent : (j : ℕ) → j < 9 → take (getD (take 9 sizes) j 0) (drop (64 * j) (take 576 keys)) ≡ basisOf p j
+  basis-lent j h =
+      let b = basis-size (f .limits) j h in
+      rw (getD-take 9 sizes j 0 h) (part-take (getD sizes j 0) (64 * j) 576 keys (omega arith) ∙ f .bases j h)
+
+  count-lent : (j : ℕ) → j < 9 → getD (take 9 (drop 9 sizes)) j 0 ≡ getD sizes (9 + j) 0
+  count-lent j h = getD-take 9 (drop 9 sizes) j 0 h ∙ getD-drop 9 sizes j 0
+
+  keys-lent : (j : ℕ) → j < 9 → take (getD sizes (9 + j) 0) (drop (32 * j) (take 288 (drop 576 keys))) ≡ take (getD sizes (9 + j) 0) (drop (576 + 32 * j) keys)
+  keys-lent j h = let b = multiplier-size (f .limits) j h in part-lent (getD sizes (9 + j) 0) (32 * j) 288 576 keys (omega arith)
+
+  pub exponents-lent : (j : ℕ) → j < 9 → take (getD (take 9 (drop 9 sizes)) j 0) (drop (32 * j) (take 288 (drop 576 keys))) ≡ multiplierOf p j
+  exponents-lent j h = rw (count-lent j h) (keys-lent j h ∙ multiplier-part j h)
+
+  pub terms-lent : (j : ℕ) → j < 9
+      → termsIn (getD (take 9 (drop 9 sizes)) j 0) (drop (32 * j) (take 288 (drop 576 keys))) (drop (32 * j) (take 288 coefficients)) ≡ multiplier p j
+  terms-lent j h =
+      let b = multiplier-size (f .limits) j h in
+      rw (count-lent j h)
+      (terms-same (getD sizes (9 + j) 0) _ _ _ _ (keys-lent j h) (part-take (getD sizes (9 + j) 0) (32 * j) 288 coefficients (omega arith)) ∙ f .multipliers j h)
+
+  -- the terms of multiplier j by its own slices
+  pub terms-part : (j : ℕ) → j < 9
+      → let n = getD sizes (9 + j) 0 in termsIn n (take n (drop (576 + 32 * j) keys)) (take n (drop (32 * j) coefficients)) ≡ multiplier p j
+  terms-part j h =
+      let n = getD sizes (9 + j) 0 in
+      terms-same n _ _ _ _ (take-take n n (drop (576 + 32 * j) keys) (omega arith)) (take-take n n (drop (32 * j) coefficients) (omega arith)) ∙ f .multipliers j h

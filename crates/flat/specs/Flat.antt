@@ -1,0 +1,83 @@
+-- Where a problem stands in the three arrays that a call owns and lends to its steps, always in this order: `keys`
+-- (1,120 numbers), `coefficients` (544 signed numbers) and `sizes` (20 numbers).
+use mathlib.Core.Path.{_≡_}
+use mathlib.Core.Bool.{cond}
+use mathlib.Core.List.{List}
+use Prim.Native.Nat.{ℕ, _+_, _*_, _^_, _≤_, _<_}
+use lib.Dec.{ltb}
+use lib.IntN.{ℤ, pos}
+use lib.ListN.{length, getD, take, drop, replicate}
+use Rattle.polynomial.specs.Terms.{Term}
+use Rattle.format.specs.ProblemLimits.{mostObjectiveDegree, mostObjectiveTerms, mostConstraints, mostConstraintDegree, mostConstraintTerms, mostBasisDegree, mostMonomials, mostBases}
+use Rattle.format.specs.ProblemRules.{Problem}
+use Rattle.format.specs.ProblemBases.{basisOf, multiplier}
+use Rattle.flat.specs.TermArrays.{termsIn}
+
+-- ---- the places
+-- basis j begins in keys at 64 j, and its length is sizes[j]
+abbrev pub basisAt : ℕ → ℕ
+basisAt j = 64 * j
+
+-- polynomial j: 0 to 8 are the multipliers g_j; 9 is the objective, which comes last, with room for 256 terms
+abbrev pub objectiveNumber : ℕ
+objectiveNumber = 9
+
+-- its exponents begin in keys behind the nine bases
+abbrev pub exponentsAt : ℕ → ℕ
+exponentsAt j = 576 + 32 * j
+
+-- its coefficients in coefficients
+abbrev pub coefficientsAt : ℕ → ℕ
+coefficientsAt j = 32 * j
+
+-- and the number of its terms stands in sizes behind the lengths of the bases
+abbrev pub countAt : ℕ → ℕ
+countAt j = 9 + j
+
+-- the last of sizes is the number of constraints
+abbrev pub constraintsAt : ℕ
+constraintsAt = 19
+
+-- ---- what stands there
+abbrev pub basisIn : List ℕ → List ℕ → ℕ → List ℕ
+basisIn keys sizes j = take (getD sizes j 0) (drop (basisAt j) keys)
+
+abbrev pub polynomialIn : List ℕ → List ℤ → List ℕ → ℕ → List Term
+polynomialIn keys coefficients sizes j =
+    termsIn (getD sizes (countAt j) 0) (drop (exponentsAt j) keys) (drop (coefficientsAt j) coefficients)
+
+-- ---- the limits, by place
+-- the most that may stand at a place of sizes
+abbrev pub mostAt : ℕ → ℕ
+mostAt i =
+    cond (ltb i (countAt 0)) mostMonomials (cond (ltb i (countAt objectiveNumber)) mostConstraintTerms
+    (cond (ltb i constraintsAt) mostObjectiveTerms mostConstraints))
+
+-- the highest degree of a monomial at a place of keys
+abbrev pub degreeAt : ℕ → ℕ
+degreeAt i =
+    cond (ltb i (exponentsAt 0)) mostBasisDegree
+    (cond (ltb i (exponentsAt objectiveNumber)) mostConstraintDegree mostObjectiveDegree)
+
+-- arrays that a problem within the limits can stand in
+pub record FlatLimits (keys : List ℕ) (coefficients : List ℤ) (sizes : List ℕ) : Type 0 where
+  pub keys-length : length keys ≡ 1120
+  pub coefficients-length : length coefficients ≡ 544
+  pub sizes-length : length sizes ≡ 20
+  pub sizes-low : (i : ℕ) → getD sizes i 0 ≤ mostAt i
+  -- no key of a monomial of degree at most d is above d × 256^7
+  pub keys-low : (i : ℕ) → getD keys i 0 ≤ degreeAt i * 2 ^ 56
+
+-- the arrays hold the problem p
+pub record FlatProblem (p : Problem) (keys : List ℕ) (coefficients : List ℤ) (sizes : List ℕ) : Type 0 where
+  pub limits : FlatLimits keys coefficients sizes
+  pub bases : (j : ℕ) → j < mostBases → basisIn keys sizes j ≡ basisOf p j
+  pub multipliers : (j : ℕ) → j < mostBases → polynomialIn keys coefficients sizes j ≡ multiplier p j
+  pub objective : polynomialIn keys coefficients sizes objectiveNumber ≡ p .objective
+  pub constraints : getD sizes constraintsAt 0 ≡ length (p .constraints)
+
+-- the arrays as a call makes them
+pub record FlatZero (keys : List ℕ) (coefficients : List ℤ) (sizes : List ℕ) : Type 0 where
+  pub keys-zero : keys ≡ replicate 1120 0
+  pub coefficients-zero : coefficients ≡ replicate 544 (pos 0)
+  pub sizes-zero : sizes ≡ replicate 20 0

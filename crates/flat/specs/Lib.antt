@@ -1,0 +1,2 @@
+pub mod TermArrays
+pub mod Flat

@@ -1,0 +1,338 @@
+-- What the arrays and the constraint begun last hold of a problem while it is read, and what each command's stores make of it.
+use mathlib.Core.Path.{_≡_, refl, sym, ap, subst, _∙_}
+use mathlib.Core.List.{List, [], _∷_, _++_}
+use mathlib.Core.Logic.{inl, inr, ⊎-elim}
+use Prim.Native.Nat.{ℕ, _+_, _-_, _*_, _^_, _≤_, _<_, zero-le}
+use native.Mathlib.Nat.{eq-or-lt-of-le}
+use native.Mathlib.Numerals.{add-one}
+use native.Mathlib.Omega.{arith}
+use lib.IntN.{ℤ, pos}
+use lib.ListN.{length, drop, set, getD, replicate, length-set, length-append, length-drop, length-replicate}
+use lib.Seq.{paste, length-paste, take-suc-set, drop-set-add, getD-set-same, getD-set-other}
+use Rattle.counting.specs.Counting.{listed}
+use Rattle.counting.proofs.Bounded.{bounded-zeros}
+use Rattle.counting.proofs.Cases.{lt-or-le}
+use Rattle.counting.proofs.Listed.{same-or-not}
+use Rattle.polynomial.specs.Terms.{Term, term}
+use Rattle.format.specs.declared.problem.Instruction.the-variants as I
+use Rattle.format.specs.ProblemRules.{Problem, problemApplied, noProblem}
+use Rattle.format.proofs.ProblemLimits.{nothing-basis}
+use Rattle.format.specs.ProblemBases.{basisOf, multiplier}
+use Rattle.flat.specs.TermArrays.{termsIn, FilledTerms}
+use Rattle.flat.specs.Flat.{basisIn, polynomialIn, mostAt, degreeAt, FlatLimits, FlatProblem, FlatZero}
+use Rattle.flat.proofs.TermArrays.{set-all, terms-same, terms-more, filled-none, filled-more}
+use Rattle.flat.proofs.Flat.{basis-most, multiplier-most, basis-degree, multiplier-degree, objective-degree}
+use Rattle.problem_reader.specs.Storing.{noTerms, terms}
+use Rattle.problem_reader.specs.declared.Polynomial.{Polynomial}
+use Rattle.problem_reader.proofs.Arrays.{basis-list, polynomial-place, Apart, apart-set, apart-paste, paste-all, paste-here, Others, coefficients-apart, others, limits-more}
+use Rattle.problem_reader.proofs.Problems.{appended-length, multiplier-same, multiplier-none, member-here, member-other, begun-before, begun-here, term-other, term-here}
+
+-- the problem p as it was read so far: keys, coefficients and sizes are the arrays, v is the number of variables, last the
+-- constraint begun last (g_0 before the first), which is not laid out yet, and n the number of constraints
+pub record Held (p : Problem) (keys : List ℕ) (coefficients : List ℤ) (sizes : List ℕ) (v : ℕ) (last : Polynomial) (n : ℕ) : Type 0 where
+  pub limits : FlatLimits keys coefficients sizes
+  pub variables : p .variables ≡ v
+  pub variables-low : v ≤ 8
+  pub count : length (p .constraints) ≡ n
+  pub count-low : n ≤ 8
+  pub nine : length (p .bases) ≡ 9
+  pub bases : (j : ℕ) → j < 9 → basisIn keys sizes j ≡ basisOf p j
+  pub objective : polynomialIn keys coefficients sizes 9 ≡ p .objective
+  -- the multipliers before the last are laid out, and behind it none is
+  pub laid : (j : ℕ) → j < n → polynomialIn keys coefficients sizes j ≡ multiplier p j
+  pub latest : terms last ≡ multiplier p n
+  pub filled : FilledTerms 16 32 (last .keys) (last .coefficients) (last .count)
+  pub empty : (j : ℕ) → n ≤ j → j < 9 → getD sizes (9 + j) 0 ≡ 0
+
+module _ {p : Problem} {keys : List ℕ} {coefficients : List ℤ} {sizes : List ℕ} {v : ℕ} {last : Polynomial} {n : ℕ} (held : Held p keys coefficients sizes v last n) where
+  abbrev limits : FlatLimits keys coefficients sizes
+  limits = held .limits
+
+  -- ---- the number of variables
+  pub held-variables : (m : ℕ) → m ≤ 8 → Held (problemApplied p (I.Variables m)) keys coefficients sizes m last n
+  unfolding problemApplied basisOf
+  held-variables m h = record {
+    limits = limits;
+    variables = refl;
+    variables-low = h;
+    count = held .count;
+    count-low = held .count-low;
+    nine = held .nine;
+    bases = held .bases;
+    objective = held .objective;
+    laid = λ j l. held .laid j l ∙ multiplier-same _ _ refl j;
+    latest = held .latest ∙ multiplier-same _ _ refl n;
+    filled = held .filled;
+    empty = held .empty;
+  }
+
+  -- ---- a monomial of basis j
+  module _ (j k : ℕ) (h : j < 9) (r : getD sizes j 0 < 64) (low : k ≤ 8 * 2 ^ 56) where
+    abbrev basis-keys : List ℕ
+    basis-keys = set keys (64 * j + getD sizes j 0) k
+
+    abbrev basis-sizes : List ℕ
+    basis-sizes = set sizes j (getD sizes j 0 + 1)
+
+    basis-others : Others j keys coefficients sizes basis-keys coefficients basis-sizes
+    basis-others =
+        let a = basis-list j h in
+        let b = basis-most j h in
+        others limits j _ basis-keys coefficients (omega arith)
+        (apart-set keys _ _ _ k (omega arith) (omega arith))
+        (λ i q d. refl)
+
+    basis-more : basisIn basis-keys basis-sizes j ≡ basisIn keys sizes j ++ (k ∷ [])
+    basis-more =
+        let s = limits .sizes-length in
+        let l = limits .keys-length in
+        rw (
+          getD-set-same sizes j (getD sizes j 0 + 1) 0 (omega arith),
+          drop-set-add (64 * j) keys (getD sizes j 0) k,
+          add-one (getD sizes j 0),
+        ) (take-suc-set (drop (64 * j) keys) (getD sizes j 0) k (rw (length-drop (64 * j) keys) (omega arith)))
+
+    pub held-member : Held (problemApplied p (I.Member j k)) basis-keys coefficients basis-sizes v last n
+    unfolding problemApplied
+    held-member =
+        let o = basis-others in
+        let u = held .nine in
+        let w = held .count-low in
+        record {
+          limits =
+              limits-more limits j _ basis-keys coefficients (length-set keys _ k) refl
+              (set-all (λ i x. x ≤ degreeAt i * 2 ^ 56) keys _ k 0 (limits .keys-low) (rw (basis-degree (64 * j + getD sizes j 0) (omega arith)) low))
+              (rw (basis-most j h) (omega arith));
+          variables = held .variables;
+          variables-low = held .variables-low;
+          count = held .count;
+          count-low = held .count-low;
+          nine = appended-length (p .bases) j k ∙ held .nine;
+          bases = λ i q.
+              ⊎-elim
+              (λ e. rw e (basis-more ∙ ap (λ (x : List ℕ). x ++ (k ∷ [])) (held .bases j h) ∙ sym (member-here p j k (omega arith))))
+              (λ d. o .bases i q d ∙ held .bases i q ∙ sym (member-other p j k i d))
+              (same-or-not i j);
+          objective = o .polynomials 9 (omega arith) (λ e. omega arith) ∙ held .objective;
+          laid = λ i q. o .polynomials i (omega arith) (λ e. omega arith) ∙ held .laid i q ∙ multiplier-same _ _ refl i;
+          latest = held .latest ∙ multiplier-same _ _ refl n;
+          filled = held .filled;
+          empty = λ i q l. o .lengths (9 + i) (λ e. omega arith) ∙ held .empty i q l;
+        }
+
+  -- ---- a term of the objective
+  module _ (k : ℕ) (c : ℤ) (r : getD sizes 18 0 < 256) (low : k ≤ 32 * 2 ^ 56) where
+    abbrev objective-keys : List ℕ
+    objective-keys = set keys (864 + getD sizes 18 0) k
+
+    abbrev objective-coefficients : List ℤ
+    objective-coefficients = set coefficients (288 + getD sizes 18 0) c
+
+    abbrev objective-sizes : List ℕ
+    objective-sizes = set sizes 18 (getD sizes 18 0 + 1)
+
+    objective-others : Others 18 keys coefficients sizes objective-keys objective-coefficients objective-sizes
+    objective-others =
+        let a = polynomial-place 9 in
+        others limits 18 _ objective-keys objective-coefficients (omega arith)
+        (apart-set keys _ _ _ k (omega arith) (omega arith))
+        (coefficients-apart limits 9 objective-coefficients (omega arith) (apart-set coefficients _ _ _ c (omega arith) (omega arith)))
+
+    objective-more : polynomialIn objective-keys objective-coefficients objective-sizes 9 ≡ polynomialIn keys coefficients sizes 9 ++ (term k c ∷ [])
+    objective-more =
+        let s = limits .sizes-length in
+        let l = limits .keys-length in
+        let m = limits .coefficients-length in
+        rw (
+          getD-set-same sizes 18 (getD sizes 18 0 + 1) 0 (omega arith),
+          drop-set-add 864 keys (getD sizes 18 0) k,
+          drop-set-add 288 coefficients (getD sizes 18 0) c,
+        )
+        (terms-more (getD sizes 18 0) (drop 864 keys) (drop 288 coefficients) k c (rw (length-drop 864 keys) (omega arith)) (rw (length-drop 288 coefficients) (omega arith)))
+
+    pub held-objective : Held (problemApplied p (I.Objective k c)) objective-keys objective-coefficients objective-sizes v last n
+    unfolding problemApplied basisOf
+    held-objective =
+        let o = objective-others in
+        let w = held .count-low in
+        record {
+          limits =
+              limits-more limits 18 _ objective-keys objective-coefficients (length-set keys _ k) (length-set coefficients _ c)
+              (set-all (λ i x. x ≤ degreeAt i * 2 ^ 56) keys _ k 0 (limits .keys-low) (rw (objective-degree (864 + getD sizes 18 0) (omega arith)) low))
+              (omega arith);
+          variables = held .variables;
+          variables-low = held .variables-low;
+          count = held .count;
+          count-low = held .count-low;
+          nine = held .nine;
+          bases = λ i q. o .bases i q (λ e. omega arith) ∙ held .bases i q;
+          objective = objective-more ∙ ap (λ (x : List Term). x ++ (term k c ∷ [])) (held .objective);
+          laid = λ i q. o .polynomials i (omega arith) (λ e. omega arith) ∙ held .laid i q ∙ multiplier-same _ _ refl i;
+          latest = held .latest ∙ multiplier-same _ _ refl n;
+          filled = held .filled;
+          empty = λ i q l. o .lengths (9 + i) (λ e. omega arith) ∙ held .empty i q l;
+        }
+
+  -- ---- a term of the constraint begun last
+  pub held-term : (k : ℕ) (c : ℤ) → 0 < n → last .count < 32 → k ≤ 16 * 2 ^ 56
+      → Held (problemApplied p (I.Term k c)) keys coefficients sizes v
+      (record { keys = set (last .keys) (last .count) k; coefficients = set (last .coefficients) (last .count) c; count = last .count + 1 }) n
+  unfolding problemApplied basisOf
+  held-term k c h r low =
+      let f = held .filled in
+      let e = held .count in
+      record {
+        limits = limits;
+        variables = held .variables;
+        variables-low = held .variables-low;
+        count = appended-length (p .constraints) _ (term k c) ∙ held .count;
+        count-low = held .count-low;
+        nine = held .nine;
+        bases = held .bases;
+        objective = held .objective;
+        laid = λ i q. held .laid i q ∙ sym (term-other p k c (omega arith) i (omega arith));
+        latest =
+            terms-more (last .count) (last .keys) (last .coefficients) k c (omega arith) (omega arith)
+            ∙ ap (λ (x : List Term). x ++ (term k c ∷ [])) (held .latest)
+            ∙ sym (term-here p k c (omega arith) n e);
+        filled = filled-more 16 32 (last .keys) (last .coefficients) (last .count) k c f r low;
+        empty = held .empty;
+      }
+
+  -- ---- the constraint begun last is laid out
+  abbrev laid-keys : List ℕ
+  laid-keys = paste keys (576 + 32 * n) (last .keys) (last .count)
+
+  abbrev laid-coefficients : List ℤ
+  laid-coefficients = paste coefficients (32 * n) (last .coefficients) (last .count)
+
+  abbrev laid-sizes : List ℕ
+  laid-sizes = set sizes (9 + n) (last .count)
+
+  laid-most : mostAt (9 + n) ≡ 32
+  laid-most = let w = held .count-low in multiplier-most (9 + n) (omega arith) (omega arith)
+
+  wider : {A : Type 0} (a m most : ℕ) (l l′ : List A) → m ≤ most → Apart a m l l′ → Apart a most l l′
+  wider a m most l l′ h q = record { same = λ b x d. q .same b x (⊎-elim inl (λ z. inr (omega arith)) d) }
+
+  laid-others : Others (9 + n) keys coefficients sizes laid-keys laid-coefficients laid-sizes
+  laid-others =
+      let f = held .filled in
+      let w = held .count-low in
+      let u = limits .keys-length in
+      let x = limits .coefficients-length in
+      others limits (9 + n) _ laid-keys laid-coefficients (omega arith)
+      (rw (polynomial-place n, laid-most) (wider _ _ 32 keys laid-keys (f .count-low) (apart-paste keys (576 + 32 * n) (last .keys) 0 (last .count) (omega arith) (omega arith))))
+      (coefficients-apart limits n laid-coefficients (omega arith)
+      (rw laid-most (wider _ _ 32 coefficients laid-coefficients (f .count-low) (apart-paste coefficients (32 * n) (last .coefficients) (pos 0) (last .count) (omega arith) (omega arith)))))
+
+  laid-here : polynomialIn laid-keys laid-coefficients laid-sizes n ≡ multiplier p n
+  laid-here =
+      let f = held .filled in
+      let w = held .count-low in
+      let s = limits .sizes-length in
+      let u = limits .keys-length in
+      let x = limits .coefficients-length in
+      rw (getD-set-same sizes (9 + n) (last .count) 0 (omega arith))
+      (terms-same (last .count) _ _ _ _
+      (paste-here keys (576 + 32 * n) (last .keys) 0 (last .count) (omega arith) (omega arith))
+      (paste-here coefficients (32 * n) (last .coefficients) (pos 0) (last .count) (omega arith) (omega arith))
+      ∙ held .latest)
+
+  laid-limits : FlatLimits laid-keys laid-coefficients laid-sizes
+  laid-limits =
+      let f = held .filled in
+      let w = held .count-low in
+      let u = limits .keys-length in
+      let x = limits .coefficients-length in
+      limits-more limits (9 + n) _ laid-keys laid-coefficients
+      (length-paste keys (576 + 32 * n) (last .keys) (last .count) (omega arith) (omega arith))
+      (length-paste coefficients (32 * n) (last .coefficients) (last .count) (omega arith) (omega arith))
+      (paste-all keys (576 + 32 * n) (last .keys) 0 (λ i y. y ≤ degreeAt i * 2 ^ 56) (limits .keys-low) (last .count) (omega arith) (omega arith)
+      (λ i q. rw (multiplier-degree (576 + 32 * n + i) (omega arith) (omega arith)) (f .keys-low i)))
+      (rw laid-most (f .count-low))
+
+  -- the next constraint begins
+  pub held-constraint : n < 8 → Held (problemApplied p I.Constraint) laid-keys laid-coefficients laid-sizes v noTerms (n + 1)
+  unfolding problemApplied basisOf termsIn listed
+  held-constraint h =
+      let o = laid-others in
+      let e = held .count in
+      record {
+        limits = laid-limits;
+        variables = held .variables;
+        variables-low = held .variables-low;
+        count = rw (length-append (p .constraints) ([] ∷ [])) (omega arith);
+        count-low = omega arith;
+        nine = held .nine;
+        bases = λ i q. o .bases i q (λ e. omega arith) ∙ held .bases i q;
+        objective = o .polynomials 9 (omega arith) (λ e. omega arith) ∙ held .objective;
+        laid = λ i q.
+            ⊎-elim
+            (λ e. rw e laid-here)
+            (λ d. o .polynomials i (omega arith) (λ e. omega arith) ∙ held .laid i d)
+            (eq-or-lt-of-le {n = i} {m = n} (omega arith))
+            ∙ sym (begun-before p i (omega arith));
+        latest = rw e at (sym (begun-here p));
+        filled = filled-none 16 32;
+        empty = λ i q l. o .lengths (9 + i) (λ e. omega arith) ∙ held .empty i (omega arith) l;
+      }
+
+  -- the end of the stream
+  pub held-end : FlatProblem p laid-keys laid-coefficients (set laid-sizes 19 n)
+  unfolding termsIn listed
+  held-end =
+      let o = laid-others in
+      let e = held .count in
+      let w = held .count-low in
+      let s = limits .sizes-length in
+      record {
+        limits = limits-more laid-limits 19 n laid-keys laid-coefficients refl refl (laid-limits .keys-low) w;
+        bases = λ j q. rw (getD-set-other laid-sizes 19 j n 0 (λ e. omega arith)) (o .bases j q (λ e. omega arith) ∙ held .bases j q);
+        multipliers = λ j q. rw (getD-set-other laid-sizes 19 (9 + j) n 0 (λ e. omega arith)) (all j q);
+        objective = rw (getD-set-other laid-sizes 19 18 n 0 (λ e. omega arith)) (o .polynomials 9 (omega arith) (λ e. omega arith) ∙ held .objective);
+        constraints = getD-set-same laid-sizes 19 n 0 (rw (length-set sizes (9 + n) (last .count)) (omega arith)) ∙ sym e;
+      }
+    where
+      all : (j : ℕ) → j < 9 → polynomialIn laid-keys laid-coefficients laid-sizes j ≡ multiplier p j
+      all j q =
+          let o = laid-others in
+          let e = held .count in
+          ⊎-elim
+          (λ d. o .polynomials j (omega arith) (λ e. omega arith) ∙ held .laid j d)
+          (λ d.
+          ⊎-elim
+          (λ e. subst (λ (x : ℕ). polynomialIn laid-keys laid-coefficients laid-sizes x ≡ multiplier p x) e laid-here)
+          (λ l. rw (o .lengths (9 + j) (λ e. omega arith) ∙ held .empty j (omega arith) q) (sym (multiplier-none p j (omega arith))))
+          (eq-or-lt-of-le {n = n} {m = j} d))
+          (lt-or-le j n)
+
+-- ---- before the first command
+pub held-start : (keys : List ℕ) (coefficients : List ℤ) (sizes : List ℕ) (one : Polynomial) → FlatZero keys coefficients sizes
+    → FilledTerms 16 32 (one .keys) (one .coefficients) (one .count) → terms one ≡ term 0 (pos 1) ∷ [] → Held noProblem keys coefficients sizes 0 one 0
+unfolding basisOf multiplier termsIn listed
+held-start keys coefficients sizes one z f e =
+    rw (z .keys-zero, z .coefficients-zero, z .sizes-zero)
+    (record {
+      limits = record {
+        keys-length = length-replicate {A = ℕ} 1120 0;
+        coefficients-length = length-replicate {A = ℤ} 544 (pos 0);
+        sizes-length = refl;
+        sizes-low = λ i. bounded-zeros (mostAt i) 20 i;
+        keys-low = λ i. bounded-zeros (degreeAt i * 2 ^ 56) 1120 i;
+      };
+      variables = refl;
+      variables-low = zero-le;
+      count = refl;
+      count-low = zero-le;
+      nine = refl;
+      bases = λ j _. rw (none j, nothing-basis j);
+      objective = refl;
+      laid = λ j h. absurd (omega arith);
+      latest = e;
+      filled = f;
+      empty = λ j _ _. none (9 + j);
+    })
+  where
+    none : (i : ℕ) → getD (replicate {A = ℕ} 20 0) i 0 ≡ 0
+    none i = let b = bounded-zeros 0 20 i in omega arith
