@@ -8,6 +8,10 @@ use Rattle.joining_rule.specs.Sets.{In}
 use Rattle.key_set.specs.Table.{Stored}
 use Rattle.joining_rule.specs.Join.{linked}
 
+-- what a sum is divided by: the remainder is its place. Any number would do; with this one few sums share a place
+abbrev pub sumDivisor : ℕ
+sumDivisor = 1017
+
 -- a place that has s + 1 says that no t + s is in S
 pub record Apart (T apart S : List ℕ) : Type 0 where
   pub at : (p s : ℕ) → getD apart p 0 ≡ s + 1 → linked S T s ≡ false

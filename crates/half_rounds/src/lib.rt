@@ -8,7 +8,7 @@ ghost use lib.ListN.{length};
 ghost use Rattle.key_set.specs.Table.{keysIn, Stored};
 ghost use Rattle.half_rounds.specs.Limits.{ForSums, JoiningAsks};
 ghost use Rattle.half_rounds.specs.Filled.{Extending, Marked};
-ghost use Rattle.half_rounds.specs.Sums.{Apart, Seen, AddedSeen};
+ghost use Rattle.half_rounds.specs.Sums.{sumDivisor, Apart, Seen, AddedSeen};
 ghost use Rattle.half_rounds.specs.Ruled.{Present, Ruled};
 ghost use Rattle.joining_rule.specs.Join.{linked, renamed, merged, joinPair, joinRow, join};
 ghost use Rattle.joining_rule.specs.Extend.{addTerms, addPair, addRow, extend};
@@ -42,11 +42,13 @@ pub fn merge(labels: &mut [u8], a: u8, b: u8)
     }
 }
 
+const SUM_DIVISOR: usize = 1017;
+
 // The place of a sum of two keys.
 fn place(key: u64) -> usize
-    ensures { λ r. ⌜ r ≡ key % 1021 ⌝ }
+    ensures { λ r. ⌜ r ≡ key % sumDivisor ⌝ }
 {
-    (key % 1021) as usize
+    (key % (SUM_DIVISOR as u64)) as usize
 }
 
 // Whether t + s is in the support for some exponent t of the multiplier.
@@ -82,7 +84,7 @@ fn is_linked_sum(
         × Apart (now (exponents .entry)) (now (apart .exit)) (keysIn len (now (table .entry)))
         ⌝ }
 {
-    if apart.len() < 1021 {
+    if apart.len() < SUM_DIVISOR {
         return is_linked(table, index, len, exponents, s);
     }
     let p = place(s);
@@ -316,7 +318,7 @@ fn add_sum(
         (now (table .entry)) r (now (table .exit)) (now (index .exit)) (now (seen .exit))
         ⌝ }
 {
-    if seen.len() < 1021 {
+    if seen.len() < SUM_DIVISOR {
         return add_terms(table, index, len, exponents, s);
     }
     let p = place(s);

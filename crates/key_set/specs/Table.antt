@@ -26,21 +26,26 @@ Finds k l (At p) = (p < length l) × (getD l p 0 ≡ k)
 Finds k l Nowhere = member k l ≡ false
 
 -- ---- the index
+-- what a key is divided by: the remainder is its place in the index. Any number up to 4,096 would do; with this one few
+-- keys share a place
+abbrev pub divisor : ℕ
+divisor = 3821
+
 -- one more than the last place before n with a number of remainder h, or 0
 unfoldable pub lastWith : ℕ → List ℕ → ℕ → ℕ
 lastWith h t zero = 0
-lastWith h t (suc n) = cond (eqb (getD t n 0 % 4093) h) (suc n) (lastWith h t n)
+lastWith h t (suc n) = cond (eqb (getD t n 0 % divisor) h) (suc n) (lastWith h t n)
 
 -- the index of the table's first n numbers: for each remainder the last of them, and for each of them the one before it
 -- with the same remainder
 pub record Indexed (idx t : List ℕ) (n : ℕ) : Type 0 where
   pub long : length idx ≡ 6144
-  pub last : (h : ℕ) → h < 4093 → getD idx h 0 ≡ lastWith h t n
-  pub before : (p : ℕ) → p < n → getD idx (4096 + p) 0 ≡ lastWith (getD t p 0 % 4093) t p
+  pub last : (h : ℕ) → h < divisor → getD idx h 0 ≡ lastWith h t n
+  pub before : (p : ℕ) → p < n → getD idx (4096 + p) 0 ≡ lastWith (getD t p 0 % divisor) t p
 
 -- the index of n numbers, with k as one more
 unfoldable pub noted : List ℕ → ℕ → ℕ → List ℕ
-noted idx n k = set (set idx (4096 + n) (getD idx (k % 4093) 0)) (k % 4093) (n + 1)
+noted idx n k = set (set idx (4096 + n) (getD idx (k % divisor) 0)) (k % divisor) (n + 1)
 
 -- ---- growth
 -- the table t, grown to hold the set S: r is the number of its keys, which t′ holds, or 2,049 where S has more than

@@ -1,18 +1,20 @@
 // The support set: keys in a lent table, its first `len` numbers, each once, in the order in which they came. An index
-// finds them: its place key % 4093 has one more than the place of the last key with that remainder, or 0, and its place
+// finds them: its place key % DIVISOR has one more than the place of the last key with that remainder, or 0, and its place
 // 4096 + p has the same for the keys before place p, so that a search goes from the last key with a remainder to the
 // first.
 ghost use mathlib.Core.Path.{_≡_};
 ghost use Prim.Native.Nat.{_%_, _<_};
 ghost use lib.ListN.{length, take};
 ghost use Rattle.joining_rule.specs.Sets.{member, insert};
-ghost use Rattle.key_set.specs.Table.{keysIn, Holds, Indexed, noted, Finds, Stored};
+ghost use Rattle.key_set.specs.Table.{divisor, keysIn, Holds, Indexed, noted, Finds, Stored};
+
+const DIVISOR: u64 = 3821;
 
 // The place of a key's remainder in the index.
 fn slot(key: u64) -> usize
-    ensures { λ r. ⌜ r ≡ key % 4093 ⌝ }
+    ensures { λ r. ⌜ r ≡ key % divisor ⌝ }
 {
-    (key % 4093) as usize
+    (key % DIVISOR) as usize
 }
 
 // Where a key stands.

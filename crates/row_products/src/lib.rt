@@ -170,7 +170,7 @@ fn is_low(z: i64) -> bool
 fn hint(key: u64) -> usize
     ensures { λ r. ⌜ r < 2048 ⌝ }
 {
-    (key % 2039) as usize
+    (key % 2027) as usize
 }
 
 // A number of 16 bits as a place.
