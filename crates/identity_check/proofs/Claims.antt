@@ -1,10 +1,9 @@
 -- The claim, taken away: its factors, and its coefficient at a key.
 use mathlib.Core.Path.{_≡_, refl, sym}
 use mathlib.Core.List.{List, [], _∷_, _++_}
-use Prim.Native.Nat.{ℕ, zero, suc, _+_}
-use native.Mathlib.Nat.{zero-add}
+use Prim.Native.Nat.{ℕ, zero, suc}
 use native.Mathlib.Omega.{arith}
-use lib.IntN.{ℤ, pos, negℤ, one, _+ℤ_, _-ℤ_, _*ℤ_, +ℤ-idl, +ℤ-idr, *ℤ-one, negℤ-+ℤ}
+use lib.IntN.{ℤ, pos, negℤ, _+ℤ_, _-ℤ_, _*ℤ_, +ℤ-idl, +ℤ-idr, negℤ-+ℤ}
 use Rattle.integers.proofs.Ring.{view, diffs, ⊖-eq, negℤ-*ℤ, *ℤ-assoc, *ℤ-+ℤ}
 use Rattle.polynomial.specs.Terms.{Term, term}
 use Rattle.polynomial.specs.Algebra.{sum, match, coefficient, scale}
@@ -33,14 +32,11 @@ ring : (d a b s m : ℤ) → negℤ (d *ℤ a) *ℤ s +ℤ negℤ (d *ℤ b) *�
 ring d a b s m =
     rw (negℤ-*ℤ (d *ℤ a) s, *ℤ-assoc d a s, negℤ-*ℤ (d *ℤ b) m, *ℤ-assoc d b m, +ℤ-idr (b *ℤ m), *ℤ-+ℤ d (a *ℤ s) (b *ℤ m)) (sym (negℤ-+ℤ (d *ℤ (a *ℤ s)) (d *ℤ (b *ℤ m))))
 
-unmoved : (k : ℕ) (P : List Term) → sum (λ t. match k (0 + t)) P ≡ sum (match k) P
-unmoved k P = simp zero-add
-
 pub claim-sum : (h : Header) (P : List Term) (r : Negated) → Negates (h .side) (h .scale) (h .p) (h .q) r → (k : ℕ)
-    → r .objective *ℤ sum (λ t. match k (0 + t)) P +ℤ r .constant *ℤ pos 1 *ℤ match k 0 ≡ negℤ (coefficient k (claimOf P h))
-unfolding claimOf coefficient one
+    → r .objective *ℤ sum (match k) P +ℤ r .constant *ℤ match k 0 ≡ negℤ (coefficient k (claimOf P h))
+unfolding claimOf coefficient
 claim-sum h P r n k =
     let A = turned (h .side) (pos (h .q)) in
     let B = turned (h .side) (negℤ (h .p)) in
-    rw (unmoved k P, *ℤ-one (r .constant), n .objective, n .constant, sum-scale (match k) (pos (h .scale)) (scale A P ++ (term 0 B ∷ [])), sum-append (match k) (scale A P) (term 0 B ∷ []), sum-scale (match k) A P)
+    rw (n .objective, n .constant, sum-scale (match k) (pos (h .scale)) (scale A P ++ (term 0 B ∷ [])), sum-append (match k) (scale A P) (term 0 B ∷ []), sum-scale (match k) A P)
     (ring (pos (h .scale)) A B (sum (match k) P) (match k 0))

@@ -23,7 +23,7 @@ use Rattle.joining_rule.proofs.Rising.{Rising}
 use Rattle.key_set.specs.Table.{keysIn, Holds, Indexed}
 use Rattle.joining_rule.proofs.Elements.{not-nil, in-here, in-there, in-cons, above-in}
 use Rattle.key_set.proofs.Keys.{keys-rising, keys-at, at-keys}
-use Rattle.wide_sums.specs.Sums.{valueAt}
+use Rattle.wide_sums.specs.Sums.{valueAt, Near}
 use Rattle.format.specs.CertificateRules.{Row, Certificate}
 use Rattle.certificate_reader.specs.Rows.{rowsOf}
 use Rattle.format.specs.declared.certificate.Header.{Header}
@@ -77,7 +77,7 @@ equal-zero : (a b : ℤ) → a ≡ b → negℤ a +ℤ b ≡ pos 0
 equal-zero a b e = rw (e, view b .eq) (simp diffs (⊖-eq _ _ _ _ (omega arith)))
 
 -- the places of a table and the elements of its set
-module _ (P Q : List Term) {table : List ℕ} {n : ℕ} (h : Holds table n) (hi : List ℤ) (lo : List ℕ)
+module _ (P Q : List Term) {table : List ℕ} {n : ℕ} (h : Holds table n) (hi lo : List ℤ)
     (v : (q : ℕ) → q < n → valueAt hi lo q ≡ negℤ (coefficient (getD table q 0) P) +ℤ coefficient (getD table q 0) Q) (r : ℕ) (f : SmallestSum table hi lo n n r) where
   equal : (q : ℕ) → q < n → valueAt hi lo q ≡ pos 0 → Equal P Q (getD table q 0)
   equal q b e = zero-equal _ _ (sym (v q b) ∙ e)
@@ -95,35 +95,26 @@ module _ (P Q : List Term) {table : List ℕ} {n : ℕ} (h : Holds table n) (hi 
       (λ k m g. keys-at h k m (λ q b e. rw (← e) (f .least l q b (unequal q b (λ w. g (rw (← e) w))))))
 
 -- ---- the tables at the start and at the end
-pub zeroed-ready : {table idx : List ℕ} {n : ℕ} {hi : List ℤ} {lo : List ℕ} → Zeroed table n hi lo → Indexed idx table n → (c : ℕ) → c ≤ 2 ^ 120 → Ready table idx n hi lo c
-zeroed-ready {n = n} {hi = hi} {lo = lo} z x c h =
+pub zeroed-ready : {table idx : List ℕ} {n : ℕ} {hi lo : List ℤ} → Zeroed table n hi lo → Indexed idx table n → (c : ℕ) → c < 2 ^ 63 → Ready table idx n hi lo c
+zeroed-ready z x c h =
     let few = z .support .few in
     record {
       support = z .support;
       index = x;
-      in-hi = omega (arith, z .in-hi);
-      in-lo = omega (arith, z .in-lo);
-      low = λ q b. let e = z .lo-zero q b in omega arith;
-      small = λ q b. let e : natAbs (valueAt hi lo q) ≡ 0 = rw (z .hi-zero q b, z .lo-zero q b) in omega arith;
+      high = record { long = omega (arith, z .in-hi); small = λ q b. omega (arith, ap natAbs (z .hi-zero q b)) };
+      low = record { long = omega (arith, z .in-lo); small = λ q b. omega (arith, ap natAbs (z .lo-zero q b)) };
     }
 
-pub zeroed-value : {table : List ℕ} {n : ℕ} {hi : List ℤ} {lo : List ℕ} → Zeroed table n hi lo → (q : ℕ) → q < n → valueAt hi lo q ≡ pos 0
+pub zeroed-value : {table : List ℕ} {n : ℕ} {hi lo : List ℤ} → Zeroed table n hi lo → (q : ℕ) → q < n → valueAt hi lo q ≡ pos 0
 zeroed-value z q b = rw (z .hi-zero q b, z .lo-zero q b)
 
-kept : {A : Type 0} (d : A) (t₀ t₁ : List A) → length t₁ ≡ length t₀ → ((q : ℕ) → 2048 ≤ q → getD t₁ q d ≡ getD t₀ q d) → Untouched t₀ t₁
-kept d t₀ t₁ e f =
+pub near-untouched : {n c : ℕ} {t₀ t₁ : List ℤ} → n ≤ 2048 → Near n c t₀ t₁ → Untouched t₀ t₁
+near-untouched {t₀ = t₀} {t₁ = t₁} few h =
     record {
-      long = e;
-      rest = ext-getD d _ _ (length-drop 2048 t₁ ∙ ap (λ (n : ℕ). n - 2048) e ∙ sym (length-drop 2048 t₀))
-          (λ q b. getD-drop 2048 t₁ q d ∙ f (2048 + q) (omega arith) ∙ sym (getD-drop 2048 t₀ q d));
+      long = h .long;
+      rest = ext-getD (pos 0) _ _ (length-drop 2048 t₁ ∙ ap (λ (n : ℕ). n - 2048) (h .long) ∙ sym (length-drop 2048 t₀))
+          (λ q b. getD-drop 2048 t₁ q (pos 0) ∙ h .rest (2048 + q) (omega arith) ∙ sym (getD-drop 2048 t₀ q (pos 0)));
     }
-
-module _ {table : List ℕ} {n : ℕ} {hi₀ hi₁ : List ℤ} {lo₀ lo₁ : List ℕ} {f : ℕ → ℤ} {c : ℕ} (few : n ≤ 2048) (g : SumsGrown table n hi₀ lo₀ f c hi₁ lo₁) where
-  pub grown-hi : Untouched hi₀ hi₁
-  grown-hi = kept (pos 0) hi₀ hi₁ (g .hi-length) (λ q b. g .hi-rest q (omega arith))
-
-  pub grown-lo : Untouched lo₀ lo₁
-  grown-lo = kept 0 lo₀ lo₁ (g .lo-length) (λ q b. g .lo-rest q (omega arith))
 
 -- ---- the first places of two arrays
 first-terms : (n : ℕ) (E : List ℕ) (C : List ℤ) → n ≤ length E → termsIn (length (take n E)) (take n E) (take n C) ≡ termsIn n E C
@@ -131,7 +122,7 @@ unfolding termsIn
 first-terms n E C h = rw (length-take-le n E h) (listed-same n _ _ (λ i b. ap₂ term (getD-take n E i 0 b) (getD-take n C i (pos 0) b)))
 
 -- the claim over the first places is the claim over the objective
-pub claim-first : {table : List ℕ} {n : ℕ} {hi₀ hi₁ : List ℤ} {lo₀ lo₁ : List ℕ} (q : Objective) (h : Header) → FilledTerms 32 256 (q .keys) (q .coefficients) (q .count)
+pub claim-first : {table : List ℕ} {n : ℕ} {hi₀ hi₁ lo₀ lo₁ : List ℤ} (q : Objective) (h : Header) → FilledTerms 32 256 (q .keys) (q .coefficients) (q .count)
     → let E = take (q .count) (q .keys) in
     SumsGrown table n hi₀ lo₀ (λ k. negℤ (coefficient k (claimOf (termsIn (length E) E (take (q .count) (q .coefficients))) h))) ((length E + 1) * unit) hi₁ lo₁
     → SumsGrown table n hi₀ lo₀ (λ k. negℤ (coefficient k (claimOf (objectiveTerms q) h))) (257 * unit) hi₁ lo₁
@@ -147,7 +138,7 @@ module _ (p : Problem) (c : Certificate) (s : List ℕ) (header : Header) (keys 
   unfolding multiplierIn
   stands = record { bases = given .bases; multipliers = λ j h. given .multipliers .each j }
 
-  module _ {hi₀ hi₁ hi₂ : List ℤ} {lo₀ lo₁ lo₂ : List ℕ} {a r : ℕ} (z : Zeroed table n hi₀ lo₀)
+  module _ {hi₀ hi₁ hi₂ lo₀ lo₁ lo₂ : List ℤ} {a r : ℕ} (z : Zeroed table n hi₀ lo₀)
       (g : SumsGrown table n hi₀ lo₀ (λ k. negℤ (coefficient k (claimOf (objectiveTerms objective) header))) a hi₁ lo₁)
       (m : Summed (λ p. squares p (rowsOf s)) keys exponents coefficients l table n 9 hi₁ lo₁ hi₂ lo₂) (f : SmallestSum table hi₂ lo₂ n n r) where
     claim-is : (k : ℕ) → coefficient k (claimOf (objectiveTerms objective) header) ≡ coefficient k (claim p (c .header))

@@ -10,7 +10,7 @@ use lib.ListN.{getD}
 use Rattle.wide_sums.specs.Sums.{valueAt}
 use Rattle.identity_check.specs.Compare.{Smaller, SmallestSum}
 
-module _ {table : List ℕ} {hi : List ℤ} {lo : List ℕ} {n : ℕ} where
+module _ {table : List ℕ} {hi lo : List ℤ} {n : ℕ} where
   pub smallest-start : SmallestSum table hi lo n 0 n
   smallest-start = record { none = λ _ k b. absurd (omega arith); there = λ b. absurd (omega arith); least = λ b. absurd (omega arith) }
 

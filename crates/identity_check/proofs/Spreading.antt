@@ -17,37 +17,37 @@ use Rattle.polynomial.specs.Algebra.{sum}
 use Rattle.row_products.specs.Frame.{share, spreadAt, Framed, Entered}
 use Rattle.row_products.proofs.Prefixes.{sum-none, sum-more}
 use Rattle.row_products.proofs.Frames.{rest-none}
-use Rattle.identity_check.specs.Tables.{Ready, SumsGrown}
+use Rattle.identity_check.specs.Tables.{SumsGrown}
 use Rattle.identity_check.specs.Spread.{entryUnit, Spread}
 use Rattle.identity_check.proofs.Growth.{grown-none, grown-same, grown-then}
 
 -- ---- the places before x are spread and 0
-pub record Spreading (keys : List ℕ) (n : ℕ) (B : List ℕ) (G : List Term) (g₀ : List ℤ) (hi₀ : List ℤ) (lo₀ : List ℕ) (x : ℕ) (g₁ : List ℤ) (hi₁ : List ℤ) (lo₁ : List ℕ) : Type 0 where
+pub record Spreading (keys : List ℕ) (n : ℕ) (B : List ℕ) (G : List Term) (g₀ : List ℤ) (hi₀ lo₀ : List ℤ) (x : ℕ) (g₁ : List ℤ) (hi₁ lo₁ : List ℤ) : Type 0 where
   pub within : x ≤ 64 * length B
   pub grown : SumsGrown keys n hi₀ lo₀ (λ k. sum (share B G k) (listed x (λ y. term y (getD g₀ y (pos 0))))) (x * entryUnit) hi₁ lo₁
   pub behind : (y : ℕ) → y < x → getD g₁ y (pos 0) ≡ pos 0
   pub ahead : (y : ℕ) → x ≤ y → getD g₁ y (pos 0) ≡ getD g₀ y (pos 0)
   pub long : length g₁ ≡ 4096
 
-module _ {keys : List ℕ} {n : ℕ} {B : List ℕ} {G : List Term} {g₀ : List ℤ} {hi₀ : List ℤ} {lo₀ : List ℕ} where
-  pub spreading-start : {idx : List ℕ} {c : ℕ} → Ready keys idx n hi₀ lo₀ c → length g₀ ≡ 4096 → Spreading keys n B G g₀ hi₀ lo₀ 0 g₀ hi₀ lo₀
-  spreading-start r l =
+module _ {keys : List ℕ} {n : ℕ} {B : List ℕ} {G : List Term} {g₀ : List ℤ} {hi₀ lo₀ : List ℤ} where
+  pub spreading-start : length g₀ ≡ 4096 → Spreading keys n B G g₀ hi₀ lo₀ 0 g₀ hi₀ lo₀
+  spreading-start l =
       record {
         within = omega arith;
-        grown = grown-none r (λ q b. sum-none (share B G (getD keys q 0)) (λ y. term y (getD g₀ y (pos 0))));
+        grown = grown-none (λ q b. sum-none (share B G (getD keys q 0)) (λ y. term y (getD g₀ y (pos 0))));
         behind = λ y b. absurd (omega arith);
         ahead = λ y b. refl;
         long = l;
       }
 
-  module _ {x : ℕ} {g₁ : List ℤ} {hi₁ : List ℤ} {lo₁ : List ℕ} (h : Spreading keys n B G g₀ hi₀ lo₀ x g₁ hi₁ lo₁) (few : length B ≤ 64) where
+  module _ {x : ℕ} {g₁ : List ℤ} {hi₁ lo₁ : List ℤ} (h : Spreading keys n B G g₀ hi₀ lo₀ x g₁ hi₁ lo₁) (few : length B ≤ 64) where
     module _ (b : x < 64 * length B) where
       pub spreading-entered : {c : ℕ} → Framed (length B) c g₀ → Entered c B x (getD g₁ x (pos 0))
       spreading-entered f =
           rw (h .ahead x (omega arith))
           record { row = f .rows x (omega arith); column = f .columns x (omega arith); small = f .small x (omega arith) }
 
-      pub spreading-more : {hi₂ : List ℤ} {lo₂ : List ℕ} → SumsGrown keys n hi₁ lo₁ (λ k. getD g₁ x (pos 0) *ℤ share B G k x) entryUnit hi₂ lo₂ → Spreading keys n B G g₀ hi₀ lo₀ (x + 1) (set g₁ x (pos 0)) hi₂ lo₂
+      pub spreading-more : {hi₂ lo₂ : List ℤ} → SumsGrown keys n hi₁ lo₁ (λ k. getD g₁ x (pos 0) *ℤ share B G k x) entryUnit hi₂ lo₂ → Spreading keys n B G g₀ hi₀ lo₀ (x + 1) (set g₁ x (pos 0)) hi₂ lo₂
       spreading-more k =
           let l = h .long in
           let i : x < length g₁ = omega arith in
@@ -94,5 +94,5 @@ module _ {keys : List ℕ} {n : ℕ} {B : List ℕ} {G : List Term} {g₀ : List
         go y b true e = h .behind y (ltb-true y x e)
         go y b false e = let q = ltb-false y x e in h .ahead y q ∙ f .rows y b (omega arith)
 
-pub spread-same : {keys : List ℕ} {n : ℕ} {f h : ℕ → ℤ} {hi₀ g₁ hi₁ : List ℤ} {lo₀ lo₁ : List ℕ} → Spread keys n f hi₀ lo₀ g₁ hi₁ lo₁ → ((k : ℕ) → f k ≡ h k) → Spread keys n h hi₀ lo₀ g₁ hi₁ lo₁
+pub spread-same : {keys : List ℕ} {n : ℕ} {f h : ℕ → ℤ} {hi₀ g₁ hi₁ lo₀ lo₁ : List ℤ} → Spread keys n f hi₀ lo₀ g₁ hi₁ lo₁ → ((k : ℕ) → f k ≡ h k) → Spread keys n h hi₀ lo₀ g₁ hi₁ lo₁
 spread-same d e = record { grown = grown-same (d .grown) e (omega arith); cleared = d .cleared; long = d .long }

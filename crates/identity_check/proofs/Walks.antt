@@ -23,7 +23,6 @@ use Rattle.row_products.specs.Outer.{Below}
 use Rattle.row_products.specs.Gather.{ShapedRows, Gathered}
 use Rattle.row_products.proofs.Gathering.{upper-none, Framing, gram-framed, on-bases, on-low, zero-below}
 use Rattle.identity_check.specs.declared.Lengths.{Lengths}
-use Rattle.identity_check.specs.Tables.{Ready}
 use Rattle.identity_check.specs.Spread.{Spread, multiplierIn, Flattened}
 use Rattle.identity_check.specs.Walk.{Summed}
 use Rattle.identity_check.proofs.Growth.{grown-none, grown-same, grown-then}
@@ -57,7 +56,7 @@ module _ {s keys exponents : List ℕ} {coefficients : List ℤ} {l : Lengths} (
           small = w .below .small;
         }
 
-    pub gathered-summed : {table : List ℕ} {n : ℕ} {hi₀ hi₁ : List ℤ} {lo₀ lo₁ : List ℕ} {g₁ : List ℤ} → j < 9
+    pub gathered-summed : {table : List ℕ} {n : ℕ} {hi₀ hi₁ lo₀ lo₁ : List ℤ} {g₁ : List ℤ} → j < 9
         → Spread table n (halfAt (part 64 (l .sizes) keys j) (multiplierIn exponents coefficients (l .counts) j) g) hi₀ lo₀ g₁ hi₁ lo₁
         → Summed (λ p. squares p (rowsOn j (rowsOf s))) keys exponents coefficients l table n 1 hi₀ lo₀ hi₁ lo₁
     unfolding halfAt
@@ -70,17 +69,17 @@ module _ {s keys exponents : List ℕ} {coefficients : List ℤ} {l : Lengths} (
           are = λ p t k. rw (t .bases j b, t .multipliers j b) (sym (gram-table p j rs (rows-on j (rowsOf s)) low g (w .holds) k));
         }
 
-pub spread-below : {table : List ℕ} {n : ℕ} {f : ℕ → ℤ} {g₁ hi₀ hi₁ : List ℤ} {lo₀ lo₁ : List ℕ} → Spread table n f hi₀ lo₀ g₁ hi₁ lo₁ → Below 0 g₁
+pub spread-below : {table : List ℕ} {n : ℕ} {f : ℕ → ℤ} {g₁ hi₀ hi₁ lo₀ lo₁ : List ℤ} → Spread table n f hi₀ lo₀ g₁ hi₁ lo₁ → Below 0 g₁
 spread-below d = record { long = d .long; small = λ x b. omega (arith, ap natAbs (d .cleared x b)) }
 
 -- ---- all bases
-module _ (s : List ℕ) {keys exponents : List ℕ} {coefficients : List ℤ} {l : Lengths} {table : List ℕ} {n : ℕ} {hi₀ : List ℤ} {lo₀ : List ℕ} where
-  pub walked-start : {idx : List ℕ} {c : ℕ} → Ready table idx n hi₀ lo₀ c → Summed (λ p. byBasis p (rowsOf s) 0) keys exponents coefficients l table n 0 hi₀ lo₀ hi₀ lo₀
+module _ (s : List ℕ) {keys exponents : List ℕ} {coefficients : List ℤ} {l : Lengths} {table : List ℕ} {n : ℕ} {hi₀ lo₀ : List ℤ} where
+  pub walked-start : Summed (λ p. byBasis p (rowsOf s) 0) keys exponents coefficients l table n 0 hi₀ lo₀ hi₀ lo₀
   unfolding byBasis coefficient
-  walked-start r = record { sums = λ k. pos 0; grown = grown-none r (λ q b. refl); are = λ p t k. refl }
+  walked-start = record { sums = λ k. pos 0; grown = grown-none (λ q b. refl); are = λ p t k. refl }
 
-  module _ {j : ℕ} {hi₁ : List ℤ} {lo₁ : List ℕ} (w : Summed (λ p. byBasis p (rowsOf s) j) keys exponents coefficients l table n j hi₀ lo₀ hi₁ lo₁) where
-    pub walked-more : {hi₂ : List ℤ} {lo₂ : List ℕ} → Summed (λ p. squares p (rowsOn j (rowsOf s))) keys exponents coefficients l table n 1 hi₁ lo₁ hi₂ lo₂ → Summed (λ p. byBasis p (rowsOf s) (j + 1)) keys exponents coefficients l table n (j + 1) hi₀ lo₀ hi₂ lo₂
+  module _ {j : ℕ} {hi₁ lo₁ : List ℤ} (w : Summed (λ p. byBasis p (rowsOf s) j) keys exponents coefficients l table n j hi₀ lo₀ hi₁ lo₁) where
+    pub walked-more : {hi₂ lo₂ : List ℤ} → Summed (λ p. squares p (rowsOn j (rowsOf s))) keys exponents coefficients l table n 1 hi₁ lo₁ hi₂ lo₂ → Summed (λ p. byBasis p (rowsOf s) (j + 1)) keys exponents coefficients l table n (j + 1) hi₀ lo₀ hi₂ lo₂
     unfolding byBasis
     walked-more d =
         rw (add-one j)

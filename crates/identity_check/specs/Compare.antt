@@ -31,12 +31,12 @@ differenceOf (some k) = Differs k
 differenceOf none = Same
 
 -- the first n numbers of the table differ, and the sums at their places are 0
-pub record Zeroed (table : List ℕ) (n : ℕ) (hi : List ℤ) (lo : List ℕ) : Type 0 where
+pub record Zeroed (table : List ℕ) (n : ℕ) (hi lo : List ℤ) : Type 0 where
   pub support : Holds table n
   pub in-hi : 2048 ≤ length hi
   pub in-lo : 2048 ≤ length lo
   pub hi-zero : (q : ℕ) → q < n → getD hi q (pos 0) ≡ pos 0
-  pub lo-zero : (q : ℕ) → q < n → getD lo q 0 ≡ 0
+  pub lo-zero : (q : ℕ) → q < n → getD lo q (pos 0) ≡ pos 0
 
 -- r is the one of the places a and b with the smaller key, where a may be no place below n
 pub record Smaller (table : List ℕ) (n a b r : ℕ) : Type 0 where
@@ -45,7 +45,7 @@ pub record Smaller (table : List ℕ) (n a b r : ℕ) : Type 0 where
   pub second : getD table r 0 ≤ getD table b 0
 
 -- r is the place of the smallest of the first m keys whose sum is not 0, and n where there is none
-pub record SmallestSum (table : List ℕ) (hi : List ℤ) (lo : List ℕ) (n m r : ℕ) : Type 0 where
+pub record SmallestSum (table : List ℕ) (hi lo : List ℤ) (n m r : ℕ) : Type 0 where
   pub none : n ≤ r → (k : ℕ) → k < m → valueAt hi lo k ≡ pos 0
   pub there : r < n → valueAt hi lo r ≡ pos 0 → ⊥
   pub least : r < n → (k : ℕ) → k < m → (valueAt hi lo k ≡ pos 0 → ⊥) → getD table r 0 ≤ getD table k 0

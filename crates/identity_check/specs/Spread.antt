@@ -2,7 +2,7 @@
 use mathlib.Core.Path.{_≡_}
 use mathlib.Core.List.{List}
 use Prim.Native.Nat.{ℕ, _*_, _^_, _≤_, _<_}
-use lib.IntN.{ℤ, pos}
+use lib.IntN.{ℤ, pos, natAbs}
 use lib.ListN.{length, getD, drop}
 use Rattle.polynomial.specs.Terms.{Term}
 use Rattle.problem_reader.specs.TermArrays.{termsIn}
@@ -26,10 +26,10 @@ pub record Spreadable (basis exponents : List ℕ) (coefficients : List ℤ) : T
   pub paired : length exponents ≤ length coefficients
   pub few : length exponents ≤ 32
   pub low : Bounded (16 * 2 ^ 56) exponents
+  pub coefficients-small : (i : ℕ) → natAbs (getD coefficients i (pos 0)) ≤ 2 ^ 15
 
 -- the sums grew by f, what a table gives, and all its entries are 0
-pub record Spread (keys : List ℕ) (n : ℕ) (f : ℕ → ℤ) (hi₀ : List ℤ) (lo₀ : List ℕ) (g₁ : List ℤ) (hi₁ : List ℤ)
-    (lo₁ : List ℕ) : Type 0 where
+pub record Spread (keys : List ℕ) (n : ℕ) (f : ℕ → ℤ) (hi₀ lo₀ g₁ hi₁ lo₁ : List ℤ) : Type 0 where
   pub grown : SumsGrown keys n hi₀ lo₀ f tableUnit hi₁ lo₁
   pub cleared : (x : ℕ) → x < 4096 → getD g₁ x (pos 0) ≡ pos 0
   pub long : length g₁ ≡ 4096
@@ -39,7 +39,8 @@ unfoldable pub multiplierIn : List ℕ → List ℤ → List ℕ → ℕ → Lis
 multiplierIn exponents coefficients counts j =
     termsIn (getD counts j 0) (drop (32 * j) exponents) (drop (32 * j) coefficients)
 
--- the flat arrays of a problem
+-- the flat arrays of a problem; the coefficients of constraints have 16 bits
 pub record Flattened (keys exponents : List ℕ) (coefficients : List ℤ) (l : Lengths) : Type 0 where
   pub arrays : Arrays keys (l .sizes) exponents (l .counts)
   pub coefficients-long : length coefficients ≡ 288
+  pub coefficients-small : (i : ℕ) → natAbs (getD coefficients i (pos 0)) ≤ 2 ^ 15

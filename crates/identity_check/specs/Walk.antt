@@ -19,7 +19,7 @@ pub record StandsFlat (p : Problem) (keys exponents : List ℕ) (coefficients : 
 
 -- the sums grew by a polynomial Q of the problem, and by at most what c tables add
 pub record Summed (Q : Problem → List Term) (keys exponents : List ℕ) (coefficients : List ℤ) (l : Lengths)
-    (table : List ℕ) (n c : ℕ) (hi₀ : List ℤ) (lo₀ : List ℕ) (hi₁ : List ℤ) (lo₁ : List ℕ) : Type 0 where
+    (table : List ℕ) (n c : ℕ) (hi₀ lo₀ hi₁ lo₁ : List ℤ) : Type 0 where
   pub sums : ℕ → ℤ
   pub grown : SumsGrown table n hi₀ lo₀ sums (c * tableUnit) hi₁ lo₁
   pub are : (p : Problem) → StandsFlat p keys exponents coefficients l → (k : ℕ) → sums k ≡ coefficient k (Q p)

@@ -2,11 +2,11 @@
 // squares of the rows are added up at each key that is compared; a sum that is not 0 is a difference.
 ghost use mathlib.Core.Path.{_≡_};
 ghost use Prim.Native.Nat.{_+_, _*_, _^_, _≤_, _<_};
-ghost use lib.IntN.{pos, natAbs, negℤ, _*ℤ_};
+ghost use lib.IntN.{natAbs, negℤ, _*ℤ_};
 ghost use lib.ListN.{length, getD};
 ghost use Rattle.key_set.specs.Table.{Holds};
 ghost use Rattle.key_set.specs.Table as Support;
-ghost use Rattle.wide_sums.specs.Sums.{Sums};
+ghost use Rattle.wide_sums.specs.Sums.{valueOf};
 ghost use Rattle.problem_reader.specs.TermArrays.{termsIn};
 ghost use Rattle.polynomial.specs.Algebra.{sum, match, coefficient};
 ghost use Rattle.format.specs.ProblemRules.{Problem};
@@ -17,9 +17,10 @@ ghost use Rattle.accepting.specs.Identity.{squares, claimOf};
 ghost use Rattle.row_products.specs.Gram.{rowsOn};
 ghost use Rattle.accepting.specs.Judgement.{differenceKey};
 ghost use Rattle.row_products.specs.Frame.{share, spreadAt, halfAt, Framed, Entered};
+ghost use Rattle.row_products.specs.Fold.{foldedMost};
 ghost use Rattle.row_products.specs.Outer.{Below};
 ghost use Rattle.row_products.specs.Gather.{ShapedRows};
-ghost use Rattle.identity_check.specs.Tables.{unit, Sought, Ready, SumsGrown, Addable, Negates};
+ghost use Rattle.identity_check.specs.Tables.{unit, factorMost, Sought, Ready, SumsGrown, Scaled, Addable, Negates};
 ghost use Rattle.identity_check.specs.Spread.{entryUnit, tableUnit, Spreadable, Spread, multiplierIn, Flattened};
 ghost use Rattle.identity_check.specs.Walk.{Summed};
 ghost use Rattle.identity_check.specs.Compare.{differenceOf, Zeroed, Smaller, SmallestSum, Comparable, Given, Untouched};
@@ -36,36 +37,36 @@ fn place_of(table: &[u64], n: usize, index: &[u16; 6144], key: u64) -> usize
     }
 }
 
-// Adds a product at the place of a key, where it has one.
+// Adds c times a number, in its halves, at the place of a key, where it has one.
 fn add_term(
     table: &[u64],
     n: usize,
     index: &[u16; 6144],
     hi: &mut [i64],
-    lo: &mut [u64],
+    lo: &mut [i64],
     key: u64,
-    x: i64,
+    x: wide_sums::Halves,
     c: i32,
 )
-    requires { ⌜ Ready (now table) (now index) n (now hi) (now lo) unit × (natAbs x ≤ 2 ^ 60) ⌝ }
+    requires { ⌜ Ready (now table) (now index) n (now hi) (now lo) unit × Scaled x c ⌝ }
     ensures { λ _. ⌜
-        SumsGrown (now (table .entry)) n (now (hi .entry)) (now (lo .entry)) (λ k. x *ℤ c *ℤ match k key) unit
-        (now (hi .exit)) (now (lo .exit))
+        SumsGrown (now (table .entry)) n (now (hi .entry)) (now (lo .entry))
+        (λ k. valueOf (x .high) (x .low) *ℤ c *ℤ match k key) unit (now (hi .exit)) (now (lo .exit))
         ⌝ }
 {
     let p = place_of(table, n, index, key);
     if p < n {
-        wide_sums::add_scaled(hi, lo, p, x, c as i64);
+        wide_sums::add(hi, lo, p, x, c as i64);
     }
 }
 
-// Adds x times a polynomial, moved by a key.
+// Adds x times a polynomial, moved by a key. The number x is cut once for all terms.
 fn add_terms(
     table: &[u64],
     n: usize,
     index: &[u16; 6144],
     hi: &mut [i64],
-    lo: &mut [u64],
+    lo: &mut [i64],
     exponents: &[u64],
     coefficients: &[i32],
     key: u64,
@@ -80,6 +81,7 @@ fn add_terms(
         (length (now (exponents .entry)) * unit) (now (hi .exit)) (now (lo .exit))
         ⌝ }
 {
+    let h = wide_sums::cut(x);
     let mut t = 0;
     while t < exponents.len() {
         add_term(
@@ -89,9 +91,59 @@ fn add_terms(
             hi,
             lo,
             key + exponents[t],
-            x,
+            h,
             coefficients[t],
         );
+        t += 1;
+    }
+}
+
+// Adds a number at the place of a key, where it has one.
+fn add_number(
+    table: &[u64],
+    n: usize,
+    index: &[u16; 6144],
+    hi: &mut [i64],
+    lo: &mut [i64],
+    key: u64,
+    y: i64,
+)
+    requires { ⌜ Ready (now table) (now index) n (now hi) (now lo) unit ⌝ }
+    ensures { λ _. ⌜
+        SumsGrown (now (table .entry)) n (now (hi .entry)) (now (lo .entry)) (λ k. y *ℤ match k key) unit
+        (now (hi .exit)) (now (lo .exit))
+        ⌝ }
+{
+    add_term(table, n, index, hi, lo, key, wide_sums::cut(y), 1);
+}
+
+// Adds x times the objective. Its coefficients have 32 bits, so each product is made first, and then cut.
+fn add_objective(
+    table: &[u64],
+    n: usize,
+    index: &[u16; 6144],
+    hi: &mut [i64],
+    lo: &mut [i64],
+    exponents: &[u64],
+    coefficients: &[i32],
+    x: i64,
+)
+    requires { ⌜
+        Ready (now table) (now index) n (now hi) (now lo) (length (now exponents) * unit)
+        × (length (now exponents) ≤ length (now coefficients))
+        × (natAbs x ≤ factorMost)
+        ⌝ }
+    ensures { λ _. ⌜
+        SumsGrown (now (table .entry)) n (now (hi .entry)) (now (lo .entry))
+        (λ k. x *ℤ sum (match k)
+        (termsIn (length (now (exponents .entry))) (now (exponents .entry)) (now (coefficients .entry))))
+        (length (now (exponents .entry)) * unit) (now (hi .exit)) (now (lo .exit))
+        ⌝ }
+{
+    let mut t = 0;
+    while t < exponents.len() {
+        let y = x * (coefficients[t] as i64);
+        add_number(table, n, index, hi, lo, exponents[t], y);
         t += 1;
     }
 }
@@ -129,13 +181,15 @@ fn add_claim(
     n: usize,
     index: &[u16; 6144],
     hi: &mut [i64],
-    lo: &mut [u64],
+    lo: &mut [i64],
     exponents: &[u64],
     coefficients: &[i32],
     t: format::certificate::Header,
 )
-    requires { ⌜ Ready (now table) (now index) n (now hi) (now lo) ((length (now exponents) + 1) * unit) ⌝ }
-    requires { ⌜ Addable (now exponents) (now coefficients) 0 (pos 0) ⌝ }
+    requires { ⌜
+        Ready (now table) (now index) n (now hi) (now lo) ((length (now exponents) + 1) * unit)
+        × (length (now exponents) ≤ length (now coefficients))
+        ⌝ }
     ensures { λ _. ⌜
         SumsGrown (now (table .entry)) n (now (hi .entry)) (now (lo .entry))
         (λ k. negℤ
@@ -147,8 +201,8 @@ fn add_claim(
     let f = negate(t.side, t.scale, t.p, t.q);
     let x = f.objective;
     let y = f.constant;
-    add_terms(table, n, index, hi, lo, exponents, coefficients, 0, x);
-    add_term(table, n, index, hi, lo, 0, y, 1);
+    add_objective(table, n, index, hi, lo, exponents, coefficients, x);
+    add_number(table, n, index, hi, lo, 0, y);
 }
 
 // Adds one entry of the table of sums: a times b * b' for the indices of its place, times the multiplier.
@@ -160,12 +214,12 @@ fn add_entry(
     n: usize,
     index: &[u16; 6144],
     hi: &mut [i64],
-    lo: &mut [u64],
+    lo: &mut [i64],
     x: usize,
     a: i64,
 )
     requires { ⌜ Ready (now table) (now index) n (now hi) (now lo) entryUnit ⌝ }
-    requires { ⌜ Spreadable (now basis) (now exponents) (now coefficients) × Entered (2 ^ 60) (now basis) x a ⌝ }
+    requires { ⌜ Spreadable (now basis) (now exponents) (now coefficients) × Entered foldedMost (now basis) x a ⌝ }
     ensures { λ _. ⌜
         SumsGrown (now (table .entry)) n (now (hi .entry)) (now (lo .entry))
         (λ k. a *ℤ share (now (basis .entry))
@@ -192,11 +246,11 @@ fn spread(
     n: usize,
     index: &[u16; 6144],
     hi: &mut [i64],
-    lo: &mut [u64],
+    lo: &mut [i64],
 )
     requires { ⌜ Ready (now table) (now index) n (now hi) (now lo) tableUnit ⌝ }
     requires { ⌜
-        Spreadable (now basis) (now exponents) (now coefficients) × Framed (length (now basis)) (2 ^ 60) (now g)
+        Spreadable (now basis) (now exponents) (now coefficients) × Framed (length (now basis)) foldedMost (now g)
         ⌝ }
     ensures { λ _. ⌜
         Spread (now (table .entry)) n
@@ -247,7 +301,7 @@ fn flush(
     n: usize,
     index: &[u16; 6144],
     hi: &mut [i64],
-    lo: &mut [u64],
+    lo: &mut [i64],
 )
     requires { ⌜ Ready (now table) (now index) n (now hi) (now lo) tableUnit ⌝ }
     requires { ⌜
@@ -288,7 +342,7 @@ fn add_basis(
     n: usize,
     index: &[u16; 6144],
     hi: &mut [i64],
-    lo: &mut [u64],
+    lo: &mut [i64],
 )
     requires { ⌜ Ready (now table) (now index) n (now hi) (now lo) tableUnit × Below 0 (now g) × (j < 9) ⌝ }
     requires { ⌜ Flattened (now keys) (now exponents) (now coefficients) l × ShapedRows (l .sizes) (now s) ⌝ }
@@ -332,7 +386,7 @@ fn sum_rows(
     n: usize,
     index: &[u16; 6144],
     hi: &mut [i64],
-    lo: &mut [u64],
+    lo: &mut [i64],
 )
     requires { ⌜ Ready (now table) (now index) n (now hi) (now lo) (9 * tableUnit) × Below 0 (now g) ⌝ }
     requires { ⌜ Flattened (now keys) (now exponents) (now coefficients) l × ShapedRows (l .sizes) (now s) ⌝ }
@@ -378,8 +432,8 @@ fn smaller(table: &[u64], n: usize, a: usize, b: usize) -> usize
 }
 
 // The place of the smallest of the first n keys whose sum is not 0; n where there is none.
-fn smallest(table: &[u64], n: usize, hi: &[i64], lo: &[u64]) -> usize
-    requires { ⌜ (n ≤ length (now table)) × Sums (now hi) (now lo) n ⌝ }
+fn smallest(table: &[u64], n: usize, hi: &[i64], lo: &[i64]) -> usize
+    requires { ⌜ (n ≤ length (now table)) × (n ≤ length (now hi)) × (n ≤ length (now lo)) ⌝ }
     ensures { λ r. ⌜ SmallestSum (now (table .entry)) (now (hi .entry)) (now (lo .entry)) n n r ⌝ }
 {
     let mut found = n;
@@ -417,7 +471,7 @@ pub fn compare(
     g: &mut [i64; 4096],
     lasts: &mut [u16; 2048],
     hi: &mut [i64],
-    lo: &mut [u64],
+    lo: &mut [i64],
 ) -> Difference
     requires { ⌜
         Zeroed (now table) n (now hi) (now lo)

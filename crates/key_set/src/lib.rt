@@ -1,7 +1,7 @@
 // The support set: keys in a lent table, its first `len` numbers, each once, in the order in which they came. An index
-// finds them: its place key % DIVISOR has one more than the place of the last key with that remainder, or 0, and its place
-// 4096 + p has the same for the keys before place p, so that a search goes from the last key with a remainder to the
-// first.
+// finds them: its place key % DIVISOR has one more than the place of the last key with that remainder, or 0, and its
+// place 4096 + p has the same for the keys before place p, so that a search goes from the last key with a remainder to
+// the first.
 ghost use mathlib.Core.Path.{_≡_};
 ghost use Prim.Native.Nat.{_%_, _<_};
 ghost use lib.ListN.{length, take};

@@ -20,7 +20,7 @@ use Rattle.polynomial.specs.Terms.{Term, term}
 use Rattle.polynomial.specs.Algebra.{sum, match}
 use Rattle.row_products.specs.Gram.{pairKey, times}
 use Rattle.row_products.specs.Frame.{spreadAt, halfAt, Framed, Entered}
-use Rattle.row_products.specs.Fold.{WithProduct, foldAt, Folded}
+use Rattle.row_products.specs.Fold.{foldedMost, WithProduct, foldAt, Folded}
 use Rattle.row_products.proofs.Prefixes.{sum-none, sum-more}
 use Rattle.row_products.proofs.Frames.{rest-none}
 
@@ -90,7 +90,7 @@ module _ (B : List ℕ) (x : ℕ) (g : List ℤ) where
               (same-or-not y x);
         }
 
-    module _ (y : ℕ) (h : y < x) (pair : WithProduct B y (pairKey B x)) (room : natAbs (getD g y (pos 0)) ≤ 2 ^ 59) where
+    module _ (y : ℕ) (h : y < x) (pair : WithProduct B y (pairKey B x)) (room : natAbs (getD g y (pos 0)) ≤ 2 ^ 53) where
       abbrev z : ℤ
       z = getD g y (pos 0) +ℤ v
 
@@ -112,7 +112,7 @@ module _ (B : List ℕ) (x : ℕ) (g : List ℤ) where
           ∙ ap (λ (k : ℕ). foldAt B m x g +ℤ v *ℤ m k) (pair .is)
           ∙ ap (λ (a : ℤ). foldAt B m x g +ℤ a) (counts-moved x (getD g x (pos 0)) v (m (pairKey B x)) is)
 
-      moved-small : (i : ℕ) → natAbs (getD g i (pos 0)) ≤ 2 ^ 60 → natAbs (getD g₁ i (pos 0)) ≤ 2 ^ 60
+      moved-small : (i : ℕ) → natAbs (getD g i (pos 0)) ≤ foldedMost → natAbs (getD g₁ i (pos 0)) ≤ foldedMost
       moved-small i b =
           ⊎-elim
           (λ q. let w = ap natAbs (ap (λ (k : ℕ). getD g₁ k (pos 0)) q ∙ getD-set-same (set g y z) x (pos 0) (pos 0) there-long) in omega arith)
@@ -141,7 +141,7 @@ pub record Folding (B : List ℕ) (g₀ : List ℤ) (x : ℕ) (g₁ : List ℤ) 
   pub within : x ≤ 64 * length B
   pub sums : (m : ℕ → ℤ) → foldAt B m x g₁ ≡ sum (λ y. times y *ℤ m (pairKey B y)) (listed x (λ y. term y (getD g₀ y (pos 0))))
   pub ahead : (y : ℕ) → x ≤ y → getD g₁ y (pos 0) ≡ getD g₀ y (pos 0)
-  pub framed : Framed (length B) (2 ^ 60) g₁
+  pub framed : Framed (length B) (foldedMost) g₁
 
 module _ {B : List ℕ} {g₀ : List ℤ} (few : length B ≤ 64) (f : Framed (length B) (2 ^ 53) g₀) where
   pub folding-start : Folding B g₀ 0 g₀

@@ -1,13 +1,17 @@
 -- The table of sums, folded: entries whose places have the same b × b' are summed at one of them.
 use mathlib.Core.Path.{_≡_}
 use mathlib.Core.List.{List}
-use Prim.Native.Nat.{ℕ, _+_, _/_, _%_, _^_, _≤_, _<_}
+use Prim.Native.Nat.{ℕ, _+_, _*_, _/_, _%_, _^_, _≤_, _<_}
 use lib.IntN.{ℤ, pos, natAbs, _+ℤ_, _*ℤ_}
 use lib.ListN.{length, getD}
 use Rattle.counting.specs.Counting.{listed}
 use Rattle.polynomial.specs.Terms.{term}
 use Rattle.polynomial.specs.Algebra.{sum}
 use Rattle.row_products.specs.Gram.{pairKey, times}
+
+-- no folded entry is larger: an entry of at most 2^53 takes others, of at most 2^53 that count twice
+abbrev pub foldedMost : ℕ
+foldedMost = 3 * 2 ^ 53
 
 -- the indices of place y are in the basis, and their product b × b' is the key
 pub record WithProduct (B : List ℕ) (y key : ℕ) : Type 0 where
@@ -26,4 +30,4 @@ pub record Folded (B : List ℕ) (x : ℕ) (g₀ g₁ : List ℤ) : Type 0 where
   pub ahead : (y : ℕ) → x < y → getD g₁ y (pos 0) ≡ getD g₀ y (pos 0)
   pub rows : (y : ℕ) → length B ≤ y / 64 → getD g₀ y (pos 0) ≡ pos 0 → getD g₁ y (pos 0) ≡ pos 0
   pub columns : (y : ℕ) → length B ≤ y % 64 → getD g₀ y (pos 0) ≡ pos 0 → getD g₁ y (pos 0) ≡ pos 0
-  pub small : (y : ℕ) → natAbs (getD g₀ y (pos 0)) ≤ 2 ^ 60 → natAbs (getD g₁ y (pos 0)) ≤ 2 ^ 60
+  pub small : (y : ℕ) → natAbs (getD g₀ y (pos 0)) ≤ foldedMost → natAbs (getD g₁ y (pos 0)) ≤ foldedMost

@@ -13,7 +13,7 @@ ghost use Rattle.counting.specs.Counting.{Bounded};
 ghost use Rattle.row_products.specs.Gram.{times};
 ghost use Rattle.certificate_reader.specs.Rows.{rowAt, rowsBy, RowStands, Walkable};
 ghost use Rattle.row_products.specs.Frame.{spreadAt, halfAt, Next, Framed, Entered};
-ghost use Rattle.row_products.specs.Fold.{WithProduct, Folded};
+ghost use Rattle.row_products.specs.Fold.{foldedMost, WithProduct, Folded};
 ghost use Rattle.row_products.specs.Outer.{Entries, HoldsEntries, Below, Raised, inRow, outerAt};
 ghost use Rattle.row_products.specs.Gather.{LowRow, RowAdded, Gathered};
 
@@ -156,14 +156,14 @@ fn is_pair(basis: &[u64], y: usize, key: u64) -> bool
     false
 }
 
-// At most 2^59 in size, so that there is room for an entry.
+// At most 2^53 in size, so that there is room for an entry that counts twice.
 fn is_low(z: i64) -> bool
-    ensures { λ r. ⌜ (r ≡ true → natAbs z ≤ 2 ^ 59) ⌝ }
+    ensures { λ r. ⌜ (r ≡ true → natAbs z ≤ 2 ^ 53) ⌝ }
 {
-    if z < -576460752303423488 {
+    if z < -9007199254740992 {
         return false;
     }
-    z <= 576460752303423488
+    z <= 9007199254740992
 }
 
 // Where `lasts` names a place with this product b * b'.
@@ -222,7 +222,7 @@ pub fn fold(g: &mut [i64; 4096], basis: &[u64], lasts: &mut [u16; 2048])
         (length (now basis) ≤ 64) × Bounded (8 * 2 ^ 56) (now basis) × Framed (length (now basis)) (2 ^ 53) (now g)
         ⌝ }
     ensures { λ _. ⌜
-        Framed (length (now (basis .entry))) (2 ^ 60) (now (g .exit))
+        Framed (length (now (basis .entry))) foldedMost (now (g .exit))
         ×
         ((G : List Term) (k : ℕ)
         → spreadAt (now (basis .entry)) G (now (g .exit)) k ≡ halfAt (now (basis .entry)) G (now (g .entry)) k)

@@ -1,4 +1,2 @@
-pub mod Cut
-pub mod Carry
-pub mod Wide
+pub mod Floors
 pub mod Tables

@@ -1,44 +1,87 @@
--- What one addition does at every place of the tables, for those who add many.
-use mathlib.Core.Path.{_≡_, refl, sym, ap, ap₂, subst, _∙_}
+-- What additions do to a table of sums, and to the number at each place of two.
+use mathlib.Core.Path.{_≡_, refl, sym, ap₂, subst, _∙_}
 use mathlib.Core.Bool.{Bool, true, false, cond}
 use mathlib.Core.List.{List}
-use Prim.Native.Nat.{ℕ, _+_, _<_, _≤_}
+use Prim.Native.Nat.{ℕ, _+_, _^_, _<_, _≤_}
 use native.Mathlib.Omega.{arith}
 use borrow.Author.Tests.{eqb-true, eqb-false}
 use lib.Dec.{eqb}
-use lib.IntN.{ℤ, pos, natAbs, _+ℤ_, +ℤ-idr}
-use lib.ListN.{getD}
-use Rattle.integers.proofs.Ranges.{abs-sum}
-use Rattle.wide_sums.specs.Sums.{base, valueOf, valueAt, Added, Sums}
+use lib.IntN.{ℤ, pos, natAbs, _+ℤ_, _*ℤ_, +ℤ-idr}
+use lib.ListN.{length, getD, length-set}
+use lib.Seq.{getD-set-same, getD-set-other}
+use mir.Syntax.{w64}
+use mir.Val.{SFits}
+use Rattle.integers.proofs.Ring.{view, ⊖-eq, diffs}
+use Rattle.integers.proofs.Ranges.{abs-fits, abs-sum}
+use Rattle.wide_sums.specs.Sums.{valueOf, valueAt, Room, addedAt, HasRoom, Near}
 
-module _ {hi₀ hi₁ : List ℤ} {lo₀ lo₁ : List ℕ} {a : ℕ} {z : ℤ} (d : Added hi₀ lo₀ a z hi₁ lo₁) where
-  -- the number at k grows by z where k is the place, and by 0 elsewhere
-  pub added-at : (k : ℕ) → valueAt hi₁ lo₁ k ≡ valueAt hi₀ lo₀ k +ℤ cond (eqb a k) z (pos 0)
-  added-at k = go (eqb a k) refl
-    where
-      go : (t : Bool) → eqb a k ≡ t → valueAt hi₁ lo₁ k ≡ valueAt hi₀ lo₀ k +ℤ cond t z (pos 0)
-      go true e = subst (λ (j : ℕ). valueAt hi₁ lo₁ j ≡ valueAt hi₀ lo₀ j +ℤ z) (eqb-true a k e) (d .there)
-      go false e =
-          let n : k ≡ a → ⊥ = λ p. eqb-false a k e (sym p) in
-          ap₂ valueOf (d .hi-kept k n) (d .lo-kept k n) ∙ sym (+ℤ-idr (valueAt hi₀ lo₀ k))
+-- ---- one table
+module _ {t : List ℤ} {k : ℕ} {y : ℤ} (r : Room t k y) where
+  pub number-fits : SFits w64 y
+  number-fits = abs-fits (omega (arith, r .small))
 
-  pub sums-kept : {n : ℕ} → Sums hi₀ lo₀ n → Sums hi₁ lo₁ n
-  sums-kept {n} s =
+  pub sum-fits : SFits w64 (getD t k (pos 0) +ℤ y)
+  sum-fits = abs-fits (omega (arith, r .small, abs-sum (getD t k (pos 0)) y))
+
+  pub added-there : getD (addedAt t k y) k (pos 0) ≡ getD t k (pos 0) +ℤ y
+  unfolding addedAt
+  added-there = getD-set-same t k (getD t k (pos 0) +ℤ y) (pos 0) (r .inside)
+
+  pub added-other : (q : ℕ) → (q ≡ k → ⊥) → getD (addedAt t k y) q (pos 0) ≡ getD t q (pos 0)
+  unfolding addedAt
+  added-other q f = getD-set-other t k q (getD t k (pos 0) +ℤ y) (pos 0) f
+
+  pub added-near : {n c : ℕ} → k < n → natAbs y ≤ c → Near n c t (addedAt t k y)
+  unfolding addedAt
+  added-near {n} {c} b h =
       record {
-        in-hi = omega (arith, s .in-hi, d .hi-length);
-        in-lo = omega (arith, s .in-lo, d .lo-length);
-        low = λ k l. go k l (eqb a k) refl;
+        near = λ q l. go q (eqb k q) refl;
+        rest = λ q l. added-other q (λ e. omega arith);
+        long = length-set t k (getD t k (pos 0) +ℤ y);
       }
     where
-      go : (k : ℕ) → k < n → (t : Bool) → eqb a k ≡ t → getD lo₁ k 0 < base
-      go k l true e = subst (λ (j : ℕ). getD lo₁ j 0 < base) (eqb-true a k e) (d .low)
-      go k l false e = rw (d .lo-kept k (λ p. eqb-false a k e (sym p))) (s .low k l)
+      go : (q : ℕ) (s : Bool) → eqb k q ≡ s → natAbs (getD (addedAt t k y) q (pos 0)) ≤ natAbs (getD t q (pos 0)) + c
+      go q true e = rw (← eqb-true k q e, added-there) (omega (arith, abs-sum (getD t k (pos 0)) y))
+      go q false e = rw (added-other q (λ p. eqb-false k q e (sym p))) (omega arith)
 
-  cond-abs : (t : Bool) → natAbs (cond t z (pos 0)) ≤ natAbs z
-  cond-abs true = omega arith
-  cond-abs false = omega arith
+pub room-at : {n c : ℕ} {t : List ℤ} → HasRoom n c t → {k : ℕ} {y : ℤ} → k < n → natAbs y ≤ c → Room t k y
+room-at r {k} b h = record { inside = omega (arith, r .long); small = omega (arith, r .small k b) }
 
-  pub bound-at : (k m : ℕ) → natAbs (valueAt hi₀ lo₀ k) ≤ m → natAbs (valueAt hi₁ lo₁ k) ≤ m + natAbs z
-  bound-at k m h =
-      omega
-      (arith, ap natAbs (added-at k), abs-sum (valueAt hi₀ lo₀ k) (cond (eqb a k) z (pos 0)), cond-abs (eqb a k))
+pub room-less : {n c d : ℕ} {t : List ℤ} → HasRoom n c t → d ≤ c → HasRoom n d t
+room-less r l = record { long = r .long; small = λ q b. omega (arith, r .small q b) }
+
+pub near-none : {n c : ℕ} {t : List ℤ} → Near n c t t
+near-none = record { near = λ q b. omega arith; rest = λ q b. refl; long = refl }
+
+module _ {n c : ℕ} {t₀ t₁ : List ℤ} (h : Near n c t₀ t₁) where
+  pub near-more : {d : ℕ} → c ≤ d → Near n d t₀ t₁
+  near-more l = record { near = λ q b. omega (arith, h .near q b); rest = h .rest; long = h .long }
+
+  pub near-then : {d e : ℕ} {t₂ : List ℤ} → Near n d t₁ t₂ → c + d ≤ e → Near n e t₀ t₂
+  near-then k l =
+      record {
+        near = λ q b. omega (arith, h .near q b, k .near q b);
+        rest = λ q b. k .rest q b ∙ h .rest q b;
+        long = k .long ∙ h .long;
+      }
+
+  pub room-after : {d e : ℕ} → HasRoom n e t₀ → c + d ≤ e → HasRoom n d t₁
+  room-after r l = record { long = omega (arith, r .long, h .long); small = λ q b. omega (arith, h .near q b, r .small q b) }
+
+-- ---- the number at a place of two tables
+halves-add : (g a h l c : ℤ) → valueOf (g +ℤ h *ℤ c) (a +ℤ l *ℤ c) ≡ valueOf g a +ℤ valueOf h l *ℤ c
+halves-add g a h l c =
+    rw (view g .eq, view a .eq, view h .eq, view l .eq, view c .eq) (simp diffs (⊖-eq _ _ _ _ (omega arith)))
+
+-- it grows by the number that is added where k is the place, and by 0 elsewhere
+pub added-at : (hi lo : List ℤ) (k : ℕ) (h l c : ℤ) → Room hi k (h *ℤ c) → Room lo k (l *ℤ c) → (q : ℕ)
+    → valueAt (addedAt hi k (h *ℤ c)) (addedAt lo k (l *ℤ c)) q ≡ valueAt hi lo q +ℤ cond (eqb k q) (valueOf h l *ℤ c) (pos 0)
+added-at hi lo k h l c r s q = go (eqb k q) refl
+  where
+    go : (t : Bool) → eqb k q ≡ t → valueAt (addedAt hi k (h *ℤ c)) (addedAt lo k (l *ℤ c)) q ≡ valueAt hi lo q +ℤ cond t (valueOf h l *ℤ c) (pos 0)
+    go true e =
+        rw (← eqb-true k q e)
+        (ap₂ valueOf (added-there r) (added-there s) ∙ halves-add (getD hi k (pos 0)) (getD lo k (pos 0)) h l c)
+    go false e =
+        let n : q ≡ k → ⊥ = λ p. eqb-false k q e (sym p) in
+        ap₂ valueOf (added-other r q n) (added-other s q n) ∙ sym (+ℤ-idr (valueAt hi lo q))

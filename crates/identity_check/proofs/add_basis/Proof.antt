@@ -10,7 +10,7 @@ use Rattle.identity_check.proofs.add_basis.Tie as tie
 -- after the walk, or without one
 module _ (c : tie.Joined1) where
   abbrev s : tie.Start
-  s = c .before .before .before .before .before .before .before
+  s = c .before .before .before .before .before .before
 
   gathered : Gathered (s .args .s .now) (s .args .j) (c .if1 .g)
   gathered =
@@ -42,7 +42,7 @@ same-length-2 c = search needs
 
 returns : tie.Need-returns
 returns c =
-    let f = c .before .before .before in
+    let f = c .before .before in
     let d = f .before .before .before .before .before in
     let p = s d .pre in
     (gathered-summed (p .1 .0) (p .1 .1) (s d .args .j) (gathered d) (p .0 .2) (f .flush .ensures), spread-below (f .flush .ensures))

@@ -1,6 +1,5 @@
 -- `add_claim`: the objective's terms, and the term of 1, make minus the claim.
 use mathlib.Core.Path.{_≡_}
-use Prim.Native.Nat.{_-_}
 use native.Mathlib.Omega.{arith}
 use borrow.Author.Needs.{needs}
 use mir.Facts.{toZ-ofZ}
@@ -13,13 +12,13 @@ use Rattle.identity_check.proofs.Claims.{claim-sum}
 use Rattle.identity_check.proofs.add_claim.Statement.{statement}
 use Rattle.identity_check.proofs.add_claim.Tie as tie
 
-p-kept : (c : tie.After-struct-told) → let p = c .before .before .before .before .args .t .p in toZ w32 (ofZ w32 p) ≡ p
+p-kept : (c : tie.After-struct-told) → let p = c .before .before .before .args .t .p in toZ w32 (ofZ w32 p) ≡ p
 p-kept c = search needs
 
 -- the two factors, as numbers and not as their bits
 module _ (c : tie.After-negate) where
   abbrev s : tie.Start
-  s = c .before .before .before .before .before
+  s = c .before .before .before .before
 
   factors : Negates (s .args .t .side) (s .args .t .scale) (s .args .t .p) (s .args .t .q) (c .negate .result)
   factors = rw (p-kept (c .before)) at (c .negate .ensures)
@@ -33,17 +32,17 @@ module _ (c : tie.After-negate) where
 negate-requires : tie.Need-negate-requires
 negate-requires c κs = search needs
 
-add-terms-requires : tie.Need-add-terms-requires
-add-terms-requires c κs =
+add-objective-requires : tie.Need-add-objective-requires
+add-objective-requires c κs =
     let g = c .before .before .before .before in
     let p = s g .pre in
-    (ready-less (p .0) (omega arith), simp (toZ-ofZ (fits-x g)) record { paired = p .1 .paired; low = p .1 .low; key-low = p .1 .key-low; small = omega (arith, factors g .objective-small) })
+    (ready-less (p .0) (omega arith), p .1, simp (toZ-ofZ (fits-x g)) (factors g .objective-small))
 
-add-term-requires : tie.Need-add-term-requires
-add-term-requires c κs =
-    let a = c .before .before .before .before .before in
+add-number-requires : tie.Need-add-number-requires
+add-number-requires c κs =
+    let a = c .before .before .before .before in
     let g = a .before .before .before .before .before in
-    (ready-after (s g .pre .0) (a .add-terms .ensures) (omega arith), simp (toZ-ofZ (fits-y g)) (omega (arith, factors g .constant-small)))
+    ready-after (s g .pre .0) (a .add-objective .ensures) (omega arith)
 
 same-length : tie.Need-same-length
 same-length c = search needs
@@ -53,18 +52,12 @@ same-length-2 c = search needs
 
 returns : tie.Need-returns
 returns c =
-    let b = c .before .before .before in
-    let a = b .before .before .before .before .before .before in
+    let b = c .before .before in
+    let a = b .before .before .before .before .before in
     let g = a .before .before .before .before .before in
-    grown-then (rw (toZ-ofZ (fits-x g)) at (a .add-terms .ensures)) (rw (toZ-ofZ (fits-y g)) at (b .add-term .ensures)) (claim-sum (s g .args .t) _ (g .negate .result) (factors g)) (omega arith)
+    grown-then (rw (toZ-ofZ (fits-x g)) at (a .add-objective .ensures)) (rw (toZ-ofZ (fits-y g)) at (b .add-number .ensures)) (claim-sum (s g .args .t) _ (g .negate .result) (factors g)) (omega arith)
 
 pub add-claim-spec : {M : Type 1} → statement M
 add-claim-spec =
     tie.close
-    (tie.spec
-    negate-requires
-    add-terms-requires
-    add-term-requires
-    same-length
-    same-length-2
-    returns)
+    (tie.spec negate-requires add-objective-requires add-number-requires same-length same-length-2 returns)

@@ -17,7 +17,7 @@ use Rattle.identity_check.proofs.add_entry.Tie as tie
 -- an entry that is not 0
 module _ (c : tie.Else1) where
   abbrev s : tie.Start
-  s = c .before .before .before .before .before
+  s = c .before .before .before .before
 
   not-zero : s .args .a ≡ pos 0 → ⊥
   not-zero e = c .if1 .left (rw e refl)
@@ -30,11 +30,11 @@ module _ (c : tie.Else1) where
 
 returns : tie.Need-returns
 returns c =
-    let s = c .before .before .before .before .before in
+    let s = c .before .before .before .before in
     let a = s .args in
     let e : a .a ≡ pos 0 = zero-bits (s .fits .a) (c .if1 .taken) in
     let G = termsIn (length (a .exponents .now)) (a .exponents .now) (a .coefficients .now) in
-    grown-none (s .pre .0) (λ q b. rw e (zero-*ℤ (share (a .basis .now) G (getD (a .table .now) q 0) (a .x))))
+    grown-none (λ q b. rw e (zero-*ℤ (share (a .basis .now) G (getD (a .table .now) q 0) (a .x))))
 
 mul-key : tie.Need-mul-key
 mul-key c = search needs
@@ -63,6 +63,7 @@ add-terms-requires c κs =
         paired = p .paired;
         low = λ i. omega (arith, p .low i);
         key-low = omega (arith, p .basis-low (s e .args .x / 64), p .basis-low (s e .args .x % 64));
+        coefficients-small = p .coefficients-small;
         small = s e .pre .1 .1 .small;
       },
     )
@@ -75,7 +76,7 @@ same-length-2 c = search needs
 
 returns-2 : tie.Need-returns-2
 returns-2 c =
-    let a = c .before .before .before in
+    let a = c .before .before in
     let e = a .before .before .before .before .before in
     let p = s e .pre .1 .0 in
     grown-same (simp (toZ-ofZ (s e .fits .a)) at (a .add-terms .ensures)) (λ k. refl) (omega (arith, p .few))

@@ -9,20 +9,24 @@ use mir.Facts.{toZ-ofZ}
 use mir.Syntax.{w32, w64}
 use mir.Val.{SFits, toZ}
 use Rattle.polynomial.specs.Algebra.{match}
-use Rattle.identity_check.proofs.Growth.{ready-after}
-use Rattle.identity_check.proofs.Products.{Summing, summing-start, summing-more}
+use Rattle.wide_sums.specs.Sums.{halvesOf}
+use Rattle.identity_check.proofs.Growth.{ready-after, grown-same}
+use Rattle.identity_check.proofs.Products.{scaled-entry, halves-times, Summing, summing-start, summing-more}
 use Rattle.identity_check.proofs.add_terms.Statement.{statement}
 use Rattle.identity_check.proofs.add_terms.Tie as tie
 
 abbrev Inv-loop : tie.InvT-loop
-Inv-loop table n places high₀ low₀ exponents coefficients key x t₀ high low t =
-    (t ≤ length exponents) × Summing table n high₀ low₀ (λ k e. match k (key + e)) (toZ w64 x) exponents coefficients t high low
+Inv-loop table n places high₀ low₀ exponents coefficients key x h t₀ high low t =
+    (t ≤ length exponents) × (h ≡ halvesOf (toZ w64 x)) × Summing table n high₀ low₀ (λ k e. match k (key + e)) (toZ w64 x) exponents coefficients t high low
 
 abbrev μ-loop : tie.MeasureT-loop
-μ-loop table n places high₀ low₀ exponents coefficients key x t₀ high low t = length exponents - t
+μ-loop table n places high₀ low₀ exponents coefficients key x h t₀ high low t = length exponents - t
+
+cut-requires : tie.Need-cut-requires Inv-loop μ-loop
+cut-requires c κs = search needs
 
 loop-holds : tie.Need-loop-holds Inv-loop μ-loop
-loop-holds c = let s = c .before .before .before in (omega arith, summing-start (s .pre .0))
+loop-holds c = (omega arith, c .cut .ensures, summing-start)
 
 mul-add-term : tie.Need-mul-add-term Inv-loop μ-loop
 mul-add-term c = search needs
@@ -43,11 +47,23 @@ mul-add-term-2 c = search needs
 shared-slice-copy-out-add-term : tie.Need-shared-slice-copy-out-add-term Inv-loop μ-loop
 shared-slice-copy-out-add-term c = let s = c .before .before .before .before .before .before .before .before in omega (arith, s .pre .1 .paired)
 
+-- one turn
+module _ (c : tie.After-add-term-arg3 Inv-loop μ-loop) where
+  abbrev l : tie.At-loop Inv-loop μ-loop
+  l = c .before .before .before .before .before
+
+  abbrev s : tie.Start Inv-loop μ-loop
+  s = l .before .before .before .before
+
+  coefficient-fits : SFits w32 (getD (s .args .coefficients .now) (l .loop .t) (pos 0))
+  coefficient-fits = sfits-of (c .add-term-arg3 .given)
+
 add-term-requires : tie.Need-add-term-requires Inv-loop μ-loop
 add-term-requires c κs =
-    let l = c .before .before .before .before .before in
-    let s = l .before .before .before .before in
-    (ready-after (s .pre .0) (l .loop .inv .1 .grown) (omega arith), simp (toZ-ofZ (s .fits .x)) (s .pre .1 .small))
+    let p = s c .pre in (
+      ready-after (p .0) (l c .loop .inv .2 .grown) (omega arith),
+      simp (l c .loop .inv .1, toZ-ofZ, s c .fits .x, coefficient-fits c) (scaled-entry _ _ (p .1 .small) (p .1 .coefficients-small (l c .loop .t))),
+    )
 
 add-t : tie.Need-add-t Inv-loop μ-loop
 add-t c = search needs
@@ -57,11 +73,9 @@ loop-less c = search needs
 
 loop-again : tie.Need-loop-again Inv-loop μ-loop
 loop-again c =
-    let a = c .before .before .before in
-    let l = a .before .before .before .before .before .before in
-    let s = l .before .before .before .before in
-    let q : SFits w32 (getD (s .args .coefficients .now) (l .loop .t) (pos 0)) = sfits-of (a .before .add-term-arg3 .given) in
-    (omega arith, summing-more (l .loop .inv .1) (rw (toZ-ofZ q) at (a .add-term .ensures)))
+    let a = c .before .before in
+    let b = a .before in
+    (omega arith, l b .loop .inv .1, summing-more (l b .loop .inv .2) (grown-same (rw (toZ-ofZ (coefficient-fits b)) at (a .add-term .ensures)) (λ k. halves-times _ _ (l b .loop .inv .1) _ _) (omega arith)))
 
 same-length : tie.Need-same-length Inv-loop μ-loop
 same-length c = search needs
@@ -74,7 +88,7 @@ returns c =
     let l = c .before in
     let s = l .before .before .before .before in
     let e : l .loop .t ≡ length (s .args .exponents .now) = omega (arith, l .loop .inv .0, c .loop-test .left) in
-    rw (← e) (simp (toZ-ofZ (s .fits .x)) at (l .loop .inv .1 .grown))
+    rw (← e) (simp (toZ-ofZ (s .fits .x)) at (l .loop .inv .2 .grown))
 
 pub add-terms-spec : {M : Type 1} → statement M
 add-terms-spec =
@@ -82,6 +96,7 @@ add-terms-spec =
     (tie.spec
     Inv-loop
     μ-loop
+    cut-requires
     loop-holds
     mul-add-term
     shared-slice-read-add-term

@@ -5,13 +5,12 @@ use native.Mathlib.Omega.{arith}
 use borrow.Author.Needs.{needs}
 use lib.Seq.{length-take-le}
 use lib.ListN.{length, take}
-use Rattle.counting.proofs.Bounded.{bounded-take}
 use Rattle.problem_reader.specs.declared.Objective.{Objective}
 use Rattle.key_set.proofs.Keys.{inside}
 use Rattle.identity_check.specs.Tables.{unit}
 use Rattle.identity_check.specs.Spread.{tableUnit}
 use Rattle.identity_check.proofs.Growth.{ready-after, grown-then}
-use Rattle.identity_check.proofs.Differences.{zeroed-ready, grown-hi, grown-lo, claim-first, found-same, found-differs}
+use Rattle.identity_check.proofs.Differences.{zeroed-ready, near-untouched, claim-first, found-same, found-differs}
 use Rattle.identity_check.proofs.compare.Statement.{statement}
 use Rattle.identity_check.proofs.compare.Tie as tie
 
@@ -27,44 +26,39 @@ module _ (c : tie.Start) where
   coefficients-long = let f = c .pre .3 .objective-filled in length-take-le (q .count) (q .coefficients) (omega (arith, f .count-low, f .coefficients-length))
 
 abbrev at-start : tie.After-add-claim → tie.Start
-at-start c = c .before .before .before .before .before .before .before .before .before .before .before .before
+at-start c = c .before .before .before .before .before .before .before .before .before .before .before
 
 abbrev claiming : tie.After-sum-rows → tie.After-add-claim
-claiming c = c .before .before .before .before .before .before .before .before
+claiming c = c .before .before .before .before .before .before .before
 
 abbrev rows : tie.After-smallest → tie.After-sum-rows
-rows c = c .before .before .before .before .before .before
+rows c = c .before .before .before .before .before
 
 array-share-prefix-es : tie.Need-array-share-prefix-es
 array-share-prefix-es c = search needs
 
 slice-aggregate-add-claim : tie.Need-slice-aggregate-add-claim
-slice-aggregate-add-claim c = sym (keys-long (c .before .before .before .before .before .before .before .before .before .before))
+slice-aggregate-add-claim c = sym (keys-long (c .before .before .before .before .before .before .before .before .before))
 
 array-share-prefix-cs : tie.Need-array-share-prefix-cs
 array-share-prefix-cs c = search needs
 
 slice-aggregate-add-claim-2 : tie.Need-slice-aggregate-add-claim-2
-slice-aggregate-add-claim-2 c = sym (coefficients-long (c .before .before .before .before .before .before .before .before .before .before .before))
+slice-aggregate-add-claim-2 c = sym (coefficients-long (c .before .before .before .before .before .before .before .before .before .before))
 
 add-claim-requires : tie.Need-add-claim-requires
 add-claim-requires c κs =
-    let s = c .before .before .before .before .before .before .before .before .before .before .before in
+    let s = c .before .before .before .before .before .before .before .before .before .before in
     let f = s .pre .3 .objective-filled in
     let k = keys-long s in
     let l = coefficients-long s in (
       zeroed-ready (s .pre .0) (s .pre .1) _ (omega (arith, f .count-low)),
-      record {
-        paired = omega arith;
-        low = bounded-take _ (q s .count) (q s .keys) (f .keys-low);
-        key-low = omega arith;
-        small = omega arith;
-      },
+      omega arith,
     )
 
 sum-rows-requires : tie.Need-sum-rows-requires
 sum-rows-requires c κs =
-    let a = c .before .before .before .before .before .before .before in
+    let a = c .before .before .before .before .before .before in
     let p = at-start a .pre in (
       (ready-after (zeroed-ready (p .0) (p .1) (257 * unit + 9 * tableUnit) (omega arith)) (claim-first _ _ (p .3 .objective-filled) (a .add-claim .ensures)) (omega arith), p .2),
       (p .3 .flat, p .3 .rows),
@@ -72,17 +66,14 @@ sum-rows-requires c κs =
 
 smallest-requires : tie.Need-smallest-requires
 smallest-requires c κs =
-    let r = c .before .before .before .before .before in
+    let r = c .before .before .before .before in
     let a = claiming r in
     let z = at-start a .pre .0 in
     let g = claim-first _ _ (at-start a .pre .3 .objective-filled) (a .add-claim .ensures) in
     let h = r .sum-rows .ensures .0 .grown in (
       inside (z .support),
-      record {
-        in-hi = omega (arith, z .in-hi, z .support .few, g .hi-length, h .hi-length);
-        in-lo = omega (arith, z .in-lo, z .support .few, g .lo-length, h .lo-length);
-        low = h .low;
-      },
+      omega (arith, z .in-hi, z .support .few, g .high .long, h .high .long),
+      omega (arith, z .in-lo, z .support .few, g .low .long, h .low .long),
     )
 
 mul-t39 : tie.Need-mul-t39
@@ -106,7 +97,7 @@ returns c =
     let m = r .sum-rows .ensures .0 in
     let g = claim-first _ _ (at-start a .pre .3 .objective-filled) (a .add-claim .ensures) in
     let w = grown-then {e = 257 * unit + 9 * tableUnit} g (m .grown) (λ k. refl) (omega arith) in
-    (λ p k given. found-differs p k _ _ _ _ _ _ _ _ _ given z g m (f .smallest .ensures) (c .before .if1 .taken), (grown-hi (z .support .few) w, grown-lo (z .support .few) w, r .sum-rows .ensures .1))
+    (λ p k given. found-differs p k _ _ _ _ _ _ _ _ _ given z g m (f .smallest .ensures) (c .before .if1 .taken), (near-untouched (z .support .few) (w .high), near-untouched (z .support .few) (w .low), r .sum-rows .ensures .1))
 
 same-length-3 : tie.Need-same-length-3
 same-length-3 c = search needs
@@ -123,7 +114,7 @@ returns-2 c =
     let m = r .sum-rows .ensures .0 in
     let g = claim-first _ _ (at-start a .pre .3 .objective-filled) (a .add-claim .ensures) in
     let w = grown-then {e = 257 * unit + 9 * tableUnit} g (m .grown) (λ k. refl) (omega arith) in
-    (λ p k given. found-same p k _ _ _ _ _ _ _ _ _ given z g m (f .smallest .ensures) (c .if1 .left), (grown-hi (z .support .few) w, grown-lo (z .support .few) w, r .sum-rows .ensures .1))
+    (λ p k given. found-same p k _ _ _ _ _ _ _ _ _ given z g m (f .smallest .ensures) (c .if1 .left), (near-untouched (z .support .few) (w .high), near-untouched (z .support .few) (w .low), r .sum-rows .ensures .1))
 
 pub compare-spec : {M : Type 1} → statement M
 compare-spec =

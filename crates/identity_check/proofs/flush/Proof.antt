@@ -7,6 +7,7 @@ use borrow.Author.Needs.{needs}
 use lib.ListN.{length, getD, take, drop}
 use Rattle.polynomial.specs.Terms.{Term}
 use Rattle.row_products.specs.Frame.{spreadAt, halfAt, Framed}
+use Rattle.row_products.specs.Fold.{foldedMost}
 use Rattle.identity_check.specs.Spread.{Spreadable}
 use Rattle.identity_check.proofs.Spreading.{spread-same}
 use Rattle.identity_check.proofs.Parts.{cut-is, basis-end, exponents-end, coefficients-end, basis-long, parts-spreadable, multiplier-is}
@@ -14,9 +15,9 @@ use Rattle.identity_check.proofs.flush.Statement.{statement}
 use Rattle.identity_check.proofs.flush.Tie as tie
 
 -- the parts of basis j
-module _ (c : tie.After-slice-known) where
+module _ (c : tie.After-shared-slice-known3) where
   abbrev s : tie.Start
-  s = c .before .before .before .before
+  s = c .before .before .before
 
   abbrev j : ℕ
   j = s .args .j
@@ -109,13 +110,13 @@ fold-requires c κs =
 
 -- after the folding
 module _ (c : tie.After-fold) where
-  abbrev b : tie.After-slice-known
+  abbrev b : tie.After-shared-slice-known3
   b = c .before .before .before .before .before .before .before .before
 
   abbrev B : List ℕ
   B = take (size b) (drop (64 * j b) (s b .args .keys .now))
 
-  folded : Framed (length B) (2 ^ 60) (c .fold .last .0) × ((G : List Term) (k : ℕ) → spreadAt B G (c .fold .last .0) k ≡ halfAt B G (s b .args .g .now) k)
+  folded : Framed (length B) foldedMost (c .fold .last .0) × ((G : List Term) (k : ℕ) → spreadAt B G (c .fold .last .0) k ≡ halfAt B G (s b .args .g .now) k)
   folded = rw (cut-is (64 * j b) (size b) (s b .args .keys .now)) at (c .fold .ensures)
 
 spread-requires : tie.Need-spread-requires
@@ -135,7 +136,7 @@ same-length-2 c = search needs
 
 returns : tie.Need-returns
 returns c =
-    let e = c .before .before .before in
+    let e = c .before .before in
     let f = e .before .before .before .before in
     let a = s (b f) .args in
     spread-same

@@ -22,11 +22,11 @@ loop-holds c = (omega arith, omega arith, smallest-start)
 is-zero-requires : tie.Need-is-zero-requires Inv-loop μ-loop
 is-zero-requires c κs =
     let l = c .before in
-    let s = l .before .before .before in
-    record { in-hi = omega (arith, s .pre .1 .in-hi, c .loop-test .taken); in-lo = omega (arith, s .pre .1 .in-lo, c .loop-test .taken); low = s .pre .1 .low (l .loop .i) (c .loop-test .taken) }
+    let s = l .before .before in
+    (omega (arith, s .pre .1, c .loop-test .taken), omega (arith, s .pre .2, c .loop-test .taken))
 
 smaller-requires : tie.Need-smaller-requires Inv-loop μ-loop
-smaller-requires c κs = let i = c .before .before in (i .before .before .before .before .pre .0, i .loop-test .taken)
+smaller-requires c κs = let i = c .before .before in (i .before .before .before .pre .0, i .loop-test .taken)
 
 add-i : tie.Need-add-i Inv-loop μ-loop
 add-i c = search needs
@@ -45,7 +45,7 @@ loop-again c =
     (c .if1 .came)
 
 returns : tie.Need-returns Inv-loop μ-loop
-returns c = let l = c .before in let e : l .loop .i ≡ l .before .before .before .args .n = omega (arith, l .loop .inv .0, c .loop-test .left) in rw e at (l .loop .inv .2)
+returns c = let l = c .before in let e : l .loop .i ≡ l .before .before .args .n = omega (arith, l .loop .inv .0, c .loop-test .left) in rw e at (l .loop .inv .2)
 
 pub smallest-spec : {M : Type 1} → statement M
 smallest-spec =

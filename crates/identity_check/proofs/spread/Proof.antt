@@ -27,7 +27,7 @@ module _ (c : tie.After-a Inv-loop μ-loop) where
   l = c .before .before
 
   abbrev s : tie.Start Inv-loop μ-loop
-  s = l .before .before .before .before .before
+  s = l .before .before .before .before
 
   here : l .loop .x < 64 * length (s .args .basis .now)
   here = omega (arith, l .loop .inv .1, c .before .loop-test .taken)
@@ -36,10 +36,10 @@ module _ (c : tie.After-a Inv-loop μ-loop) where
   fits-a = sfits-of (c .a .given)
 
 mul-last : tie.Need-mul-last Inv-loop μ-loop
-mul-last c = let s = c .before .before .before .before in let p = s .pre .1 .0 in omega arith
+mul-last c = let s = c .before .before .before in let p = s .pre .1 .0 in omega arith
 
 loop-holds : tie.Need-loop-holds Inv-loop μ-loop
-loop-holds c = let s = c .before .before .before .before in (refl, refl, spreading-start (s .pre .0) (s .pre .1 .1 .long))
+loop-holds c = let s = c .before .before .before in (refl, refl, spreading-start (s .pre .1 .1 .long))
 
 mul-a : tie.Need-mul-a Inv-loop μ-loop
 mul-a c = search needs
@@ -47,7 +47,7 @@ mul-a c = search needs
 element-copy-out-a : tie.Need-element-copy-out-a Inv-loop μ-loop
 element-copy-out-a c =
     let l = c .before in
-    let s = l .before .before .before .before .before in
+    let s = l .before .before .before .before in
     omega (arith, l .loop .inv .1, s .pre .1 .0 .basis-few)
 
 mul-g : tie.Need-mul-g Inv-loop μ-loop
@@ -56,7 +56,7 @@ mul-g c = search needs
 element-set-of-g : tie.Need-element-set-of-g Inv-loop μ-loop
 element-set-of-g c =
     let l = c .before .before in
-    let s = l .before .before .before .before .before in
+    let s = l .before .before .before .before in
     omega (arith, l .loop .inv .1, s .pre .1 .0 .basis-few)
 
 add-entry-requires : tie.Need-add-entry-requires Inv-loop μ-loop
@@ -70,18 +70,18 @@ add-entry-requires c κs =
 
 next-place-requires : tie.Need-next-place-requires Inv-loop μ-loop
 next-place-requires c κs =
-    let a = c .before .before .before .before .before .before in
+    let a = c .before .before .before .before .before in
     let n = l a .loop .inv .0 in
     (omega (arith, here a), omega (arith, s a .pre .1 .0 .basis-few))
 
 loop-less : tie.Need-loop-less Inv-loop μ-loop
 loop-less c =
-    let a = c .before .before .before .before .before .before .before in
+    let a = c .before .before .before .before .before .before in
     omega (arith, c .next-place .ensures .later, here a, l a .loop .inv .1)
 
 loop-again : tie.Need-loop-again Inv-loop μ-loop
 loop-again c =
-    let e = c .before .before .before .before in
+    let e = c .before .before .before in
     let a = e .before .before .before in
     let w = l a .loop .inv in
     let p = s a .pre .1 in
@@ -101,7 +101,7 @@ same-length-2 c = search needs
 returns : tie.Need-returns Inv-loop μ-loop
 returns c =
     let l = c .before in
-    let s = l .before .before .before .before .before in
+    let s = l .before .before .before .before in
     spreading-end (l .loop .inv .2) (s .pre .1 .0 .basis-few) (s .pre .1 .1) (omega (arith, l .loop .inv .1, c .loop-test .left))
 
 pub spread-spec : {M : Type 1} → statement M

@@ -19,10 +19,10 @@ abbrev μ-loop : tie.MeasureT-loop
 μ-loop g₀ lasts₀ s keys exponents coefficients l table n places hi₀ lo₀ j₀ g lasts hi lo j = 9 - j
 
 abbrev at-start : tie.At-loop Inv-loop μ-loop → tie.Start Inv-loop μ-loop
-at-start l = l .before .before .before .before .before .before
+at-start l = l .before .before .before .before .before
 
 loop-holds : tie.Need-loop-holds Inv-loop μ-loop
-loop-holds c = let s = c .before .before .before .before .before in (omega arith, s .pre .0 .1, walked-start (s .args .s .now) (s .pre .0 .0))
+loop-holds c = let s = c .before .before .before .before in (omega arith, s .pre .0 .1, walked-start (s .args .s .now))
 
 add-basis-requires : tie.Need-add-basis-requires Inv-loop μ-loop
 add-basis-requires c κs =
@@ -39,7 +39,7 @@ loop-less c = search needs
 
 loop-again : tie.Need-loop-again Inv-loop μ-loop
 loop-again c =
-    let a = c .before .before .before in
+    let a = c .before .before in
     let l = a .before .before .before .before .before .before in
     (omega arith, a .add-basis .ensures .1, walked-more (at-start l .args .s .now) (l .loop .inv .2) (a .add-basis .ensures .0))
 

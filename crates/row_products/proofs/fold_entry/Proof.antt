@@ -127,7 +127,7 @@ module _ (c : tie.Then4) where
   fits-z : SFits w64 z
   fits-z = sfits-of (c .before .before .z .given)
 
-  room : natAbs z ≤ 2 ^ 59
+  room : natAbs z ≤ 2 ^ 53
   room = rw (toZ-ofZ fits-z) at (c .before .is-low .ensures (c .if4 .taken))
 
   fits-sum : SFits w64 (z +ℤ v d)

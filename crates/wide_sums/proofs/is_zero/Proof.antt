@@ -1,53 +1,91 @@
--- `wide_sums::is_zero` meets its contract: a number whose low part is below the base is 0 only where both parts are.
-use Prim.Native.Nat.{ℕ}
-use mathlib.Core.Path.{_≡_, ap, ap₂}
-use mir.Syntax.{w64}
-use mir.Val.{ofZ}
-use lib.IntN.{pos}
-use lib.ListN.{getD}
+-- `wide_sums::is_zero` meets its contract: the sum is 0 where the low half leaves nothing, and what is carried is the
+-- opposite of the high half.
 use borrow.Author.Needs.{needs, sfits-of}
 use borrow.Author.Tests.{eqb-true, eqb-false}
 use native.Mathlib.Omega.{arith}
-use Rattle.wide_sums.specs.Sums.{valueOf}
+use mathlib.Core.Path.{_≡_, sym, ap, _∙_}
+use Prim.Native.Nat.{ℕ, _^_}
+use lib.IntN.{ℤ, pos, _-ℤ_}
+use lib.ListN.{getD}
+use mir.Facts.{toZ-ofZ}
+use mir.Syntax.{w64}
+use mir.Val.{SFits, toZ, ofZ}
 use Rattle.integers.proofs.Ranges.{zero-bits}
-use Rattle.wide_sums.proofs.Carry.{parts-zero}
+use Rattle.wide_sums.specs.Sums.{halvesOf}
+use Rattle.wide_sums.proofs.Floors.{high-fits, low-fits, minus-fits, zero-halves, halves-zero}
 use Rattle.wide_sums.proofs.is_zero.Statement.{statement}
 use Rattle.wide_sums.proofs.is_zero.Tie as tie
 
-mul-h : tie.Need-mul-h
-mul-h c = search needs
+-- the two halves of the sum, as numbers and not as their bits
+module _ (c : tie.After-cut) where
+  abbrev s : tie.Start
+  s = c .before .before
 
-shared-slice-copy-out-h : tie.Need-shared-slice-copy-out-h
-shared-slice-copy-out-h c = search needs
+  abbrev g : ℤ
+  g = getD (s .args .hi .now) (s .args .at) (pos 0)
+
+  abbrev a : ℤ
+  a = getD (s .args .lo .now) (s .args .at) (pos 0)
+
+  -- what the high half is compared with
+  abbrev m : ℤ
+  m = pos 0 -ℤ halvesOf a .high
+
+  a-fits : SFits w64 a
+  a-fits = sfits-of (c .before .cut-arg .given)
+
+  cut-is : c .cut .result ≡ halvesOf a
+  cut-is = rw (toZ-ofZ a-fits) at (c .cut .ensures)
+
+mul-cut : tie.Need-mul-cut
+mul-cut c = search needs
+
+shared-slice-copy-out-cut : tie.Need-shared-slice-copy-out-cut
+shared-slice-copy-out-cut c = search needs
+
+cut-requires : tie.Need-cut-requires
+cut-requires c κs = search needs
 
 returns : tie.Need-returns
 returns c =
-    let s = c .before .before in
-    let g = getD (s .args .hi .now) (s .args .at) (pos 0) in
-    let a = getD (s .args .lo .now) (s .args .at) 0 in
+    let l = c .before .before .before in
     record {
       yes = λ e. absurd (let z : _≡_ {A = ℕ} 0 1 = cc in omega arith);
-      no = λ _ e. c .if1 .taken (ap (ofZ w64) (parts-zero g a (s .pre .low) e .0));
+      no = λ _ e. c .if1 .taken (rw (cut-is l, zero-halves (g l) (a l) e .0));
     }
 
 mul-result : tie.Need-mul-result
 mul-result c = search needs
 
-shared-slice-read-result : tie.Need-shared-slice-read-result
-shared-slice-read-result c = search needs
+shared-slice-copy-out-result : tie.Need-shared-slice-copy-out-result
+shared-slice-copy-out-result c = search needs
+
+sub-result : tie.Need-sub-result
+sub-result c =
+    let l = c .before .before .before .before .before .before in
+    rw (cut-is l, toZ-ofZ (high-fits (a l) (a-fits l))) (minus-fits (a l) (a-fits l))
 
 returns-2 : tie.Need-returns-2
 returns-2 c =
-    let s = c .before .before .before in
-    let g = getD (s .args .hi .now) (s .args .at) (pos 0) in
-    let a = getD (s .args .lo .now) (s .args .at) 0 in
-    let z = zero-bits {w = w64} {z = g} (sfits-of (c .before .before .h .given)) (c .before .if1 .left) in
+    let l = c .before .before .before .before .before .before in
+    let z = zero-bits (low-fits (a l) (a-fits l)) (rw (cut-is l) at (c .before .before .before .if1 .left)) in
+    let p : SFits w64 (g l) = sfits-of (c .before .before .result .given) in
+    let q = minus-fits (a l) (a-fits l) in
+    rw (cut-is l, toZ-ofZ (high-fits (a l) (a-fits l)))
     record {
-      yes = λ e. ap₂ valueOf z (eqb-true a 0 e);
-      no = λ e f. eqb-false a 0 e (parts-zero g a (s .pre .low) f .1);
+      yes = λ e. halves-zero (g l) (a l) z (sym (toZ-ofZ p) ∙ ap (toZ w64) (eqb-true (ofZ w64 (g l)) (ofZ w64 (m l)) e) ∙ toZ-ofZ q);
+      no = λ e f. eqb-false (ofZ w64 (g l)) (ofZ w64 (m l)) e (ap (ofZ w64) (zero-halves (g l) (a l) f .1));
     }
 
 pub is-zero-spec : {M : Type 1} → statement M
 is-zero-spec =
     tie.close
-    (tie.spec mul-h shared-slice-copy-out-h returns mul-result shared-slice-read-result returns-2)
+    (tie.spec
+    mul-cut
+    shared-slice-copy-out-cut
+    cut-requires
+    returns
+    mul-result
+    shared-slice-copy-out-result
+    sub-result
+    returns-2)
