@@ -122,7 +122,7 @@ unfolding termsIn
 first-terms n E C h = rw (length-take-le n E h) (listed-same n _ _ (λ i b. ap₂ term (getD-take n E i 0 b) (getD-take n C i (pos 0) b)))
 
 -- the claim over the first places is the claim over the objective
-pub claim-first : {table : List ℕ} {n : ℕ} {hi₀ hi₁ lo₀ lo₁ : List ℤ} (q : Objective) (h : Header) → FilledTerms 32 256 (q .keys) (q .coefficients) (q .count)
+pub claim-first : {table : List ℕ} {n : ℕ} {hi₀ hi₁ lo₀ lo₁ : List ℤ} (q : Objective) (h : Header) → FilledTerms 32 256 (2 ^ 31) (q .keys) (q .coefficients) (q .count)
     → let E = take (q .count) (q .keys) in
     SumsGrown table n hi₀ lo₀ (λ k. negℤ (coefficient k (claimOf (termsIn (length E) E (take (q .count) (q .coefficients))) h))) ((length E + 1) * unit) hi₁ lo₁
     → SumsGrown table n hi₀ lo₀ (λ k. negℤ (coefficient k (claimOf (objectiveTerms q) h))) (257 * unit) hi₁ lo₁

@@ -1,16 +1,17 @@
 -- The parts of the flat arrays that belong to one basis.
 use mathlib.Core.Path.{_≡_, ap, ap₂}
-use mathlib.Core.List.{List, [], _∷_}
-use Prim.Native.Nat.{ℕ, zero, suc, _+_, _-_, _*_, _^_, _≤_, _<_}
+use mathlib.Core.List.{List}
+use Prim.Native.Nat.{ℕ, _+_, _-_, _*_, _^_, _≤_, _<_}
 use native.Mathlib.Nat.{add-sub-cancel-left}
 use native.Mathlib.Omega.{arith}
-use lib.IntN.{ℤ, pos, natAbs}
+use lib.IntN.{ℤ, pos}
 use lib.ListN.{length, getD, take, drop, length-take, length-drop}
 use lib.Seq.{getD-take}
 use Rattle.counting.proofs.Bounded.{bounded-part}
 use Rattle.counting.proofs.Listed.{listed-same}
 use Rattle.polynomial.specs.Terms.{term}
 use Rattle.problem_reader.specs.TermArrays.{termsIn}
+use Rattle.problem_reader.proofs.TermArrays.{small-take, small-drop}
 use Rattle.whole_rounds.specs.Parts.{part}
 use Rattle.identity_check.specs.declared.Lengths.{Lengths}
 use Rattle.identity_check.specs.Spread.{Spreadable, Flattened, multiplierIn}
@@ -25,15 +26,6 @@ module _ {A : Type 0} (a n : ℕ) (l : List A) where
 
   part-long : a + n ≤ length l → length (take n (drop a l)) ≡ n
   part-long h = simp (length-take, length-drop) (omega arith)
-
--- each number of a part is one of the list, or 0
-pub small-part : (m a n : ℕ) (l : List ℤ) → ((i : ℕ) → natAbs (getD l i (pos 0)) ≤ m) → (i : ℕ) → natAbs (getD (take n (drop a l)) i (pos 0)) ≤ m
-small-part m a zero l h i = omega arith
-small-part m zero (suc n) [] h i = omega arith
-small-part m zero (suc n) (x ∷ l) h zero = h zero
-small-part m zero (suc n) (x ∷ l) h (suc i) = small-part m zero n l (λ k. h (suc k)) i
-small-part m (suc a) (suc n) [] h i = omega arith
-small-part m (suc a) (suc n) (x ∷ l) h i = small-part m a (suc n) l (λ k. h (suc k)) i
 
 module _ (keys exponents : List ℕ) (coefficients : List ℤ) (l : Lengths) (f : Flattened keys exponents coefficients l) (j : ℕ) (h : j < 9) where
   abbrev size : ℕ
@@ -69,7 +61,7 @@ module _ (keys exponents : List ℕ) (coefficients : List ℤ) (l : Lengths) (f 
         paired = omega arith;
         few = omega (arith, a .counts-small j);
         low = bounded-part (16 * 2 ^ 56) (32 * j) count exponents (a .exponents-low);
-        coefficients-small = small-part (2 ^ 15) (32 * j) count coefficients (f .coefficients-small);
+        coefficients-small = small-take _ count (drop (32 * j) coefficients) (small-drop _ (32 * j) coefficients (f .coefficients-small));
       }
 
   pub multiplier-is : termsIn (length (take count (drop (32 * j) exponents))) (take count (drop (32 * j) exponents)) (take count (drop (32 * j) coefficients)) ≡ multiplierIn exponents coefficients (l .counts) j

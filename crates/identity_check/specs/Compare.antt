@@ -3,7 +3,7 @@ use mathlib.Core.Path.{_≡_}
 use mathlib.Core.Logic.{_⊎_}
 use mathlib.Core.List.{List}
 use mathlib.Core.Option.{Option, none, some}
-use Prim.Native.Nat.{ℕ, _≤_, _<_}
+use Prim.Native.Nat.{ℕ, _^_, _≤_, _<_}
 use lib.IntN.{ℤ, pos}
 use lib.ListN.{length, getD, drop}
 use Rattle.format.specs.Commands.{given}
@@ -55,7 +55,7 @@ pub record Comparable (s keys exponents : List ℕ) (coefficients : List ℤ) (l
     Type 0 where
   pub flat : Flattened keys exponents coefficients l
   pub rows : ShapedRows (l .sizes) s
-  pub objective-filled : FilledTerms 32 256 (objective .keys) (objective .coefficients) (objective .count)
+  pub objective-filled : FilledTerms 32 256 (2 ^ 31) (objective .keys) (objective .coefficients) (objective .count)
 
 -- the arrays stand for the problem p, and the stream for the certificate c; the table holds the keys that are compared
 pub record Given (p : Problem) (c : Certificate) (s : List ℕ) (header : Header) (keys exponents : List ℕ)

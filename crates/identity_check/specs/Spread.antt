@@ -2,10 +2,10 @@
 use mathlib.Core.Path.{_≡_}
 use mathlib.Core.List.{List}
 use Prim.Native.Nat.{ℕ, _*_, _^_, _≤_, _<_}
-use lib.IntN.{ℤ, pos, natAbs}
+use lib.IntN.{ℤ, pos}
 use lib.ListN.{length, getD, drop}
 use Rattle.polynomial.specs.Terms.{Term}
-use Rattle.problem_reader.specs.TermArrays.{termsIn}
+use Rattle.problem_reader.specs.TermArrays.{termsIn, Small}
 use Rattle.counting.specs.Counting.{Bounded}
 use Rattle.whole_rounds.specs.Arrays.{Arrays}
 use Rattle.identity_check.specs.declared.Lengths.{Lengths}
@@ -26,7 +26,7 @@ pub record Spreadable (basis exponents : List ℕ) (coefficients : List ℤ) : T
   pub paired : length exponents ≤ length coefficients
   pub few : length exponents ≤ 32
   pub low : Bounded (16 * 2 ^ 56) exponents
-  pub coefficients-small : (i : ℕ) → natAbs (getD coefficients i (pos 0)) ≤ 2 ^ 15
+  pub coefficients-small : Small (2 ^ 15) coefficients
 
 -- the sums grew by f, what a table gives, and all its entries are 0
 pub record Spread (keys : List ℕ) (n : ℕ) (f : ℕ → ℤ) (hi₀ lo₀ g₁ hi₁ lo₁ : List ℤ) : Type 0 where
@@ -43,4 +43,4 @@ multiplierIn exponents coefficients counts j =
 pub record Flattened (keys exponents : List ℕ) (coefficients : List ℤ) (l : Lengths) : Type 0 where
   pub arrays : Arrays keys (l .sizes) exponents (l .counts)
   pub coefficients-long : length coefficients ≡ 288
-  pub coefficients-small : (i : ℕ) → natAbs (getD coefficients i (pos 0)) ≤ 2 ^ 15
+  pub coefficients-small : Small (2 ^ 15) coefficients

@@ -9,6 +9,7 @@ use Rattle.key_set.specs.Table.{Holds, Indexed}
 use Rattle.wide_sums.specs.Sums.{valueAt, HasRoom, Near}
 use Rattle.wide_sums.specs.declared.Halves.{Halves}
 use Rattle.counting.specs.Counting.{Bounded}
+use Rattle.problem_reader.specs.TermArrays.{Small}
 use Rattle.accepting.specs.Identity.{turned}
 use Rattle.row_products.specs.Fold.{foldedMost}
 use Rattle.identity_check.specs.declared.Negated.{Negated}
@@ -51,7 +52,7 @@ pub record Addable (exponents : List ℕ) (coefficients : List ℤ) (key : ℕ) 
   pub paired : length exponents ≤ length coefficients
   pub low : Bounded (32 * 2 ^ 56) exponents
   pub key-low : key ≤ 16 * 2 ^ 56
-  pub coefficients-small : (i : ℕ) → natAbs (getD coefficients i (pos 0)) ≤ 2 ^ 15
+  pub coefficients-small : Small (2 ^ 15) coefficients
   pub small : natAbs x ≤ foldedMost
 
 -- ---- the claim, taken away
