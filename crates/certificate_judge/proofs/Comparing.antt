@@ -38,13 +38,13 @@ module _ {A : Type 0} (z : A) (t t′ : List A) (n : ℕ) (cleared : t′ ≡ re
 
 -- ---- what the comparison asks
 module _ (p : StoredProblem) (kept : Kept p) (n : ℕ) (table idx : List ℕ) (compares : Compares (problemOf p) n table idx) where
-  pub zeroed : (h h′ : List ℤ) (l l′ : List ℕ) → 2048 ≤ length h′ → 2048 ≤ length l′ → h′ ≡ replicate n (pos 0) ++ drop n h → l′ ≡ replicate n 0 ++ drop n l → Zeroed table n h′ l′
+  pub zeroed : (h h′ l l′ : List ℤ) → 2048 ≤ length h′ → 2048 ≤ length l′ → h′ ≡ replicate n (pos 0) ++ drop n h → l′ ≡ replicate n (pos 0) ++ drop n l → Zeroed table n h′ l′
   zeroed h h′ l l′ a b e f = record {
     support = compares .holds;
     in-hi = a;
     in-lo = b;
     hi-zero = cleared-at (pos 0) h h′ n e;
-    lo-zero = cleared-at 0 l l′ n f;
+    lo-zero = cleared-at (pos 0) l l′ n f;
   }
 
   same-basis : (j : ℕ) → j < 9 → part 64 (p .sizes) (p .keys) j ≡ basisOf (problemOf p) j
@@ -57,7 +57,7 @@ module _ (p : StoredProblem) (kept : Kept p) (n : ℕ) (table idx : List ℕ) (c
   module _ (m : Multipliers) (flat : Flat (problemOf p) m) (s : List ℕ) (t : Header) (stands : HeaderStands (problemOf p) s t) where
     pub comparable : Comparable s (p .keys) (m .keys) (m .coefficients) (record { sizes = p .sizes; counts = m .counts }) (p .objective)
     comparable = record {
-      flat = record { arrays = arrays p kept m flat; coefficients-long = flat .coefficients-length };
+      flat = record { arrays = arrays p kept m flat; coefficients-long = flat .coefficients-length; coefficients-small = flat .coefficients-small };
       rows = record {
         problem = problemOf p;
         sizes-are = sizes-are p kept;

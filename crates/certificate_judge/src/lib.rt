@@ -67,7 +67,7 @@ fn difference(
     g: &mut [i64; 4096],
     lasts: &mut [u16; 2048],
     high: &mut [i64],
-    low: &mut [u64],
+    low: &mut [i64],
 ) -> Difference
     requires { ⌜
         Kept p
@@ -86,7 +86,7 @@ fn difference(
         ⌝ }
 {
     clear_signed(high, n);
-    clear(low, n);
+    clear_signed(low, n);
     let constraints = p.constraints;
     let m = problem_reader::multipliers_of(constraints, p.count);
     let bases = p.keys;
@@ -148,7 +148,7 @@ pub fn judge(
     g: &mut [i64; 4096],
     lasts: &mut [u16; 2048],
     high: &mut [i64],
-    low: &mut [u64],
+    low: &mut [i64],
 ) -> Judged
     requires { ⌜
         JoinedProblem p j (now keys) (now index)
