@@ -12,7 +12,7 @@ extern "C" {
         keys_length: usize,
         high: *mut i64,
         high_length: usize,
-        low: *mut u64,
+        low: *mut i64,
         low_length: usize,
     ) -> u64;
 
@@ -25,7 +25,7 @@ extern "C" {
         keys_length: usize,
         high: *mut i64,
         high_length: usize,
-        low: *mut u64,
+        low: *mut i64,
         low_length: usize,
     ) -> u64;
 
@@ -40,7 +40,7 @@ extern "C" {
         keys_length: usize,
         high: *mut i64,
         high_length: usize,
-        low: *mut u64,
+        low: *mut i64,
         low_length: usize,
     ) -> u64;
 }
@@ -57,7 +57,7 @@ pub struct Lent {
     pub out: Vec<u8>,
     pub keys: Vec<u64>,
     pub high: Vec<i64>,
-    pub low: Vec<u64>,
+    pub low: Vec<i64>,
 }
 
 impl Lent {

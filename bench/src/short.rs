@@ -43,7 +43,7 @@ fn filled() -> Lent {
         out: (0..579).map(|i| 1 + (i % 250) as u8).collect(),
         keys: (0..2_051).map(|i| 1 + i).collect(),
         high: (0..2_051).map(|i| -1 - i).collect(),
-        low: (0..2_051).map(|i| u64::MAX - i).collect(),
+        low: (0..2_051).map(|i| i64::MAX - i).collect(),
     }
 }
 

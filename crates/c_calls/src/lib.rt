@@ -22,7 +22,7 @@ pub extern "C" fn zamiachisel_blocks(
     out: &mut [u8],
     keys: &mut [u64],
     high: &mut [i64],
-    low: &mut [u64],
+    low: &mut [i64],
 ) -> u64
     ensures verdict { λ r.
         let lent = tables (now (keys .entry)) (now (high .entry)) (now (low .entry)) in
@@ -48,7 +48,7 @@ pub extern "C" fn zamiachisel_check(
     certificate: &[u8],
     keys: &mut [u64],
     high: &mut [i64],
-    low: &mut [u64],
+    low: &mut [i64],
 ) -> u64
     ensures verdict { λ r.
         let lent = tables (now (keys .entry)) (now (high .entry)) (now (low .entry)) in
@@ -72,7 +72,7 @@ pub extern "C" fn zamiachisel_pair(
     second: &[u8],
     keys: &mut [u64],
     high: &mut [i64],
-    low: &mut [u64],
+    low: &mut [i64],
 ) -> u64
     ensures verdict { λ r.
         let lent = tables (now (keys .entry)) (now (high .entry)) (now (low .entry)) in

@@ -16,9 +16,9 @@ tableLength = 2048
 pub record Tables : Type 0 where
   pub keys : List ℕ
   pub high : List ℤ
-  pub low : List ℕ
+  pub low : List ℤ
 
-abbrev pub tables : List ℕ → List ℤ → List ℕ → Tables
+abbrev pub tables : List ℕ → List ℤ → List ℤ → Tables
 tables keys high low = record { keys = keys; high = high; low = low }
 
 -- refusal 1: "a lent table .. is too short"
@@ -36,4 +36,4 @@ tableLeft short zero t = cond short t (replicate tableLength zero ++ drop tableL
 pub record TablesLeft (short : Bool) (lent left : Tables) : Type 0 where
   pub keys : left .keys ≡ tableLeft short 0 (lent .keys)
   pub high : left .high ≡ tableLeft short (pos 0) (lent .high)
-  pub low : left .low ≡ tableLeft short 0 (lent .low)
+  pub low : left .low ≡ tableLeft short (pos 0) (lent .low)

@@ -5,23 +5,18 @@ ghost use mathlib.Core.List.{_++_};
 ghost use Prim.Native.Nat.{_≤_};
 ghost use lib.ListN.{length, drop, replicate};
 ghost use lib.IntN.{pos};
-ghost use Rattle.problem_reader.specs.Stored.{problemOf, Kept};
-ghost use Rattle.format.specs.Commands.{given};
-ghost use Rattle.format.specs.CertificateRules.{Certificate, readCertificate};
+ghost use Rattle.format.specs.ProblemRules.{Problem};
 ghost use Rattle.accepting.specs.Judgement as J;
-ghost use Rattle.row_products.specs.Outer.{Below};
-ghost use Rattle.identity_check.specs.Compare.{differenceOf, Untouched};
-ghost use Rattle.certificate_judge.specs.declared.Judged.the-variants as Judged;
-ghost use Rattle.calls.specs.Tables.{tableLength};
 ghost use Rattle.calls.specs.Refusals.{problemRefusal, certificateRefusal};
-ghost use Rattle.certificate_judge.specs.Steps.{JoinedProblem, Compares, HeaderStands, judgedOf, judgedFrom};
+ghost use Rattle.key_set.specs.Table.{Holds, Indexed};
+ghost use Rattle.identity_check.specs.Walk.{Comparable};
+ghost use Rattle.identity_check.specs.Compare.{Answered};
+ghost use Rattle.certificate_judge.specs.declared.Judged.the-variants as Judged;
+ghost use Rattle.certificate_judge.specs.Steps.{JoinedProblem, Judgeable, LongSums, SumsRest};
+ghost use Rattle.certificate_judge.specs.Steps.{judgedOf, judgedFrom};
 use calls::Refusal;
-use certificate_reader::Shape;
-use closure::Joined;
 use format::certificate::Header;
 use identity_check::Difference;
-use identity_check::Lengths;
-use problem_reader::StoredProblem;
 use row_blocks::Place;
 
 // What becomes of one certificate: a refusal, or it is accepted, and what its first command states.
@@ -54,66 +49,6 @@ pub fn clear_signed(t: &mut [i64], n: usize)
     }
 }
 
-// Whether the identity of a certificate that was read holds; if not, at which key it first differs. The compared keys
-// are the first n numbers of `table`, with `index`; the sums at them are kept in `high` and `low`, before place 2,048
-// only. `g` is the table of sums by indices, empty before and after, and `lasts` may hold anything.
-fn difference(
-    p: StoredProblem,
-    n: usize,
-    header: Header,
-    s: &[u8],
-    table: &[u64],
-    index: &[u16; 6144],
-    g: &mut [i64; 4096],
-    lasts: &mut [u16; 2048],
-    high: &mut [i64],
-    low: &mut [i64],
-) -> Difference
-    requires { ⌜
-        Kept p
-        × Compares (problemOf p) n (now table) (now index)
-        × Below 0 (now g)
-        × HeaderStands (problemOf p) (now s) header
-        × (tableLength ≤ length (now high))
-        × (tableLength ≤ length (now low))
-        ⌝ }
-    ensures { λ r. ⌜
-        ((c : Certificate) → readCertificate (problemOf p) (now (s .entry)) ≡ given c
-        → r ≡ differenceOf (J.differenceKey (problemOf p) c))
-        × Untouched (now (high .entry)) (now (high .exit))
-        × Untouched (now (low .entry)) (now (low .exit))
-        × Below 0 (now (g .exit))
-        ⌝ }
-{
-    clear_signed(high, n);
-    clear_signed(low, n);
-    let constraints = p.constraints;
-    let m = problem_reader::multipliers_of(constraints, p.count);
-    let bases = p.keys;
-    let exponents = m.keys;
-    let coefficients = m.coefficients;
-    let sizes = p.sizes;
-    let counts = m.counts;
-    let lengths = Lengths { sizes, counts };
-    let objective = p.objective;
-    identity_check::compare(
-        s,
-        header,
-        &bases,
-        &exponents,
-        &coefficients,
-        lengths,
-        objective,
-        table,
-        n,
-        index,
-        g,
-        lasts,
-        high,
-        low,
-    )
-}
-
 // A refusal of a certificate.
 fn refuse(stream: u8, number: u8, place: usize, key: u64) -> Judged
     ensures { λ r. ⌜ r ≡ Judged.Refused (certificateRefusal stream number place key) ⌝ }
@@ -136,51 +71,103 @@ fn by_identity(stream: u8, header: Header, found: Difference) -> Judged
     }
 }
 
-// One certificate against a problem with its blocks: it by commands, 8 by rows, 9. The tables are those of
-// `difference`.
+// The sums at the compared keys set to 0, and the identity of a certificate whose rows keep to the blocks looked at.
+fn difference(
+    s: &[u8],
+    starts: &[usize; 129],
+    rows: usize,
+    header: Header,
+    keys: &[u64],
+    coefficients: &[i32],
+    sizes: &[usize],
+    table: &[u64],
+    n: usize,
+    index: &[u16; 6144],
+    high: &mut [i64],
+    low: &mut [i64],
+) -> Difference
+    requires { ⌜
+        (Holds (now table) n × Indexed (now index) (now table) n)
+        × Comparable (now s) (now starts) rows (now keys) (now coefficients) (now sizes)
+        × LongSums (now high) (now low)
+        ⌝ }
+    ensures { λ r. ⌜
+        Answered (now (s .entry)) (now (starts .entry)) rows header (now (keys .entry)) (now (coefficients .entry))
+        (now (sizes .entry)) (now (table .entry)) n r (now (high .entry)) (now (low .entry)) (now (high .exit))
+        (now (low .exit))
+        ⌝ }
+{
+    clear_signed(high, n);
+    clear_signed(low, n);
+    identity_check::compare(
+        s,
+        starts,
+        rows,
+        header,
+        keys,
+        coefficients,
+        sizes,
+        table,
+        n,
+        index,
+        high,
+        low,
+    )
+}
+
+// One certificate against a problem with its blocks: it by commands, 8 by rows, 9. The compared keys are the first n
+// numbers of `table`, with `index`; the sums at them are kept in `high` and `low`, before place 2,048 only.
 pub fn judge(
     stream: u8,
-    p: StoredProblem,
-    j: Joined,
     s: &[u8],
     keys: &[u64],
+    coefficients: &[i32],
+    sizes: &[usize],
+    labels: &[u8],
+    table: &[u64],
+    n: usize,
     index: &[u16; 6144],
-    g: &mut [i64; 4096],
-    lasts: &mut [u16; 2048],
     high: &mut [i64],
     low: &mut [i64],
 ) -> Judged
     requires { ⌜
-        JoinedProblem p j (now keys) (now index)
-        × Below 0 (now g)
-        × (tableLength ≤ length (now high))
-        × (tableLength ≤ length (now low))
+        Judgeable (now keys) (now coefficients) (now sizes) (now labels) (now table) n (now index)
+        × LongSums (now high) (now low)
         ⌝ }
-    ensures { λ r. ⌜
-        (r ≡ judgedOf stream (J.judge (problemOf p) (now (s .entry))))
-        × (drop tableLength (now (high .exit)) ≡ drop tableLength (now (high .entry)))
-        × (drop tableLength (now (low .exit)) ≡ drop tableLength (now (low .entry)))
-        × Below 0 (now (g .exit))
+    ensures judgement { λ r. ⌜
+        ((p : Problem)
+        → JoinedProblem p (now (keys .entry)) (now (coefficients .entry)) (now (sizes .entry)) (now (labels .entry))
+        (now (table .entry)) n (now (index .entry)) → r ≡ judgedOf stream (J.judge p (now (s .entry))))
         ⌝ }
+    ensures rest { λ _. ⌜ SumsRest (now (high .entry)) (now (low .entry)) (now (high .exit)) (now (low .exit)) ⌝ }
 {
-    let sizes = p.sizes;
-    let shape = Shape {
-        constraints: p.count,
-        sizes,
-    };
-    let r = certificate_reader::validate(shape, s);
+    let mut starts = [0usize; 129];
+    let r = certificate_reader::validate(sizes, s, &mut starts);
     let number = r.number;
     if 0 < number {
         return refuse(stream, number, r.place, 0);
     }
-    let labels = j.labels;
+    let rows = r.rows;
     let t = r.header;
-    match row_blocks::split_place(s, &labels) {
+    match row_blocks::split_place(s, &starts, rows, labels) {
         Place::At(place) => refuse(stream, 8, place, 0),
         Place::Nowhere => by_identity(
             stream,
             t,
-            difference(p, j.len, t, s, keys, index, g, lasts, high, low),
+            difference(
+                s,
+                &starts,
+                rows,
+                t,
+                keys,
+                coefficients,
+                sizes,
+                table,
+                n,
+                index,
+                high,
+                low,
+            ),
         ),
     }
 }

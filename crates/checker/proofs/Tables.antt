@@ -49,5 +49,5 @@ pub tables-cleared : {t t₁ t₂ : Tables} → Rest t t₁ → TablesLeft false
 tables-cleared r c = record {
   keys = c .keys ∙ ap (λ (l : List ℕ). replicate tableLength 0 ++ l) (r .keys);
   high = c .high ∙ ap (λ (l : List ℤ). replicate tableLength (pos 0) ++ l) (r .high);
-  low = c .low ∙ ap (λ (l : List ℕ). replicate tableLength 0 ++ l) (r .low);
+  low = c .low ∙ ap (λ (l : List ℤ). replicate tableLength (pos 0) ++ l) (r .low);
 }

@@ -2,31 +2,33 @@
 // `certificate_judge`.
 ghost use mathlib.Core.Path.{_≡_};
 ghost use mathlib.Core.Bool.{false, _||_};
-ghost use mathlib.Core.List.{_++_};
+ghost use mathlib.Core.List.{List, _++_};
 ghost use Prim.Native.Nat.{_≤_};
 ghost use lib.Dec.{ltb};
+ghost use lib.IntN.{ℤ};
 ghost use lib.ListN.{length, drop};
-ghost use Rattle.format.specs.ProblemRules.{readProblem};
-ghost use Rattle.problem_reader.specs.Stored.{problemOf, Kept};
+ghost use Rattle.format.specs.ProblemRules.{Problem, readProblem};
 ghost use Rattle.format.proofs.WithinLimits.{Limits};
-ghost use Rattle.accepting.specs.Judgement as J;
 ghost use Rattle.joining_rule.specs.Bytes.{blockByteCount};
+ghost use Rattle.joining_rule.specs.Joining.{closing};
+ghost use Rattle.accepting.specs.Judgement as J;
 ghost use Rattle.calls.specs.Tables.{tableLength, tables, tablesShort, TablesLeft};
-ghost use Rattle.checker.specs.Tables.{Long, Rest};
+ghost use Rattle.calls.specs.Refusals.{certificateRefusal};
+ghost use Rattle.calls.specs.Fractions.{fraction};
 ghost use Rattle.calls.specs.Blocks.{blocksShort, refusedBlocks, blocksOf, blocksRead};
 ghost use Rattle.calls.specs.Blocks.{bytesOf, bytesRead, blocksVerdict, bytesLeft};
-ghost use Rattle.fractions.specs.Ranges.{Bound};
-ghost use Rattle.calls.specs.Fractions.{fraction};
-ghost use Rattle.calls.specs.Refusals.{certificateRefusal};
-ghost use Rattle.row_products.specs.Outer.{Below};
-ghost use Rattle.certificate_judge.specs.Steps.{JoinedProblem};
 ghost use Rattle.calls.specs.Check.{refusedCheck, checkOf, checkRead, checkVerdict};
 ghost use Rattle.calls.specs.Pair.{refusedPair, pairSides, pairFirst, pairOf, pairRead, pairVerdict};
-ghost use Rattle.checker.specs.Steps.{checkFrom, pairFrom};
 ghost use Rattle.calls.specs.Promises.{NumberedTo, BlocksClosed, BlocksLeast, BlocksLowest, BlocksCounted};
 ghost use Rattle.calls.specs.Promises.{RoundsTaken, FewRounds, SevenExactly};
 ghost use Rattle.calls.specs.Promises.{AcceptedExactly, CheckDiffers, HoldsBySide};
 ghost use Rattle.calls.specs.Promises.{PairExactly, PairDiffers, HoldsBelow, HoldsAbove, HoldsGap};
+ghost use Rattle.flat.specs.Flat.{FlatProblem};
+ghost use Rattle.closure.specs.Tables.{FlatKeys};
+ghost use Rattle.fractions.specs.Ranges.{Bound};
+ghost use Rattle.certificate_judge.specs.Steps.{JoinedProblem, Judgeable, LongSums, SumsRest};
+ghost use Rattle.checker.specs.Tables.{Long, Rest};
+ghost use Rattle.checker.specs.Steps.{Readable, checkFrom, pairFrom};
 use calls::BlocksVerdict;
 use calls::CheckVerdict;
 use calls::Fraction;
@@ -35,7 +37,6 @@ use calls::Refusal;
 use certificate_judge::Judged;
 use closure::Joined;
 use format::certificate::Header;
-use problem_reader::StoredProblem;
 
 // The block numbers written to the lent bytes.
 fn copy(out: &mut [u8], labels: &[u8])
@@ -63,7 +64,7 @@ fn is_short(keys: usize, high: usize, low: usize) -> bool
 }
 
 // The work tables as every call leaves them that has used them.
-fn clear_tables(keys: &mut [u64], high: &mut [i64], low: &mut [u64])
+fn clear_tables(keys: &mut [u64], high: &mut [i64], low: &mut [i64])
     requires { ⌜ Long (tables (now keys) (now high) (now low)) ⌝ }
     ensures { λ _.
         let lent = tables (now (keys .entry)) (now (high .entry)) (now (low .entry)) in
@@ -71,7 +72,7 @@ fn clear_tables(keys: &mut [u64], high: &mut [i64], low: &mut [u64])
 {
     certificate_judge::clear(keys, 2048);
     certificate_judge::clear_signed(high, 2048);
-    certificate_judge::clear(low, 2048);
+    certificate_judge::clear_signed(low, 2048);
 }
 
 // A refusal of the blocks call: it is always the problem's, and has no key.
@@ -90,21 +91,23 @@ fn refuse_blocks(number: u8, place: usize) -> BlocksVerdict
     }
 }
 
-// The blocks of a problem that was read. The table is changed before place 2,048 only.
-fn blocks_of(p: StoredProblem, out: &mut [u8], table: &mut [u64]) -> BlocksVerdict
-    requires { ⌜ Kept p × (blockByteCount ≤ length (now out)) × (tableLength ≤ length (now table)) ⌝ }
-    ensures { λ r. ⌜
-        (r ≡ blocksOf (problemOf p))
-        × (now (out .exit) ≡ bytesOf (problemOf p) (now (out .entry)))
-        × (drop tableLength (now (table .exit)) ≡ drop tableLength (now (table .entry)))
+// The blocks of the problem in the arrays. The table is changed before place 2,048 only.
+fn blocks_of(keys: &[u64], sizes: &[usize], out: &mut [u8], table: &mut [u64]) -> BlocksVerdict
+    requires { ⌜
+        FlatKeys (now keys) (now sizes) × (blockByteCount ≤ length (now out)) × (tableLength ≤ length (now table))
         ⌝ }
+    ensures verdict { λ r. ⌜
+        ((p : Problem) (coefficients : List ℤ) → FlatProblem p (now (keys .entry)) coefficients (now (sizes .entry))
+        → (r ≡ blocksOf p) × (now (out .exit) ≡ bytesOf p (now (out .entry))))
+        ⌝ }
+    ensures rest { λ _. ⌜ drop tableLength (now (table .exit)) ≡ drop tableLength (now (table .entry)) ⌝ }
 {
     let mut index = [0u16; 6144];
-    let j = closure::join(p, table, &mut index);
+    let mut labels = [255u8; 576];
+    let j = closure::join(keys, sizes, &mut labels, table, &mut index);
     if j.full {
         return refuse_blocks(7, 0);
     }
-    let labels = j.labels;
     copy(out, &labels);
     BlocksVerdict {
         refusal: Refusal {
@@ -118,7 +121,7 @@ fn blocks_of(p: StoredProblem, out: &mut [u8], table: &mut [u64]) -> BlocksVerdi
     }
 }
 
-// The blocks of a problem stream, with tables that are long enough.
+// The blocks of a problem stream, with tables that are long enough. The problem is read into arrays of the call.
 fn answer_blocks(problem: &[u8], out: &mut [u8], table: &mut [u64]) -> BlocksVerdict
     requires { ⌜ (blockByteCount ≤ length (now out)) × (tableLength ≤ length (now table)) ⌝ }
     ensures { λ r. ⌜
@@ -127,12 +130,15 @@ fn answer_blocks(problem: &[u8], out: &mut [u8], table: &mut [u64]) -> BlocksVer
         × (drop tableLength (now (table .exit)) ≡ drop tableLength (now (table .entry)))
         ⌝ }
 {
-    let r = problem_reader::read(problem);
+    let mut keys = [0u64; 1120];
+    let mut coefficients = [0i32; 544];
+    let mut sizes = [0usize; 20];
+    let r = problem_reader::read(problem, &mut keys, &mut coefficients, &mut sizes);
     let number = r.number;
     if 0 < number {
         return refuse_blocks(number, r.place);
     }
-    blocks_of(r.problem, out, table)
+    blocks_of(&keys, &sizes, out, table)
 }
 
 // The blocks of a problem. `out` gets the 576 block numbers; `keys`, `high` and `low` are the work tables.
@@ -141,7 +147,7 @@ pub fn blocks(
     out: &mut [u8],
     keys: &mut [u64],
     high: &mut [i64],
-    low: &mut [u64],
+    low: &mut [i64],
 ) -> BlocksVerdict
     ensures verdict { λ r.
         let lent = tables (now (keys .entry)) (now (high .entry)) (now (low .entry)) in
@@ -212,64 +218,72 @@ fn check_one(judged: Judged, rounds: usize) -> CheckVerdict
     }
 }
 
-// The check against a problem that was read. The tables are changed before place 2,048 only.
+// The check against the problem in the arrays. The tables are changed before place 2,048 only.
 fn check_of(
-    p: StoredProblem,
+    keys: &[u64],
+    coefficients: &[i32],
+    sizes: &[usize],
     certificate: &[u8],
-    keys: &mut [u64],
+    table: &mut [u64],
     high: &mut [i64],
-    low: &mut [u64],
+    low: &mut [i64],
 ) -> CheckVerdict
-    requires { ⌜ Kept p × Limits (problemOf p) × Long (tables (now keys) (now high) (now low)) ⌝ }
-    ensures { λ r. ⌜
-        (r ≡ checkOf (problemOf p) (now (certificate .entry)))
-        × Rest (tables (now (keys .entry)) (now (high .entry)) (now (low .entry)))
-        (tables (now (keys .exit)) (now (high .exit)) (now (low .exit)))
+    requires { ⌜
+        Readable (now keys) (now coefficients) (now sizes) × Long (tables (now table) (now high) (now low))
         ⌝ }
+    ensures verdict { λ r. ⌜
+        ((p : Problem) → Limits p → FlatProblem p (now (keys .entry)) (now (coefficients .entry)) (now (sizes .entry))
+        → r ≡ checkOf p (now (certificate .entry)))
+        ⌝ }
+    ensures rest { λ _.
+        let lent = tables (now (table .entry)) (now (high .entry)) (now (low .entry)) in
+        ⌜ Rest lent (tables (now (table .exit)) (now (high .exit)) (now (low .exit))) ⌝ }
 {
     let mut index = [0u16; 6144];
-    let j = closure::join(p, keys, &mut index);
+    let mut labels = [255u8; 576];
+    let j = closure::join(keys, sizes, &mut labels, table, &mut index);
     if j.full {
         return refuse_check(certificate_judge::problem_refusal(7, 0));
     }
-    let mut g = [0i64; 4096];
-    let mut lasts = [0u16; 2048];
     let judged = certificate_judge::judge(
         1,
-        p,
-        j,
         certificate,
         keys,
+        coefficients,
+        sizes,
+        &labels,
+        table,
+        j.len,
         &index,
-        &mut g,
-        &mut lasts,
         high,
         low,
     );
     check_one(judged, j.rounds)
 }
 
-// The check, with tables that are long enough.
+// The check, with tables that are long enough. The problem is read into arrays of the call.
 fn answer_check(
     problem: &[u8],
     certificate: &[u8],
-    keys: &mut [u64],
+    table: &mut [u64],
     high: &mut [i64],
-    low: &mut [u64],
+    low: &mut [i64],
 ) -> CheckVerdict
-    requires { ⌜ Long (tables (now keys) (now high) (now low)) ⌝ }
-    ensures { λ r. ⌜
-        (r ≡ checkRead (readProblem (now (problem .entry))) (now (certificate .entry)))
-        × Rest (tables (now (keys .entry)) (now (high .entry)) (now (low .entry)))
-        (tables (now (keys .exit)) (now (high .exit)) (now (low .exit)))
-        ⌝ }
+    requires { ⌜ Long (tables (now table) (now high) (now low)) ⌝ }
+    ensures { λ r.
+        let lent = tables (now (table .entry)) (now (high .entry)) (now (low .entry)) in
+        let left = tables (now (table .exit)) (now (high .exit)) (now (low .exit)) in
+        ⌜ (r ≡ checkRead (readProblem (now (problem .entry))) (now (certificate .entry))) × Rest lent left ⌝ }
 {
-    let r = problem_reader::read(problem);
+    let mut keys = [0u64; 1120];
+    let mut coefficients = [0i32; 544];
+    let mut sizes = [0usize; 20];
+    let r = problem_reader::read(problem, &mut keys, &mut coefficients, &mut sizes);
     let number = r.number;
     if 0 < number {
         return refuse_check(certificate_judge::problem_refusal(number, r.place));
     }
-    check_of(r.problem, certificate, keys, high, low)
+    check_of(&keys, &coefficients, &sizes, certificate, table, high, low)
 }
 
 // Whether one certificate holds for a problem. `keys`, `high` and `low` are the work tables.
@@ -278,7 +292,7 @@ pub fn check(
     certificate: &[u8],
     keys: &mut [u64],
     high: &mut [i64],
-    low: &mut [u64],
+    low: &mut [i64],
 ) -> CheckVerdict
     ensures verdict { λ r.
         let lent = tables (now (keys .entry)) (now (high .entry)) (now (low .entry)) in
@@ -362,98 +376,133 @@ fn pair_second(lower: Header, judged: Judged, rounds: usize) -> PairVerdict
 
 // Two certificates against a problem with its blocks.
 fn pair_both(
-    p: StoredProblem,
-    j: Joined,
     first: &[u8],
     second: &[u8],
     keys: &[u64],
+    coefficients: &[i32],
+    sizes: &[usize],
+    labels: &[u8],
+    j: Joined,
+    table: &[u64],
     index: &[u16; 6144],
-    g: &mut [i64; 4096],
-    lasts: &mut [u16; 2048],
     high: &mut [i64],
-    low: &mut [u64],
+    low: &mut [i64],
 ) -> PairVerdict
     requires { ⌜
-        JoinedProblem p j (now keys) (now index)
-        × Below 0 (now g)
-        × (tableLength ≤ length (now high))
-        × (tableLength ≤ length (now low))
+        Judgeable (now keys) (now coefficients) (now sizes) (now labels) (now table) (j .len) (now index)
+        × LongSums (now high) (now low)
         ⌝ }
-    ensures { λ r. ⌜
-        (r ≡ pairFirst (problemOf p) (J.judge (problemOf p) (now (first .entry))) (now (second .entry)))
-        × (drop tableLength (now (high .exit)) ≡ drop tableLength (now (high .entry)))
-        × (drop tableLength (now (low .exit)) ≡ drop tableLength (now (low .entry)))
+    ensures verdict { λ r. ⌜
+        ((p : Problem)
+        → JoinedProblem p (now (keys .entry)) (now (coefficients .entry)) (now (sizes .entry)) (now (labels .entry))
+        (now (table .entry)) (j .len) (now (index .entry)) → j .rounds ≡ closing p .rounds
+        → r ≡ pairFirst p (J.judge p (now (first .entry))) (now (second .entry)))
         ⌝ }
+    ensures rest { λ _. ⌜ SumsRest (now (high .entry)) (now (low .entry)) (now (high .exit)) (now (low .exit)) ⌝ }
 {
-    match certificate_judge::judge(1, p, j, first, keys, index, g, lasts, high, low) {
+    let n = j.len;
+    match certificate_judge::judge(
+        1,
+        first,
+        keys,
+        coefficients,
+        sizes,
+        labels,
+        table,
+        n,
+        index,
+        high,
+        low,
+    ) {
         Judged::Refused(f) => refuse_pair(f),
         Judged::Accepted(lower) => pair_second(
             lower,
-            certificate_judge::judge(2, p, j, second, keys, index, g, lasts, high, low),
+            certificate_judge::judge(
+                2,
+                second,
+                keys,
+                coefficients,
+                sizes,
+                labels,
+                table,
+                n,
+                index,
+                high,
+                low,
+            ),
             j.rounds,
         ),
     }
 }
 
-// The pair against a problem that was read. The tables are changed before place 2,048 only.
+// The pair against the problem in the arrays. The tables are changed before place 2,048 only.
 fn pair_of(
-    p: StoredProblem,
+    keys: &[u64],
+    coefficients: &[i32],
+    sizes: &[usize],
     first: &[u8],
     second: &[u8],
-    keys: &mut [u64],
+    table: &mut [u64],
     high: &mut [i64],
-    low: &mut [u64],
+    low: &mut [i64],
 ) -> PairVerdict
-    requires { ⌜ Kept p × Limits (problemOf p) × Long (tables (now keys) (now high) (now low)) ⌝ }
-    ensures { λ r. ⌜
-        (r ≡ pairOf (problemOf p) (now (first .entry)) (now (second .entry)))
-        × Rest (tables (now (keys .entry)) (now (high .entry)) (now (low .entry)))
-        (tables (now (keys .exit)) (now (high .exit)) (now (low .exit)))
+    requires { ⌜
+        Readable (now keys) (now coefficients) (now sizes) × Long (tables (now table) (now high) (now low))
         ⌝ }
+    ensures verdict { λ r. ⌜
+        ((p : Problem) → Limits p → FlatProblem p (now (keys .entry)) (now (coefficients .entry)) (now (sizes .entry))
+        → r ≡ pairOf p (now (first .entry)) (now (second .entry)))
+        ⌝ }
+    ensures rest { λ _.
+        let lent = tables (now (table .entry)) (now (high .entry)) (now (low .entry)) in
+        ⌜ Rest lent (tables (now (table .exit)) (now (high .exit)) (now (low .exit))) ⌝ }
 {
     let mut index = [0u16; 6144];
-    let j = closure::join(p, keys, &mut index);
+    let mut labels = [255u8; 576];
+    let j = closure::join(keys, sizes, &mut labels, table, &mut index);
     if j.full {
         return refuse_pair(certificate_judge::problem_refusal(7, 0));
     }
-    let mut g = [0i64; 4096];
-    let mut lasts = [0u16; 2048];
     pair_both(
-        p,
-        j,
         first,
         second,
         keys,
+        coefficients,
+        sizes,
+        &labels,
+        j,
+        table,
         &index,
-        &mut g,
-        &mut lasts,
         high,
         low,
     )
 }
 
-// The pair, with tables that are long enough.
+// The pair, with tables that are long enough. The problem is read into arrays of the call.
 fn answer_pair(
     problem: &[u8],
     first: &[u8],
     second: &[u8],
-    keys: &mut [u64],
+    table: &mut [u64],
     high: &mut [i64],
-    low: &mut [u64],
+    low: &mut [i64],
 ) -> PairVerdict
-    requires { ⌜ Long (tables (now keys) (now high) (now low)) ⌝ }
-    ensures { λ r. ⌜
-        (r ≡ pairRead (readProblem (now (problem .entry))) (now (first .entry)) (now (second .entry)))
-        × Rest (tables (now (keys .entry)) (now (high .entry)) (now (low .entry)))
-        (tables (now (keys .exit)) (now (high .exit)) (now (low .exit)))
-        ⌝ }
+    requires { ⌜ Long (tables (now table) (now high) (now low)) ⌝ }
+    ensures { λ r.
+        let lent = tables (now (table .entry)) (now (high .entry)) (now (low .entry)) in
+        let left = tables (now (table .exit)) (now (high .exit)) (now (low .exit)) in
+        ⌜ (r ≡ pairRead (readProblem (now (problem .entry))) (now (first .entry)) (now (second .entry)))
+        × Rest lent left ⌝ }
 {
-    let r = problem_reader::read(problem);
+    let mut keys = [0u64; 1120];
+    let mut coefficients = [0i32; 544];
+    let mut sizes = [0usize; 20];
+    let r = problem_reader::read(problem, &mut keys, &mut coefficients, &mut sizes);
     let number = r.number;
     if 0 < number {
         return refuse_pair(certificate_judge::problem_refusal(number, r.place));
     }
-    pair_of(r.problem, first, second, keys, high, low)
+    pair_of(&keys, &coefficients, &sizes, first, second, table, high, low)
 }
 
 // Whether two certificates hold for a problem: `first` of a lower bound and `second` of an upper one.
@@ -463,7 +512,7 @@ pub fn pair(
     second: &[u8],
     keys: &mut [u64],
     high: &mut [i64],
-    low: &mut [u64],
+    low: &mut [i64],
 ) -> PairVerdict
     ensures verdict { λ r.
         let lent = tables (now (keys .entry)) (now (high .entry)) (now (low .entry)) in

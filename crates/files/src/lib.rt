@@ -25,7 +25,7 @@ pub fn answer_to(problem: &[u8], low: &[u8], high: &[u8]) -> Text
 {
     let mut keys = [0u64; 2048];
     let mut sums_high = [0i64; 2048];
-    let mut sums_low = [0u64; 2048];
+    let mut sums_low = [0i64; 2048];
     let v = checker::pair(problem, low, high, &mut keys, &mut sums_high, &mut sums_low);
     text::pair_lines(v)
 }

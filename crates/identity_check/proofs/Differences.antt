@@ -14,7 +14,7 @@ use Rattle.integers.proofs.Ring.{view, diffs, ⊖-eq, ⊖-eq⁻¹}
 use Rattle.counting.proofs.Cases.{clash}
 use Rattle.counting.proofs.Listed.{listed-same}
 use Rattle.polynomial.specs.Terms.{Term, term}
-use Rattle.problem_reader.specs.TermArrays.{termsIn, objectiveTerms, FilledTerms}
+use Rattle.flat.specs.TermArrays.{termsIn, objectiveTerms, FilledTerms}
 use Rattle.problem_reader.specs.declared.Objective.{Objective}
 use Rattle.polynomial.specs.Algebra.{coefficient}
 use Rattle.format.specs.ProblemRules.{Problem}

@@ -10,7 +10,7 @@ use lib.Seq.{getD-take}
 use Rattle.counting.proofs.Bounded.{bounded-part}
 use Rattle.counting.proofs.Listed.{listed-same}
 use Rattle.polynomial.specs.Terms.{term}
-use Rattle.problem_reader.specs.TermArrays.{termsIn}
+use Rattle.flat.specs.TermArrays.{termsIn}
 use Rattle.problem_reader.proofs.TermArrays.{small-take, small-drop}
 use Rattle.whole_rounds.specs.Parts.{part}
 use Rattle.identity_check.specs.declared.Lengths.{Lengths}

@@ -11,7 +11,7 @@ use Rattle.integers.proofs.Ranges.{fits-abs, abs-mul-le}
 use Rattle.wide_sums.specs.Sums.{base, valueOf, halvesOf}
 use Rattle.wide_sums.specs.declared.Halves.{Halves}
 use Rattle.wide_sums.proofs.Floors.{halves-value, low-small, high-small}
-use Rattle.problem_reader.specs.TermArrays.{termsIn}
+use Rattle.flat.specs.TermArrays.{termsIn}
 use Rattle.polynomial.specs.Algebra.{sum}
 use Rattle.row_products.specs.Fold.{foldedMost}
 use Rattle.row_products.proofs.Prefixes.{at, times-none, times-more}

@@ -9,7 +9,7 @@ use Rattle.key_set.specs.Table.{Holds, Indexed}
 use Rattle.wide_sums.specs.Sums.{valueAt, HasRoom, Near}
 use Rattle.wide_sums.specs.declared.Halves.{Halves}
 use Rattle.counting.specs.Counting.{Bounded}
-use Rattle.problem_reader.specs.TermArrays.{Small}
+use Rattle.flat.specs.TermArrays.{Small}
 use Rattle.accepting.specs.Identity.{turned}
 use Rattle.row_products.specs.Fold.{foldedMost}
 use Rattle.identity_check.specs.declared.Negated.{Negated}

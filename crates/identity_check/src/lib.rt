@@ -1,30 +1,32 @@
 // Refusal 9: whether the identity of a certificate that was read holds, key by key. Minus the claim and the weighted
 // squares of the rows are added up at each key that is compared; a sum that is not 0 is a difference.
+//
+// Three bundles go through these functions, always in this order: the certificate (its bytes, the offsets of its rows
+// and their number), the problem (keys, coefficients and sizes, as in the crate flat) and the compared keys (a table,
+// how many they are, and their index); then the two tables of sums. A struct cannot hold the slices, so the functions
+// that need all three have more than eight parameters.
 ghost use mathlib.Core.Path.{_≡_};
-ghost use Prim.Native.Nat.{_+_, _*_, _^_, _≤_, _<_};
+ghost use mathlib.Core.Bool.{false};
+ghost use Prim.Native.Nat.{ℕ, _+_, _*_, _^_, _≤_, _<_};
 ghost use lib.IntN.{natAbs, negℤ, _*ℤ_};
 ghost use lib.ListN.{length, getD};
+ghost use Rattle.polynomial.specs.Algebra.{sum, match, coefficient};
+ghost use Rattle.format.specs.ProblemLimits.{mostBases};
+ghost use Rattle.accepting.specs.Identity.{squares, claimOf};
 ghost use Rattle.key_set.specs.Table.{Holds};
 ghost use Rattle.key_set.specs.Table as Support;
 ghost use Rattle.wide_sums.specs.Sums.{valueOf};
-ghost use Rattle.problem_reader.specs.TermArrays.{termsIn};
-ghost use Rattle.polynomial.specs.Algebra.{sum, match, coefficient};
-ghost use Rattle.format.specs.ProblemRules.{Problem};
-ghost use Rattle.whole_rounds.specs.Parts.{part};
-ghost use Rattle.format.specs.CertificateRules.{Certificate};
-ghost use Rattle.certificate_reader.specs.Rows.{rowsOf};
-ghost use Rattle.accepting.specs.Identity.{squares, claimOf};
+ghost use Rattle.flat.specs.TermArrays.{termsIn};
+ghost use Rattle.certificate_reader.specs.Rows.{rowsBy};
 ghost use Rattle.row_products.specs.Gram.{rowsOn};
-ghost use Rattle.accepting.specs.Judgement.{differenceKey};
-ghost use Rattle.row_products.specs.Frame.{share, spreadAt, halfAt, Framed, Entered};
-ghost use Rattle.row_products.specs.Fold.{foldedMost};
-ghost use Rattle.row_products.specs.Outer.{Below};
-ghost use Rattle.row_products.specs.Gather.{ShapedRows};
+ghost use Rattle.row_products.specs.Frame.{share, spreadAt, Framed, Entered};
+ghost use Rattle.row_products.specs.Fold.{foldedMost, FoldedTable};
+ghost use Rattle.counting.specs.Counting.{Bounded};
+ghost use Rattle.row_products.specs.Outer.{Empty};
 ghost use Rattle.identity_check.specs.Tables.{unit, factorMost, Sought, Ready, SumsGrown, Scaled, Addable, Negates};
-ghost use Rattle.identity_check.specs.Spread.{entryUnit, tableUnit, Spreadable, Spread, multiplierIn, Flattened};
-ghost use Rattle.identity_check.specs.Walk.{Summed};
-ghost use Rattle.identity_check.specs.Compare.{differenceOf, Zeroed, Smaller, SmallestSum, Comparable, Given, Untouched};
-use problem_reader::Objective;
+ghost use Rattle.identity_check.specs.Spread.{entryUnit, tableUnit, Spreadable, Spread};
+ghost use Rattle.identity_check.specs.Walk.{Comparable, RoomFor, Summed};
+ghost use Rattle.identity_check.specs.Compare.{Zeroed, Smaller, SmallestSum, Answered};
 
 // The place of a key among the first n; n where it has none.
 fn place_of(table: &[u64], n: usize, index: &[u16; 6144], key: u64) -> usize
@@ -236,9 +238,9 @@ fn add_entry(
     add_terms(table, n, index, hi, lo, exponents, coefficients, key, a);
 }
 
-// Adds the whole table of sums, and clears it. Past the basis's last index there is nothing to add.
+// Adds the whole table of sums, and clears it. It holds nothing below the diagonal, nor past the basis's last index.
 fn spread(
-    g: &mut [i64; 4096],
+    g: &mut [i64],
     basis: &[u64],
     exponents: &[u64],
     coefficients: &[i32],
@@ -256,7 +258,8 @@ fn spread(
         Spread (now (table .entry)) n
         (spreadAt (now (basis .entry))
         (termsIn (length (now (exponents .entry))) (now (exponents .entry)) (now (coefficients .entry)))
-        (now (g .entry))) (now (hi .entry)) (now (lo .entry)) (now (g .exit)) (now (hi .exit)) (now (lo .exit))
+        (now (g .entry))) (now (g .entry)) (now (hi .entry)) (now (lo .entry)) (now (g .exit)) (now (hi .exit))
+        (now (lo .exit))
         ⌝ }
 {
     let size = basis.len();
@@ -281,133 +284,95 @@ fn spread(
     }
 }
 
-// How many places of the flat arrays' parts are used: the length of each basis, and the number of each multiplier's
-// terms.
-pub struct Lengths {
-    pub sizes: [usize; 9],
-    pub counts: [usize; 9],
-}
+// The size up to which a basis is small: few of its products b * b' are the same, and a small table of sums has room.
+const SMALL: usize = 16;
 
-// Adds the upper half of the table of sums of basis j, and clears it.
-fn flush(
-    g: &mut [i64; 4096],
-    lasts: &mut [u16; 2048],
-    j: usize,
-    keys: &[u64],
-    exponents: &[u64],
-    coefficients: &[i32],
-    l: Lengths,
-    table: &[u64],
-    n: usize,
-    index: &[u16; 6144],
-    hi: &mut [i64],
-    lo: &mut [i64],
-)
-    requires { ⌜ Ready (now table) (now index) n (now hi) (now lo) tableUnit ⌝ }
+// Sums the entries with the same product b * b' at one place, where there are many of them.
+fn fold_large(g: &mut [i64], basis: &[u64])
     requires { ⌜
-        Flattened (now keys) (now exponents) (now coefficients) l
-        × (j < 9)
-        × Framed (getD (l .sizes) j 0) (2 ^ 53) (now g)
+        (length (now basis) ≤ 64) × Bounded (8 * 2 ^ 56) (now basis) × Framed (length (now basis)) (2 ^ 54) (now g)
         ⌝ }
-    ensures { λ _. ⌜
-        Spread (now (table .entry)) n
-        (halfAt (part 64 (l .sizes) (now (keys .entry)) j)
-        (multiplierIn (now (exponents .entry)) (now (coefficients .entry)) (l .counts) j) (now (g .entry)))
-        (now (hi .entry)) (now (lo .entry)) (now (g .exit)) (now (hi .exit)) (now (lo .exit))
-        ⌝ }
+    ensures { λ _. ⌜ FoldedTable (now (basis .entry)) (now (g .entry)) (now (g .exit)) ⌝ }
 {
-    let a = 64 * j;
-    let b = a + l.sizes[j];
-    let c = 32 * j;
-    let d = c + l.counts[j];
-    let basis = &keys[a..b];
-    let es = &exponents[c..d];
-    let cs = &coefficients[c..d];
-    row_products::fold(g, basis, lasts);
-    spread(g, basis, es, cs, table, n, index, hi, lo);
+    if SMALL < basis.len() {
+        row_products::fold(g, basis);
+    }
 }
 
 // Adds the weighted squares of the rows on basis j times its multiplier: their products are summed by their indices
-// first, so that a product with the multiplier is made once for all of them. An empty basis has no rows to look for.
+// first, so that a product with the multiplier is made once for all of them. The table of sums is empty before and
+// after.
 fn add_basis(
-    g: &mut [i64; 4096],
-    lasts: &mut [u16; 2048],
+    g: &mut [i64],
     s: &[u8],
+    starts: &[usize; 129],
+    rows: usize,
     j: usize,
     keys: &[u64],
-    exponents: &[u64],
     coefficients: &[i32],
-    l: Lengths,
+    sizes: &[usize],
     table: &[u64],
     n: usize,
     index: &[u16; 6144],
     hi: &mut [i64],
     lo: &mut [i64],
 )
-    requires { ⌜ Ready (now table) (now index) n (now hi) (now lo) tableUnit × Below 0 (now g) × (j < 9) ⌝ }
-    requires { ⌜ Flattened (now keys) (now exponents) (now coefficients) l × ShapedRows (l .sizes) (now s) ⌝ }
+    requires { ⌜ Ready (now table) (now index) n (now hi) (now lo) tableUnit × RoomFor (now sizes) (now g) ⌝ }
+    requires { ⌜
+        Comparable (now s) (now starts) rows (now keys) (now coefficients) (now sizes) × (j < mostBases)
+        ⌝ }
     ensures { λ _. ⌜
-        Summed (λ p. squares p (rowsOn j (rowsOf (now (s .entry))))) (now (keys .entry)) (now (exponents .entry))
-        (now (coefficients .entry)) l (now (table .entry)) n 1 (now (hi .entry)) (now (lo .entry)) (now (hi .exit))
-        (now (lo .exit))
-        × Below 0 (now (g .exit))
+        Summed (λ p. squares p (rowsOn j (rowsBy (now (s .entry)) (now (starts .entry)) rows))) (now (keys .entry))
+        (now (coefficients .entry)) (now (sizes .entry)) (now (table .entry)) n 1 (now (hi .entry))
+        (now (lo .entry)) (now (hi .exit)) (now (lo .exit))
+        × RoomFor (now (sizes .entry)) (now (g .exit))
         ⌝ }
 {
-    if l.sizes[j] != 0 {
-        row_products::add_basis_rows(g, s, j);
+    if !row_products::add_basis_rows(g, s, starts, rows, j) {
+        return;
     }
-    flush(
-        g,
-        lasts,
-        j,
-        keys,
-        exponents,
-        coefficients,
-        l,
-        table,
-        n,
-        index,
-        hi,
-        lo,
-    );
+    let basis = flat::basis(keys, sizes, j);
+    let es = flat::exponents(keys, sizes, j);
+    let cs = flat::coefficients(coefficients, sizes, j);
+    fold_large(g, basis);
+    spread(g, basis, es, cs, table, n, index, hi, lo);
 }
 
-// Adds the weighted square of every row times its multiplier, basis by basis. The table of sums is empty before and
-// after.
+// Adds the weighted square of every row times its multiplier, basis by basis.
 fn sum_rows(
-    g: &mut [i64; 4096],
-    lasts: &mut [u16; 2048],
+    g: &mut [i64],
     s: &[u8],
+    starts: &[usize; 129],
+    rows: usize,
     keys: &[u64],
-    exponents: &[u64],
     coefficients: &[i32],
-    l: Lengths,
+    sizes: &[usize],
     table: &[u64],
     n: usize,
     index: &[u16; 6144],
     hi: &mut [i64],
     lo: &mut [i64],
 )
-    requires { ⌜ Ready (now table) (now index) n (now hi) (now lo) (9 * tableUnit) × Below 0 (now g) ⌝ }
-    requires { ⌜ Flattened (now keys) (now exponents) (now coefficients) l × ShapedRows (l .sizes) (now s) ⌝ }
+    requires { ⌜ Ready (now table) (now index) n (now hi) (now lo) (9 * tableUnit) × RoomFor (now sizes) (now g) ⌝ }
+    requires { ⌜ Comparable (now s) (now starts) rows (now keys) (now coefficients) (now sizes) ⌝ }
     ensures { λ _. ⌜
-        Summed (λ p. squares p (rowsOf (now (s .entry)))) (now (keys .entry)) (now (exponents .entry))
-        (now (coefficients .entry)) l (now (table .entry)) n 9 (now (hi .entry)) (now (lo .entry)) (now (hi .exit))
-        (now (lo .exit))
-        × Below 0 (now (g .exit))
+        Summed (λ p. squares p (rowsBy (now (s .entry)) (now (starts .entry)) rows)) (now (keys .entry))
+        (now (coefficients .entry)) (now (sizes .entry)) (now (table .entry)) n 9 (now (hi .entry))
+        (now (lo .entry)) (now (hi .exit)) (now (lo .exit))
         ⌝ }
 {
+    let last = sizes[flat::CONSTRAINTS];
     let mut j: usize = 0;
-    while j < 9 {
+    while j <= last {
         add_basis(
             g,
-            lasts,
             s,
+            starts,
+            rows,
             j,
             keys,
-            exponents,
             coefficients,
-            l,
+            sizes,
             table,
             n,
             index,
@@ -454,54 +419,45 @@ pub enum Difference {
 }
 
 // Compares the claim with the weighted squares, at the first n numbers of `table`: minus the claim and all squares are
-// added up at each key, and a sum that is not 0 is a difference. Basis j stands from place 64j on in `keys`, and the
-// multiplier g_j from place 32j on in `exponents` and `coefficients`. `index` is the keys' index, and `g` the table of
-// sums, which is empty before and after.
-pub fn compare(
+// added up at each key, and a sum that is not 0 is a difference. `g` is the table of sums by indices.
+fn compare_with(
+    g: &mut [i64],
     s: &[u8],
+    starts: &[usize; 129],
+    rows: usize,
     header: format::certificate::Header,
     keys: &[u64],
-    exponents: &[u64],
     coefficients: &[i32],
-    l: Lengths,
-    objective: Objective,
+    sizes: &[usize],
     table: &[u64],
     n: usize,
     index: &[u16; 6144],
-    g: &mut [i64; 4096],
-    lasts: &mut [u16; 2048],
     hi: &mut [i64],
     lo: &mut [i64],
 ) -> Difference
     requires { ⌜
         Zeroed (now table) n (now hi) (now lo)
         × Support.Indexed (now index) (now table) n
-        × Below 0 (now g)
-        × Comparable (now s) (now keys) (now exponents) (now coefficients) l objective
+        × Comparable (now s) (now starts) rows (now keys) (now coefficients) (now sizes)
         ⌝ }
-    ensures difference { λ r. ⌜
-        ((p : Problem) (c : Certificate)
-        → Given p c (now (s .entry)) header (now (keys .entry)) (now (exponents .entry)) (now (coefficients .entry))
-        l objective (now (table .entry)) n → r ≡ differenceOf (differenceKey p c))
-        ⌝ }
-    ensures tables { λ _. ⌜
-        Untouched (now (hi .entry)) (now (hi .exit))
-        × Untouched (now (lo .entry)) (now (lo .exit))
-        × Below 0 (now (g .exit))
+    requires { ⌜ RoomFor (now sizes) (now g) ⌝ }
+    ensures { λ r. ⌜
+        Answered (now (s .entry)) (now (starts .entry)) rows header (now (keys .entry)) (now (coefficients .entry))
+        (now (sizes .entry)) (now (table .entry)) n r (now (hi .entry)) (now (lo .entry)) (now (hi .exit))
+        (now (lo .exit))
         ⌝ }
 {
-    let es = objective.keys;
-    let cs = objective.coefficients;
-    let m = objective.count;
-    add_claim(table, n, index, hi, lo, &es[..m], &cs[..m], header);
+    let es = flat::exponents(keys, sizes, flat::OBJECTIVE);
+    let cs = flat::coefficients(coefficients, sizes, flat::OBJECTIVE);
+    add_claim(table, n, index, hi, lo, es, cs, header);
     sum_rows(
         g,
-        lasts,
         s,
+        starts,
+        rows,
         keys,
-        exponents,
         coefficients,
-        l,
+        sizes,
         table,
         n,
         index,
@@ -513,4 +469,124 @@ pub fn compare(
         return Difference::Differs(table[found]);
     }
     Difference::Same
+}
+
+// Whether some basis is not small.
+fn is_large(sizes: &[usize]) -> bool
+    requires { ⌜ mostBases ≤ length (now sizes) ⌝ }
+    ensures { λ r. ⌜ (r ≡ false → (j : ℕ) → j < mostBases → getD (now (sizes .entry)) j 0 ≤ 16) ⌝ }
+{
+    let mut j = 0;
+    while j < 9 {
+        if SMALL < sizes[j] {
+            return true;
+        }
+        j += 1;
+    }
+    false
+}
+
+// The comparison with a table of sums that has room for any basis. Its frame is large, and most calls do not pass here.
+fn compare_large(
+    s: &[u8],
+    starts: &[usize; 129],
+    rows: usize,
+    header: format::certificate::Header,
+    keys: &[u64],
+    coefficients: &[i32],
+    sizes: &[usize],
+    table: &[u64],
+    n: usize,
+    index: &[u16; 6144],
+    hi: &mut [i64],
+    lo: &mut [i64],
+) -> Difference
+    requires { ⌜
+        Zeroed (now table) n (now hi) (now lo)
+        × Support.Indexed (now index) (now table) n
+        × Comparable (now s) (now starts) rows (now keys) (now coefficients) (now sizes)
+        ⌝ }
+    ensures { λ r. ⌜
+        Answered (now (s .entry)) (now (starts .entry)) rows header (now (keys .entry)) (now (coefficients .entry))
+        (now (sizes .entry)) (now (table .entry)) n r (now (hi .entry)) (now (lo .entry)) (now (hi .exit))
+        (now (lo .exit))
+        ⌝ }
+{
+    let mut g = [0i64; 4096];
+    compare_with(
+        &mut g,
+        s,
+        starts,
+        rows,
+        header,
+        keys,
+        coefficients,
+        sizes,
+        table,
+        n,
+        index,
+        hi,
+        lo,
+    )
+}
+
+// Whether the identity of a certificate that was read holds. The table of sums is made here, when all that can be
+// refused before is past, and has room for the largest basis.
+pub fn compare(
+    s: &[u8],
+    starts: &[usize; 129],
+    rows: usize,
+    header: format::certificate::Header,
+    keys: &[u64],
+    coefficients: &[i32],
+    sizes: &[usize],
+    table: &[u64],
+    n: usize,
+    index: &[u16; 6144],
+    hi: &mut [i64],
+    lo: &mut [i64],
+) -> Difference
+    requires { ⌜
+        Zeroed (now table) n (now hi) (now lo)
+        × Support.Indexed (now index) (now table) n
+        × Comparable (now s) (now starts) rows (now keys) (now coefficients) (now sizes)
+        ⌝ }
+    ensures { λ r. ⌜
+        Answered (now (s .entry)) (now (starts .entry)) rows header (now (keys .entry)) (now (coefficients .entry))
+        (now (sizes .entry)) (now (table .entry)) n r (now (hi .entry)) (now (lo .entry)) (now (hi .exit))
+        (now (lo .exit))
+        ⌝ }
+{
+    if is_large(sizes) {
+        return compare_large(
+            s,
+            starts,
+            rows,
+            header,
+            keys,
+            coefficients,
+            sizes,
+            table,
+            n,
+            index,
+            hi,
+            lo,
+        );
+    }
+    let mut g = [0i64; 1024];
+    compare_with(
+        &mut g,
+        s,
+        starts,
+        rows,
+        header,
+        keys,
+        coefficients,
+        sizes,
+        table,
+        n,
+        index,
+        hi,
+        lo,
+    )
 }

@@ -18,7 +18,7 @@ fn answer_blocks(problem: &[u8]) -> Text
     let mut out = [0u8; 576];
     let mut keys = [0u64; 2048];
     let mut high = [0i64; 2048];
-    let mut low = [0u64; 2048];
+    let mut low = [0i64; 2048];
     let v = checker::blocks(problem, &mut out, &mut keys, &mut high, &mut low);
     text::blocks_line(v, &out)
 }
@@ -28,7 +28,7 @@ fn answer_check(problem: &[u8], certificate: &[u8]) -> Text
 {
     let mut keys = [0u64; 2048];
     let mut high = [0i64; 2048];
-    let mut low = [0u64; 2048];
+    let mut low = [0i64; 2048];
     let v = checker::check(problem, certificate, &mut keys, &mut high, &mut low);
     text::check_line(v)
 }
@@ -38,7 +38,7 @@ fn answer_pair(problem: &[u8], first: &[u8], second: &[u8]) -> Text
 {
     let mut keys = [0u64; 2048];
     let mut high = [0i64; 2048];
-    let mut low = [0u64; 2048];
+    let mut low = [0i64; 2048];
     let v = checker::pair(problem, first, second, &mut keys, &mut high, &mut low);
     text::pair_line(v)
 }

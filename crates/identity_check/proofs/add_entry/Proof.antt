@@ -7,7 +7,7 @@ use lib.IntN.{pos, _*ℤ_, zero-*ℤ}
 use lib.ListN.{length, getD}
 use mir.Facts.{toZ-ofZ}
 use Rattle.integers.proofs.Ranges.{zero-bits}
-use Rattle.problem_reader.specs.TermArrays.{termsIn}
+use Rattle.flat.specs.TermArrays.{termsIn}
 use Rattle.row_products.specs.Frame.{share}
 use Rattle.row_products.proofs.Frames.{entered-row, entered-column}
 use Rattle.identity_check.proofs.Growth.{ready-less, grown-none, grown-same}

@@ -8,7 +8,7 @@ use lib.ListN.{length, getD}
 use mir.Facts.{toZ-ofZ}
 use mir.Syntax.{w64}
 use mir.Val.{SFits}
-use Rattle.problem_reader.specs.TermArrays.{termsIn}
+use Rattle.flat.specs.TermArrays.{termsIn}
 use Rattle.identity_check.proofs.Growth.{ready-after}
 use Rattle.identity_check.proofs.Spreading.{Spreading, spreading-start, spreading-entered, spreading-more, spreading-skip, spreading-end}
 use Rattle.identity_check.proofs.spread.Statement.{statement}
