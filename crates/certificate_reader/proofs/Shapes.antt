@@ -2,7 +2,7 @@
 use mathlib.Core.Path.{_≡_, refl, ap, sym, _∙_}
 use mathlib.Core.List.{List, [], _∷_, _++_}
 use mathlib.Core.Bool.{Bool, true, false, not}
-use Prim.Native.Nat.{ℕ, suc, _*_, _≤_}
+use Prim.Native.Nat.{ℕ, suc, _≤_}
 use native.Mathlib.Omega.{arith}
 use lib.Dec.{leb, ltb}
 use lib.IntN.{ℤ}
@@ -14,7 +14,7 @@ use Rattle.format.proofs.WithinLimits.{Monomials, Limits as ProblemLimits, Limi
 use Rattle.format.proofs.ProblemLimits.{all-at, monomials-none}
 use Rattle.format.specs.CertificateRules.{Entry, Certificate, lastRow, rises}
 use Rattle.flat.specs.Flat.{FlatProblem}
-use Rattle.flat.proofs.Flat.{part-length, basis-size}
+use Rattle.flat.proofs.Flat.{basis-long}
 use Rattle.certificate_reader.specs.declared.Progress.{Progress}
 use Rattle.certificate_reader.specs.Kept.{Sized, floorOf, progressOf}
 
@@ -25,12 +25,10 @@ basis-few p l j = all-at (Monomials (p .variables) 8 64) (p .bases) j [] (l .mem
 
 -- the sizes that stand beside a problem are its own
 pub flat-sized : {p : Problem} {keys : List ℕ} {coefficients : List ℤ} {sizes : List ℕ} → FlatProblem p keys coefficients sizes → Sized p sizes
-flat-sized {keys = keys} {sizes = sizes} f =
+flat-sized f =
     record {
       sizes-length = f .limits .sizes-length;
-      bases = λ j h.
-          sym (part-length (getD sizes j 0) (64 * j) keys (omega (arith, basis-size (f .limits) j h, f .limits .keys-length)))
-          ∙ ap length (f .bases j h);
+      bases = λ j h. sym (basis-long (f .limits) j h) ∙ ap length (f .bases j h);
       constraints = f .constraints;
     }
 

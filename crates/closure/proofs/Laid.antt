@@ -3,10 +3,10 @@
 use mathlib.Core.Path.{_≡_, ap, _∙_}
 use mathlib.Core.List.{List}
 use mathlib.Core.Logic.{⊎-elim}
-use Prim.Native.Nat.{ℕ, _+_, _*_, _^_, _≤_, _<_}
+use Prim.Native.Nat.{ℕ, _*_, _^_, _≤_, _<_}
 use native.Mathlib.Omega.{arith}
 use lib.IntN.{ℤ}
-use lib.ListN.{length, getD, take, drop}
+use lib.ListN.{getD, take, drop}
 use Rattle.counting.specs.Counting.{Bounded}
 use Rattle.counting.proofs.Cases.{lt-or-le}
 use Rattle.polynomial.specs.Terms.{keysOf}
@@ -36,24 +36,6 @@ module _ (keys sizes : List ℕ) (k : FlatKeys keys sizes) where
         exponents-long = Flat.exponents-length f;
         exponents-low = Flat.exponents-low f;
       }
-
-  -- polynomial j stands within the arrays, the objective being number 9
-  pub polynomial-counted : (j : ℕ) → j ≤ 9 → 9 + j < length sizes
-  polynomial-counted j h = omega (arith, k .limits .sizes-length)
-
-  pub polynomial-fits : (j : ℕ) → j ≤ 9 → 576 + 32 * j + getD sizes (9 + j) 0 ≤ length keys
-  polynomial-fits j h =
-      let e = k .limits .keys-length in
-      ⊎-elim
-      (λ b. omega (arith, Flat.multiplier-size (k .limits) j b))
-      (λ b.
-      let q : j ≡ 9 = omega arith in
-      let m : getD sizes (9 + j) 0 ≤ 256 = rw q (Flat.objective-size (k .limits)) in
-      omega arith)
-      (lt-or-le j 9)
-
-  pub basis-fits : 64 * 0 + getD sizes 0 0 ≤ length keys
-  basis-fits = omega (arith, Flat.basis-size (k .limits) 0 (omega arith), k .limits .keys-length)
 
   -- no key is of a degree above 32
   pub all-low : Bounded (32 * 2 ^ 56) keys

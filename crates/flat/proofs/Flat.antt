@@ -5,17 +5,18 @@ use mathlib.Core.List.{List, [], _∷_}
 use mathlib.Core.Logic.{⊎-elim}
 use Prim.Native.Nat.{ℕ, zero, suc, _+_, _*_, _^_, _≤_, _<_, zero-le}
 use native.Mathlib.Omega.{arith}
-use lib.IntN.{ℤ}
+use lib.IntN.{ℤ, pos, natAbs}
 use lib.ListN.{length, getD, take, drop, length-drop}
 use lib.Seq.{length-take-le, take-take, drop-drop, getD-take, getD-drop}
 use borrow.Author.Tests.{lt-ltb, le-ltb}
 use Rattle.counting.specs.Counting.{Bounded}
+use Rattle.counting.proofs.Bounded.{bounded-take}
 use Rattle.counting.proofs.Cases.{lt-or-le}
 use Rattle.polynomial.specs.Terms.{keysOf}
 use Rattle.format.specs.ProblemRules.{Problem}
 use Rattle.format.specs.ProblemBases.{basisOf, multiplier, multiplierOf}
-use Rattle.flat.specs.TermArrays.{termsIn, Low}
-use Rattle.flat.specs.Flat.{mostAt, degreeAt, FlatLimits, FlatProblem}
+use Rattle.flat.specs.TermArrays.{termsIn, Low, Small}
+use Rattle.flat.specs.Flat.{mostAt, degreeAt, largestAt, FlatLimits, FlatProblem}
 use Rattle.flat.proofs.TermArrays.{terms-keys, terms-same}
 
 -- ---- the limits of each kind of place
@@ -34,6 +35,12 @@ multiplier-degree i h k = rw (le-ltb i 576 h, lt-ltb i 864 k)
 pub objective-degree : (i : ℕ) → 864 ≤ i → degreeAt i ≡ 32
 objective-degree i h = rw (le-ltb i 576 (omega arith), le-ltb i 864 h)
 
+pub multiplier-largest : (i : ℕ) → i < 288 → largestAt i ≡ 2 ^ 15
+multiplier-largest i h = rw (lt-ltb i 288 h)
+
+pub objective-largest : (i : ℕ) → 288 ≤ i → largestAt i ≡ 2 ^ 31
+objective-largest i h = rw (le-ltb i 288 h)
+
 -- ---- parts of parts
 module _ {A : Type 0} where
   pub part-take : (m b n : ℕ) (l : List A) → b + m ≤ n → take m (drop b (take n l)) ≡ take m (drop b l)
@@ -49,19 +56,26 @@ module _ {A : Type 0} where
   pub part-length : (n a : ℕ) (l : List A) → a + n ≤ length l → length (take n (drop a l)) ≡ n
   part-length n a l h = length-take-le n (drop a l) (rw (length-drop a l) (omega arith))
 
-beyond : (n : ℕ) (l : List ℕ) (i : ℕ) → n ≤ i → getD (take n l) i 0 ≡ 0
-beyond zero l i h = refl
-beyond (suc n) [] i h = refl
-beyond (suc n) (x ∷ l) zero h = absurd (omega arith)
-beyond (suc n) (x ∷ l) (suc i) h = beyond n l i (omega arith)
+  beyond : (n : ℕ) (l : List A) (i : ℕ) (d : A) → n ≤ i → getD (take n l) i d ≡ d
+  beyond zero l i d h = refl
+  beyond (suc n) [] i d h = refl
+  beyond (suc n) (x ∷ l) zero d h = absurd (omega arith)
+  beyond (suc n) (x ∷ l) (suc i) d h = beyond n l i d (omega arith)
 
--- a part in which every number is at most m
+  -- what holds of the default and of every element of a part holds wherever one looks in it
+  part-all : (P : A → Type 0) (n a : ℕ) (l : List A) (d : A) → P d → ((i : ℕ) → a ≤ i → i < a + n → P (getD l i d)) → (i : ℕ) → P (getD (take n (drop a l)) i d)
+  part-all P n a l d p h i =
+      ⊎-elim
+      (λ b. rw (getD-take n (drop a l) i d b, getD-drop a l i d) (h (a + i) (omega arith) (omega arith)))
+      (λ b. rw (beyond n (drop a l) i d b) p)
+      (lt-or-le i n)
+
+-- a part in which every number is at most m, and one in which no number is above m in size
 pub part-bounded : (m n a : ℕ) (l : List ℕ) → ((i : ℕ) → a ≤ i → i < a + n → getD l i 0 ≤ m) → Bounded m (take n (drop a l))
-part-bounded m n a l h i =
-    ⊎-elim
-    (λ b. rw (getD-take n (drop a l) i 0 b, getD-drop a l i 0) (h (a + i) (omega arith) (omega arith)))
-    (λ b. rw (beyond n (drop a l) i b) zero-le)
-    (lt-or-le i n)
+part-bounded m n a l h = part-all (λ x. x ≤ m) n a l 0 zero-le h
+
+pub part-small : (m n a : ℕ) (l : List ℤ) → ((i : ℕ) → a ≤ i → i < a + n → natAbs (getD l i (pos 0)) ≤ m) → Small m (take n (drop a l))
+part-small m n a l h = part-all (λ x. natAbs x ≤ m) n a l (pos 0) zero-le h
 
 -- ---- what is lent of the arrays: the bases are `take 576 keys` with `take 9 sizes`, the multipliers
 -- `take 288 (drop 576 keys)` and `take 288 coefficients` with `take 9 (drop 9 sizes)`
@@ -111,6 +125,64 @@ module _ {keys : List ℕ} {coefficients : List ℤ} {sizes : List ℕ} (f : Fla
 
   pub objective-low : Low 32 (drop 864 keys)
   objective-low i = rw (getD-drop 864 keys i 0) (rw (objective-degree (864 + i) (omega arith)) at (f .keys-low (864 + i)))
+
+  -- ---- basis j, and polynomial j, of which number 9 is the objective: they stand within the arrays
+  pub basis-fits : (j : ℕ) → j < 9 → 64 * j + getD sizes j 0 ≤ length keys
+  basis-fits j h = omega (arith, basis-size j h, f .keys-length)
+
+  pub polynomial-counted : (j : ℕ) → j ≤ 9 → 9 + j < length sizes
+  polynomial-counted j h = omega (arith, f .sizes-length)
+
+  -- there are 256 places from the objective's on, and 32 from a multiplier's
+  polynomial-size : (j : ℕ) → j ≤ 9 → 32 * j + getD sizes (9 + j) 0 ≤ 544
+  polynomial-size j h =
+      ⊎-elim
+      (λ b. omega (arith, multiplier-size j b))
+      (λ b.
+      let q : j ≡ 9 = omega arith in
+      let m : getD sizes (9 + j) 0 ≤ 256 = rw q objective-size in
+      omega arith)
+      (lt-or-le j 9)
+
+  pub exponents-fit : (j : ℕ) → j ≤ 9 → 576 + 32 * j + getD sizes (9 + j) 0 ≤ length keys
+  exponents-fit j h = omega (arith, polynomial-size j h, f .keys-length)
+
+  pub coefficients-fit : (j : ℕ) → j ≤ 9 → 32 * j + getD sizes (9 + j) 0 ≤ length coefficients
+  coefficients-fit j h = omega (arith, polynomial-size j h, f .coefficients-length)
+
+  -- how long they are
+  pub basis-long : (j : ℕ) → j < 9 → length (take (getD sizes j 0) (drop (64 * j) keys)) ≡ getD sizes j 0
+  basis-long j h = part-length (getD sizes j 0) (64 * j) keys (basis-fits j h)
+
+  pub exponents-long : (j : ℕ) → j ≤ 9 → length (take (getD sizes (9 + j) 0) (drop (576 + 32 * j) keys)) ≡ getD sizes (9 + j) 0
+  exponents-long j h = part-length (getD sizes (9 + j) 0) (576 + 32 * j) keys (exponents-fit j h)
+
+  pub coefficients-long : (j : ℕ) → j ≤ 9 → length (take (getD sizes (9 + j) 0) (drop (32 * j) coefficients)) ≡ getD sizes (9 + j) 0
+  coefficients-long j h = part-length (getD sizes (9 + j) 0) (32 * j) coefficients (coefficients-fit j h)
+
+  -- and how large their numbers
+  pub basis-low : (j : ℕ) → j < 9 → Low 8 (take (getD sizes j 0) (drop (64 * j) keys))
+  basis-low j h =
+      part-bounded (8 * 2 ^ 56) (getD sizes j 0) (64 * j) keys
+      (λ i a b. rw (basis-degree i (omega (arith, basis-size j h))) at (f .keys-low i))
+
+  pub multiplier-low : (j : ℕ) → j < 9 → Low 16 (take (getD sizes (9 + j) 0) (drop (576 + 32 * j) keys))
+  multiplier-low j h =
+      part-bounded (16 * 2 ^ 56) (getD sizes (9 + j) 0) (576 + 32 * j) keys
+      (λ i a b. rw (multiplier-degree i (omega arith) (omega (arith, multiplier-size j h))) at (f .keys-low i))
+
+  pub objective-keys-low : Low 32 (take (getD sizes 18 0) (drop 864 keys))
+  objective-keys-low = bounded-take (32 * 2 ^ 56) (getD sizes 18 0) (drop 864 keys) objective-low
+
+  pub coefficients-small : (j : ℕ) → j < 9 → Small (2 ^ 15) (take (getD sizes (9 + j) 0) (drop (32 * j) coefficients))
+  coefficients-small j h =
+      part-small (2 ^ 15) (getD sizes (9 + j) 0) (32 * j) coefficients
+      (λ i a b. rw (multiplier-largest i (omega (arith, multiplier-size j h))) at (f .coefficients-low i))
+
+  pub objective-small : Small (2 ^ 31) (take (getD sizes 18 0) (drop 288 coefficients))
+  objective-small =
+      part-small (2 ^ 31) (getD sizes 18 0) 288 coefficients
+      (λ i a b. rw (objective-largest i a) at (f .coefficients-low i))
 
 module _ {p : Problem} {keys : List ℕ} {coefficients : List ℤ} {sizes : List ℕ} (f : FlatProblem p keys coefficients sizes) where
   -- the exponents of a multiplier and of the objective

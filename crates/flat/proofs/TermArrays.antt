@@ -3,14 +3,14 @@ use mathlib.Core.Path.{_≡_, refl, sym, ap, ap₂, _∙_}
 use mathlib.Core.List.{List, [], _∷_, _++_, map-append}
 use Prim.Native.Nat.{ℕ, zero, suc, _+_, _*_, _^_, _≤_, _<_, zero-le}
 use native.Mathlib.Omega.{arith}
-use lib.IntN.{ℤ, pos}
+use lib.IntN.{ℤ, pos, natAbs}
 use lib.ListN.{length, take, set, getD, replicate, length-set, length-replicate}
 use lib.Seq.{getD-take, getD-set-same, getD-set-other}
 use Rattle.counting.proofs.Bounded.{bounded-zeros}
 use Rattle.counting.specs.Counting.{listed}
 use Rattle.counting.proofs.Listed.{listed-length, listed-same, listed-take, listed-more}
 use Rattle.polynomial.specs.Terms.{Term, term, keysOf}
-use Rattle.flat.specs.TermArrays.{termsIn, Low, FilledTerms}
+use Rattle.flat.specs.TermArrays.{termsIn, Low, Small, FilledTerms}
 
 pub terms-length : (n : ℕ) (keys : List ℕ) (coefficients : List ℤ) → length (termsIn n keys coefficients) ≡ n
 unfolding termsIn
@@ -53,21 +53,31 @@ set-all P (x ∷ l) (suc i) a d h p (suc j) = set-all (λ k. P (suc k)) l i a d 
 pub low-set : (d : ℕ) (keys : List ℕ) (n k : ℕ) → Low d keys → k ≤ d * 2 ^ 56 → Low d (set keys n k)
 low-set d keys n k h l = set-all (λ _ x. x ≤ d * 2 ^ 56) keys n k 0 h l
 
-pub filled-none : (d most : ℕ) → FilledTerms d most (replicate most 0) (replicate most (pos 0)) 0
-filled-none d most =
+pub small-set : (m : ℕ) (coefficients : List ℤ) (n : ℕ) (c : ℤ) → Small m coefficients → natAbs c ≤ m → Small m (set coefficients n c)
+small-set m coefficients n c h l = set-all (λ _ x. natAbs x ≤ m) coefficients n c (pos 0) h l
+
+pub small-zeros : (m n : ℕ) → Small m (replicate n (pos 0))
+small-zeros m zero i = zero-le
+small-zeros m (suc n) zero = zero-le
+small-zeros m (suc n) (suc i) = small-zeros m n i
+
+pub filled-none : (d most m : ℕ) → FilledTerms d most m (replicate most 0) (replicate most (pos 0)) 0
+filled-none d most m =
     record {
       count-low = zero-le;
       keys-length = length-replicate most 0;
       coefficients-length = length-replicate most (pos 0);
       keys-low = bounded-zeros _ most;
+      coefficients-small = small-zeros m most;
     }
 
-pub filled-more : (d most : ℕ) (keys : List ℕ) (coefficients : List ℤ) (n k : ℕ) (c : ℤ) → FilledTerms d most keys coefficients n → n < most → k ≤ d * 2 ^ 56
-    → FilledTerms d most (set keys n k) (set coefficients n c) (n + 1)
-filled-more d most keys coefficients n k c f h l =
+pub filled-more : (d most m : ℕ) (keys : List ℕ) (coefficients : List ℤ) (n k : ℕ) (c : ℤ) → FilledTerms d most m keys coefficients n → n < most → k ≤ d * 2 ^ 56 → natAbs c ≤ m
+    → FilledTerms d most m (set keys n k) (set coefficients n c) (n + 1)
+filled-more d most m keys coefficients n k c f h l a =
     record {
       count-low = omega arith;
       keys-length = length-set keys n k ∙ f .keys-length;
       coefficients-length = length-set coefficients n c ∙ f .coefficients-length;
       keys-low = low-set d keys n k (f .keys-low) l;
+      coefficients-small = small-set m coefficients n c (f .coefficients-small) a;
     }

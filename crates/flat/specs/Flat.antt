@@ -5,7 +5,7 @@ use mathlib.Core.Bool.{cond}
 use mathlib.Core.List.{List}
 use Prim.Native.Nat.{ℕ, _+_, _*_, _^_, _≤_, _<_}
 use lib.Dec.{ltb}
-use lib.IntN.{ℤ, pos}
+use lib.IntN.{ℤ, pos, natAbs}
 use lib.ListN.{length, getD, take, drop, replicate}
 use Rattle.polynomial.specs.Terms.{Term}
 use Rattle.format.specs.ProblemLimits.{mostObjectiveDegree, mostObjectiveTerms, mostConstraints, mostConstraintDegree, mostConstraintTerms, mostBasisDegree, mostMonomials, mostBases}
@@ -59,6 +59,10 @@ degreeAt i =
     cond (ltb i (exponentsAt 0)) mostBasisDegree
     (cond (ltb i (exponentsAt objectiveNumber)) mostConstraintDegree mostObjectiveDegree)
 
+-- the largest size of a coefficient at a place of coefficients: those of constraints have 16 bits, the objective's 32
+abbrev pub largestAt : ℕ → ℕ
+largestAt i = cond (ltb i (coefficientsAt objectiveNumber)) (2 ^ 15) (2 ^ 31)
+
 -- arrays that a problem within the limits can stand in
 pub record FlatLimits (keys : List ℕ) (coefficients : List ℤ) (sizes : List ℕ) : Type 0 where
   pub keys-length : length keys ≡ 1120
@@ -67,6 +71,7 @@ pub record FlatLimits (keys : List ℕ) (coefficients : List ℤ) (sizes : List 
   pub sizes-low : (i : ℕ) → getD sizes i 0 ≤ mostAt i
   -- no key of a monomial of degree at most d is above d × 256^7
   pub keys-low : (i : ℕ) → getD keys i 0 ≤ degreeAt i * 2 ^ 56
+  pub coefficients-low : (i : ℕ) → natAbs (getD coefficients i (pos 0)) ≤ largestAt i
 
 -- the arrays hold the problem p
 pub record FlatProblem (p : Problem) (keys : List ℕ) (coefficients : List ℤ) (sizes : List ℕ) : Type 0 where

@@ -9,12 +9,12 @@ use native.Mathlib.Decide.{decLt}
 use native.Mathlib.Numerals.{lt-of-le-of-ne}
 use native.Mathlib.Omega.{arith}
 use lib.Dec.{ltb}
-use lib.IntN.{ℤ}
+use lib.IntN.{ℤ, pos, natAbs}
 use lib.ListN.{length, take, drop, set, getD, length-set}
 use lib.Seq.{getD-set-other, drop-set-add, drop-set-lt, take-set-le, paste, paste-zero, paste-suc, take-append-le, drop-append-le, drop-at, length-paste-head, length-take-le, take-take}
 use borrow.Author.Tests.{lt-ltb, le-ltb}
 use Rattle.counting.proofs.Cases.{lt-or-le}
-use Rattle.flat.specs.Flat.{basisAt, exponentsAt, basisIn, polynomialIn, mostAt, degreeAt, FlatLimits}
+use Rattle.flat.specs.Flat.{basisAt, exponentsAt, basisIn, polynomialIn, mostAt, degreeAt, largestAt, FlatLimits}
 use Rattle.flat.proofs.TermArrays.{set-all, terms-same}
 use Rattle.flat.proofs.Flat.{basis-most, multiplier-most, multiplier-size}
 
@@ -120,12 +120,13 @@ module _ {keys : List ℕ} {coefficients : List ℤ} {sizes : List ℕ} (f : Fla
         list-same : (j : ℕ) → j < 19 → j ≢ i → take (getD sizes j 0) (drop (listAt j) keys′) ≡ take (getD sizes j 0) (drop (listAt j) keys)
         list-same j q d = k .same (listAt j) (getD sizes j 0) (⊎-elim (λ p. inl (omega (arith, ordered j i p h, f .sizes-low j))) (λ p. inr (ordered i j p q)) (before-or-after j i d))
 
-    pub limits-more : length keys′ ≡ length keys → length coefficients′ ≡ length coefficients → ((x : ℕ) → getD keys′ x 0 ≤ degreeAt x * 2 ^ 56) → m ≤ mostAt i
-        → FlatLimits keys′ coefficients′ (set sizes i m)
-    limits-more u v low few = record {
+    pub limits-more : length keys′ ≡ length keys → length coefficients′ ≡ length coefficients → ((x : ℕ) → getD keys′ x 0 ≤ degreeAt x * 2 ^ 56)
+        → ((x : ℕ) → natAbs (getD coefficients′ x (pos 0)) ≤ largestAt x) → m ≤ mostAt i → FlatLimits keys′ coefficients′ (set sizes i m)
+    limits-more u v low small few = record {
       keys-length = u ∙ f .keys-length;
       coefficients-length = v ∙ f .coefficients-length;
       sizes-length = length-set sizes i m ∙ f .sizes-length;
       sizes-low = set-all (λ j n. n ≤ mostAt j) sizes i m 0 (f .sizes-low) few;
       keys-low = low;
+      coefficients-low = small;
     }

@@ -6,7 +6,7 @@ use Prim.Native.Nat.{ℕ, _+_, _-_, _*_, _^_, _≤_, _<_, zero-le}
 use native.Mathlib.Nat.{eq-or-lt-of-le}
 use native.Mathlib.Numerals.{add-one}
 use native.Mathlib.Omega.{arith}
-use lib.IntN.{ℤ, pos}
+use lib.IntN.{ℤ, pos, natAbs}
 use lib.ListN.{length, drop, set, getD, replicate, length-set, length-append, length-drop, length-replicate}
 use lib.Seq.{paste, length-paste, take-suc-set, drop-set-add, getD-set-same, getD-set-other}
 use Rattle.counting.specs.Counting.{listed}
@@ -19,9 +19,9 @@ use Rattle.format.specs.ProblemRules.{Problem, problemApplied, noProblem}
 use Rattle.format.proofs.ProblemLimits.{nothing-basis}
 use Rattle.format.specs.ProblemBases.{basisOf, multiplier}
 use Rattle.flat.specs.TermArrays.{termsIn, FilledTerms}
-use Rattle.flat.specs.Flat.{basisIn, polynomialIn, mostAt, degreeAt, FlatLimits, FlatProblem, FlatZero}
-use Rattle.flat.proofs.TermArrays.{set-all, terms-same, terms-more, filled-none, filled-more}
-use Rattle.flat.proofs.Flat.{basis-most, multiplier-most, basis-degree, multiplier-degree, objective-degree}
+use Rattle.flat.specs.Flat.{basisIn, polynomialIn, mostAt, degreeAt, largestAt, FlatLimits, FlatProblem, FlatZero}
+use Rattle.flat.proofs.TermArrays.{set-all, terms-same, terms-more, small-zeros, filled-none, filled-more}
+use Rattle.flat.proofs.Flat.{basis-most, multiplier-most, basis-degree, multiplier-degree, objective-degree, multiplier-largest, objective-largest}
 use Rattle.problem_reader.specs.Storing.{noTerms, terms}
 use Rattle.problem_reader.specs.declared.Polynomial.{Polynomial}
 use Rattle.problem_reader.proofs.Arrays.{basis-list, polynomial-place, Apart, apart-set, apart-paste, paste-all, paste-here, Others, coefficients-apart, others, limits-more}
@@ -41,7 +41,7 @@ pub record Held (p : Problem) (keys : List ℕ) (coefficients : List ℤ) (sizes
   -- the multipliers before the last are laid out, and behind it none is
   pub laid : (j : ℕ) → j < n → polynomialIn keys coefficients sizes j ≡ multiplier p j
   pub latest : terms last ≡ multiplier p n
-  pub filled : FilledTerms 16 32 (last .keys) (last .coefficients) (last .count)
+  pub filled : FilledTerms 16 32 (2 ^ 15) (last .keys) (last .coefficients) (last .count)
   pub empty : (j : ℕ) → n ≤ j → j < 9 → getD sizes (9 + j) 0 ≡ 0
 
 module _ {p : Problem} {keys : List ℕ} {coefficients : List ℤ} {sizes : List ℕ} {v : ℕ} {last : Polynomial} {n : ℕ} (held : Held p keys coefficients sizes v last n) where
@@ -102,6 +102,7 @@ module _ {p : Problem} {keys : List ℕ} {coefficients : List ℤ} {sizes : List
           limits =
               limits-more limits j _ basis-keys coefficients (length-set keys _ k) refl
               (set-all (λ i x. x ≤ degreeAt i * 2 ^ 56) keys _ k 0 (limits .keys-low) (rw (basis-degree (64 * j + getD sizes j 0) (omega arith)) low))
+              (limits .coefficients-low)
               (rw (basis-most j h) (omega arith));
           variables = held .variables;
           variables-low = held .variables-low;
@@ -121,7 +122,7 @@ module _ {p : Problem} {keys : List ℕ} {coefficients : List ℤ} {sizes : List
         }
 
   -- ---- a term of the objective
-  module _ (k : ℕ) (c : ℤ) (r : getD sizes 18 0 < 256) (low : k ≤ 32 * 2 ^ 56) where
+  module _ (k : ℕ) (c : ℤ) (r : getD sizes 18 0 < 256) (low : k ≤ 32 * 2 ^ 56) (small : natAbs c ≤ 2 ^ 31) where
     abbrev objective-keys : List ℕ
     objective-keys = set keys (864 + getD sizes 18 0) k
 
@@ -159,6 +160,7 @@ module _ {p : Problem} {keys : List ℕ} {coefficients : List ℤ} {sizes : List
           limits =
               limits-more limits 18 _ objective-keys objective-coefficients (length-set keys _ k) (length-set coefficients _ c)
               (set-all (λ i x. x ≤ degreeAt i * 2 ^ 56) keys _ k 0 (limits .keys-low) (rw (objective-degree (864 + getD sizes 18 0) (omega arith)) low))
+              (set-all (λ i x. natAbs x ≤ largestAt i) coefficients _ c (pos 0) (limits .coefficients-low) (rw (objective-largest (288 + getD sizes 18 0) (omega arith)) small))
               (omega arith);
           variables = held .variables;
           variables-low = held .variables-low;
@@ -174,11 +176,11 @@ module _ {p : Problem} {keys : List ℕ} {coefficients : List ℤ} {sizes : List
         }
 
   -- ---- a term of the constraint begun last
-  pub held-term : (k : ℕ) (c : ℤ) → 0 < n → last .count < 32 → k ≤ 16 * 2 ^ 56
+  pub held-term : (k : ℕ) (c : ℤ) → 0 < n → last .count < 32 → k ≤ 16 * 2 ^ 56 → natAbs c ≤ 2 ^ 15
       → Held (problemApplied p (I.Term k c)) keys coefficients sizes v
       (record { keys = set (last .keys) (last .count) k; coefficients = set (last .coefficients) (last .count) c; count = last .count + 1 }) n
   unfolding problemApplied basisOf
-  held-term k c h r low =
+  held-term k c h r low small =
       let f = held .filled in
       let e = held .count in
       record {
@@ -195,7 +197,7 @@ module _ {p : Problem} {keys : List ℕ} {coefficients : List ℤ} {sizes : List
             terms-more (last .count) (last .keys) (last .coefficients) k c (omega arith) (omega arith)
             ∙ ap (λ (x : List Term). x ++ (term k c ∷ [])) (held .latest)
             ∙ sym (term-here p k c (omega arith) n e);
-        filled = filled-more 16 32 (last .keys) (last .coefficients) (last .count) k c f r low;
+        filled = filled-more 16 32 (2 ^ 15) (last .keys) (last .coefficients) (last .count) k c f r low small;
         empty = held .empty;
       }
 
@@ -250,6 +252,8 @@ module _ {p : Problem} {keys : List ℕ} {coefficients : List ℤ} {sizes : List
       (length-paste coefficients (32 * n) (last .coefficients) (last .count) (omega arith) (omega arith))
       (paste-all keys (576 + 32 * n) (last .keys) 0 (λ i y. y ≤ degreeAt i * 2 ^ 56) (limits .keys-low) (last .count) (omega arith) (omega arith)
       (λ i q. rw (multiplier-degree (576 + 32 * n + i) (omega arith) (omega arith)) (f .keys-low i)))
+      (paste-all coefficients (32 * n) (last .coefficients) (pos 0) (λ i y. natAbs y ≤ largestAt i) (limits .coefficients-low) (last .count) (omega arith) (omega arith)
+      (λ i q. rw (multiplier-largest (32 * n + i) (omega arith)) (f .coefficients-small i)))
       (rw laid-most (f .count-low))
 
   -- the next constraint begins
@@ -274,7 +278,7 @@ module _ {p : Problem} {keys : List ℕ} {coefficients : List ℤ} {sizes : List
             (eq-or-lt-of-le {n = i} {m = n} (omega arith))
             ∙ sym (begun-before p i (omega arith));
         latest = rw e at (sym (begun-here p));
-        filled = filled-none 16 32;
+        filled = filled-none 16 32 (2 ^ 15);
         empty = λ i q l. o .lengths (9 + i) (λ e. omega arith) ∙ held .empty i (omega arith) l;
       }
 
@@ -287,7 +291,7 @@ module _ {p : Problem} {keys : List ℕ} {coefficients : List ℤ} {sizes : List
       let w = held .count-low in
       let s = limits .sizes-length in
       record {
-        limits = limits-more laid-limits 19 n laid-keys laid-coefficients refl refl (laid-limits .keys-low) w;
+        limits = limits-more laid-limits 19 n laid-keys laid-coefficients refl refl (laid-limits .keys-low) (laid-limits .coefficients-low) w;
         bases = λ j q. rw (getD-set-other laid-sizes 19 j n 0 (λ e. omega arith)) (o .bases j q (λ e. omega arith) ∙ held .bases j q);
         multipliers = λ j q. rw (getD-set-other laid-sizes 19 (9 + j) n 0 (λ e. omega arith)) (all j q);
         objective = rw (getD-set-other laid-sizes 19 18 n 0 (λ e. omega arith)) (o .polynomials 9 (omega arith) (λ e. omega arith) ∙ held .objective);
@@ -309,7 +313,7 @@ module _ {p : Problem} {keys : List ℕ} {coefficients : List ℤ} {sizes : List
 
 -- ---- before the first command
 pub held-start : (keys : List ℕ) (coefficients : List ℤ) (sizes : List ℕ) (one : Polynomial) → FlatZero keys coefficients sizes
-    → FilledTerms 16 32 (one .keys) (one .coefficients) (one .count) → terms one ≡ term 0 (pos 1) ∷ [] → Held noProblem keys coefficients sizes 0 one 0
+    → FilledTerms 16 32 (2 ^ 15) (one .keys) (one .coefficients) (one .count) → terms one ≡ term 0 (pos 1) ∷ [] → Held noProblem keys coefficients sizes 0 one 0
 unfolding basisOf multiplier termsIn listed
 held-start keys coefficients sizes one z f e =
     rw (z .keys-zero, z .coefficients-zero, z .sizes-zero)
@@ -320,6 +324,7 @@ held-start keys coefficients sizes one z f e =
         sizes-length = refl;
         sizes-low = λ i. bounded-zeros (mostAt i) 20 i;
         keys-low = λ i. bounded-zeros (degreeAt i * 2 ^ 56) 1120 i;
+        coefficients-low = λ i. small-zeros (largestAt i) 544 i;
       };
       variables = refl;
       variables-low = zero-le;

@@ -1,4 +1,5 @@
 pub mod Checks
+pub mod Coefficients
 pub mod Arrays
 pub mod Problems
 pub mod Held

@@ -6,9 +6,10 @@ use Prim.Native.Nat.{ℕ, _+_, _-_, _*_, _^_, _≤_, _<_, zero-le}
 use native.Mathlib.Omega.{arith}
 use lib.Dec.{eqb, leb, ltb}
 use lib.IntN.{ℤ, pos}
-use lib.ListN.{length, take, drop, set, getD, length-drop}
-use lib.Seq.{length-take-le, paste}
+use lib.ListN.{length, drop, set, getD, length-drop}
+use lib.Seq.{paste}
 use borrow.Author.Tests.{le-leb, lt-leb, leb-true, ltb-true, eqb-true, eqb-false}
+use Rattle.counting.specs.Counting.{Bounded}
 use Rattle.counting.proofs.Cases.{clash, and-left, and-right}
 use Rattle.format.specs.Commands.{firstRefusal, refused}
 use Rattle.format.proofs.Run.{Left, left-start, left-end, left-refused, left-extra, left-given, left-next}
@@ -25,13 +26,14 @@ use Rattle.format.specs.ProblemBases.{basisOf}
 use Rattle.flat.specs.TermArrays.{termsIn, FilledTerms}
 use Rattle.flat.specs.Flat.{exponentsAt, coefficientsAt, FlatLimits, FlatZero}
 use Rattle.flat.proofs.TermArrays.{terms-length, terms-keys}
-use Rattle.flat.proofs.Flat.{basis-size}
+use Rattle.flat.proofs.Flat.{basis-long}
 use Rattle.problem_reader.specs.Checks.{early, late, lateIn}
 use Rattle.problem_reader.specs.Storing.{terms, noTerms, storedIf, ReadFlat}
 use Rattle.problem_reader.specs.declared.Polynomial.{Polynomial}
 use Rattle.problem_reader.specs.declared.Reading.{Reading}
 use Rattle.problem_reader.proofs.Checks.{Passes, passes-size, passes-end, passes-on, space}
 use Rattle.problem_reader.proofs.Problems.{multiplier-at}
+use Rattle.problem_reader.proofs.Coefficients.{passed-small}
 use Rattle.problem_reader.proofs.Held.{Held, held-variables, held-member, held-objective, held-term, held-constraint, held-end, held-start}
 
 abbrev pub reading : ℕ → ℕ → Reading
@@ -138,7 +140,7 @@ module _ {s keys : List ℕ} {coefficients : List ℤ} {sizes : List ℕ} {v : �
 
 -- before the first command
 pub starting : (s keys : List ℕ) (coefficients : List ℤ) (sizes : List ℕ) (one : Polynomial) → FlatZero keys coefficients sizes
-    → FilledTerms 16 32 (one .keys) (one .coefficients) (one .count) → terms one ≡ term 0 (pos 1) ∷ [] → Going s keys coefficients sizes 0 one 0 2 0
+    → FilledTerms 16 32 (2 ^ 15) (one .keys) (one .coefficients) (one .count) → terms one ≡ term 0 (pos 1) ∷ [] → Going s keys coefficients sizes 0 one 0 2 0
 unfolding readProblem
 starting s keys coefficients sizes one z f e =
     record { problem = noProblem; held = held-start keys coefficients sizes one z f e; undecided = refl; reached = zero-le; left = left-start problemLanguage s noProblem }
@@ -195,16 +197,16 @@ module _ {p : Problem} {keys : List ℕ} {coefficients : List ℤ} {sizes : List
           let l = held .limits .keys-length in
           terms-room (getD sizes 18 0) 256 k (drop 864 keys) (drop 288 coefficients) (p .objective) (rw (length-drop 864 keys) (omega arith)) (held .objective)
 
-      pub stepped-objective : (r : ℕ) (keys′ : List ℕ) (coefficients′ : List ℤ) (sizes′ : List ℕ) → r ≡ lateIn keys 864 (getD sizes 18 0) k 256
+      pub stepped-objective : Bounded 255 s → (r : ℕ) (keys′ : List ℕ) (coefficients′ : List ℤ) (sizes′ : List ℕ) → r ≡ lateIn keys 864 (getD sizes 18 0) k 256
           → keys′ ≡ storedIf r keys (864 + getD sizes 18 0) k → coefficients′ ≡ storedIf r coefficients (288 + getD sizes 18 0) c → sizes′ ≡ storedIf r sizes 18 (getD sizes 18 0 + 1)
           → Stepped p (I.Objective k c) keys′ coefficients′ sizes′ v last n r
-      stepped-objective r keys′ coefficients′ sizes′ e = go (eqb r 0) refl
+      stepped-objective bytes r keys′ coefficients′ sizes′ e = go (eqb r 0) refl
         where
           go : (b : Bool) → eqb r 0 ≡ b → keys′ ≡ cond b (set keys (864 + getD sizes 18 0) k) keys → coefficients′ ≡ cond b (set coefficients (288 + getD sizes 18 0) c) coefficients → sizes′ ≡ cond b (set sizes 18 (getD sizes 18 0 + 1)) sizes
               → Stepped p (I.Objective k c) keys′ coefficients′ sizes′ v last n r
           go true q x y z =
               let f = space keys 864 (getD sizes 18 0) k 256 (sym e ∙ eqb-true r 0 q) in
-              let m = held-objective held k c f (low 32 k (and-left (fitting (p .variables) 32 k) (nonzero c) (t .operands))) in
+              let m = held-objective held k c f (low 32 k (and-left (fitting (p .variables) 32 k) (nonzero c) (t .operands))) (passed-small s bytes t) in
               rw (x, y, z) (record { decided = e ∙ objective-room; limits = m .limits; held = λ _. m; on = λ e. clash (cc) })
           go false q x y z = rw (x, y, z) (record { decided = e ∙ objective-room; limits = held .limits; held = λ z. absurd (eqb-false r 0 q z); on = λ e. clash (cc) })
 
@@ -221,11 +223,11 @@ module _ {p : Problem} {keys : List ℕ} {coefficients : List ℤ} {sizes : List
       pub stepped-refused : (r : ℕ) → (r ≡ 0 → ⊥) → r ≡ lateIn (last .keys) 0 (last .count) k 32 → Stepped p (I.Term k c) keys coefficients sizes v last n r
       stepped-refused r d e = record { decided = e ∙ term-room; limits = held .limits; held = λ z. absurd (d z); on = λ e. clash (cc) }
 
-      pub stepped-term : (r : ℕ) → r ≡ 0 → r ≡ lateIn (last .keys) 0 (last .count) k 32
+      pub stepped-term : Bounded 255 s → (r : ℕ) → r ≡ 0 → r ≡ lateIn (last .keys) 0 (last .count) k 32
           → Stepped p (I.Term k c) keys coefficients sizes v (record { keys = set (last .keys) (last .count) k; coefficients = set (last .coefficients) (last .count) c; count = last .count + 1 }) n r
-      stepped-term r z e =
+      stepped-term bytes r z e =
           let f = space (last .keys) 0 (last .count) k 32 (sym e ∙ z) in
-          let m = held-term held k c begun f (low 16 k (and-left (fitting (p .variables) 16 k) (nonzero c) (t .operands))) in
+          let m = held-term held k c begun f (low 16 k (and-left (fitting (p .variables) 16 k) (nonzero c) (t .operands))) (passed-small s bytes t) in
           record { decided = e ∙ term-room; limits = held .limits; held = λ _. m; on = λ e. clash (cc) }
 
     module _ {j k : ℕ} (t : Passes p s at (I.Member j k) after) where
@@ -238,11 +240,7 @@ module _ {p : Problem} {keys : List ℕ} {coefficients : List ℤ} {sizes : List
       member-room : lateIn keys (64 * j) (getD sizes j 0) k 64 ≡ late p (I.Member j k)
       unfolding basisOf
       member-room =
-          let w = held .limits .keys-length in
-          let m = named in
-          let b = basis-size (held .limits) j named in
-          let l : length (take (getD sizes j 0) (drop (64 * j) keys)) ≡ getD sizes j 0 = length-take-le (getD sizes j 0) (drop (64 * j) keys) (rw (length-drop (64 * j) keys) (omega arith)) in
-          rw (← held .bases j named, l)
+          rw (← held .bases j named, basis-long (held .limits) j named)
 
       pub stepped-member : (r : ℕ) (keys′ sizes′ : List ℕ) → r ≡ lateIn keys (64 * j) (getD sizes j 0) k 64 → keys′ ≡ storedIf r keys (64 * j + getD sizes j 0) k → sizes′ ≡ storedIf r sizes j (getD sizes j 0 + 1)
           → Stepped p (I.Member j k) keys′ coefficients sizes′ v last n r

@@ -1,6 +1,6 @@
 // The reader of the problem stream.
 ghost use mathlib.Core.Path.{_≡_};
-ghost use Prim.Native.Nat.{_+_, _≤_, _<_};
+ghost use Prim.Native.Nat.{_+_, _^_, _≤_, _<_};
 ghost use lib.ListN.{length, getD};
 ghost use Rattle.format.specs.Layouts.{ZeroUnknown};
 ghost use Rattle.format.specs.declared.problem.Command.the-variants as C;
@@ -44,7 +44,7 @@ impl Polynomial {
     // The number 1.
     fn one() -> Self
         ensures { λ r. ⌜
-            FilledTerms 16 32 (r .keys) (r .coefficients) (r .count) × (terms r ≡ term 0 (pos 1) ∷ [])
+            FilledTerms 16 32 (2 ^ 15) (r .keys) (r .coefficients) (r .count) × (terms r ≡ term 0 (pos 1) ∷ [])
             ⌝ }
     {
         let mut q = Polynomial::empty();
@@ -306,7 +306,7 @@ fn lay_out<'a>(
         (length (now keys) ≡ 1120)
         × (length (now coefficients) ≡ 544)
         × (j < 9)
-        × FilledTerms 16 32 (now from) (now with) n
+        × FilledTerms 16 32 (2 ^ 15) (now from) (now with) n
         ⌝ }
     ensures { λ _. ⌜
         (now (keys .exit) ≡ paste (now (keys .entry)) (exponentsAt j) (now (from .entry)) n)

@@ -5,12 +5,13 @@ use Prim.Native.Nat.{_+_, _*_}
 use lib.ListN.{getD}
 use Rattle.counting.proofs.Bounded.{bounded-part}
 use Rattle.joining_rule.proofs.Start.{multiples-one}
-use Rattle.closure.proofs.Laid.{polynomial-counted, polynomial-fits, all-low}
+use Rattle.flat.proofs.Flat.{polynomial-counted, exponents-fit}
+use Rattle.closure.proofs.Laid.{all-low}
 use Rattle.closure.proofs.put_polynomial.Statement.{statement}
 use Rattle.closure.proofs.put_polynomial.Tie as tie
 
 exponents-requires : tie.Need-exponents-requires
-exponents-requires c κs = let s = c .before .before .before .before in (polynomial-counted _ _ (s .pre .1) (s .args .j) (s .pre .2), polynomial-fits _ _ (s .pre .1) (s .args .j) (s .pre .2))
+exponents-requires c κs = let s = c .before .before .before .before in (polynomial-counted (s .pre .1 .limits) (s .args .j) (s .pre .2), exponents-fit (s .pre .1 .limits) (s .args .j) (s .pre .2))
 
 put-keys-requires : tie.Need-put-keys-requires
 put-keys-requires c κs =

@@ -12,12 +12,13 @@ use Rattle.joining_rule.specs.Sets.{insertAll}
 use Rattle.key_set.specs.Table.{Stored}
 use Rattle.key_set.proofs.Keys.{grown-holds, keys-none}
 use Rattle.flat.specs.Flat.{basisIn}
+use Rattle.flat.proofs.Flat.{basis-fits}
 use Rattle.joining_rule.proofs.Extending.{Extends, fromTo-extends}
 use Rattle.joining_rule.specs.Joining.{multiples, startFrom}
 use Rattle.joining_rule.proofs.Start.{insertAll-extends}
 use Rattle.closure.specs.Tables.{exponentsIn, startIn}
 use Rattle.closure.proofs.Start.{stored-over, stored-then}
-use Rattle.closure.proofs.Laid.{basis-fits, all-low}
+use Rattle.closure.proofs.Laid.{all-low}
 use Rattle.closure.proofs.seed.Statement.{statement}
 use Rattle.closure.proofs.seed.Tie as tie
 
@@ -90,7 +91,7 @@ returns-2 c =
     rw (← whole s) (stored-over _ _ _ _ _ (two (c .before .before .before .before .before)) (c .if2 .taken) _ (more-doubled s (constraints s (first s)) .more))
 
 basis-requires : tie.Need-basis-requires
-basis-requires c κs = let s = c .before .before .before .before .before .before .before .before .before .before .before .before .before .before .before .before .before .before .before .before in (omega (arith, s .pre .2 .limits .sizes-length), basis-fits _ _ (s .pre .2))
+basis-requires c κs = let s = c .before .before .before .before .before .before .before .before .before .before .before .before .before .before .before .before .before .before .before .before in (omega (arith, s .pre .2 .limits .sizes-length), basis-fits (s .pre .2 .limits) 0 (omega arith))
 
 put-keys-requires : tie.Need-put-keys-requires
 put-keys-requires c κs =

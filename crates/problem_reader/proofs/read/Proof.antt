@@ -9,6 +9,7 @@ use lib.ListN.{length}
 use mir.Syntax.{w32}
 use mir.Val.{toZ, ofZ}
 use borrow.Author.Needs.{needs}
+use Rattle.counting.specs.Counting.{Bounded}
 use Rattle.format.specs.declared.problem.Instruction.{Instruction}
 use Rattle.format.specs.declared.problem.Instruction.the-variants as I
 use Rattle.format.specs.declared.problem.Command.{Command}
@@ -30,6 +31,9 @@ abbrev μ-loop : tie.MeasureT-loop
 -- ---- the command at hand, which passed the first checks
 abbrev bytes : tie.At-loop Inv-loop μ-loop → List ℕ
 bytes l = l .before .before .before .args .s .now
+
+all-bytes : (l : tie.At-loop Inv-loop μ-loop) → Bounded 255 (bytes l)
+all-bytes l i = omega (arith, l .before .before .shared-slice-known .given i)
 
 abbrev Kept : tie.At-loop Inv-loop μ-loop → Type 0
 Kept l = Held (l .loop .inv .problem) (l .loop .keys) (l .loop .coefficients) (l .loop .sizes) (l .loop .variables) (l .loop .last) (l .loop .count)
@@ -217,7 +221,7 @@ stepped c =
     ⊎-elim
     (λ w.
     let e = objective-told (record { before = record { before = record { before = d; match = w .0 }; key = w .1 }; known-told2 = w .2 }) in
-    stepped-as e (w .7) (w .8) (w .9) (w .10) (w .11) (w .12) (w .13) (stepped-objective (kept (head d)) (passed d _ e) _ (w .6 .last .0) (w .6 .last .1 .0) (w .6 .last .1 .1 .0) (w .6 .ensures .0) (w .6 .ensures .1) (w .6 .ensures .2) (w .6 .ensures .3)))
+    stepped-as e (w .7) (w .8) (w .9) (w .10) (w .11) (w .12) (w .13) (stepped-objective (kept (head d)) (passed d _ e) (all-bytes (head d)) _ (w .6 .last .0) (w .6 .last .1 .0) (w .6 .last .1 .1 .0) (w .6 .ensures .0) (w .6 .ensures .1) (w .6 .ensures .2) (w .6 .ensures .3)))
     (λ x.
     ⊎-elim
     (λ w. stepped-as (w .1 .given .1) (w .3) (w .4) (w .5) (w .6) (w .7) (w .8) (w .9) (stepped-full (kept (head d)) (omega arith)))
@@ -228,7 +232,7 @@ stepped c =
     ⊎-elim
     (λ w.
     let e = term-told (record { before = record { before = record { before = d; match = w .0 }; key2 = w .1 }; known-told3 = w .2 }) in
-    stepped-as e (w .8) (w .9) (w .10) (w .11) (w .12) (w .13) (w .14) (stepped-term (kept (head d)) (passed d _ e) _ (w .7 .taken) (w .6 .ensures)))
+    stepped-as e (w .8) (w .9) (w .10) (w .11) (w .12) (w .13) (w .14) (stepped-term (kept (head d)) (passed d _ e) (all-bytes (head d)) _ (w .7 .taken) (w .6 .ensures)))
     (λ x.
     ⊎-elim
     (λ w. stepped-as (w .1 .given .1) (w .8) (w .9) (w .10) (w .11) (w .12) (w .13) (w .14) (stepped-refused (kept (head d)) (passed d _ (w .1 .given .1)) _ (w .7 .left) (w .6 .ensures)))

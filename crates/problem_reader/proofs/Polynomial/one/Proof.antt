@@ -3,9 +3,12 @@ use borrow.Author.Needs.{needs}
 use native.Mathlib.Omega.{arith}
 use mathlib.Core.Path.{refl}
 use Prim.Native.Nat.{_-_, _*_, _^_}
+use lib.IntN.{pos}
+use lib.ListN.{replicate}
 use Rattle.flat.specs.TermArrays.{termsIn}
 use Rattle.counting.specs.Counting.{listed}
 use Rattle.counting.proofs.Bounded.{bounded-zeros}
+use Rattle.flat.proofs.TermArrays.{small-zeros, small-set}
 use Rattle.problem_reader.proofs.Polynomial.one.Statement.{statement}
 use Rattle.problem_reader.proofs.Polynomial.one.Tie as tie
 
@@ -24,6 +27,7 @@ returns c =
         keys-length = refl;
         coefficients-length = refl;
         keys-low = bounded-zeros (16 * 2 ^ 56) 32;
+        coefficients-small = small-set (2 ^ 15) (replicate 32 (pos 0)) 0 (pos 1) (small-zeros (2 ^ 15) 32) (omega arith);
       },
       refl,
     )
