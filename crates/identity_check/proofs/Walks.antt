@@ -60,10 +60,10 @@ module _ {s starts : List ℕ} {rows : ℕ} {keys : List ℕ} {coefficients : Li
   abbrev limits : FlatLimits keys coefficients sizes
   limits = w .flat .limits
 
-  size-is : length (basisOf (w .problem) j) ≡ getD sizes j 0
+  pub size-is : length (basisOf (w .problem) j) ≡ getD sizes j 0
   size-is = rw (← w .flat .bases j h) (basis-long limits j h)
 
-  pub rows-for : {g : List ℤ} → RoomFor sizes g → RowsFor s starts rows j (length g)
+  abbrev pub rows-for : {g : List ℤ} → RoomFor sizes g → RowsFor s starts rows j (length g)
   rows-for r = record { problem = w .problem; rows-sound = w .rows-sound; fits = omega (arith, size-is, r .long j h) }
 
   module _ {g₀ g₁ : List ℤ} {any : Bool} (r : RoomFor sizes g₀) (k : Gathered (rowsBy s starts rows) j g₀ g₁ any) where
@@ -76,7 +76,7 @@ module _ {s starts : List ℕ} {rows : ℕ} {keys : List ℕ} {coefficients : Li
       none-room = record { empty = gathered-none (rw e at k); long = λ i b. omega (arith, r .long i b, k .long) }
 
       pub none-summed : {table : List ℕ} {n : ℕ} {hi lo : List ℤ} → Summed (λ p. squares p (rowsOn j (rowsBy s starts rows))) keys coefficients sizes table n 1 hi lo hi lo
-      unfolding coefficient
+      unfolding coefficient squares
       none-summed =
           record {
             sums = λ _. pos 0;
@@ -98,35 +98,32 @@ module _ {s starts : List ℕ} {rows : ℕ} {keys : List ℕ} {coefficients : Li
             are = λ p t m. f .same _ m ∙ rw (t .bases j h, terms-part t j h) (sym (gathered-squares (rows-for r) k p m));
           }
 
--- ---- all bases
-module _ {s starts : List ℕ} {rows : ℕ} {keys : List ℕ} {coefficients : List ℤ} {sizes table : List ℕ} {n : ℕ} {hi₀ lo₀ : List ℤ} where
-  abbrev all : List Row
-  all = rowsBy s starts rows
-
-  pub walked-start : Summed (λ p. byBasis p all 0) keys coefficients sizes table n 0 hi₀ lo₀ hi₀ lo₀
+-- ---- (rowsBy s starts rows) bases
+module _ (s starts : List ℕ) (rows : ℕ) {keys : List ℕ} {coefficients : List ℤ} {sizes table : List ℕ} {n : ℕ} {hi₀ lo₀ : List ℤ} where
+  pub walked-start : Summed (λ p. byBasis p (rowsBy s starts rows) 0) keys coefficients sizes table n 0 hi₀ lo₀ hi₀ lo₀
   unfolding byBasis coefficient
   walked-start = record { sums = λ k. pos 0; grown = grown-none (λ q b. refl); are = λ p t k. refl }
 
-  module _ {j : ℕ} {hi₁ lo₁ : List ℤ} (w : Summed (λ p. byBasis p all j) keys coefficients sizes table n j hi₀ lo₀ hi₁ lo₁) where
-    pub walked-more : {hi₂ lo₂ : List ℤ} → Summed (λ p. squares p (rowsOn j all)) keys coefficients sizes table n 1 hi₁ lo₁ hi₂ lo₂
-        → Summed (λ p. byBasis p all (j + 1)) keys coefficients sizes table n (j + 1) hi₀ lo₀ hi₂ lo₂
+  module _ {j : ℕ} {hi₁ lo₁ : List ℤ} (w : Summed (λ p. byBasis p (rowsBy s starts rows) j) keys coefficients sizes table n j hi₀ lo₀ hi₁ lo₁) where
+    pub walked-more : {hi₂ lo₂ : List ℤ} → Summed (λ p. squares p (rowsOn j (rowsBy s starts rows))) keys coefficients sizes table n 1 hi₁ lo₁ hi₂ lo₂
+        → Summed (λ p. byBasis p (rowsBy s starts rows) (j + 1)) keys coefficients sizes table n (j + 1) hi₀ lo₀ hi₂ lo₂
     unfolding byBasis
     walked-more d =
         rw (add-one j)
         record {
           sums = λ k. w .sums k +ℤ d .sums k;
           grown = grown-then (w .grown) (d .grown) (λ k. refl) (omega arith);
-          are = λ p t k. rw (w .are p t k, d .are p t k) (sym (coefficient-append k (byBasis p all j) (squares p (rowsOn j all))));
+          are = λ p t k. rw (w .are p t k, d .are p t k) (sym (coefficient-append k (byBasis p (rowsBy s starts rows) j) (squares p (rowsOn j (rowsBy s starts rows)))));
         }
 
     -- no row is on a basis behind those of the constraints
     pub walked-end : Comparable s starts rows keys coefficients sizes → j ≡ getD sizes constraintsAt 0 + 1
-        → Summed (λ p. squares p all) keys coefficients sizes table n 9 hi₀ lo₀ hi₁ lo₁
+        → Summed (λ p. squares p (rowsBy s starts rows)) keys coefficients sizes table n 9 hi₀ lo₀ hi₁ lo₁
     walked-end q e =
         let few = q .flat .limits .sizes-low constraintsAt in
-        let on : All (λ (r : Row). r .basis < j) all = all-map _ _ (λ (r : Row) b. omega (arith, b .basis, q .flat .constraints)) all (q .rows-sound .sound) in
+        let on : All (λ (r : Row). r .basis < j) (rowsBy s starts rows) = all-map _ _ (λ (r : Row) b. omega (arith, b .basis, q .flat .constraints)) (rowsBy s starts rows) (q .rows-sound .sound) in
         record {
           sums = w .sums;
           grown = grown-same (w .grown) (λ k. refl) (omega arith);
-          are = λ p t k. w .are p t k ∙ sym (squares-bases p all j on k);
+          are = λ p t k. w .are p t k ∙ sym (squares-bases p (rowsBy s starts rows) j on k);
         }

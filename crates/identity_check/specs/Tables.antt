@@ -49,7 +49,7 @@ pub record Scaled (x : Halves) (c : ℤ) : Type 0 where
 
 -- the places of exponents in the index of keys
 pub record Slots (exponents slots : List ℕ) : Type 0 where
-  pub long : length exponents ≤ length slots
+  pub few : length exponents ≤ 32
   pub each : (t : ℕ) → t < length exponents → getD slots t 0 ≡ getD exponents t 0 % divisor
 
 -- a polynomial in two arrays, with coefficients of 16 bits, to be added x times and moved by a key

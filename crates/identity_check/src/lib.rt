@@ -68,7 +68,7 @@ fn add_term(
 
 // The places of exponents in the index of keys. With them the place of a sum is found without a division.
 fn note_slots(slots: &mut [usize; 32], exponents: &[u64])
-    requires { ⌜ length (now exponents) ≤ 32 ⌝ }
+    requires { ⌜ (length (now exponents) ≤ 32) × (length (now slots) ≡ 32) ⌝ }
     ensures { λ _. ⌜ Slots (now (exponents .entry)) (now (slots .exit)) ⌝ }
 {
     let mut t = 0;
