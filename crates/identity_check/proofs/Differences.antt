@@ -30,9 +30,10 @@ use Rattle.key_set.proofs.Keys.{keys-rising, keys-at, at-keys}
 use Rattle.wide_sums.specs.Sums.{valueAt, Near}
 use Rattle.certificate_reader.specs.Rows.{rowsBy}
 use Rattle.identity_check.specs.declared.Difference.the-variants.{Same, Differs}
-use Rattle.identity_check.specs.Tables.{Ready, SumsGrown}
+use Rattle.identity_check.specs.Tables.{unit, Ready, SumsGrown}
 use Rattle.identity_check.specs.Walk.{Summed}
 use Rattle.identity_check.specs.Compare.{differenceOf, Zeroed, SmallestSum, Given, Untouched}
+use Rattle.identity_check.proofs.Growth.{grown-same}
 
 -- ---- one comparison
 same-not : (a b : ℤ) → (a ≡ b → ⊥) → sameNumber a b ≡ false
@@ -111,17 +112,22 @@ near-untouched {t₀ = t₀} {t₁ = t₁} few h =
           (λ q b. getD-drop 2048 t₁ q (pos 0) ∙ h .rest (2048 + q) (omega arith) ∙ sym (getD-drop 2048 t₀ q (pos 0)));
     }
 
+pub untouched-then : {t₀ t₁ t₂ : List ℤ} → Untouched t₀ t₁ → Untouched t₁ t₂ → Untouched t₀ t₂
+untouched-then x y = record { long = y .long ∙ x .long; rest = y .rest ∙ x .rest }
+
+-- what the claim at most adds: its objective has at most 256 terms
+pub claim-most : {table : List ℕ} {n : ℕ} {f : ℕ → ℤ} {hi₀ hi₁ lo₀ lo₁ : List ℤ} (m : ℕ) → m ≤ 256 → SumsGrown table n hi₀ lo₀ f ((m + 1) * unit) hi₁ lo₁ → SumsGrown table n hi₀ lo₀ f (257 * unit) hi₁ lo₁
+claim-most m h g = grown-same g (λ k. refl) (omega arith)
+
 -- ---- the answer
 module _ {p : Problem} {c : Certificate} {s starts : List ℕ} {rows : ℕ} {header : Header} {keys : List ℕ} {coefficients : List ℤ} {sizes table : List ℕ} {n : ℕ}
-    (given : Given p c s starts rows header keys coefficients sizes table n) where
-  -- the objective's terms, as they are lent
-  abbrev lent : List Term
-  lent = let E = take (getD sizes 18 0) (drop 864 keys) in termsIn (length E) E (take (getD sizes 18 0) (drop 288 coefficients))
-
-  module _ {hi₀ hi₁ hi₂ lo₀ lo₁ lo₂ : List ℤ} {a r : ℕ} (z : Zeroed table n hi₀ lo₀) (g : SumsGrown table n hi₀ lo₀ (λ k. negℤ (coefficient k (claimOf lent header))) a hi₁ lo₁)
+    (given : Given p c s starts rows header keys coefficients sizes table n)
+    -- the objective's exponents and coefficients, as they are lent
+    {E : List ℕ} {C : List ℤ} (lent : E ≡ take (getD sizes 18 0) (drop 864 keys)) (with : C ≡ take (getD sizes 18 0) (drop 288 coefficients)) where
+  module _ {hi₀ hi₁ hi₂ lo₀ lo₁ lo₂ : List ℤ} {a r : ℕ} (z : Zeroed table n hi₀ lo₀) (g : SumsGrown table n hi₀ lo₀ (λ k. negℤ (coefficient k (claimOf (termsIn (length E) E C) header))) a hi₁ lo₁)
       (m : Summed (λ p. squares p (rowsBy s starts rows)) keys coefficients sizes table n 9 hi₁ lo₁ hi₂ lo₂) (f : SmallestSum table hi₂ lo₂ n n r) where
-    claim-is : (k : ℕ) → coefficient k (claimOf lent header) ≡ coefficient k (claim p (c .header))
-    claim-is k = rw (objective-terms (given .flat), given .header-is)
+    claim-is : (k : ℕ) → coefficient k (claimOf (termsIn (length E) E C) header) ≡ coefficient k (claim p (c .header))
+    claim-is k = rw (lent, with, objective-terms (given .flat), given .header-is)
 
     squares-are : (k : ℕ) → m .sums k ≡ coefficient k (squares p (c .rows))
     squares-are k = m .are p (given .flat) k ∙ sym (ap (λ (rs : List Row). coefficient k (squares p rs)) (given .rows-are))
@@ -129,7 +135,7 @@ module _ {p : Problem} {c : Certificate} {s starts : List ℕ} {rows : ℕ} {hea
     sum-is : (q : ℕ) → q < n → valueAt hi₂ lo₂ q ≡ negℤ (coefficient (getD table q 0) (claim p (c .header))) +ℤ coefficient (getD table q 0) (squares p (c .rows))
     sum-is q b =
         let k = getD table q 0 in
-        let x = negℤ (coefficient k (claimOf lent header)) in
+        let x = negℤ (coefficient k (claimOf (termsIn (length E) E C) header)) in
         let e : valueAt hi₁ lo₁ q ≡ x = g .there q b ∙ ap (λ (v : ℤ). v +ℤ x) (zeroed-value z q b) ∙ +ℤ-idl x in
         m .grown .there q b
         ∙ ap (λ (v : ℤ). v +ℤ m .sums k) e

@@ -1,8 +1,8 @@
 -- The table of sums, spread over the compared keys entry by entry.
 use mathlib.Core.Path.{_≡_, refl, sym, ap, _∙_}
 use mathlib.Core.List.{List}
-use mathlib.Core.Logic.{_⊎_, ⊎-elim}
-use Prim.Native.Nat.{ℕ, _+_, _-_, _*_, _/_, _%_, _≤_, _<_}
+use mathlib.Core.Logic.{⊎-elim}
+use Prim.Native.Nat.{ℕ, _+_, _-_, _*_, _≤_, _<_}
 use native.Mathlib.Nat.{eq-or-lt-of-le}
 use native.Mathlib.Omega.{arith}
 use lib.IntN.{ℤ, pos, _*ℤ_}
@@ -12,20 +12,12 @@ use Rattle.counting.specs.Counting.{listed}
 use Rattle.counting.proofs.Cases.{lt-or-le}
 use Rattle.polynomial.specs.Terms.{Term, term}
 use Rattle.polynomial.specs.Algebra.{sum}
-use Rattle.row_products.specs.Frame.{share, spreadAt, Framed, Entered}
+use Rattle.row_products.specs.Frame.{share, spreadAt, Framed, Next, Entered}
 use Rattle.row_products.proofs.Prefixes.{sum-none, sum-more}
-use Rattle.row_products.proofs.Frames.{rest-none}
+use Rattle.row_products.proofs.Frames.{rest-none, past-none, between-none, framed-entered}
 use Rattle.identity_check.specs.Tables.{SumsGrown}
 use Rattle.identity_check.specs.Spread.{entryUnit, Spread}
 use Rattle.identity_check.proofs.Growth.{grown-none, grown-same, grown-then}
-
--- ---- places that no two indices of the basis have hold 0
-module _ {m c : ℕ} {g : List ℤ} (f : Framed m c g) where
-  outside : (x : ℕ) → (m ≤ x % 64) ⊎ (x % 64 < x / 64) → getD g x (pos 0) ≡ pos 0
-  outside x = ⊎-elim (f .columns x) (f .lower x)
-
-  past : (x : ℕ) → m ≤ x / 64 → getD g x (pos 0) ≡ pos 0
-  past x h = ⊎-elim (λ l. f .lower x l) (λ l. f .columns x (omega arith)) (lt-or-le (x % 64) (x / 64))
 
 -- what the places of a table before x give at a key
 abbrev before : List ℕ → List Term → List ℤ → ℕ → ℕ → ℤ
@@ -56,7 +48,7 @@ module _ {keys : List ℕ} {n : ℕ} {B : List ℕ} {G : List Term} {g₀ hi₀ 
 
   module _ {x : ℕ} {g₁ hi₁ lo₁ : List ℤ} (h : Spreading keys n B G g₀ hi₀ lo₀ x g₁ hi₁ lo₁) {c : ℕ} (f : Framed (length B) c g₀) where
     pub spreading-entered : Entered c B x (getD g₁ x (pos 0))
-    spreading-entered = rw (h .ahead x (omega arith)) record { row = past f x; column = f .columns x; small = f .small x }
+    spreading-entered = rw (h .ahead x (omega arith)) (framed-entered f x)
 
     pub spreading-more : {hi₂ lo₂ : List ℤ} → x < 64 * length B → SumsGrown keys n hi₁ lo₁ (λ k. getD g₁ x (pos 0) *ℤ share B G k x) entryUnit hi₂ lo₂
         → Spreading keys n B G g₀ hi₀ lo₀ (x + 1) (set g₁ x (pos 0)) hi₂ lo₂
@@ -92,20 +84,20 @@ module _ {keys : List ℕ} {n : ℕ} {B : List ℕ} {G : List Term} {g₀ hi₀ 
             long = h .long;
           }
 
-    pub spreading-skip : {y : ℕ} → x ≤ y → ((z : ℕ) → x ≤ z → z < y → (length B ≤ z % 64) ⊎ (z % 64 < z / 64)) → Spreading keys n B G g₀ hi₀ lo₀ y g₁ hi₁ lo₁
-    spreading-skip {y} a o = skip y a (λ z i b. outside f z (o z i b))
+    pub spreading-skip : {m w y : ℕ} → m ≡ length B → Next m w y → w + 1 ≡ x → Spreading keys n B G g₀ hi₀ lo₀ y g₁ hi₁ lo₁
+    spreading-skip {y = y} e q d = skip y (omega (arith, q .later)) (λ z i b. between-none f (rw e at q) z (omega arith) b)
 
     pub spreading-end : length B ≤ 64 → 64 * length B ≤ x → Spread keys n (spreadAt B G g₀) g₀ hi₀ lo₀ g₁ hi₁ lo₁
     unfolding spreadAt
     spreading-end w l =
         let m = h .most in
         record {
-          grown = grown-same (h .grown) (λ k. before-same (x + 4096) (omega arith) (λ z a b. past f z (omega arith)) k ∙ sym (whole k)) (omega arith);
-          cleared = λ y. ⊎-elim (h .behind y) (λ q. h .ahead y q ∙ past f y (omega arith)) (lt-or-le y x);
+          grown = grown-same (h .grown) (λ k. before-same (x + 4096) (omega arith) (λ z a b. past-none f z (omega arith)) k ∙ sym (whole k)) (omega arith);
+          cleared = λ y. ⊎-elim (h .behind y) (λ q. h .ahead y q ∙ past-none f y (omega arith)) (lt-or-le y x);
           long = h .long;
         }
       where
         whole : (k : ℕ) → before B G g₀ 4096 k ≡ before B G g₀ (x + 4096) k
         whole k =
-            rest-none (share B G k) (λ y. term y (getD g₀ y (pos 0))) 4096 x (λ i a b. past f i (omega arith))
+            rest-none (share B G k) (λ y. term y (getD g₀ y (pos 0))) 4096 x (λ i a b. past-none f i (omega arith))
             ∙ ap (λ (z : ℕ). before B G g₀ z k) (omega arith)

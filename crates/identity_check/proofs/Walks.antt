@@ -6,7 +6,7 @@ use Prim.Native.Nat.{ℕ, _+_, _*_, _≤_, _<_}
 use native.Mathlib.Numerals.{add-one}
 use native.Mathlib.Omega.{arith}
 use lib.IntN.{ℤ, pos, _+ℤ_}
-use lib.ListN.{length, getD, take, drop}
+use lib.ListN.{length, getD, take, drop, replicate, length-replicate}
 use Rattle.polynomial.specs.Algebra.{coefficient}
 use Rattle.polynomial.proofs.Sums.{coefficient-append}
 use Rattle.format.specs.All.{All}
@@ -24,6 +24,7 @@ use Rattle.row_products.specs.Frame.{spreadAt, Framed}
 use Rattle.row_products.specs.Outer.{gatheredMost}
 use Rattle.row_products.specs.Fold.{FoldedTable}
 use Rattle.row_products.specs.Gather.{RowsFor, Gathered}
+use Rattle.row_products.proofs.Frames.{zeros-empty}
 use Rattle.row_products.proofs.Gram.{squares-bases}
 use Rattle.row_products.proofs.Gathering.{gathered-framed, gathered-squares, gathered-none}
 use Rattle.identity_check.specs.Spread.{Spreadable, Spread}
@@ -54,6 +55,10 @@ module _ {keys : List ℕ} {coefficients : List ℤ} {sizes : List ℕ} (f : Fla
         low = multiplier-low f j h;
         coefficients-small = coefficients-small f j h;
       }
+
+-- ---- an empty table with room for every basis
+pub room-zeros : {sizes : List ℕ} (m : ℕ) → ((j : ℕ) → j < 9 → 64 * getD sizes j 0 ≤ m) → RoomFor sizes (replicate m (pos 0))
+room-zeros m h = record { empty = zeros-empty m; long = λ j b. omega (arith, h j b, length-replicate m (pos 0)) }
 
 -- ---- one basis: what the table of sums gives is the squares of the rows on it
 module _ {s starts : List ℕ} {rows : ℕ} {keys : List ℕ} {coefficients : List ℤ} {sizes : List ℕ} (w : Comparable s starts rows keys coefficients sizes) (j : ℕ) (h : j < 9) where

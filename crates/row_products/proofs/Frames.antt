@@ -1,17 +1,23 @@
 -- The entries of the table of sums: those that are not 0 are at indices of the basis, on or above the diagonal.
-use mathlib.Core.Path.{_≡_, sym, ap, _∙_}
+use mathlib.Core.Path.{_≡_, refl, sym, ap, _∙_}
 use mathlib.Core.List.{List}
 use mathlib.Core.Logic.{⊎-elim}
 use Prim.Native.Nat.{ℕ, zero, suc, _+_, _*_, _/_, _%_, _≤_, _<_}
 use native.Mathlib.Omega.{arith}
 use lib.IntN.{ℤ, pos, _+ℤ_, _*ℤ_, +ℤ-idr, zero-*ℤ}
-use lib.ListN.{length, getD}
+use lib.ListN.{length, getD, replicate}
 use Rattle.counting.specs.Counting.{listed}
 use Rattle.counting.proofs.Cases.{lt-or-le}
 use Rattle.polynomial.specs.Terms.{Term}
 use Rattle.polynomial.specs.Algebra.{sum}
-use Rattle.row_products.specs.Frame.{Framed, Next, Entered}
+use Rattle.row_products.specs.Frame.{Empty, Framed, Next, Entered}
 use Rattle.row_products.proofs.Prefixes.{sum-more}
+
+-- ---- a table of zeros
+pub zeros-empty : (n : ℕ) → Empty (replicate n (pos 0))
+zeros-empty zero x = refl
+zeros-empty (suc n) zero = refl
+zeros-empty (suc n) (suc x) = zeros-empty n x
 
 -- ---- a table within its frame
 module _ {m c : ℕ} {g : List ℤ} (f : Framed m c g) where

@@ -38,7 +38,7 @@ use Rattle.certificate_reader.proofs.Shapes.{basis-few}
 use Rattle.certificate_reader.proofs.Walk.{Step, step-of, step-none, walk-sound}
 use Rattle.accepting.specs.Identity.{squares}
 use Rattle.accepting.proofs.Reach.{all-both}
-use Rattle.row_products.specs.Gram.{factorTerms, rekeyed, outer, gram, times, doubled, rowsOn}
+use Rattle.row_products.specs.Gram.{factorTerms, rekeyed, outer, gram, timesAt, doubled, rowsOn}
 use Rattle.row_products.specs.Frame.{spreadAt, Empty, Below, Framed}
 use Rattle.row_products.specs.Outer.{weightMost, factorMost, rowUnit, gatheredMost, HasRow, Entries, HoldsEntries, Raised, above, inRow, outerAt}
 use Rattle.row_products.specs.Gather.{RowsFor, LowRow, RowAdded, Gathered}
@@ -48,9 +48,6 @@ use Rattle.row_products.proofs.Outers.{match-other, lower-never, above-
 
 -- ---- the half that is kept
 module _ (x : ℕ) where
-  abbrev here : ℤ
-  here = times (x / 64) (x % 64)
-
   above-is : (i k : ℕ) → k < 64 → above x i k ≡ doubled x (match x (64 * i + k))
   above-is i k h =
       ⊎-elim
@@ -58,13 +55,13 @@ module _ (x : ℕ) where
       let q : x / 64 ≡ i = omega arith in
       let r : x % 64 ≡ k = omega arith in
       rw (q, r))
-      (λ f. above-other x i k f ∙ sym (ap (doubled x) (match-other x (64 * i + k) f) ∙ *ℤ-zero here))
+      (λ f. above-other x i k f ∙ sym (ap (doubled x) (match-other x (64 * i + k) f) ∙ *ℤ-zero (timesAt x)))
       (same-or-not (64 * i + k) x)
 
   outer-doubled : (F : List Term) → Keys (λ i. i < 64) F → sum (inRow F x) F ≡ doubled x (sum (λ i. sum (λ i′. match x (64 * i + i′)) F) F)
   outer-doubled F low =
-      sum-alike _ _ (λ i. sum-same (λ i. i < 64) _ _ (λ k b. above-is i k b) F low ∙ sum-times here (λ i′. match x (64 * i + i′)) F) F
-      ∙ sum-times here (λ i. sum (λ i′. match x (64 * i + i′)) F) F
+      sum-alike _ _ (λ i. sum-same (λ i. i < 64) _ _ (λ k b. above-is i k b) F low ∙ sum-times (timesAt x) (λ i′. match x (64 * i + i′)) F) F
+      ∙ sum-times (timesAt x) (λ i. sum (λ i′. match x (64 * i + i′)) F) F
 
 -- ---- a row in arrays, as the table of sums takes it
 abbrev noEntry : Entry
@@ -88,7 +85,7 @@ outer-is r indices factors count k low x =
     let F = factorTerms (r .entries) in
     ap (λ (P : List Term). r .weight *ℤ sum (inRow P x) P) (k .terms)
     ∙ ap (λ (z : ℤ). r .weight *ℤ z) (outer-doubled x F (factors-small (r .entries) low))
-    ∙ *ℤ-left-comm (r .weight) (here x) (sum (λ i. sum (λ i′. match x (64 * i + i′)) F) F)
+    ∙ *ℤ-left-comm (r .weight) (timesAt x) (sum (λ i. sum (λ i′. match x (64 * i + i′)) F) F)
     ∙ ap (doubled x) (sym (outer-coefficient x r))
 
 rising-next : (es : List Entry) (d : Entry) → IndicesRise es → (k : ℕ) → suc k < length es → getD es k d .index < getD es (suc k) d .index
@@ -235,7 +232,7 @@ unfolding gram coefficient rowsOn
 gathering-start {g = g} z =
     record {
       within = omega arith;
-      holds = λ x. z x ∙ sym (*ℤ-zero (here x));
+      holds = λ x. z x ∙ sym (*ℤ-zero (timesAt x));
       below = λ x. omega (arith, ap natAbs (z x));
       long = refl;
       none = λ e. refl;
@@ -279,7 +276,7 @@ module _ {rs : List Row} {j t : ℕ} {g₀ g : List ℤ} {any : Bool} (w : Gathe
           holds = λ x.
               d .there x
               ∙ ap (λ (z : ℤ). z +ℤ doubled x (coefficient x (outer r))) (w .holds x)
-              ∙ sym (*ℤ-+ℤ (here x) (coefficient x (gram on)) (coefficient x (outer r)))
+              ∙ sym (*ℤ-+ℤ (timesAt x) (coefficient x (gram on)) (coefficient x (outer r)))
               ∙ ap (doubled x) (sym (gram-more x on r))
               ∙ ap (λ (l : List Row). doubled x (coefficient x (gram l))) (sym (ap (rowsOn j) taken ∙ on-more j (take t rs) r e));
           below = λ x.
@@ -307,7 +304,7 @@ module _ {s starts : List ℕ} {rows j : ℕ} {g₀ g : List ℤ} {any : Bool} (
   gathered-framed =
       record {
         long = omega (arith, w .fits, k .long);
-        columns = λ x h. k .holds x ∙ ap (doubled x) (coefficient-none _ x (gram on) (gram-framed size few on low) (λ f. omega (arith, f .1))) ∙ *ℤ-zero (here x);
+        columns = λ x h. k .holds x ∙ ap (doubled x) (coefficient-none _ x (gram on) (gram-framed size few on low) (λ f. omega (arith, f .1))) ∙ *ℤ-zero (timesAt x);
         lower = λ x h. k .holds x ∙ ap (λ (z : ℤ). z *ℤ coefficient x (gram on)) (lower-never (x / 64) (x % 64) h) ∙ zero-*ℤ (coefficient x (gram on));
         small = k .small;
       }
@@ -321,7 +318,7 @@ module _ {s starts : List ℕ} {rows j : ℕ} {g₀ g : List ℤ} {any : Bool} (
 -- without a row on basis j it stays empty
 pub gathered-none : {rs : List Row} {j : ℕ} {g₀ g : List ℤ} → Gathered rs j g₀ g false → Empty g
 unfolding gram coefficient
-gathered-none k x = k .holds x ∙ ap (λ (l : List Row). doubled x (coefficient x (gram l))) (k .none refl) ∙ *ℤ-zero (here x)
+gathered-none k x = k .holds x ∙ ap (λ (l : List Row). doubled x (coefficient x (gram l))) (k .none refl) ∙ *ℤ-zero (timesAt x)
 
 -- ---- a row that keeps its limits, in arrays: what is added for it
 module _ {s : List ℕ} {from to room : ℕ} (bytes : (i : ℕ) → getD s i 0 < 256) (k : LowRow s from to room) where

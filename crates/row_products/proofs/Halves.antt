@@ -21,7 +21,7 @@ use Rattle.format.specs.ProblemBases.{basisOf, multiplier}
 use Rattle.format.specs.All.{All}
 use Rattle.format.specs.CertificateRules.{Entry, Row}
 use Rattle.accepting.specs.Identity.{squares}
-use Rattle.row_products.specs.Gram.{factorTerms, rekeyed, outer, gram, tableTerms, times, doubled}
+use Rattle.row_products.specs.Gram.{factorTerms, rekeyed, outer, gram, tableTerms, times, timesAt, doubled}
 use Rattle.row_products.specs.Frame.{spreadAt}
 use Rattle.row_products.proofs.Gram.{sum-same, sum-rekeyed, factors-small, gram-places, at, under, place-key, rows-gram}
 
@@ -146,7 +146,7 @@ module _ (M : ℕ → ℤ) (symmetric : (i k : ℕ) → i < 64 → k < 64 → M 
       rw (sum-append m (listed n (λ i. term i (f i))) (term n (f n) ∷ []), sum-append m′ (listed n (λ i. term i (f′ i))) (term n (f′ n) ∷ []), listed-same-sum f f′ m m′ n h, h n)
 
   doubled-moved : (n : ℕ) (c x : ℤ) → doubled n c *ℤ x ≡ c *ℤ doubled n x
-  doubled-moved n c x = *ℤ-assoc (times (n / 64) (n % 64)) c x ∙ *ℤ-left-comm (times (n / 64) (n % 64)) c x
+  doubled-moved n c x = *ℤ-assoc (timesAt n) c x ∙ *ℤ-left-comm (timesAt n) c x
 
   half-table : (rs : List Row) → All (λ (r : Row). All (λ (e : Entry). e .index < 64) (r .entries)) rs → (table : List ℤ)
       → ((n : ℕ) → getD table n (pos 0) ≡ doubled n (coefficient n (gram rs))) → sum M (gram rs) ≡ sum M (tableTerms table)

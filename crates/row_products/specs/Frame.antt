@@ -37,7 +37,6 @@ pub record Framed (m c : ℕ) (g : List ℤ) : Type 0 where
 -- r is a place after x, and those between them have a column that no index below m has, or are below the diagonal
 pub record Next (m x r : ℕ) : Type 0 where
   pub later : x < r
-  pub within : r ≤ 65 * m
   pub between : (y : ℕ) → x < y → y < r → (m ≤ y % 64) ⊎ (y % 64 < y / 64)
 
 -- an entry that is not 0 is at indices of the basis, and is at most c

@@ -47,9 +47,13 @@ tableTerms table = listed 4096 (λ n. term n (getD table n (pos 0)))
 abbrev pub times : ℕ → ℕ → ℤ
 times i i′ = cond (leb i i′) (cond (eqb i i′) (pos 1) (pos 2)) (pos 0)
 
--- the number at a place, as often
+-- the same by the place
+abbrev pub timesAt : ℕ → ℤ
+timesAt n = times (n / 64) (n % 64)
+
+-- the number v at a place, as often
 abbrev pub doubled : ℕ → ℤ → ℤ
-doubled n v = times (n / 64) (n % 64) *ℤ v
+doubled n v = timesAt n *ℤ v
 
 -- each entry of a matrix times b × b' times g_j
 abbrev pub expanded : Problem → ℕ → List Term → List Term

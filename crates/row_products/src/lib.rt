@@ -46,7 +46,7 @@ fn read_row(
     n
 }
 
-// Adds a times a factor to the entry at place x.
+// Adds a times a factor to the entry at place x. There is room: the limits of the rows keep every sum far below 2^63.
 fn add_at(g: &mut [i64], x: usize, a: i64, factor: i32)
     requires { ⌜
         (x < length (now g))
@@ -147,7 +147,8 @@ pub fn add_basis_rows(g: &mut [i64], s: &[u8], starts: &[usize; 129], rows: usiz
     any
 }
 
-// The place after x on or above the diagonal, for a basis of this size.
+// The place after x on or above the diagonal, for a basis of this size. A row begins at its diagonal, 65 * i: only half
+// of the table is walked.
 pub fn next_place(x: usize, size: usize) -> usize
     requires { ⌜ (x < 64 * size) × (size ≤ 64) ⌝ }
     ensures { λ r. ⌜ Next size x r ⌝ }

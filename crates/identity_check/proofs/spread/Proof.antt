@@ -95,12 +95,11 @@ loop-again c =
     let a = e .before .before .before .before in
     let v = l a .loop .inv in
     let p = s a .pre .1 in
-    let q = c .next-place .ensures in
-    let n = v .0 in (
-      n,
+    (
+      v .0,
       v .1,
       v .2,
-      spreading-skip (spreading-more (v .3) (p .1) (here a) (simp (toZ-ofZ (fits-a a)) at (e .add-entry .ensures))) (p .1) (omega (arith, q .later)) (λ z i b. rw n at (q .between z (omega arith) b)),
+      spreading-skip (spreading-more (v .3) (p .1) (here a) (simp (toZ-ofZ (fits-a a)) at (e .add-entry .ensures))) (p .1) (v .0) (c .next-place .ensures) refl,
     )
 
 same-length : tie.Need-same-length Inv-loop μ-loop

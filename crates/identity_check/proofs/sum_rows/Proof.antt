@@ -1,59 +1,94 @@
-use borrow.Author.Needs.{needs}
+-- `sum_rows`: after j turns the squares of the rows on the first j bases are added, and the table of sums is empty.
+use mathlib.Core.Path.{_≡_, refl}
+use Prim.Native.Nat.{_+_, _-_, _≤_}
 use native.Mathlib.Omega.{arith}
-use mathlib.Core.Path.{_≡_, refl, sym, ap, _∙_, subst}
-use Prim.Native.Nat.{ℕ, zero, suc, _+_, _-_, _*_, _≤_, _<_}
-use lib.ListN.{length, getD, take, drop, set, length-set}
+use borrow.Author.Needs.{needs}
+use lib.ListN.{length, getD}
+use Rattle.flat.specs.Flat.{constraintsAt}
+use Rattle.certificate_reader.specs.Rows.{rowsBy}
+use Rattle.row_products.specs.Gram.{byBasis}
+use Rattle.identity_check.specs.Walk.{RoomFor, Summed}
+use Rattle.identity_check.proofs.Growth.{ready-after}
+use Rattle.identity_check.proofs.Walks.{walked-start, walked-more, walked-end}
 use Rattle.identity_check.proofs.sum_rows.Statement.{statement}
 use Rattle.identity_check.proofs.sum_rows.Tie as tie
-use Rattle.identity_check.proofs.sum_rows.Reads as reads
-use Rattle.identity_check.proofs.sum_rows.Lts as lts
-use Rattle.identity_check.proofs.add_basis.Reads as add-basis-reads
 
 abbrev Inv-loop : tie.InvT-loop
-Inv-loop g₀ s starts rows keys coefficients sizes table n index hi₀ lo₀ last j₀ g hi lo j = ?
+Inv-loop g₀ s starts rows keys coefficients sizes table n places hi₀ lo₀ last j₀ g hi lo j =
+    (last ≡ getD sizes constraintsAt 0)
+    × (j ≤ last + 1)
+    × (length g ≡ length g₀)
+    × RoomFor sizes g
+    × Summed (λ p. byBasis p (rowsBy s starts rows) j) keys coefficients sizes table n j hi₀ lo₀ hi lo
 
 abbrev μ-loop : tie.MeasureT-loop
-μ-loop g₀ s starts rows keys coefficients sizes table n index hi₀ lo₀ last j₀ g hi lo j = ?
+μ-loop g₀ s starts rows keys coefficients sizes table n places hi₀ lo₀ last j₀ g hi lo j = last + 1 - j
 
--- src/lib.rt:401:16
+abbrev at-start : tie.At-loop Inv-loop μ-loop → tie.Start Inv-loop μ-loop
+at-start l = l .before .before .before .before .before .before
+
+-- at most eight constraints
+few : (l : tie.At-loop Inv-loop μ-loop) → getD (at-start l .args .sizes .now) constraintsAt 0 ≤ 8
+few l = at-start l .pre .1 .0 .flat .limits .sizes-low constraintsAt
+
 shared-slice-read-last : tie.Need-shared-slice-read-last Inv-loop μ-loop
-shared-slice-read-last c = search needs
+shared-slice-read-last c = let s = c .before .before .before .before .before in omega (arith, s .pre .1 .0 .flat .limits .sizes-length)
 
--- src/lib.rt:403:5
 loop-holds : tie.Need-loop-holds Inv-loop μ-loop
-loop-holds c = search needs
+loop-holds c =
+    let s = c .before .before .before .before .before in
+    let a = s .args in
+    (refl, omega arith, refl, s .pre .1 .1, walked-start (a .s .now) (a .starts .now) (a .rows))
 
--- src/lib.rt:404:9
 add-basis-requires : tie.Need-add-basis-requires Inv-loop μ-loop
-add-basis-requires c κs = search needs
+add-basis-requires c κs =
+    let i = c .before .before .before in
+    let l = i .before in
+    let p = at-start l .pre in
+    let v = l .loop .inv in
+    let t = i .loop-test .taken in
+    let f = few l in
+    let e = v .0 in
+    ((ready-after (p .0) (v .4 .grown) (omega arith), v .3), (p .1 .0, omega arith))
 
--- src/lib.rt:419:9
 add-j : tie.Need-add-j Inv-loop μ-loop
-add-j c = search needs
+add-j c = let l = c .before .before .before .before .before .before .before .before in omega (arith, l .loop .inv .0, l .loop .inv .1, few l)
 
--- src/lib.rt:403:5
 loop-less : tie.Need-loop-less Inv-loop μ-loop
-loop-less c = search needs
+loop-less c =
+    let i = c .before .before .before .before .before .before .before in
+    omega (arith, i .loop-test .taken)
 
--- src/lib.rt:403:5
 loop-again : tie.Need-loop-again Inv-loop μ-loop
-loop-again c = search needs
+loop-again c =
+    let a = c .before .before .before in
+    let i = a .before .before .before .before in
+    let l = i .before in
+    let b = at-start l .args in
+    let v = l .loop .inv in (
+      v .0,
+      omega (arith, i .loop-test .taken),
+      omega (arith, v .2, a .add-basis .kept),
+      a .add-basis .ensures .1,
+      walked-more (b .s .now) (b .starts .now) (b .rows) (v .4) (a .add-basis .ensures .0),
+    )
 
--- src/lib.rt:377:1
 same-length : tie.Need-same-length Inv-loop μ-loop
 same-length c = search needs
 
--- src/lib.rt:377:1
 same-length-2 : tie.Need-same-length-2 Inv-loop μ-loop
 same-length-2 c = search needs
 
--- src/lib.rt:377:1
 same-length-3 : tie.Need-same-length-3 Inv-loop μ-loop
 same-length-3 c = search needs
 
--- src/lib.rt:377:1
 returns : tie.Need-returns Inv-loop μ-loop
-returns c = search needs
+returns c =
+    let l = c .before in
+    let s = at-start l in
+    let v = l .loop .inv in
+    let t = c .loop-test .left in
+    walked-end (s .args .s .now) (s .args .starts .now) (s .args .rows) (v .4) (s .pre .1 .0) (omega (arith, v .0, v .1))
 
 pub sum-rows-spec : {M : Type 1} → statement M
 sum-rows-spec =

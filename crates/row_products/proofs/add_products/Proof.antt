@@ -138,7 +138,7 @@ add-at-requires-2 c κs =
     let h = n .loop-test .taken in (
       omega (arith, row (t l), column l h, turning l .raised .long),
       λ x. omega (arith, below l h x),
-      simp (toZ-ofZ, t l .fits .a, fits-twice (t l)) (twice-small (t l)),
+      simp (toZ-ofZ, t l .fits .a, fits-twice (t l)) (omega (arith, twice-small (t l))),
       simp (toZ-ofZ (fits-later c)) (t l .pre .0 .factors-small (l .loop .k) h),
     )
 

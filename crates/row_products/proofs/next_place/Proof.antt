@@ -14,7 +14,7 @@ add-result : tie.Need-add-result
 add-result c = search needs
 
 returns : tie.Need-returns
-returns c = record { later = omega arith; within = omega arith; between = λ y a b. absurd (omega arith) }
+returns c = record { later = omega arith; between = λ y a b. absurd (omega arith) }
 
 add-result-2 : tie.Need-add-result-2
 add-result-2 c = search needs
@@ -26,7 +26,6 @@ returns-2 : tie.Need-returns-2
 returns-2 c =
     record {
       later = omega arith;
-      within = omega arith;
       between = λ y a b. ⊎-elim (λ l. inl (omega arith)) (λ l. inr (omega arith)) (lt-or-le y (64 * (c .before .args .x / 64 + 1)));
     }
 
