@@ -1,4 +1,3 @@
 pub mod Fills
-pub mod Problems
 pub mod Judging
 pub mod Comparing

@@ -38,7 +38,7 @@ walk-sound {s} {starts} {rows} w r h =
     rw (row-by s starts rows r noRow h) at (all-within (SoundRow (w .problem)) (rowsBy s starts rows) r noRow (omega arith) (w .rows-sound .sound))
 
 -- ---- a stream that is read can be walked
-pub given-walkable : (p : Problem) → Limits p → (s : List ℕ) (t : Header) (starts : List ℕ) (rows : ℕ) → GivenRows p s t starts rows → Walkable s starts rows
+abbrev pub given-walkable : (p : Problem) → Limits p → (s : List ℕ) (t : Header) (starts : List ℕ) (rows : ℕ) → GivenRows p s t starts rows → Walkable s starts rows
 given-walkable p l s t starts rows g =
     record {
       problem = p;

@@ -1,49 +1,31 @@
--- `difference`: the comparison, with the problem's arrays and cleared tables.
-use borrow.Author.Needs.{needs}
+-- `difference`: the comparison, with cleared tables.
 use native.Mathlib.Omega.{arith}
-use lib.IntN.{pos}
-use Rattle.problem_reader.specs.Stored.{problemOf}
-use Rattle.problem_reader.specs.Flat.{Flat}
-use Rattle.problem_reader.proofs.Flattening.{stored-constraints}
-use Rattle.certificate_judge.proofs.Comparing.{cleared-untouched, zeroed, comparable, compared}
+use borrow.Author.Needs.{needs}
+use Rattle.certificate_judge.proofs.Comparing.{cleared-untouched, zeroed}
 use Rattle.certificate_judge.proofs.difference.Statement.{statement}
 use Rattle.certificate_judge.proofs.difference.Tie as tie
 
-abbrev start : tie.After-multipliers-of → tie.Start
-start c = c .before .before .before .before .before .before .before .before .before .before
+abbrev start : tie.After-clear-signed → tie.Start
+start c = c .before .before .before .before .before .before
 
-flat : (c : tie.After-multipliers-of) → Flat (problemOf (start c .args .p)) (c .multipliers-of .result)
-flat c = let s = start c in c .multipliers-of .ensures (problemOf (s .args .p)) (stored-constraints (s .args .p))
+abbrev first : tie.After-clear-signed2 → tie.After-clear-signed
+first c = c .before .before .before
 
 clear-signed-requires : tie.Need-clear-signed-requires
-clear-signed-requires c κs = let p = c .before .before .before .pre in omega (arith, p .1 .holds .few, p .4)
+clear-signed-requires c κs = let p = c .before .before .before .before .before .pre in omega (arith, p .0 .0 .few, p .2 .high-long)
 
 clear-signed-requires-2 : tie.Need-clear-signed-requires-2
-clear-signed-requires-2 c κs = let p = c .before .before .before .before .before .before .pre in omega (arith, p .1 .holds .few, p .5)
-
-multipliers-of-requires : tie.Need-multipliers-of-requires
-multipliers-of-requires c κs = search needs
-
-slice-aggregate-compare : tie.Need-slice-aggregate-compare
-slice-aggregate-compare c = search needs
-
-slice-aggregate-compare-2 : tie.Need-slice-aggregate-compare-2
-slice-aggregate-compare-2 c = search needs
-
-slice-aggregate-compare-3 : tie.Need-slice-aggregate-compare-3
-slice-aggregate-compare-3 c = search needs
+clear-signed-requires-2 c κs = let p = start (c .before .before) .pre in omega (arith, p .0 .0 .few, p .2 .low-long)
 
 compare-requires : tie.Need-compare-requires
 compare-requires c κs =
-    let m = c .before .before .before .before .before .before .before .before .before .before .before .before .before in
-    let l = m .before .before .before in
-    let h = l .before .before .before in
-    let s = start m in
+    let l = c .before .before .before in
+    let h = first l in
+    let s = start h in
     let p = s .pre in (
-      zeroed (s .args .p) (p .0) _ _ _ (p .1) (s .args .high .now) _ (s .args .low .now) _ (omega (arith, p .4, h .clear-signed .kept)) (omega (arith, p .5, l .clear-signed2 .kept)) (h .clear-signed .ensures) (l .clear-signed2 .ensures),
-      p .1 .index,
-      p .2,
-      comparable (s .args .p) (p .0) _ _ _ (p .1) _ (flat m) _ _ (p .3),
+      zeroed (p .0 .0) (s .args .high .now) _ (s .args .low .now) _ (omega (arith, p .2 .high-long, h .clear-signed .kept)) (omega (arith, p .2 .low-long, l .clear-signed2 .kept)) (h .clear-signed .ensures) (l .clear-signed2 .ensures),
+      p .0 .1,
+      p .1,
     )
 
 same-length : tie.Need-same-length
@@ -55,16 +37,16 @@ same-length-2 c = search needs
 returns : tie.Need-returns
 returns c =
     let d = c .before .before in
-    let m = d .before .before .before .before .before .before .before .before .before .before .before .before .before .before in
-    let l = m .before .before .before in
-    let h = l .before .before .before in
-    let s = start m in
-    let p = s .pre in (
-      λ x e. d .compare .ensures .0 (problemOf (s .args .p)) x (compared (s .args .p) (p .0) _ _ _ (p .1) _ (flat m) _ _ (p .3) x e),
-      cleared-untouched (pos 0) (s .args .high .now) _ _ (h .clear-signed .ensures) (p .1 .holds .few) _ (omega (arith, h .clear-signed .kept)) (d .compare .ensures .1 .0),
-      cleared-untouched (pos 0) (s .args .low .now) _ _ (l .clear-signed2 .ensures) (p .1 .holds .few) _ (omega (arith, l .clear-signed2 .kept)) (d .compare .ensures .1 .1),
-      d .compare .ensures .1 .2,
-    )
+    let l = d .before .before .before .before in
+    let h = first l in
+    let s = start h in
+    let few = s .pre .0 .0 .few in
+    let q = d .compare .ensures in
+    record {
+      difference = q .difference;
+      high = cleared-untouched (s .args .high .now) _ _ (h .clear-signed .ensures) few (omega (arith, h .clear-signed .kept)) (q .high);
+      low = cleared-untouched (s .args .low .now) _ _ (l .clear-signed2 .ensures) few (omega (arith, l .clear-signed2 .kept)) (q .low);
+    }
 
 pub difference-spec : {M : Type 1} → statement M
 difference-spec =
@@ -72,10 +54,6 @@ difference-spec =
     (tie.spec
     clear-signed-requires
     clear-signed-requires-2
-    multipliers-of-requires
-    slice-aggregate-compare
-    slice-aggregate-compare-2
-    slice-aggregate-compare-3
     compare-requires
     same-length
     same-length-2

@@ -1,57 +1,55 @@
 -- `judge`: each return by what the reading, the walk over the rows and the comparison decide.
 use borrow.Author.Needs.{needs}
 use native.Mathlib.Omega.{arith}
-use mathlib.Core.Path.{_≡_, refl, sym, ap, _∙_}
-use lib.ListN.{length}
+use mathlib.Core.Path.{_≡_, refl, sym, _∙_}
+use Prim.Native.Nat.{ℕ}
 use Rattle.format.specs.ProblemRules.{Problem}
-use Rattle.problem_reader.specs.Stored.{problemOf}
-use Rattle.joining_rule.proofs.Bytes.{bytes-long}
-use Rattle.format.specs.CertificateRules.{readCertificate}
-use Rattle.certificate_reader.specs.Kept.{headerOutcome, headerOutcomeOf}
-use Rattle.certificate_judge.specs.Steps.{HeaderStands}
-use Rattle.certificate_judge.proofs.Judging.{shape-is, joins-compare, certificate-refused, certificate-given, walkable, judge-refused, judge-split, judge-compared}
+use Rattle.certificate_reader.specs.Rows.{Validated, GivenRows}
+use Rattle.certificate_reader.proofs.Shapes.{flat-sized}
+use Rattle.certificate_reader.proofs.Walk.{given-walkable}
+use Rattle.certificate_judge.specs.Steps.{JoinedProblem}
+use Rattle.certificate_judge.proofs.Judging.{labels-long, joined-comparable, joined-given, judge-refused, judge-split, judge-compared}
 use Rattle.certificate_judge.proofs.judge.Statement.{statement}
 use Rattle.certificate_judge.proofs.judge.Tie as tie
 
--- the problem
-abbrev P : tie.Start → Problem
-P s = problemOf (s .args .p)
+abbrev start : tie.After-validate → tie.Start
+start c = c .before .before .before .before .before .before .before
 
-labels-long : (s : tie.Start) → length (s .args .j .labels) ≡ 576
-labels-long s = let h = s .pre .0 in rw (h .joining .labels (h .few)) (bytes-long _)
+-- the arrays hold the problem p, with its blocks
+abbrev Holding : tie.Start → Problem → Type 0
+Holding s p =
+    let a = s .args in
+    JoinedProblem p (a .keys .now) (a .coefficients .now) (a .sizes .now) (a .labels .now) (a .table .now) (a .n) (a .index .now)
 
--- the reading is against the problem
-read-as : (c : tie.After-validate) → let s = c .before .before .before .before .before in headerOutcomeOf (c .validate .result) ≡ headerOutcome (readCertificate (P s) (s .args .s .now))
-read-as c =
-    let s = c .before .before .before .before .before in
-    c .validate .ensures (P s) (s .pre .0 .limits) (sym (shape-is (s .args .p) (s .pre .0 .kept)))
+-- the reading is against each such problem
+read-as : (c : tie.After-validate) (p : Problem) → Holding (start c) p → Validated p (start c .args .s .now) (c .validate .result) (c .validate .last .1 .1 .0)
+read-as c p j = c .validate .ensures p (j .limits) (flat-sized (j .flat))
 
-stands : (c : tie.Else1) → let s = c .before .before .before .before .before .before in HeaderStands (P s) (s .args .s .now) (c .before .validate .result .header)
-stands c = certificate-given _ _ (read-as (c .before)) (omega (arith, c .if1 .left)) _ _ refl
+-- the certificate that was read
+stands : (c : tie.Else1) (p : Problem) → Holding (start (c .before)) p
+    → GivenRows p (start (c .before) .args .s .now) (c .before .validate .result .header) (c .before .validate .last .1 .1 .0) (c .before .validate .result .rows)
+stands c p j = read-as (c .before) p j .gives (omega (arith, c .if1 .left))
 
 validate-requires : tie.Need-validate-requires
 validate-requires c κs =
-    let s = c .before .before .before .before in
-    record { problem = P s; limits = s .pre .0 .limits; is = sym (shape-is (s .args .p) (s .pre .0 .kept)) }
+    let w = c .before .before .before .before .before .before .pre .0 in
+    (record { problem = w .problem; limits = w .joined .limits; sized = flat-sized (w .joined .flat) }, search needs)
 
 refuse-requires : tie.Need-refuse-requires
 refuse-requires c κs = search needs
 
 returns : tie.Need-returns
 returns c =
-    let v = c .before .before in
-    let s = v .before .before .before .before .before in
-    (c .refuse .ensures ∙ judge-refused (P s) (s .args .s .now) _ _ _ (certificate-refused _ _ (read-as v) (c .before .if1 .taken)), refl, refl, s .pre .1)
-
-slice-aggregate-split-place : tie.Need-slice-aggregate-split-place
-slice-aggregate-split-place c = sym (labels-long (c .before .before .before .before .before .before .before .before .before))
+    let v = c .before .before in (
+      (λ p j. c .refuse .ensures ∙ judge-refused p (start v .args .s .now) _ _ _ (read-as v p j .refuses (c .before .if1 .taken))),
+      record { high-rest = refl; low-rest = refl },
+    )
 
 split-place-requires : tie.Need-split-place-requires
 split-place-requires c κs =
-    let i = c .before .before .before in
-    let s = i .before .before .before .before .before .before in
-    let t = stands i in
-    (walkable (P s) (s .pre .0 .limits) (s .args .s .now) (t .certificate) (t .read), labels-long s)
+    let e = c .before .before in
+    let w = start (e .before) .pre .0 in
+    (given-walkable (w .problem) (w .joined .limits) _ _ _ _ (stands e (w .problem) (w .joined)), labels-long (w .joined))
 
 enum-known-place : tie.Need-enum-known-place
 enum-known-place c = search needs
@@ -64,9 +62,10 @@ enum-told c = search needs
 
 difference-requires : tie.Need-difference-requires
 difference-requires c κs =
-    let i = c .before .before .before .before .before .before .before .before .before .before in
-    let s = i .before .before .before .before .before .before in
-    (s .pre .0 .kept, joins-compare _ _ _ _ (s .pre .0), s .pre .1, stands i, s .pre .2, s .pre .3)
+    let e = c .before .before .before .before .before .before .before .before in
+    let s = start (e .before) in
+    let w = s .pre .0 in
+    ((w .joined .holds, w .joined .index), joined-comparable (w .joined) (stands e (w .problem) (w .joined)), s .pre .1)
 
 by-identity-requires : tie.Need-by-identity-requires
 by-identity-requires c κs = search needs
@@ -75,12 +74,14 @@ returns-2 : tie.Need-returns-2
 returns-2 c =
     let k = c .before .before in
     let w = k .before .before in
-    let i = w .before .before .before .before in
-    let s = i .before .before .before .before .before .before in
-    let t = stands i in
-    let h = s .pre .0 in
-    let e = w .split-place .ensures (P s) (t .certificate) (h .limits) (t .read) (h .joining .labels (h .few)) in
-    (c .refuse2 .ensures ∙ judge-split (P s) (s .args .s .now) (t .certificate) (t .read) _ _ (sym (k .place .given .1) ∙ e), refl, refl, s .pre .1)
+    let e = w .before .before .before in
+    let s = start (e .before) in (
+      (λ p j.
+      let t = stands e p j in
+      let q = w .split-place .ensures p (t .certificate) (j .limits) (t .read) (t .rows-are) (j .labels-are) in
+      c .refuse2 .ensures ∙ judge-split p (s .args .s .now) (t .certificate) (t .read) _ _ (sym (k .place .given .1) ∙ q)),
+      record { high-rest = refl; low-rest = refl },
+    )
 
 same-length : tie.Need-same-length
 same-length c = search needs
@@ -90,18 +91,18 @@ same-length-2 c = search needs
 
 returns-3 : tie.Need-returns-3
 returns-3 c =
-    let d = c .before .before .before .before in
-    let n = d .before .before .before .before .before in
+    let d = c .before .before .before in
+    let n = d .before .before .before .before in
     let w = n .before .before in
-    let i = w .before .before .before .before in
-    let s = i .before .before .before .before .before .before in
-    let t = stands i in
-    let h = s .pre .0 in
-    let e = w .split-place .ensures (P s) (t .certificate) (h .limits) (t .read) (h .joining .labels (h .few)) in (
-      c .by-identity .ensures ∙ judge-compared (P s) (s .args .s .now) (t .certificate) (t .read) _ _ _ (sym (n .enum-told .given .1) ∙ e) (t .header-is) (d .difference .ensures .0 (t .certificate) (t .read)),
-      d .difference .ensures .1 .rest,
-      d .difference .ensures .2 .rest,
-      d .difference .ensures .3,
+    let e = w .before .before .before in
+    let s = start (e .before) in
+    let a = d .difference .ensures in (
+      (λ p j.
+      let t = stands e p j in
+      let q = w .split-place .ensures p (t .certificate) (j .limits) (t .read) (t .rows-are) (j .labels-are) in
+      c .by-identity .ensures
+      ∙ judge-compared p (s .args .s .now) (t .certificate) (t .read) _ _ _ (sym (n .enum-told .given .1) ∙ q) (t .header-is) (a .difference p (t .certificate) (joined-given j t))),
+      record { high-rest = a .high .rest; low-rest = a .low .rest },
     )
 
 pub judge-spec : {M : Type 1} → statement M
@@ -111,7 +112,6 @@ judge-spec =
     validate-requires
     refuse-requires
     returns
-    slice-aggregate-split-place
     split-place-requires
     enum-known-place
     refuse-requires-2
