@@ -10,6 +10,7 @@ use lib.ListN.{length}
 use Rattle.format.specs.ProblemRules.{Problem}
 use Rattle.format.proofs.WithinLimits.{Limits}
 use Rattle.joining_rule.specs.Joining.{closing, tooLarge}
+use Rattle.joining_rule.proofs.Bytes.{bytes-long}
 use Rattle.accepting.specs.Judgement.{comparedKeys}
 use Rattle.flat.specs.Flat.{FlatProblem}
 use Rattle.key_set.specs.Table.{keysIn}
@@ -17,7 +18,7 @@ use Rattle.closure.specs.Tables.{ClosureLeft}
 use Rattle.closure.specs.declared.Joined.{Joined}
 use Rattle.certificate_judge.specs.Steps.{JoinedProblem}
 
-module _ {p : Problem} {t : List ℕ} {j : Joined} {t′ idx′ l′ : List ℕ} (left : ClosureLeft (closing p) t j t′ idx′ l′) where
+module _ (p : Problem) {t : List ℕ} {j : Joined} {t′ idx′ l′ : List ℕ} (left : ClosureLeft (closing p) t j t′ idx′ l′) where
   -- a joining that is full is refusal 7
   pub full-is : j .full ≡ tooLarge p
   unfolding tooLarge
@@ -44,3 +45,6 @@ module _ {p : Problem} {t : List ℕ} {j : Joined} {t′ idx′ l′ : List ℕ}
         compared = e;
         index = left .index few;
       }
+
+  pub left-long : j .full ≡ false → length l′ ≡ 576
+  left-long few = rw (left .labels few) (bytes-long _)

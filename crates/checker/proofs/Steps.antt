@@ -15,7 +15,7 @@ use Rattle.certificate_judge.specs.declared.Judged.{Judged}
 use Rattle.certificate_judge.specs.declared.Judged.the-variants as Judged
 use Rattle.calls.specs.Refusals.{noRefusal, problemRefusal}
 use Rattle.certificate_judge.specs.Steps.{judgedOf}
-use Rattle.certificate_judge.proofs.Problems.{full-is}
+use Rattle.checker.proofs.Joins.{full-is}
 use Rattle.calls.specs.declared.PairVerdict.{PairVerdict}
 use Rattle.calls.specs.Blocks.{refusedBlocks, blocksOf, bytesOf}
 use Rattle.calls.specs.Check.{refusedCheck, checkJudged, checkOf}
@@ -49,9 +49,9 @@ module _ (p : Problem) where
   pair-within low high e = rw e
 
 -- ---- the blocks
-module _ {p : Problem} {t : List ℕ} {j : Joined} {t′ idx′ l′ : List ℕ} (left : ClosureLeft (closing p) t j t′ idx′ l′) (few : j .full ≡ false) where
+module _ (p : Problem) {t : List ℕ} {j : Joined} {t′ idx′ l′ : List ℕ} (left : ClosureLeft (closing p) t j t′ idx′ l′) (few : j .full ≡ false) where
   pub within : tooLarge p ≡ false
-  within = sym (full-is left) ∙ few
+  within = sym (full-is p left) ∙ few
 
   pub blocks-found : record { refusal = noRefusal; blocks = j .blocks; rounds = j .rounds } ≡ blocksOf p
   unfolding blocksOf blockTotal

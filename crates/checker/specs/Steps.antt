@@ -19,6 +19,11 @@ pub record Readable (keys : List ℕ) (coefficients : List ℤ) (sizes : List �
   pub limits : Limits problem
   pub flat : FlatProblem problem keys coefficients sizes
 
+-- the joining rule does not look at the coefficients
+pub record ReadableKeys (keys sizes : List ℕ) : Type 0 where
+  pub coefficients : List ℤ
+  pub readable : Readable keys coefficients sizes
+
 abbrev pub checkFrom : Judged → ℕ → CheckVerdict
 checkFrom (Judged.Refused r) rounds = refusedCheck r
 checkFrom (Judged.Accepted t) rounds = acceptedCheck t rounds

@@ -24,11 +24,10 @@ ghost use Rattle.calls.specs.Promises.{RoundsTaken, FewRounds, SevenExactly};
 ghost use Rattle.calls.specs.Promises.{AcceptedExactly, CheckDiffers, HoldsBySide};
 ghost use Rattle.calls.specs.Promises.{PairExactly, PairDiffers, HoldsBelow, HoldsAbove, HoldsGap};
 ghost use Rattle.flat.specs.Flat.{FlatProblem};
-ghost use Rattle.closure.specs.Tables.{FlatKeys};
 ghost use Rattle.fractions.specs.Ranges.{Bound};
 ghost use Rattle.certificate_judge.specs.Steps.{JoinedProblem, Judgeable, LongSums, SumsRest};
 ghost use Rattle.checker.specs.Tables.{Long, Rest};
-ghost use Rattle.checker.specs.Steps.{Readable, checkFrom, pairFrom};
+ghost use Rattle.checker.specs.Steps.{Readable, ReadableKeys, checkFrom, pairFrom};
 use calls::BlocksVerdict;
 use calls::CheckVerdict;
 use calls::Fraction;
@@ -94,7 +93,9 @@ fn refuse_blocks(number: u8, place: usize) -> BlocksVerdict
 // The blocks of the problem in the arrays. The table is changed before place 2,048 only.
 fn blocks_of(keys: &[u64], sizes: &[usize], out: &mut [u8], table: &mut [u64]) -> BlocksVerdict
     requires { ⌜
-        FlatKeys (now keys) (now sizes) × (blockByteCount ≤ length (now out)) × (tableLength ≤ length (now table))
+        ReadableKeys (now keys) (now sizes)
+        × (blockByteCount ≤ length (now out))
+        × (tableLength ≤ length (now table))
         ⌝ }
     ensures verdict { λ r. ⌜
         ((p : Problem) (coefficients : List ℤ) → FlatProblem p (now (keys .entry)) coefficients (now (sizes .entry))

@@ -24,7 +24,7 @@ refuse-blocks-requires c κs = search needs
 returns : tie.Need-returns
 unfolding blocksVerdict bytesLeft
 returns c =
-    let s = c .before .before .before .before .before .before in
+    let s = c .before .before .before .before .before in
     let e : short s ≡ true = out-short (lent s) (s .args .out .now) (c .before .if1 .taken) in
     let v = c .refuse-blocks .ensures in
     rw e (v, (refl, (tables-kept _, clauses true (s .args .problem .now) (s .args .out .now) _ _ v refl)))
@@ -39,16 +39,16 @@ returns-2 : tie.Need-returns-2
 unfolding blocksVerdict bytesLeft
 returns-2 c =
     let i = c .before .before in
-    let s = i .before .before .before .before .before .before in
+    let s = i .before .before .before .before .before in
     let e : short s ≡ true = out-long (lent s) (s .args .out .now) true (i .before .if1 .left) (sym (i .is-short .ensures) ∙ c .before .if2 .taken) in
     let v = c .refuse-blocks2 .ensures in
     rw e (v, (refl, (tables-kept _, clauses true (s .args .problem .now) (s .args .out .now) _ _ v refl)))
 
 -- with tables that are long enough
-fine : (c : tie.Else2) → tablesShort (lent (c .before .before .before .before .before .before .before)) ≡ false
+fine : (c : tie.Else2) → tablesShort (lent (c .before .before .before .before .before .before)) ≡ false
 fine c = sym (c .before .is-short .ensures) ∙ c .if2 .left
 
-long : (c : tie.Else2) → Long (lent (c .before .before .before .before .before .before .before))
+long : (c : tie.Else2) → Long (lent (c .before .before .before .before .before .before))
 long c = tables-long _ (fine c)
 
 answer-blocks-requires : tie.Need-answer-blocks-requires
@@ -75,10 +75,10 @@ same-length-4 c = search needs
 returns-3 : tie.Need-returns-3
 unfolding blocksVerdict bytesLeft
 returns-3 c =
-    let k = c .before .before .before .before .before in
+    let k = c .before .before .before .before in
     let a = k .before .before .before .before .before .before .before .before in
     let b = a .before .before .before in
-    let s = b .before .before .before .before .before .before .before in
+    let s = b .before .before .before .before .before .before in
     let e : short s ≡ false = out-long (lent s) (s .args .out .now) false (b .before .before .if1 .left) (fine b) in
     let v = a .answer-blocks .ensures .0 in
     let o = a .answer-blocks .ensures .1 in

@@ -1,14 +1,16 @@
 -- `pair_both`: the first certificate, then the second.
 use borrow.Author.Needs.{needs}
 use mathlib.Core.Path.{sym, _∙_}
-use Rattle.problem_reader.specs.Stored.{problemOf}
 use Rattle.accepting.specs.Judgement.{judge}
 use Rattle.checker.proofs.Steps.{pair-first-refused, pair-both}
 use Rattle.checker.proofs.pair_both.Statement.{statement}
 use Rattle.checker.proofs.pair_both.Tie as tie
 
+abbrev start : tie.After-judge → tie.Start
+start c = c .before .before .before .before .before .before .before .before .before
+
 judge-requires : tie.Need-judge-requires
-judge-requires c κs = search needs
+judge-requires c κs = c .before .before .before .before .before .before .before .before .pre
 
 enum-known-f : tie.Need-enum-known-f
 enum-known-f c = search needs
@@ -34,24 +36,29 @@ same-length-2 c = search needs
 returns : tie.Need-returns
 returns c =
     let f = c .before .before in
-    let j = f .before .before .before .before .before in
-    let s = j .before .before .before .before .before .before .before .before .before in
-    (c .refuse-pair .ensures ∙ pair-first-refused (problemOf (s .args .p)) (s .args .second .now) (judge (problemOf (s .args .p)) (s .args .first .now)) _ (sym (j .judge .ensures .0) ∙ f .f .given .1), j .judge .ensures .1, j .judge .ensures .2)
+    let j = f .before .before .before .before in
+    let a = start j .args in (
+      (λ p h r. c .refuse-pair .ensures ∙ pair-first-refused p (a .second .now) (judge p (a .first .now)) _ (sym (j .judge .ensures .0 p h) ∙ f .f .given .1)),
+      j .judge .ensures .1,
+    )
 
 same-length-3 : tie.Need-same-length-3
-same-length-3 c = let k = c .before .before .before .before in k .judge2 .kept .1 .1 .1 .1 .1 .1 .1 .1 .0 ∙ k .before .before .before .before .before .before .before .before .before .before .before .judge .kept .1 .1 .1 .1 .1 .1 .1 .1 .0
+same-length-3 c = search needs
 
 same-length-4 : tie.Need-same-length-4
 same-length-4 c = search needs
 
 returns-2 : tie.Need-returns-2
 returns-2 c =
-    let k = c .before .before .before .before in
-    let l = k .before .before .before .before .before .before in
-    let j = l .before .before .before .before .before in
-    let s = j .before .before .before .before .before .before .before .before .before in
-    let p = s .pre .0 in
-    (c .pair-second .ensures ∙ pair-both (problemOf (s .args .p)) (s .args .second .now) (judge (problemOf (s .args .p)) (s .args .first .now)) _ _ _ (sym (j .judge .ensures .0) ∙ l .lower .given .1) (sym (k .judge2 .ensures .0)) (sym (p .joining .rounds (p .few))), k .judge2 .ensures .1 ∙ j .judge .ensures .1, k .judge2 .ensures .2 ∙ j .judge .ensures .2)
+    let k = c .before .before .before in
+    let l = k .before .before .before .before in
+    let j = l .before .before .before .before in
+    let a = start j .args in
+    let v = j .judge .ensures in
+    let w = k .judge2 .ensures in (
+      (λ p h r. c .pair-second .ensures ∙ pair-both p (a .second .now) (judge p (a .first .now)) _ _ _ (sym (v .0 p h) ∙ l .lower .given .1) (sym (w .0 p h)) (sym r)),
+      record { high-rest = w .1 .high-rest ∙ v .1 .high-rest; low-rest = w .1 .low-rest ∙ v .1 .low-rest },
+    )
 
 pub pair-both-spec : {M : Type 1} → statement M
 pair-both-spec =

@@ -1,33 +1,40 @@
 -- `pair_of`: refusal 7, or what was joined and judged.
 use borrow.Author.Needs.{needs}
 use mathlib.Core.Path.{_≡_, refl, sym, _∙_}
-use mathlib.Core.Bool.{true, false}
-use Rattle.problem_reader.specs.Stored.{problemOf}
+use lib.ListN.{length}
+use Rattle.format.specs.ProblemRules.{Problem}
+use Rattle.joining_rule.specs.Joining.{closing}
+use Rattle.flat.specs.Flat.{FlatProblem}
 use Rattle.key_set.proofs.Index.{indexed-start}
-use Rattle.joining_rule.specs.Joining.{tooLarge}
-use Rattle.row_products.proofs.Outers.{none-below}
-use Rattle.certificate_judge.specs.Steps.{JoinedProblem}
-use Rattle.certificate_judge.proofs.Problems.{full-is, joins}
-use Rattle.checker.proofs.Steps.{pair-full, pair-within}
+use Rattle.closure.specs.Tables.{ClosureLeft}
+use Rattle.checker.proofs.Joins.{full-is, joins, left-long}
+use Rattle.checker.proofs.Steps.{pair-full, pair-within, within}
 use Rattle.checker.proofs.pair_of.Statement.{statement}
 use Rattle.checker.proofs.pair_of.Tie as tie
 
--- refusal 7 is the joining's
-large : (c : tie.Then1) → let j = c .before .before .before .before in tooLarge (problemOf (j .before .before .before .before .before .before .before .args .p)) ≡ true
-large c = let j = c .before .before .before .before in sym (full-is _ _ _ _ _ (j .join .ensures)) ∙ c .if1 .taken
+-- what the joining left, for a problem that the arrays hold
+module _ (j : tie.After-join) where
+  abbrev s : tie.Start
+  s = j .before .before .before .before .before .before .before .before .before
 
--- the problem with its blocks
-joined : (c : tie.Else1) → let j = c .before .before .before .before in JoinedProblem (j .before .before .before .before .before .before .before .args .p) (j .join .result) (j .join .last .1 .0) (j .join .last .1 .1 .0)
-joined c = let j = c .before .before .before .before in let p = j .before .before .before .before .before .before .before .pre in joins _ _ _ _ _ (p .0) (p .1) (p .2 .keys) (j .join .ensures) (c .if1 .left)
+  left : (p : Problem) → FlatProblem p (s .args .keys .now) (s .args .coefficients .now) (s .args .sizes .now)
+      → ClosureLeft (closing p) (s .args .table .now) (j .join .result) (j .join .last .1 .1 .1 .0) (j .join .last .1 .1 .1 .1 .0) (j .join .last .1 .1 .0)
+  left p f = j .join .ensures p _ f
 
-within : (c : tie.Else1) → let j = c .before .before .before .before in tooLarge (problemOf (j .before .before .before .before .before .before .before .args .p)) ≡ false
-within c = let j = c .before .before .before .before in sym (full-is _ _ _ _ _ (j .join .ensures)) ∙ c .if1 .left
+  -- and for the one that was read
+  read-left : ClosureLeft (closing (s .pre .0 .problem)) (s .args .table .now) (j .join .result) (j .join .last .1 .1 .1 .0) (j .join .last .1 .1 .1 .1 .0) (j .join .last .1 .1 .0)
+  read-left = left (s .pre .0 .problem) (s .pre .0 .flat)
+
+abbrev joining : tie.Else1 → tie.After-join
+joining c = c .before .before .before .before
 
 slice-aggregate-join : tie.Need-slice-aggregate-join
 slice-aggregate-join c = search needs
 
 join-requires : tie.Need-join-requires
-join-requires c κs = let p = c .before .before .before .before .before .before .pre in (p .2 .keys, indexed-start _, p .0)
+join-requires c κs =
+    let p = c .before .before .before .before .before .before .before .before .pre in
+    (p .1 .keys, indexed-start _, record { coefficients = _; limits = p .0 .flat .limits })
 
 problem-refusal-requires : tie.Need-problem-refusal-requires
 problem-refusal-requires c κs = search needs
@@ -41,14 +48,23 @@ same-length c = search needs
 returns : tie.Need-returns
 returns c =
     let i = c .before .before in
-    let j = i .before .before .before .before in
-    (rw (c .before .problem-refusal .ensures) at (c .refuse-pair .ensures) ∙ pair-full _ _ _ (large i), record { keys = j .join .ensures .rest; high = refl; low = refl })
+    let j = i .before .before .before .before in (
+      (λ p l f. rw (c .before .problem-refusal .ensures) at (c .refuse-pair .ensures) ∙ pair-full p _ _ (sym (full-is p (left j p f)) ∙ i .if1 .taken)),
+      record { keys = read-left j .rest; high = refl; low = refl },
+    )
+
+slice-aggregate-pair-both : tie.Need-slice-aggregate-pair-both
+slice-aggregate-pair-both c = let e = c .before in sym (left-long _ (read-left (joining e)) (e .if1 .left))
 
 pair-both-requires : tie.Need-pair-both-requires
 pair-both-requires c κs =
-    let i = c .before .before .before .before .before .before in
-    let p = i .before .before .before .before .before .before .before .before .before .before .before .pre .2 in
-    (joined i, none-below, p .high, p .low)
+    let e = c .before .before .before .before .before in
+    let j = joining e in
+    let p = s j .pre in
+    let w = p .0 in (
+      record { problem = w .problem; joined = joins (w .problem) (read-left j) (w .limits) (w .flat) (p .1 .keys) (e .if1 .left) },
+      record { high-long = p .1 .high; low-long = p .1 .low },
+    )
 
 same-length-2 : tie.Need-same-length-2
 same-length-2 c = search needs
@@ -61,10 +77,16 @@ same-length-4 c = search needs
 
 returns-2 : tie.Need-returns-2
 returns-2 c =
-    let d = c .before .before .before in
-    let i = d .before .before .before .before .before .before .before in
-    let v = d .pair-both .ensures in
-    (v .0 ∙ pair-within _ _ _ (within i), record { keys = i .before .before .before .before .join .ensures .rest; high = v .1; low = v .2 })
+    let d = c .before .before in
+    let e = d .before .before .before .before .before .before in
+    let few = e .if1 .left in
+    let j = joining e in
+    let v = d .pair-both .ensures in (
+      (λ p l f.
+      let q = left j p f in
+      v .0 p (joins p q l f (s j .pre .1 .keys) few) (q .rounds few) ∙ pair-within p _ _ (within p q few)),
+      record { keys = read-left j .rest; high = v .1 .high-rest; low = v .1 .low-rest },
+    )
 
 pub pair-of-spec : {M : Type 1} → statement M
 pair-of-spec =
@@ -76,6 +98,7 @@ pair-of-spec =
     refuse-pair-requires
     same-length
     returns
+    slice-aggregate-pair-both
     pair-both-requires
     same-length-2
     same-length-3
