@@ -22,7 +22,7 @@ same-length-3 c = search needs
 
 returns : tie.Need-returns
 returns c =
-    let e = c .before .before .before .before .before .before .pair .ensures in
+    let e = c .before .before .before .before .before .pair .ensures in
     (c .number-of .ensures ∙ ap (λ (v : PairVerdict). v .refusal .number) (e .0), e .1 .0)
 
 pub zamiachisel-pair-spec : {M : Type 1} → statement M
