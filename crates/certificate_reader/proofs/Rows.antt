@@ -21,7 +21,7 @@ use Rattle.format.specs.CertificateLayout.{certificateCommand, certificateSize,
 use Rattle.format.specs.CertificateRules.{Entry, Row, Certificate, noRow, lastRow, mostRows, withEntry, certificateApplied, certificateCommandAt, certificateInstructionAt, certificateRefusalAt, certificateNext}
 use Rattle.format.proofs.CertificateChecks.{Passed, passed}
 use Rattle.certificate_reader.specs.declared.Progress.{Progress}
-use Rattle.certificate_reader.specs.Kept.{progressOf, advanced, ProgressWithin}
+use Rattle.certificate_reader.specs.Kept.{progressOf, advanced}
 use Rattle.certificate_reader.specs.Rows.{sizeAt, entryAt, entriesFrom, rowAt, rowsBy, EntriesStand, done, more, RowStands, RowsStand}
 use Rattle.certificate_reader.proofs.Shapes.{rows-are}
 

@@ -5,10 +5,10 @@ use mathlib.Core.List.{List, _++_}
 use Prim.Native.Nat.{ℕ, _≤_, _<_}
 use lib.Dec.{ltb}
 use lib.IntN.{ℤ, pos}
-use lib.ListN.{length, drop, replicate}
+use lib.ListN.{length, replicate}
 use borrow.Author.Tests.{lt-ltb, le-ltb, ltb-false}
 use Rattle.counting.proofs.Cases.{clash}
-use Rattle.calls.specs.Tables.{tableLength, Tables, tablesShort, tableLeft, TablesLeft}
+use Rattle.calls.specs.Tables.{tableLength, Tables, tablesShort, TablesLeft}
 use Rattle.joining_rule.specs.Bytes.{blockByteCount}
 use Rattle.calls.specs.Blocks.{blocksShort}
 use Rattle.checker.specs.Tables.{Long, Rest}

@@ -503,7 +503,16 @@ fn answer_pair(
     if 0 < number {
         return refuse_pair(certificate_judge::problem_refusal(number, r.place));
     }
-    pair_of(&keys, &coefficients, &sizes, first, second, table, high, low)
+    pair_of(
+        &keys,
+        &coefficients,
+        &sizes,
+        first,
+        second,
+        table,
+        high,
+        low,
+    )
 }
 
 // Whether two certificates hold for a problem: `first` of a lower bound and `second` of an upper one.

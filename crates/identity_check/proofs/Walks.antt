@@ -10,13 +10,12 @@ use lib.ListN.{length, getD, take, drop, replicate, length-replicate}
 use Rattle.polynomial.specs.Algebra.{coefficient}
 use Rattle.polynomial.proofs.Sums.{coefficient-append}
 use Rattle.format.specs.All.{All}
-use Rattle.format.specs.ProblemRules.{Problem}
-use Rattle.format.specs.ProblemBases.{basisOf, multiplier}
+use Rattle.format.specs.ProblemBases.{basisOf}
 use Rattle.format.specs.CertificateRules.{Row}
 use Rattle.format.proofs.All.{all-map}
 use Rattle.accepting.specs.Identity.{squares}
 use Rattle.flat.specs.TermArrays.{termsIn}
-use Rattle.flat.specs.Flat.{constraintsAt, basisIn, FlatLimits, FlatProblem}
+use Rattle.flat.specs.Flat.{constraintsAt, basisIn, FlatLimits}
 use Rattle.flat.proofs.Flat.{basis-size, multiplier-size, basis-long, exponents-long, coefficients-long, basis-low, multiplier-low, coefficients-small, terms-part}
 use Rattle.certificate_reader.specs.Rows.{rowsBy}
 use Rattle.row_products.specs.Gram.{rowsOn, byBasis}

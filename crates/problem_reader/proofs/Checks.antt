@@ -1,28 +1,18 @@
 -- Laws of a command's checks: their order, and what follows from the first three.
 use mathlib.Core.Path.{_≡_, refl, sym, _∙_}
 use mathlib.Core.List.{List}
-use mathlib.Core.Bool.{Bool, true, false, not}
-use Prim.Native.Nat.{ℕ, zero, suc, _+_, _-_, _^_, _≤_, _<_}
+use mathlib.Core.Bool.{Bool, true, false}
+use Prim.Native.Nat.{ℕ, _+_, _-_, _^_, _≤_, _<_}
 use native.Mathlib.Omega.{arith}
 use lib.ListN.{length, getD}
-use lib.Dec.{eqb}
-use lib.IntN.{ℤ, pos, negsuc}
-use mir.Syntax.{w32}
-use mir.Val.{ofZ, SFits}
-use borrow.Author.Tests.{lt-ltb, le-leb, lt-leb, ne-eqb, leb-true, leb-false}
+use borrow.Author.Tests.{le-leb, lt-leb, leb-true, leb-false}
 use Rattle.format.specs.Commands.{firstRefusal}
 use Rattle.format.specs.declared.problem.Instruction.{Instruction}
 use Rattle.format.specs.declared.problem.Instruction.the-variants as I
 use Rattle.format.specs.ProblemLayout.{problemCommand, problemSize}
-use Rattle.format.specs.ProblemRules.{Problem, problemPlaced, nonzero, problemOperandsFit, problemCommandAt, problemInstructionAt, problemRefusalAt}
+use Rattle.format.specs.ProblemRules.{Problem, problemPlaced, problemOperandsFit, problemCommandAt, problemInstructionAt, problemRefusalAt}
 use Rattle.problem_reader.specs.Checks.{early, late, lateIn}
 use Rattle.format.proofs.ProblemChecks.{placed-size, end-command, end-byte}
-
--- a signed number is 0 exactly where its bits are
-pub nonzero-bits : (c : ℤ) → SFits w32 c → not (eqb (ofZ w32 c) 0) ≡ nonzero c
-nonzero-bits (pos zero) h = refl
-nonzero-bits (pos (suc n)) h = rw (ne-eqb (suc n) 0 (λ e. omega arith), lt-ltb 0 (suc n) (omega arith))
-nonzero-bits (negsuc n) h = let k = h .sfits in rw (ne-eqb (2 ^ 32 - suc n) 0 (λ e. omega arith))
 
 -- ---- the first three checks, one by one
 module _ (p : Problem) (s : List ℕ) (at : ℕ) where

@@ -9,7 +9,7 @@ ghost use lib.IntN.{pos};
 ghost use lib.Seq.{paste};
 ghost use Rattle.format.specs.ProblemLimits.{mostObjectiveTerms};
 ghost use Rattle.format.specs.ProblemLayout.{problemCommand, problemSize, problemDecoded};
-ghost use Rattle.format.specs.ProblemRules.{Problem, problemPlaced, fitting, nonzero, problemOperandsFit, problemCommandAt};
+ghost use Rattle.format.specs.ProblemRules.{Problem, problemPlaced, fitting, problemOperandsFit, problemCommandAt};
 ghost use Rattle.problem_reader.specs.Checks.{early, lateIn};
 ghost use Rattle.problem_reader.specs.Storing.{noTerms, terms, storedIf, ReadFlat};
 ghost use Rattle.flat.specs.Flat.{objectiveNumber, exponentsAt, coefficientsAt, countAt, FlatLimits, FlatZero};
@@ -184,12 +184,6 @@ fn is_fitting(n: usize, limit: u64, key: u64) -> bool
     degree_of(key) <= limit && is_within(n, key)
 }
 
-pub fn is_nonzero(c: i32) -> bool
-    ensures { λ r. ⌜ r ≡ nonzero c ⌝ }
-{
-    c != 0
-}
-
 // Whether a command's operands keep their rules, with n variables and after `count` constraints.
 fn is_allowed(n: usize, count: usize, i: Instruction) -> bool
     ensures { λ r. ⌜
@@ -198,9 +192,9 @@ fn is_allowed(n: usize, count: usize, i: Instruction) -> bool
 {
     match i {
         Instruction::Variables(m) => 1 <= m && m <= 8,
-        Instruction::Objective(key, c) => is_fitting(n, 32, key) && is_nonzero(c),
+        Instruction::Objective(key, c) => is_fitting(n, 32, key) && operand_reader::is_nonzero(c),
         Instruction::Constraint => true,
-        Instruction::Term(key, c) => is_fitting(n, 16, key) && is_nonzero(c),
+        Instruction::Term(key, c) => is_fitting(n, 16, key) && operand_reader::is_nonzero(c),
         Instruction::Member(j, key) => j <= count && is_fitting(n, 8, key),
         Instruction::End => true,
     }

@@ -1,8 +1,7 @@
 -- `judge`: each return by what the reading, the walk over the rows and the comparison decide.
 use borrow.Author.Needs.{needs}
 use native.Mathlib.Omega.{arith}
-use mathlib.Core.Path.{_≡_, refl, sym, _∙_}
-use Prim.Native.Nat.{ℕ}
+use mathlib.Core.Path.{refl, sym, _∙_}
 use Rattle.format.specs.ProblemRules.{Problem}
 use Rattle.certificate_reader.specs.Rows.{Validated, GivenRows}
 use Rattle.certificate_reader.proofs.Shapes.{flat-sized}
@@ -77,9 +76,9 @@ returns-2 c =
     let e = w .before .before .before in
     let s = start (e .before) in (
       (λ p j.
-      let t = stands e p j in
-      let q = w .split-place .ensures p (t .certificate) (j .limits) (t .read) (t .rows-are) (j .labels-are) in
-      c .refuse2 .ensures ∙ judge-split p (s .args .s .now) (t .certificate) (t .read) _ _ (sym (k .place .given .1) ∙ q)),
+          let t = stands e p j in
+          let q = w .split-place .ensures p (t .certificate) (j .limits) (t .read) (t .rows-are) (j .labels-are) in
+          c .refuse2 .ensures ∙ judge-split p (s .args .s .now) (t .certificate) (t .read) _ _ (sym (k .place .given .1) ∙ q)),
       record { high-rest = refl; low-rest = refl },
     )
 
@@ -98,10 +97,10 @@ returns-3 c =
     let s = start (e .before) in
     let a = d .difference .ensures in (
       (λ p j.
-      let t = stands e p j in
-      let q = w .split-place .ensures p (t .certificate) (j .limits) (t .read) (t .rows-are) (j .labels-are) in
-      c .by-identity .ensures
-      ∙ judge-compared p (s .args .s .now) (t .certificate) (t .read) _ _ _ (sym (n .enum-told .given .1) ∙ q) (t .header-is) (a .difference p (t .certificate) (joined-given j t))),
+          let t = stands e p j in
+          let q = w .split-place .ensures p (t .certificate) (j .limits) (t .read) (t .rows-are) (j .labels-are) in
+          c .by-identity .ensures
+          ∙ judge-compared p (s .args .s .now) (t .certificate) (t .read) _ _ _ (sym (n .enum-told .given .1) ∙ q) (t .header-is) (a .difference p (t .certificate) (joined-given j t))),
       record { high-rest = a .high .rest; low-rest = a .low .rest },
     )
 

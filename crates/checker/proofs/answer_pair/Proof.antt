@@ -1,7 +1,7 @@
 -- `answer_pair`: each return by what was read.
 use borrow.Author.Needs.{needs}
 use native.Mathlib.Omega.{arith}
-use mathlib.Core.Path.{_≡_, refl, sym, ap, _∙_}
+use mathlib.Core.Path.{refl, sym, ap, _∙_}
 use Rattle.format.specs.Commands.{Outcome}
 use Rattle.format.specs.ProblemRules.{Problem}
 use Rattle.format.proofs.ProblemLimits.{read-limits}

@@ -44,8 +44,8 @@ returns c =
     let i = c .before in
     let j = i .before .before .before .before in (
       (λ p k f.
-      let e : tooLarge p ≡ true = sym (full-is p (j .join .ensures p k f)) ∙ i .if1 .taken in
-      (c .refuse-blocks .ensures ∙ blocks-full p e, bytes-full p _ e)),
+          let e : tooLarge p ≡ true = sym (full-is p (j .join .ensures p k f)) ∙ i .if1 .taken in
+          (c .refuse-blocks .ensures ∙ blocks-full p e, bytes-full p _ e)),
       left j .rest,
     )
 
@@ -67,8 +67,8 @@ returns-2 c =
     let e = d .before .before .before in
     let j = joining e in (
       (λ p k f.
-      let q = j .join .ensures p k f in
-      (blocks-found p q (e .if1 .left), bytes-found p q (e .if1 .left) (s j .args .out .now) _ (d .copy .ensures))),
+          let q = j .join .ensures p k f in
+          (blocks-found p q (e .if1 .left), bytes-found p q (e .if1 .left) (s j .args .out .now) _ (d .copy .ensures))),
       left j .rest,
     )
 

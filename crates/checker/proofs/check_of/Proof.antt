@@ -1,7 +1,6 @@
 -- `check_of`: refusal 7, or what was joined and judged.
 use borrow.Author.Needs.{needs}
-use mathlib.Core.Path.{_≡_, refl, sym, _∙_}
-use lib.ListN.{length}
+use mathlib.Core.Path.{refl, sym, _∙_}
 use Rattle.format.specs.ProblemRules.{Problem}
 use Rattle.joining_rule.specs.Joining.{closing}
 use Rattle.accepting.specs.Judgement.{judge}
@@ -88,8 +87,8 @@ returns-2 c =
     let t = s j .args .certificate .now in
     let v = d .judge .ensures in (
       (λ p l f.
-      let q = left j p f in
-      c .check-one .ensures ∙ check-judged p (judge p t) _ _ (v .0 p (joins p q l f (s j .pre .1 .keys) few)) (q .rounds few) ∙ check-within p t (within p q few)),
+          let q = left j p f in
+          c .check-one .ensures ∙ check-judged p (judge p t) _ _ (v .0 p (joins p q l f (s j .pre .1 .keys) few)) (q .rounds few) ∙ check-within p t (within p q few)),
       record { keys = read-left j .rest; high = v .1 .high-rest; low = v .1 .low-rest },
     )
 

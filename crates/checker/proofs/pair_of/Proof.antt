@@ -1,7 +1,6 @@
 -- `pair_of`: refusal 7, or what was joined and judged.
 use borrow.Author.Needs.{needs}
-use mathlib.Core.Path.{_≡_, refl, sym, _∙_}
-use lib.ListN.{length}
+use mathlib.Core.Path.{refl, sym, _∙_}
 use Rattle.format.specs.ProblemRules.{Problem}
 use Rattle.joining_rule.specs.Joining.{closing}
 use Rattle.flat.specs.Flat.{FlatProblem}
@@ -83,8 +82,8 @@ returns-2 c =
     let j = joining e in
     let v = d .pair-both .ensures in (
       (λ p l f.
-      let q = left j p f in
-      v .0 p (joins p q l f (s j .pre .1 .keys) few) (q .rounds few) ∙ pair-within p _ _ (within p q few)),
+          let q = left j p f in
+          v .0 p (joins p q l f (s j .pre .1 .keys) few) (q .rounds few) ∙ pair-within p _ _ (within p q few)),
       record { keys = read-left j .rest; high = v .1 .high-rest; low = v .1 .low-rest },
     )
 

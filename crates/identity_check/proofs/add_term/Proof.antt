@@ -1,5 +1,4 @@
 -- `add_term`: the number is added at the key's place, or the key has none and nothing is added.
-use native.Mathlib.Omega.{arith}
 use borrow.Author.Needs.{needs}
 use mir.Facts.{toZ-ofZ, sfits-widen}
 use mir.Syntax.{w64}

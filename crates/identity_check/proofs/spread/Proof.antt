@@ -94,8 +94,7 @@ loop-again c =
     let e = c .before .before .before in
     let a = e .before .before .before .before in
     let v = l a .loop .inv in
-    let p = s a .pre .1 in
-    (
+    let p = s a .pre .1 in (
       v .0,
       v .1,
       v .2,

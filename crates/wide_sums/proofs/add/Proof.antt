@@ -1,6 +1,5 @@
 -- `wide_sums::add` meets its contract: there is room for both products.
 use borrow.Author.Needs.{needs, sfits-of}
-use native.Mathlib.Omega.{arith}
 use mathlib.Core.Path.{refl}
 use lib.IntN.{pos}
 use lib.ListN.{getD}

@@ -1,5 +1,4 @@
 -- `wide_sums::cut` meets its contract: the shift is floor division by 2^27, and each step fits 64 bits.
-use mathlib.Core.Path.{refl}
 use mir.Facts.{toZ-ofZ}
 use Rattle.wide_sums.specs.Sums.{halvesOf}
 use Rattle.wide_sums.proofs.Floors.{high-fits, multiple-fits, low-fits}
