@@ -10,7 +10,7 @@ mod sums;
 mod table;
 
 use crate::generate::samples;
-use crate::records::{Record, BLOCKS, CHECK};
+use crate::records::{Record, BLOCKS, CHECK, PAIR};
 use crate::refusal::Refusal;
 pub use table::print;
 
@@ -31,7 +31,8 @@ pub struct Case {
     pub words: &'static str,
     /// The refused stream as document 01 writes bytes, when it is short.
     pub text: Option<&'static str>,
-    pub runs: [Vec<u8>; 3],
+    /// The byte runs of the calls that meet it; a call of fewer streams leaves out the last.
+    pub runs: Vec<Vec<u8>>,
     /// The kinds of the calls that meet it.
     pub calls: &'static [u8],
     /// The answer by document 01.
@@ -41,11 +42,15 @@ pub struct Case {
 impl Case {
     /// The record of a call that meets it.
     pub fn record(&self, call: u8) -> Record {
-        let [problem, first, second] = self.runs.clone();
+        let run = |place: usize| self.runs[place].clone();
         match call {
-            BLOCKS => Record::blocks(problem),
-            CHECK => Record::check(problem, first),
-            _ => Record::pair(problem, first, second),
+            BLOCKS => Record::blocks(run(0)),
+            CHECK => Record::check(run(0), run(1)),
+            PAIR => Record::pair(run(0), run(1), run(2)),
+            kind => Record {
+                kind,
+                runs: self.runs.clone(),
+            },
         }
     }
 }
@@ -114,7 +119,7 @@ fn case(
         what,
         words,
         text: None,
-        runs,
+        runs: runs.into(),
         calls: calls(expected.stream),
         expected,
     }

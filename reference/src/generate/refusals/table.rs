@@ -3,15 +3,15 @@
 use super::{cases, Case};
 use crate::generate::corpus;
 use crate::plain;
-use crate::records::{Record, BLOCKS, CHECK, PAIR};
+use crate::records::Record;
 
 const HEAD: &str = "# Refusals
 
 Every way to be refused, by number and stream, each with the words of the scope (document 01) that it comes from. \
 The answers were found by hand from those words and stand beside the cases in `reference/src/generate/refusals`; a test \
 there holds the reference to them. Each case is in the stored corpus `crates/replay/stdin`, where the proved calls \
-meet it; the last columns give the number of its record there, which is that of the line in `stdout`, for each call that \
-meets it. `reference refusals` writes this page, and `./test` compares the two.
+meet it; the last column gives, for each kind of call that meets it (`b` blocks, `c` check, `p` pair), the number of its \
+record there, which is that of the line in `stdout`. `reference refusals` writes this page, and `./test` compares the two.
 
 An answer is `refused`, number, stream (0 problem, 1 first certificate, 2 second), place and key. Bytes are \
 hexadecimal, 0⁷ is seven zero bytes and 0⁸ eight, and a bar stands between commands.
@@ -75,8 +75,8 @@ pub fn print() {
         }
         if (number, case.expected.stream) != section {
             println!("\n### {}", STREAMS[usize::from(case.expected.stream)]);
-            println!("\n| case | what the stream has | stream | document 01 | answer | blocks | check | pair |");
-            println!("|---|---|---|---|---|---|---|---|");
+            println!("\n| case | what the stream has | stream | document 01 | answer | records |");
+            println!("|---|---|---|---|---|---|");
         }
         section = (number, case.expected.stream);
         println!("{}", line(case, &corpus));
@@ -92,28 +92,27 @@ fn line(case: &Case, corpus: &[Record]) -> String {
     };
     let call = *case.calls.last().expect("some call meets it");
     let answer = plain::line(&case.record(call));
-    let places = [BLOCKS, CHECK, PAIR].map(|call| place(case, call, corpus));
+    let places = case.calls.iter().map(|&call| place(case, call, corpus));
+    let places: Vec<String> = places.collect();
     let cells = [
         case.name,
         case.what,
         &text,
         &quoted(case.words),
         &format!("`{answer}`"),
+        &places.join(", "),
     ];
-    format!("| {} | {} |", cells.join(" | "), places.join(" | "))
+    format!("| {} |", cells.join(" | "))
 }
 
 fn quoted(words: &str) -> String {
     format!("\"{words}\"")
 }
 
-/// The number of the record in the corpus, counted from 1, when the call meets the case.
+/// The call and the number of its record in the corpus, counted from 1.
 fn place(case: &Case, call: u8, corpus: &[Record]) -> String {
-    if !case.calls.contains(&call) {
-        return String::new();
-    }
     let record = case.record(call);
     let found = corpus.iter().position(|other| *other == record);
     let place = found.expect("the corpus has every case");
-    (place + 1).to_string()
+    format!("{} {}", char::from(call), place + 1)
 }
