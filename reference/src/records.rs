@@ -11,12 +11,14 @@ pub const RUN: usize = 65_536;
 pub const BLOCKS: u8 = b'b';
 pub const CHECK: u8 = b'c';
 pub const PAIR: u8 = b'p';
+/// That of request 11.
+pub const WINDOW: u8 = b'w';
 
 /// The number of runs of a kind: problem, first certificate and second certificate for the calls of
 /// document 01. There is none for a byte that is no kind.
-fn run_count(kind: u8) -> Option<usize> {
+pub fn run_count(kind: u8) -> Option<usize> {
     match kind {
-        BLOCKS | CHECK | PAIR => Some(3),
+        BLOCKS | CHECK | PAIR | WINDOW => Some(3),
         _ => None,
     }
 }

@@ -39,6 +39,13 @@ length one short, and sees refusal 1 and all that was lent untouched.
 | pair, low | 2,047 numbers as the third table | `refused 1 0 0 0` | `verdict` of `pair`, `tablesShort` |
 ";
 
+const FOURTEEN: &str = "
+## 14: a numerator below 0 or from 2^48, or a denominator of 0 or from 2^32
+
+It stands in the line of the kind `w`, one for each arrival that is refused; the cases and the lines found by hand are in \
+`reference/src/generate/requests/windows.rs`.
+";
+
 /// The words of document 01's table for each number from 2 on.
 const TITLES: [&str; 9] = [
     "stream ends in a command or without its end, or goes on after it",
@@ -81,6 +88,7 @@ pub fn print() {
         section = (number, case.expected.stream);
         println!("{}", line(case, &corpus));
     }
+    print!("{FOURTEEN}");
 }
 
 fn line(case: &Case, corpus: &[Record]) -> String {
