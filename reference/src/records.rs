@@ -55,6 +55,19 @@ impl Record {
         }
     }
 
+    /// Arrivals at the window of gaps: 16 bytes each, numerator and denominator.
+    pub fn window(arrivals: &[(i64, u64)]) -> Self {
+        let bytes = |&(a, b): &(i64, u64)| [a.to_le_bytes(), b.to_le_bytes()].concat();
+        Record {
+            kind: WINDOW,
+            runs: vec![
+                arrivals.iter().flat_map(bytes).collect(),
+                Vec::new(),
+                Vec::new(),
+            ],
+        }
+    }
+
     /// Writes the record.
     pub fn write(&self, out: &mut impl Write) -> io::Result<()> {
         out.write_all(&[self.kind])?;

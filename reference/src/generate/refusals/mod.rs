@@ -1,4 +1,5 @@
-//! Every way to be refused, each with the answer that document 01 gives, found by hand.
+//! Every way to be refused, each with the answer that document 01 gives, or request 11 for an arrival,
+//! found by hand.
 //!
 //! The answers stand in the lists and not in the program: the test below holds the reference to
 //! them, and the stored corpus holds the proved calls to them.
@@ -8,6 +9,7 @@ mod order;
 mod problems;
 mod sums;
 mod table;
+pub mod windows;
 
 use crate::generate::samples;
 use crate::records::{Record, BLOCKS, CHECK, PAIR};

@@ -1,5 +1,6 @@
 //! The table of refusals as a page of markdown.
 
+use super::windows::{Arrivals, CASES};
 use super::{cases, Case};
 use crate::generate::corpus;
 use crate::plain;
@@ -7,11 +8,12 @@ use crate::records::Record;
 
 const HEAD: &str = "# Refusals
 
-Every way to be refused, by number and stream, each with the words of the scope (document 01) that it comes from. \
+Every way to be refused, by number and stream, each with the words that it comes from: those of the scope (document 01) or, \
+after its number, of a request (document 02). \
 The answers were found by hand from those words and stand beside the cases in `reference/src/generate/refusals`; a test \
 there holds the reference to them. Each case is in the stored corpus `crates/replay/stdin`, where the proved calls \
-meet it; the last column gives, for each kind of call that meets it (`b` blocks, `c` check, `p` pair), the number of its \
-record there, which is that of the line in `stdout`. `reference refusals` writes this page, and `./test` compares the two.
+meet it; the last column gives, for each kind of call that meets it (`b` blocks, `c` check, `p` pair, `w` arrivals at \
+the window of gaps), the number of its record there, which is that of the line in `stdout`. `reference refusals` writes this page, and `./test` compares the two.
 
 An answer is `refused`, number, stream (0 problem, 1 first certificate, 2 second), place and key. Bytes are \
 hexadecimal, 0⁷ is seven zero bytes and 0⁸ eight, and a bar stands between commands.
@@ -42,8 +44,11 @@ length one short, and sees refusal 1 and all that was lent untouched.
 const FOURTEEN: &str = "
 ## 14: a numerator below 0 or from 2^48, or a denominator of 0 or from 2^32
 
-It stands in the line of the kind `w`, one for each arrival that is refused; the cases and the lines found by hand are in \
-`reference/src/generate/requests/windows.rs`.
+It is the outcome of an arrival, and so stands in the line of a record among the others, as its number; its stream, place \
+and key are 0. The other outcomes are the widest gap held and its age.
+
+| case | what arrives | arrivals | words | answer | records |
+|---|---|---|---|---|---|
 ";
 
 /// The words of document 01's table for each number from 2 on.
@@ -70,7 +75,7 @@ const SHORT: usize = 130;
 
 /// Writes the page.
 pub fn print() {
-    let corpus = corpus("bcp");
+    let corpus = corpus("bcpw");
     let mut cases = cases();
     cases.sort_by_key(|case| (case.expected.number, case.expected.stream));
     print!("{HEAD}{ONE}");
@@ -89,6 +94,9 @@ pub fn print() {
         println!("{}", line(case, &corpus));
     }
     print!("{FOURTEEN}");
+    for case in CASES {
+        println!("{}", window_line(case, &corpus));
+    }
 }
 
 fn line(case: &Case, corpus: &[Record]) -> String {
@@ -100,7 +108,10 @@ fn line(case: &Case, corpus: &[Record]) -> String {
     };
     let call = *case.calls.last().expect("some call meets it");
     let answer = plain::line(&case.record(call));
-    let places = case.calls.iter().map(|&call| place(case, call, corpus));
+    let places = case
+        .calls
+        .iter()
+        .map(|&call| place(&case.record(call), corpus));
     let places: Vec<String> = places.collect();
     let cells = [
         case.name,
@@ -113,14 +124,33 @@ fn line(case: &Case, corpus: &[Record]) -> String {
     format!("| {} |", cells.join(" | "))
 }
 
+/// The line of a list of arrivals that has refused ones.
+fn window_line(case: &Arrivals, corpus: &[Record]) -> String {
+    let &(name, what, words, arrivals, _) = case;
+    let record = Record::window(arrivals);
+    let list: Vec<String> = arrivals.iter().map(|(a, b)| format!("{a}/{b}")).collect();
+    let text = match list.join("; ") {
+        list if list.len() <= SHORT => format!("`{list}`"),
+        _ => String::new(),
+    };
+    let cells = [
+        name,
+        what,
+        &text,
+        &quoted(words),
+        &format!("`{}`", plain::line(&record)),
+        &place(&record, corpus),
+    ];
+    format!("| {} |", cells.join(" | "))
+}
+
 fn quoted(words: &str) -> String {
     format!("\"{words}\"")
 }
 
-/// The call and the number of its record in the corpus, counted from 1.
-fn place(case: &Case, call: u8, corpus: &[Record]) -> String {
-    let record = case.record(call);
-    let found = corpus.iter().position(|other| *other == record);
+/// The kind of a record and its number in the corpus, counted from 1.
+fn place(record: &Record, corpus: &[Record]) -> String {
+    let found = corpus.iter().position(|other| other == record);
     let place = found.expect("the corpus has every case");
-    format!("{} {}", char::from(call), place + 1)
+    format!("{} {}", char::from(record.kind), place + 1)
 }

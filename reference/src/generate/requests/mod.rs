@@ -28,11 +28,3 @@ pub const CALLS: &[Call] = &[Call {
 pub fn call(kind: u8) -> Option<&'static Call> {
     CALLS.iter().find(|call| call.kind == kind)
 }
-
-/// A record of three runs.
-fn record_of(kind: u8, runs: [Vec<u8>; 3]) -> Record {
-    Record {
-        kind,
-        runs: runs.into(),
-    }
-}
