@@ -1,5 +1,5 @@
--- What `widestOf` finds among accepted gaps is the widest, the newest on ties: the order by cross products is one, as their
--- denominators are not 0.
+-- What `widestOf` finds among accepted gaps is the widest, the newest on ties: the order by cross products is one, as
+-- their denominators are not 0.
 use native.Mathlib.Omega.{arith}
 use native.Mathlib.Numerals.{add-one}
 use native.Mathlib.Nat.{mul-zero, zero-mul, mul-le-mul-right, le-of-mul-le-mul-right}
@@ -45,8 +45,10 @@ sized f (negsuc n) e t h = clash (cc)
 accepted-gap : (f : Fraction) → isRefused f ≡ false → Gap f
 unfolding isRefused
 accepted-gap f e =
-    let p = or-left (ltZ (f .num) (pos 0) || leZ (pos (2 ^ 48)) (f .num)) (eqb (f .den) 0 || leb (2 ^ 32) (f .den)) e in
-    let q = or-right (ltZ (f .num) (pos 0) || leZ (pos (2 ^ 48)) (f .num)) (eqb (f .den) 0 || leb (2 ^ 32) (f .den)) e in
+    let x = ltZ (f .num) (pos 0) || leZ (pos (2 ^ 48)) (f .num) in
+    let y = eqb (f .den) 0 || leb (2 ^ 32) (f .den) in
+    let p = or-left x y e in
+    let q = or-right x y e in
     let n = eqb-false (f .den) 0 (or-left (eqb (f .den) 0) (leb (2 ^ 32) (f .den)) q) in
     sized f (f .num) refl (or-left (ltZ (f .num) (pos 0)) (leZ (pos (2 ^ 48)) (f .num)) p) (omega arith)
 

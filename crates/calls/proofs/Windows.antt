@@ -1,5 +1,6 @@
--- Theorems on request 11: a state that stands for a list of arrivals stands for the list with one more after a call, whose
--- verdict is that of the list. So the calls on any list of arrivals, from an empty state, return the outcomes of document 02.
+-- Theorems on request 11: a state that stands for a list of arrivals stands for the list with one more after a call,
+-- whose verdict is that of the list. So the calls on any list of arrivals, from an empty state, return the outcomes of
+-- document 02.
 use native.Mathlib.Omega.{arith}
 use mathlib.Core.Path.{_≡_, refl, sym, ap, ap₂, _∙_}
 use mathlib.Core.Bool.{Bool, true, false, cond}
@@ -34,7 +35,8 @@ module _ (a : Fraction) (g : List Fraction) where
   one-older n zero h = refl
   one-older n (suc i) h = listed-at n old i none (omega arith)
 
-  shifted : (c : ℕ) → listed (min 32 (min 32 (c + 1))) (λ age. getD (listed 32 new) age none) ≡ take 32 (a ∷ listed (min 32 c) old)
+  shifted : (c : ℕ)
+      → listed (min 32 (min 32 (c + 1))) (λ age. getD (listed 32 new) age none) ≡ take 32 (a ∷ listed (min 32 c) old)
   shifted c =
       let f : ℕ → Fraction = λ age. getD (listed 32 new) age none in
       let m = min 32 (min 32 (c + 1)) in
@@ -65,11 +67,17 @@ module _ (w : GapWindow) (a : Fraction) (past : List Fraction) (h : StandsFor w 
   unfolding pushVerdict arrivalVerdict
   verdict-is = go (isRefused a)
     where
-      go : (t : Bool) → cond t refusedArrival (foundWidest (widestOf (take 32 (a ∷ held w)))) ≡ cond t refusedArrival (foundWidest (widestOf (take 32 (cond t (acceptedOf past) (a ∷ acceptedOf past)))))
-      go true = refl
-      go false = ap (λ (l : List Fraction). foundWidest (widestOf l)) grown
+      found : List Fraction → WindowVerdict
+      found l = foundWidest (widestOf l)
 
-pub after-arrivals : (w : GapWindow) (a : Fraction) (r : Pushed) → r .verdict ≡ pushVerdict w a → r .window ≡ windowAfter w a → AfterArrivals w a r
+      go : (t : Bool)
+          → cond t refusedArrival (found (take 32 (a ∷ held w)))
+          ≡ cond t refusedArrival (found (take 32 (cond t (acceptedOf past) (a ∷ acceptedOf past))))
+      go true = refl
+      go false = ap found grown
+
+pub after-arrivals : (w : GapWindow) (a : Fraction) (r : Pushed) → r .verdict ≡ pushVerdict w a
+    → r .window ≡ windowAfter w a → AfterArrivals w a r
 after-arrivals w a r v s = record {
   verdict = λ past h. v ∙ verdict-is w a past h;
   window = λ past h. ap held s ∙ stands-after w a past h;
@@ -79,8 +87,8 @@ pub stands-empty : StandsFor emptyWindow []
 unfolding held listed
 stands-empty = refl
 
--- "For every list of arrivals from an empty state, each call's outcome is refusal 14 or the widest of the last 32 accepted so
--- far, with its age": the arrivals in l come after those in past
+-- "For every list of arrivals from an empty state, each call's outcome is refusal 14 or the widest of the last 32
+-- accepted so far, with its age": the arrivals in l come after those in past
 pub pushes-are : (l past : List Fraction) (w : GapWindow) → StandsFor w past → pushVerdicts w l ≡ verdictsAfter past l
 pushes-are [] past w h = refl
 pushes-are (a ∷ l) past w h =

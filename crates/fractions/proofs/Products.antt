@@ -28,7 +28,8 @@ module _ (n d : ℕ) where
       let o = n % half * (d / half) + m % half in
       (n / half * (d / half) + m / half + o / half) * 2 ^ 64 + (o % half * half + l % half) ≡ n * d
   product-is =
-      sums-up (n / half * (d / half)) (n / half * (d % half)) (n % half * (d / half)) (n % half * (d % half)) _ _ _ refl refl refl
+      sums-up (n / half * (d / half)) (n / half * (d % half)) (n % half * (d / half)) (n % half * (d % half)) _ _ _ refl
+      refl refl
       ∙ sym (by-halves (n / half) (n % half) (d / half) (d % half))
       ∙ ap₂ (λ (x y : ℕ). x * y) (div-add-mod' n half) (div-add-mod' d half)
 

@@ -18,7 +18,8 @@ Promised w a r =
     (r .verdict ≡ pushVerdict w a)
     × ((r .window ≡ windowAfter w a) × (AfterArrivals w a r × FindsWidest w a r))
 
-promised : (w : GapWindow) (a : Fraction) (r : Pushed) → r .verdict ≡ pushVerdict w a → r .window ≡ windowAfter w a → Promised w a r
+promised : (w : GapWindow) (a : Fraction) (r : Pushed) → r .verdict ≡ pushVerdict w a → r .window ≡ windowAfter w a
+    → Promised w a r
 promised w a r v s = (v, (s, (after-arrivals w a r v s, finds-widest w a r v)))
 
 abbrev pub pushedTo : GapWindow → WindowVerdict → Pushed
@@ -29,7 +30,8 @@ module _ (w : GapWindow) (a : Fraction) where
   unfolding pushVerdict
   refused t = promised w a (pushedTo w refusedArrival) (rw t refl) (rw t refl)
 
-  module _ (t : isRefused a ≡ false) (next : GapWindow) (e : next ≡ withNewest w a) (found : AgedGap) (f : found ≡ widestOf (held next)) where
+  module _ (t : isRefused a ≡ false) (next : GapWindow) (e : next ≡ withNewest w a)
+      (found : AgedGap) (f : found ≡ widestOf (held next)) where
     verdict-is : foundWidest found ≡ pushVerdict w a
     unfolding pushVerdict
     verdict-is = rw t (ap foundWidest (f ∙ ap widestOf (ap held e ∙ held-newest w a)))

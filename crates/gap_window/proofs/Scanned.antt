@@ -41,8 +41,8 @@ module _ (n : ℕ) (f : ℕ → Fraction) (i : ℕ) (h : 0 < i) (k : i ≤ n) wh
   unfolding widestOf
   scan-one gap age e t q = rw (one-newer, ← e, ← q) refl
 
-pub scan-done : (w : GapWindow) → w .count ≤ 32 → (gap : Fraction) (age : ℕ) → Scanned (w .count) (placed (w .gaps)) 0 gap age
-    → aged gap age ≡ widestOf (held w)
+pub scan-done : (w : GapWindow) → w .count ≤ 32 → (gap : Fraction) (age : ℕ)
+    → Scanned (w .count) (placed (w .gaps)) 0 gap age → aged gap age ≡ widestOf (held w)
 unfolding held
 scan-done w h gap age e =
     e ∙ ap (λ (n : ℕ). widestOf (listed n (placed (w .gaps)))) (let m : w .count ≡ min 32 (w .count) = omega arith in m)

@@ -37,13 +37,15 @@ module _ (s : List ℕ) where
   arrival-last : (i : ℕ) → length s / 16 ≤ i → drop i (arrivalsOf s) ≡ []
   unfolding arrivalsOf
   arrival-last i h =
-      let k : length (listed (length s / 16) (arrivalAt s)) ≤ i = omega (arith, listed-length (length s / 16) (arrivalAt s)) in
-      drop-of-length-le (listed (length s / 16) (arrivalAt s)) k
+      let l = listed (length s / 16) (arrivalAt s) in
+      let k : length l ≤ i = omega (arith, listed-length (length s / 16) (arrivalAt s)) in drop-of-length-le l k
 
-  pub written-none : {before out : List ℕ} {at : ℕ} → Appended before 0 (ascii "window") out at → Written s out at emptyWindow 0
+  pub written-none : {before out : List ℕ} {at : ℕ} → Appended before 0 (ascii "window") out at
+      → Written s out at emptyWindow 0
   written-none p = rw (p .bytes) refl
 
-  pub written-more : {out after : List ℕ} {at end : ℕ} (w : GapWindow) (i : ℕ) → i < length s / 16 → Written s out at w i
+  pub written-more : {out after : List ℕ} {at end : ℕ} (w : GapWindow) (i : ℕ) → i < length s / 16
+      → Written s out at w i
       → Appended out at (separator i ++ arrivalWord (pushVerdict w (arrivalAt s i))) after end
       → Written s after end (windowAfter w (arrivalAt s i)) (i + 1)
   written-more {out} {after} {at} {end} w i h e p =
@@ -57,11 +59,12 @@ module _ (s : List ℕ) where
       ∙ ap (λ (l : List ℕ). take at out ++ l) (append-assoc (separator i) word rest)
       ∙ (rw (arrival-next i h) at e)
 
-  pub written-done : {out after : List ℕ} {at end : ℕ} (w : GapWindow) (i : ℕ) → length s / 16 ≤ i → Written s out at w i
-      → Appended out at (ascii "\n") after end → take end after ≡ windowAnswer s
+  pub written-done : {out after : List ℕ} {at end : ℕ} (w : GapWindow) (i : ℕ) → length s / 16 ≤ i
+      → Written s out at w i → Appended out at (ascii "\n") after end → take end after ≡ windowAnswer s
   unfolding windowLine
   written-done {out} {after} {at} w i h e p =
       let whole = sym (append-nil (take at out)) ∙ (rw (arrival-last i h) at e) in
       p .bytes ∙ ap (λ (l : List ℕ). l ++ ascii "\n") whole
       ∙ append-assoc (ascii "window") (arrivalWords (ascii " ") (pushVerdicts emptyWindow (arrivalsOf s))) (ascii "\n")
-      ∙ ap (λ (l : List WindowVerdict). ascii "window" ++ (arrivalWords (ascii " ") l ++ ascii "\n")) (pushes-from-empty (arrivalsOf s))
+      ∙ ap (λ (l : List WindowVerdict). ascii "window" ++ (arrivalWords (ascii " ") l ++ ascii "\n"))
+      (pushes-from-empty (arrivalsOf s))

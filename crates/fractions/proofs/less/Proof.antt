@@ -15,7 +15,8 @@ use Rattle.fractions.proofs.less.Tie as tie
 first-kept : (c : tie.After-struct-told) → let n = c .before .args .first .num in toZ w64 (ofZ w64 n) ≡ n
 first-kept c = search needs
 
-other-kept : (c : tie.After-struct-told2) → let n = c .before .before .before .args .other .num in toZ w64 (ofZ w64 n) ≡ n
+other-kept : (c : tie.After-struct-told2)
+    → let n = c .before .before .before .args .other .num in toZ w64 (ofZ w64 n) ≡ n
 other-kept c = search needs
 
 -- the absolute values
@@ -26,10 +27,12 @@ m-is : (c : tie.After-magnitude2) → c .magnitude2 .result ≡ natAbs (c .befor
 m-is c = simp (other-kept (c .before)) at (c .magnitude2 .ensures)
 
 -- the signs
-first-below : (c : tie.Then1) → let s = c .before .before .before .before .before .before .before in ltZ (s .args .first .num) (pos 0) ≡ true
+first-below : (c : tie.Then1)
+    → let s = c .before .before .before .before .before .before .before in ltZ (s .args .first .num) (pos 0) ≡ true
 first-below c = simp (first-kept (c .before .before .before .before .before .before)) at (c .if1 .taken)
 
-first-above : (c : tie.Else1) → let s = c .before .before .before .before .before .before .before in ltZ (s .args .first .num) (pos 0) ≡ false
+first-above : (c : tie.Else1)
+    → let s = c .before .before .before .before .before .before .before in ltZ (s .args .first .num) (pos 0) ≡ false
 first-above c = simp (first-kept (c .before .before .before .before .before .before)) at (c .if1 .left)
 
 magnitude-requires : tie.Need-magnitude-requires
@@ -48,7 +51,8 @@ returns c =
     let m = t .before .before .before in
     let s = m .before .before .before .before .args in
     c .less-products .ensures
-    ∙ rw (m-is m, n-is (m .before .before)) (both-below (s .first .den) (s .other .den) (s .first .num) (s .other .num) (first-below t)
+    ∙ rw (m-is m, n-is (m .before .before))
+    (both-below (s .first .den) (s .other .den) (s .first .num) (s .other .num) (first-below t)
     (simp (other-kept (m .before)) at (u .if2 .taken)))
 
 returns-2 : tie.Need-returns-2
@@ -91,7 +95,8 @@ returns-5 c =
     let m = t .before .before .before in
     let s = m .before .before .before .before .args in
     c .less-products3 .ensures
-    ∙ rw (m-is m, n-is (m .before .before)) (neither-below (s .first .den) (s .other .den) (s .first .num) (s .other .num) (first-above t)
+    ∙ rw (m-is m, n-is (m .before .before))
+    (neither-below (s .first .den) (s .other .den) (s .first .num) (s .other .num) (first-above t)
     (simp (other-kept (m .before)) at (u .if4 .left)))
 
 pub less-spec : {M : Type 1} → statement M

@@ -24,8 +24,8 @@ returns-2 c =
     let t = c .before .before in
     let k = t .before in
     let b = k .before .before in
-    other-high (b .before .product .ensures) (b .product2 .ensures) (omega (arith, k .before .struct-known .given .1 .0))
-    (omega (arith, k .struct-known2 .given .1 .0)) (t .if1 .left)
+    other-high (b .before .product .ensures) (b .product2 .ensures)
+    (omega (arith, k .before .struct-known .given .1 .0)) (omega (arith, k .struct-known2 .given .1 .0)) (t .if1 .left)
 
 pub less-products-spec : {M : Type 1} → statement M
 less-products-spec =

@@ -40,7 +40,8 @@ kept c = search needs
 not-negative : (c : tie.Else1) → ltZ (c .before .before .before .args .arrival .num) (pos 0) ≡ false
 not-negative c = simp (kept (c .before)) at (c .if1 .left)
 
-not-large : (c : tie.Else2) → leZ (pos (2 ^ 48)) (c .before .before .before .before .before .before .args .arrival .num) ≡ false
+not-large : (c : tie.Else2)
+    → leZ (pos (2 ^ 48)) (c .before .before .before .before .before .before .args .arrival .num) ≡ false
 not-large c = simp (kept (c .before .before .before .before)) at (c .if2 .left)
 
 returns : tie.Need-returns

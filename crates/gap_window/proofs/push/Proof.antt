@@ -26,8 +26,8 @@ returns-2 c =
     let n = w .before in
     let t = n .before in
     let s = t .before .before .args in
-    accepted (s .window) (s .arrival) (sym (t .before .is-refused .ensures) ∙ t .if1 .left) (n .with-newest .result) (n .with-newest .ensures)
-    (w .widest .result) (w .widest .ensures)
+    accepted (s .window) (s .arrival) (sym (t .before .is-refused .ensures) ∙ t .if1 .left) (n .with-newest .result)
+    (n .with-newest .ensures) (w .widest .result) (w .widest .ensures)
 
 pub push-spec : {M : Type 1} → statement M
 push-spec =

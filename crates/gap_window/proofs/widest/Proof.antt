@@ -15,7 +15,9 @@ abbrev μ-loop : tie.MeasureT-loop
 μ-loop gaps i₀ gap₀ age₀ i gap age = i
 
 loop-holds : tie.Need-loop-holds Inv-loop μ-loop
-loop-holds c = (omega arith, (omega arith, scan-none (c .before .args .window .count) (placed (c .before .args .window .gaps))))
+loop-holds c =
+    let w = c .before .args .window in
+    (omega arith, (omega arith, scan-none (w .count) (placed (w .gaps))))
 
 sub-i : tie.Need-sub-i Inv-loop μ-loop
 sub-i c = omega arith
@@ -43,8 +45,8 @@ loop-again c =
       omega arith,
       (
         omega arith,
-        scan-one (w .count) (placed (w .gaps)) (l .i) (t .loop-test .taken) (l .inv .0) (l .gap) (l .age) (l .inv .1 .1) true
-            (sym (c .if1 .taken) ∙ c .before .less .ensures),
+        scan-one (w .count) (placed (w .gaps)) (l .i) (t .loop-test .taken) (l .inv .0) (l .gap) (l .age) (l .inv .1 .1)
+            true (sym (c .if1 .taken) ∙ c .before .less .ensures),
       ),
     )
 
@@ -59,8 +61,8 @@ loop-again-2 c =
       omega arith,
       (
         omega arith,
-        scan-one (w .count) (placed (w .gaps)) (l .i) (t .loop-test .taken) (l .inv .0) (l .gap) (l .age) (l .inv .1 .1) false
-            (sym (c .if1 .left) ∙ c .before .less .ensures),
+        scan-one (w .count) (placed (w .gaps)) (l .i) (t .loop-test .taken) (l .inv .0) (l .gap) (l .age) (l .inv .1 .1)
+            false (sym (c .if1 .left) ∙ c .before .less .ensures),
       ),
     )
 

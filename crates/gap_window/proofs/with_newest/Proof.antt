@@ -57,8 +57,8 @@ loop-again c =
         omega arith,
         (
           length-set (l .gaps) (l .i) (getD (s .window .gaps) (l .i - 1) none) ∙ h,
-          fill-more (older (s .newest) (s .window .gaps)) (l .gaps) (l .i) (getD (s .window .gaps) (l .i - 1) none) (omega arith)
-              (one-older (s .newest) (s .window .gaps) (l .i) (l .inv .0)) (l .inv .1 .1 .1),
+          fill-more (older (s .newest) (s .window .gaps)) (l .gaps) (l .i) (getD (s .window .gaps) (l .i - 1) none)
+              (omega arith) (one-older (s .newest) (s .window .gaps) (l .i) (l .inv .0)) (l .inv .1 .1 .1),
         ),
       ),
     )
@@ -69,7 +69,8 @@ returns c =
     let m = c .before .before in
     let s = m .before .before .args in
     ap₂ windowOf
-    (fill-done (older (s .newest) (s .window .gaps)) (l .gaps) 32 (l .i) (l .inv .1 .1 .0) (omega arith) (l .inv .1 .1 .1))
+    (fill-done (older (s .newest) (s .window .gaps)) (l .gaps) 32 (l .i) (l .inv .1 .1 .0) (omega arith)
+    (l .inv .1 .1 .1))
     (m .one-more .ensures)
 
 pub with-newest-spec : {M : Type 1} → statement M

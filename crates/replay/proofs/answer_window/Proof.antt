@@ -16,7 +16,8 @@ slice-aggregate-window-line c = search needs
 window-line-requires : tie.Need-window-line-requires
 window-line-requires c κs =
     let s = c .before .before .before .args in
-    omega (arith, ap length (c .before .cut .ensures), length-take (s .n) (s .run .now), length-replicate {A = ℕ} 270336 0)
+    let l = length-take (s .n) (s .run .now) in
+    omega (arith, ap length (c .before .cut .ensures), l, length-replicate {A = ℕ} 270336 0)
 
 slice-aggregate-cut : tie.Need-slice-aggregate-cut
 slice-aggregate-cut c = search needs

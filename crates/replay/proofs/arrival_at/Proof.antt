@@ -27,7 +27,8 @@ returns : tie.Need-returns
 returns c =
     let n = c .before in
     ap₂ fraction
-    (toZ-ofZ {w = w64} (sfits-of (n .signed64 .ok)) ∙ n .signed64 .ensures ∙ ap (signed 63) (n .before .number-at .ensures .0))
+    (toZ-ofZ {w = w64} (sfits-of (n .signed64 .ok)) ∙ n .signed64 .ensures
+    ∙ ap (signed 63) (n .before .number-at .ensures .0))
     (c .number-at2 .ensures .0)
 
 pub arrival-at-spec : {M : Type 1} → statement M

@@ -74,7 +74,8 @@ loop-again c =
         (
           search needs,
           rw n
-              (written-more run (l .window) (l .i) (t .loop-test .taken) (l .inv .1 .1 .1) (rw v at (o .append-outcome .ensures .0))),
+              (written-more run (l .window) (l .i) (t .loop-test .taken) (l .inv .1 .1 .1)
+              (rw v at (o .append-outcome .ensures .0))),
         ),
       ),
     )

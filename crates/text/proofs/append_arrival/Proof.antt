@@ -49,7 +49,8 @@ returns-2 c =
     let t = r .before .before in
     let a = t .before .before .before .before .before in (
       rw (le-ltb _ _ (t .if1 .left))
-          (appended-text (a .append .ensures) (appended-text (r .append-ratio .ensures .0) (w .append-with-number .ensures .0))),
+          (appended-text (a .append .ensures)
+          (appended-text (r .append-ratio .ensures .0) (w .append-with-number .ensures .0))),
       omega (arith, a .append .ensures .ends, r .append-ratio .ensures .1, w .append-with-number .ensures .1),
     )
 
