@@ -59,7 +59,7 @@ fn with_newest(window: GapWindow, newest: Fraction) -> GapWindow
     let count = one_more(window.count);
     let mut gaps = [newest; 32];
     let mut i = 1;
-    while i < 32 {
+    while i < HELD {
         let gap = old[i - 1];
         gaps[i] = gap;
         i += 1;
