@@ -38,6 +38,7 @@ def stored_streams() -> set[bytes]:
     found = {file.read_bytes() for folder in folders() for file in folder.glob("*.bin")}
     files = [ROOT / "crates/replay/stdin"] + (sorted((SHARED / "vectors/02").glob("core-*.records")) if SHARED else [])
     for file in files:
-        for _, runs in records(file):
-            found.update(runs)
+        for kind, runs in records(file):
+            if kind != "w":                   # arrivals at the window of gaps are no stream
+                found.update(runs)
     return found

@@ -11,12 +11,14 @@ pub const RUN: usize = 65_536;
 pub const BLOCKS: u8 = b'b';
 pub const CHECK: u8 = b'c';
 pub const PAIR: u8 = b'p';
+/// That of request 11.
+pub const WINDOW: u8 = b'w';
 
 /// The number of runs of a kind: problem, first certificate and second certificate for the calls of
 /// document 01. There is none for a byte that is no kind.
-fn run_count(kind: u8) -> Option<usize> {
+pub fn run_count(kind: u8) -> Option<usize> {
     match kind {
-        BLOCKS | CHECK | PAIR => Some(3),
+        BLOCKS | CHECK | PAIR | WINDOW => Some(3),
         _ => None,
     }
 }
@@ -50,6 +52,19 @@ impl Record {
         Record {
             kind: PAIR,
             runs: vec![problem, first, second],
+        }
+    }
+
+    /// Arrivals at the window of gaps: 16 bytes each, numerator and denominator.
+    pub fn window(arrivals: &[(i64, u64)]) -> Self {
+        let bytes = |&(a, b): &(i64, u64)| [a.to_le_bytes(), b.to_le_bytes()].concat();
+        Record {
+            kind: WINDOW,
+            runs: vec![
+                arrivals.iter().flat_map(bytes).collect(),
+                Vec::new(),
+                Vec::new(),
+            ],
         }
     }
 

@@ -4,3 +4,5 @@ pub mod Promised
 pub mod Checking
 pub mod Pairing
 pub mod Untouched
+pub mod Windows
+pub mod WidestGap

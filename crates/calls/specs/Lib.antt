@@ -4,4 +4,5 @@ pub mod Tables
 pub mod Blocks
 pub mod Check
 pub mod Pair
+pub mod Window
 pub mod Promises

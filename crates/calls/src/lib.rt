@@ -1,5 +1,5 @@
-// What the three calls return and leave, for all inputs, and what they promise: types here, definitions in specs/,
-// theorems in proofs/. No code.
+// What the calls return and leave, for all inputs, and what they promise: types here, definitions in specs/, theorems
+// in proofs/. No code.
 
 // A refusal, as document 01's table numbers them: number is 0 where nothing is refused, and then the other fields are
 // 0.
@@ -41,4 +41,30 @@ pub struct PairVerdict {
     pub upper: Fraction,
     pub gap: Fraction,
     pub rounds: usize,
+}
+
+// The latest gaps of a test line, the newest first: the gap of age j stands at place j, for the first `count` places,
+// or for all 32. Every value is a state.
+pub struct GapWindow {
+    pub gaps: [Fraction; 32],
+    pub count: usize,
+}
+
+// A gap and its age: how many were accepted after it.
+pub struct AgedGap {
+    pub gap: Fraction,
+    pub age: usize,
+}
+
+// What a push returns: the widest gap held and its age. With a refusal the widest is 0 over 0 and the age is 0.
+pub struct WindowVerdict {
+    pub refusal: Refusal,
+    pub widest: Fraction,
+    pub age: usize,
+}
+
+// What a push leaves: the state, and what it returns.
+pub struct Pushed {
+    pub window: GapWindow,
+    pub verdict: WindowVerdict,
 }

@@ -13,6 +13,7 @@ use Rattle.calls.specs.declared.Refusal.{Refusal}
 use Rattle.calls.specs.declared.BlocksVerdict.{BlocksVerdict}
 use Rattle.calls.specs.declared.CheckVerdict.{CheckVerdict}
 use Rattle.calls.specs.declared.PairVerdict.{PairVerdict}
+use Rattle.calls.specs.declared.WindowVerdict.{WindowVerdict}
 
 -- the bytes of a text, one for each character
 abbrev pub ascii : String → List ℕ
@@ -96,3 +97,16 @@ checkLine v =
 
 abbrev pub pairLine : PairVerdict → List ℕ
 pairLine v = pairWords (ascii "pair ") (ascii " ") (ascii " gap ") (ascii " rounds ") v
+
+-- the outcomes of the arrivals, in order: the widest gap and its age, or the number of the refusal, with "; " between
+-- them
+unfoldable pub arrivalWord : WindowVerdict → List ℕ
+arrivalWord v =
+    cond (ltb 0 (v .refusal .number)) (decimal (v .refusal .number)) (ratio (v .widest) ++ withNumber " " (v .age))
+
+abbrev pub arrivalWords : List ℕ → List WindowVerdict → List ℕ
+arrivalWords before [] = []
+arrivalWords before (v ∷ l) = before ++ (arrivalWord v ++ arrivalWords (ascii "; ") l)
+
+unfoldable pub windowLine : List WindowVerdict → List ℕ
+windowLine l = ascii "window" ++ (arrivalWords (ascii " ") l ++ ascii "\n")

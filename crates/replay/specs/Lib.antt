@@ -1,2 +1,3 @@
 -- The line for a record.
 pub mod Records
+pub mod Arrivals

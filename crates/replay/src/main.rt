@@ -1,13 +1,20 @@
 // Answers the records of the standard input, one line for each, until it ends. A record is a kind byte (b: blocks, c:
-// check, p: pair), three lengths of 32 bits, little-endian, and three byte runs, each of at most 65,536 bytes.
-// `answer_record` decides, on the kind and the runs; all else moves bytes.
+// check, p: pair, w: arrivals at the window of gaps), three lengths of 32 bits, little-endian, and three byte runs,
+// each of at most 65,536 bytes. `answer_record` decides, on the kind and the runs, and `window_line` on the arrivals;
+// all else moves bytes.
 ghost use mathlib.Core.Path.{_≡_};
 ghost use mathlib.Core.Bool.{true};
-ghost use Prim.Native.Nat.{_+_, _≤_};
-ghost use lib.ListN.{length};
-ghost use Rattle.format.specs.Operands.{number};
+ghost use mathlib.Core.List.{_++_};
+ghost use Prim.Native.Nat.{_+_, _*_, _/_, _≤_};
+ghost use lib.ListN.{length, take};
+ghost use Rattle.format.specs.Operands.{number, signed};
+ghost use Rattle.lines.specs.Lines.{arrivalWord};
 ghost use Rattle.lines.specs.Texts.{textOf};
+ghost use Rattle.text.specs.Appending.{Appended};
+ghost use Rattle.replay.specs.Arrivals.{arrivalAt, separator, windowAnswer};
 ghost use Rattle.replay.specs.Records.{blocksAnswer, checkAnswer, pairAnswer, recordAnswer};
+use calls::Fraction;
+use calls::WindowVerdict;
 use libc::STDIN_FILENO;
 use libc::STDOUT_FILENO;
 use lines::Text;
@@ -64,6 +71,67 @@ fn answer_record(kind: u8, problem: &[u8], first: &[u8], second: &[u8]) -> Text
     }
 }
 
+// The signed number of 64 bits, in two's complement.
+fn signed64(x: u64) -> i64
+    ensures { λ r. ⌜ r ≡ signed 63 x ⌝ }
+{
+    if x < 9223372036854775808 {
+        return x as i64;
+    }
+    -1 - ((18446744073709551615 - x) as i64)
+}
+
+// Arrival i of a run.
+fn arrival_at(run: &[u8], i: usize) -> Fraction
+    requires { ⌜ 16 * i + 16 ≤ length (now run) ⌝ }
+    ensures { λ r. ⌜ r ≡ arrivalAt (now (run .entry)) i ⌝ }
+{
+    let at = 16 * i;
+    let num = signed64(operand_reader::number_at(run, at, 8));
+    let den = operand_reader::number_at(run, at + 8, 8);
+    Fraction { num, den }
+}
+
+// The outcome of arrival i, and what stands before it.
+fn append_outcome(out: &mut [u8], at: usize, i: usize, v: WindowVerdict) -> usize
+    requires { ⌜ at + 65 ≤ length (now out) ⌝ }
+    ensures { λ r. ⌜
+        Appended (now (out .entry)) at (separator i ++ arrivalWord v) (now (out .exit)) r × (r ≤ at + 65)
+        ⌝ }
+{
+    if i == 0 {
+        return text::append_arrival(out, at, b" ", v);
+    }
+    text::append_arrival(out, at, b"; ", v)
+}
+
+// The line for a run of arrivals, from an empty state.
+fn window_line(run: &[u8], out: &mut [u8]) -> usize
+    requires { ⌜ 65 * (length (now run) / 16) + 7 ≤ length (now out) ⌝ }
+    ensures { λ r. ⌜ take r (now (out .exit)) ≡ windowAnswer (now (run .entry)) ⌝ }
+{
+    let count = run.len() / 16;
+    let mut window = gap_window::empty();
+    let mut at = text::append(out, 0, b"window");
+    let mut i = 0;
+    while i < count {
+        let pushed = gap_window::push(window, arrival_at(run, i));
+        let next = pushed.window;
+        let verdict = pushed.verdict;
+        at = append_outcome(out, at, i, verdict);
+        window = next;
+        i += 1;
+    }
+    text::append(out, at, b"\n")
+}
+
+// Answers a record of arrivals, of which there are at most 4,096; whether its line was written.
+fn answer_window(run: &[u8; 65536], n: usize) -> bool {
+    let mut out = [0u8; 270336];
+    let len = window_line(text::cut(run, n), &mut out);
+    io::write_all(STDOUT_FILENO, text::cut(&out, len))
+}
+
 // The length that four bytes of a record's head give.
 fn length_at(head: &[u8; 13], at: usize) -> usize
     requires { ⌜ at + 4 ≤ 13 ⌝ }
@@ -103,6 +171,9 @@ fn answer_next() -> bool {
     }
     if !fill(&mut second, c) {
         return false;
+    }
+    if head[0] == b'w' {
+        return answer_window(&problem, a);
     }
     let text = answer_record(
         head[0],

@@ -2,11 +2,10 @@
 ghost use mathlib.Core.Path.{_≡_};
 ghost use mathlib.Core.List.{_++_};
 ghost use Prim.Native.Nat.{_+_, _*_, _≤_, _<_};
-ghost use lib.IntN.{natAbs};
 ghost use lib.ListN.{length, take};
 ghost use Rattle.io.specs.Digits.{glyph};
 ghost use Rattle.lines.specs.Lines.{decimal, signedDecimal, ratio, hexadecimal, refusalLine, pairWords};
-ghost use Rattle.lines.specs.Lines.{pairLines, blocksLine, checkLine, pairLine};
+ghost use Rattle.lines.specs.Lines.{pairLines, blocksLine, checkLine, pairLine, arrivalWord};
 ghost use Rattle.lines.specs.Texts.{textOf};
 ghost use Rattle.text.specs.Appending.{Appended};
 use calls::BlocksVerdict;
@@ -14,10 +13,11 @@ use calls::CheckVerdict;
 use calls::Fraction;
 use calls::PairVerdict;
 use calls::Refusal;
+use calls::WindowVerdict;
 use lines::Text;
 
 // Puts a text at a place of the buffer. What this and the functions below return is the place after what they put.
-fn append(out: &mut [u8], at: usize, text: &[u8]) -> usize
+pub fn append(out: &mut [u8], at: usize, text: &[u8]) -> usize
     requires { ⌜ at + length (now text) ≤ length (now out) ⌝ }
     ensures { λ r. ⌜ Appended (now (out .entry)) at (now (text .entry)) (now (out .exit)) r ⌝ }
 {
@@ -39,16 +39,6 @@ fn append_number(out: &mut [u8], at: usize, n: u64) -> usize
     append(out, at, &digits[..count])
 }
 
-// The absolute value. The least number has no opposite in 64 bits, so what is turned is the number and 1.
-fn magnitude(n: i64) -> u64
-    ensures { λ r. ⌜ r ≡ natAbs n ⌝ }
-{
-    if n < 0 {
-        return (-1 - n) as u64 + 1;
-    }
-    n as u64
-}
-
 // A number in base ten, with a minus sign below 0.
 fn append_signed(out: &mut [u8], at: usize, n: i64) -> usize
     requires { ⌜ at + 21 ≤ length (now out) ⌝ }
@@ -56,9 +46,9 @@ fn append_signed(out: &mut [u8], at: usize, n: i64) -> usize
 {
     if n < 0 {
         let next = append(out, at, b"-");
-        return append_number(out, next, magnitude(n));
+        return append_number(out, next, fractions::magnitude(n));
     }
-    append_number(out, at, magnitude(n))
+    append_number(out, at, fractions::magnitude(n))
 }
 
 // A fraction as it is, not reduced.
@@ -202,6 +192,23 @@ pub fn pair_line(v: PairVerdict) -> Text
     ensures { λ t. ⌜ textOf t ≡ pairLine v ⌝ }
 {
     pair_words(v, b"pair ", b" ", b" gap ", b" rounds ")
+}
+
+// The outcome of an arrival, and the word before it.
+pub fn append_arrival(out: &mut [u8], at: usize, word: &[u8], v: WindowVerdict) -> usize
+    requires { ⌜ at + length (now word) + 63 ≤ length (now out) ⌝ }
+    ensures { λ r. ⌜
+        Appended (now (out .entry)) at (now (word .entry) ++ arrivalWord v) (now (out .exit)) r
+        × (r ≤ at + length (now (word .entry)) + 63)
+        ⌝ }
+{
+    let a = append(out, at, word);
+    let r = v.refusal;
+    if 0 < r.number {
+        return append_number(out, a, r.number as u64);
+    }
+    let b = append_ratio(out, a, v.widest);
+    append_with_number(out, b, b" ", v.age as u64)
 }
 
 // The first n bytes, or all.

@@ -14,6 +14,7 @@ mod limits;
 mod neighbours;
 mod problems;
 pub mod refusals;
+mod requests;
 mod rng;
 mod rules;
 mod samples;
@@ -22,7 +23,7 @@ mod support;
 mod workloads;
 mod worst;
 
-use crate::records::{Record, BLOCKS, CHECK, PAIR};
+use crate::records::{run_count, Record, BLOCKS, CHECK, PAIR};
 pub use neighbours::neighbours;
 use rng::Rng;
 pub use workloads::workload;
@@ -34,10 +35,7 @@ const CORPUS_SEED: u64 = 20_481;
 
 /// Whether these are kinds of records, one at least.
 pub fn are_kinds(kinds: &str) -> bool {
-    !kinds.is_empty()
-        && kinds
-            .bytes()
-            .all(|kind| [BLOCKS, CHECK, PAIR].contains(&kind))
+    !kinds.is_empty() && kinds.bytes().all(|kind| run_count(kind).is_some())
 }
 
 /// `count` records of these kinds; the same arguments always give the same records.
@@ -46,7 +44,10 @@ pub fn generate(kinds: &str, seed: u64, count: usize) -> impl Iterator<Item = Re
     let mut rng = Rng::new(seed);
     (0..count).map(move |_| {
         let kind = *rng.pick(&kinds);
-        record(&mut rng, kind)
+        match requests::call(kind) {
+            Some(call) => (call.random)(&mut rng),
+            None => record(&mut rng, kind),
+        }
     })
 }
 
@@ -57,7 +58,8 @@ fn record(rng: &mut Rng, kind: u8) -> Record {
     }
 }
 
-/// The fixed corpus of these kinds: the special cases, then records of a fixed seed.
+/// The fixed corpus of these kinds: the special cases, then records of a fixed seed; those of the
+/// requests' calls come last.
 pub fn corpus(kinds: &str) -> Vec<Record> {
     let mut all = Vec::new();
     for (kind, count) in CORPUS {
@@ -67,6 +69,12 @@ pub fn corpus(kinds: &str) -> Vec<Record> {
         all.extend(special(kind));
         let mut rng = Rng::new(CORPUS_SEED + u64::from(kind));
         all.extend((0..count).map(|_| record(&mut rng, kind)));
+    }
+    let asked = |call: &&requests::Call| kinds.as_bytes().contains(&call.kind);
+    for call in requests::CALLS.iter().filter(asked) {
+        all.extend((call.special)());
+        let mut rng = Rng::new(CORPUS_SEED + u64::from(call.kind));
+        all.extend((0..call.count).map(|_| (call.random)(&mut rng)));
     }
     all
 }

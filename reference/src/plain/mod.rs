@@ -14,10 +14,11 @@ mod problem;
 mod stream;
 #[cfg(test)]
 mod tests;
+mod window;
 
 pub use calls::{blocks, pair};
 
-use crate::records::{Record, BLOCKS, CHECK, PAIR};
+use crate::records::{Record, BLOCKS, CHECK, PAIR, WINDOW};
 use crate::refusal::Refusal;
 
 /// What a record asks for: the line that answers it, or its refusal.
@@ -27,6 +28,7 @@ pub fn answer(record: &Record) -> Result<String, Refusal> {
         BLOCKS => blocks(run(0)).map(|verdict| verdict.to_string()),
         CHECK => calls::check(run(0), run(1)).map(|verdict| verdict.to_string()),
         PAIR => pair(run(0), run(1), run(2)).map(|verdict| verdict.to_string()),
+        WINDOW => Ok(window::window(run(0))),
         other => unreachable!("no record has the kind {other}"),
     }
 }

@@ -1,4 +1,5 @@
-//! Every way to be refused, each with the answer that document 01 gives, found by hand.
+//! Every way to be refused, each with the answer that document 01 gives, or request 11 for an arrival,
+//! found by hand.
 //!
 //! The answers stand in the lists and not in the program: the test below holds the reference to
 //! them, and the stored corpus holds the proved calls to them.
@@ -8,9 +9,10 @@ mod order;
 mod problems;
 mod sums;
 mod table;
+pub mod windows;
 
 use crate::generate::samples;
-use crate::records::{Record, BLOCKS, CHECK};
+use crate::records::{Record, BLOCKS, CHECK, PAIR};
 use crate::refusal::Refusal;
 pub use table::print;
 
@@ -31,7 +33,8 @@ pub struct Case {
     pub words: &'static str,
     /// The refused stream as document 01 writes bytes, when it is short.
     pub text: Option<&'static str>,
-    pub runs: [Vec<u8>; 3],
+    /// The byte runs of the calls that meet it; a call of fewer streams leaves out the last.
+    pub runs: Vec<Vec<u8>>,
     /// The kinds of the calls that meet it.
     pub calls: &'static [u8],
     /// The answer by document 01.
@@ -41,11 +44,15 @@ pub struct Case {
 impl Case {
     /// The record of a call that meets it.
     pub fn record(&self, call: u8) -> Record {
-        let [problem, first, second] = self.runs.clone();
+        let run = |place: usize| self.runs[place].clone();
         match call {
-            BLOCKS => Record::blocks(problem),
-            CHECK => Record::check(problem, first),
-            _ => Record::pair(problem, first, second),
+            BLOCKS => Record::blocks(run(0)),
+            CHECK => Record::check(run(0), run(1)),
+            PAIR => Record::pair(run(0), run(1), run(2)),
+            kind => Record {
+                kind,
+                runs: self.runs.clone(),
+            },
         }
     }
 }
@@ -114,7 +121,7 @@ fn case(
         what,
         words,
         text: None,
-        runs,
+        runs: runs.into(),
         calls: calls(expected.stream),
         expected,
     }

@@ -1,17 +1,19 @@
 //! The table of refusals as a page of markdown.
 
+use super::windows::{Arrivals, CASES};
 use super::{cases, Case};
 use crate::generate::corpus;
 use crate::plain;
-use crate::records::{Record, BLOCKS, CHECK, PAIR};
+use crate::records::Record;
 
 const HEAD: &str = "# Refusals
 
-Every way to be refused, by number and stream, each with the words of the scope (document 01) that it comes from. \
+Every way to be refused, by number and stream, each with the words that it comes from: those of the scope (document 01) or, \
+after its number, of a request (document 02). \
 The answers were found by hand from those words and stand beside the cases in `reference/src/generate/refusals`; a test \
 there holds the reference to them. Each case is in the stored corpus `crates/replay/stdin`, where the proved calls \
-meet it; the last columns give the number of its record there, which is that of the line in `stdout`, for each call that \
-meets it. `reference refusals` writes this page, and `./test` compares the two.
+meet it; the last column gives, for each kind of call that meets it (`b` blocks, `c` check, `p` pair, `w` arrivals at \
+the window of gaps), the number of its record there, which is that of the line in `stdout`. `reference refusals` writes this page, and `./test` compares the two.
 
 An answer is `refused`, number, stream (0 problem, 1 first certificate, 2 second), place and key. Bytes are \
 hexadecimal, 0⁷ is seven zero bytes and 0⁸ eight, and a bar stands between commands.
@@ -39,6 +41,16 @@ length one short, and sees refusal 1 and all that was lent untouched.
 | pair, low | 2,047 numbers as the third table | `refused 1 0 0 0` | `verdict` of `pair`, `tablesShort` |
 ";
 
+const FOURTEEN: &str = "
+## 14: a numerator below 0 or from 2^48, or a denominator of 0 or from 2^32
+
+It is the outcome of an arrival, and so stands in the line of a record among the others, as its number; its stream, place \
+and key are 0. The other outcomes are the widest gap held and its age.
+
+| case | what arrives | arrivals | words | answer | records |
+|---|---|---|---|---|---|
+";
+
 /// The words of document 01's table for each number from 2 on.
 const TITLES: [&str; 9] = [
     "stream ends in a command or without its end, or goes on after it",
@@ -63,7 +75,7 @@ const SHORT: usize = 130;
 
 /// Writes the page.
 pub fn print() {
-    let corpus = corpus("bcp");
+    let corpus = corpus("bcpw");
     let mut cases = cases();
     cases.sort_by_key(|case| (case.expected.number, case.expected.stream));
     print!("{HEAD}{ONE}");
@@ -75,11 +87,15 @@ pub fn print() {
         }
         if (number, case.expected.stream) != section {
             println!("\n### {}", STREAMS[usize::from(case.expected.stream)]);
-            println!("\n| case | what the stream has | stream | document 01 | answer | blocks | check | pair |");
-            println!("|---|---|---|---|---|---|---|---|");
+            println!("\n| case | what the stream has | stream | document 01 | answer | records |");
+            println!("|---|---|---|---|---|---|");
         }
         section = (number, case.expected.stream);
         println!("{}", line(case, &corpus));
+    }
+    print!("{FOURTEEN}");
+    for case in CASES {
+        println!("{}", window_line(case, &corpus));
     }
 }
 
@@ -92,28 +108,49 @@ fn line(case: &Case, corpus: &[Record]) -> String {
     };
     let call = *case.calls.last().expect("some call meets it");
     let answer = plain::line(&case.record(call));
-    let places = [BLOCKS, CHECK, PAIR].map(|call| place(case, call, corpus));
+    let places = case
+        .calls
+        .iter()
+        .map(|&call| place(&case.record(call), corpus));
+    let places: Vec<String> = places.collect();
     let cells = [
         case.name,
         case.what,
         &text,
         &quoted(case.words),
         &format!("`{answer}`"),
+        &places.join(", "),
     ];
-    format!("| {} | {} |", cells.join(" | "), places.join(" | "))
+    format!("| {} |", cells.join(" | "))
+}
+
+/// The line of a list of arrivals that has refused ones.
+fn window_line(case: &Arrivals, corpus: &[Record]) -> String {
+    let &(name, what, words, arrivals, _) = case;
+    let record = Record::window(arrivals);
+    let list: Vec<String> = arrivals.iter().map(|(a, b)| format!("{a}/{b}")).collect();
+    let text = match list.join("; ") {
+        list if list.len() <= SHORT => format!("`{list}`"),
+        _ => String::new(),
+    };
+    let cells = [
+        name,
+        what,
+        &text,
+        &quoted(words),
+        &format!("`{}`", plain::line(&record)),
+        &place(&record, corpus),
+    ];
+    format!("| {} |", cells.join(" | "))
 }
 
 fn quoted(words: &str) -> String {
     format!("\"{words}\"")
 }
 
-/// The number of the record in the corpus, counted from 1, when the call meets the case.
-fn place(case: &Case, call: u8, corpus: &[Record]) -> String {
-    if !case.calls.contains(&call) {
-        return String::new();
-    }
-    let record = case.record(call);
-    let found = corpus.iter().position(|other| *other == record);
+/// The kind of a record and its number in the corpus, counted from 1.
+fn place(record: &Record, corpus: &[Record]) -> String {
+    let found = corpus.iter().position(|other| other == record);
     let place = found.expect("the corpus has every case");
-    (place + 1).to_string()
+    format!("{} {}", char::from(record.kind), place + 1)
 }

@@ -5,9 +5,9 @@ use mathlib.Core.Path.{_≡_, sym, ap}
 use lib.IntN.{pos, natAbs}
 use lib.Signed.{mag}
 use mir.Facts.{toZ-ofZ}
-use Rattle.text.proofs.Signs.{Turned, turned, not-below}
-use Rattle.text.proofs.magnitude.Statement.{statement}
-use Rattle.text.proofs.magnitude.Tie as tie
+use Rattle.fractions.proofs.Signs.{Turned, turned, not-below}
+use Rattle.fractions.proofs.magnitude.Statement.{statement}
+use Rattle.fractions.proofs.magnitude.Tie as tie
 
 -- the number below 0, turned
 below : (c : tie.Then1) → Turned (c .before .args .n)
