@@ -1,5 +1,5 @@
--- The length of the command that a byte names, for every kind of stream: what an arm of a match on the byte has to show
--- for its bytes.
+-- The command that a byte names, for every kind of stream: it has that byte; and its length, what an arm of a match on
+-- the byte has to show for its bytes.
 use mathlib.Core.Path.{_≡_, refl, sym, ap, subst, _∙_}
 use mathlib.Core.Bool.{Bool, true, false, cond, _&&_}
 use mathlib.Core.List.{List, [], _∷_}
@@ -34,20 +34,27 @@ every-at test lo (suc n) t k h g =
 pub past : {k b : ℕ} → k ≤ b → (b ≡ k → ⊥) → suc k ≤ b
 past h d = lt-of-le-of-ne h (λ e. d (sym e))
 
--- ---- a length of 0
--- a layout that has a byte has a length
-has-length : (l : Layout) (b : ℕ) → hasByte l b ≡ true → 0 < lengthOf l
-has-length (line x ws) b h = omega arith
-has-length none b h = clash (cc)
-
-zero-only : {A : Type 0} (layout : A → Layout) (unknown : A) (ks : List A) (b : ℕ) → lengthOf (layout (commandNamed layout unknown ks b)) ≡ 0 → commandNamed layout unknown ks b ≡ unknown
-zero-only layout unknown [] b e = refl
-zero-only layout unknown (k ∷ ks) b e = go (zero-only layout unknown ks b) (hasByte (layout k) b) refl e
+-- ---- the command that a byte names has that byte, unless it is the unknown one
+pub named-byte : {A : Type 0} (layout : A → Layout) (unknown : A) (ks : List A) (b : ℕ)
+    → hasByte (layout (commandNamed layout unknown ks b)) b ≡ false → commandNamed layout unknown ks b ≡ unknown
+named-byte layout unknown [] b e = refl
+named-byte {A = A} layout unknown (k ∷ ks) b e =
+    go (commandNamed layout unknown ks b) (named-byte layout unknown ks b) (hasByte (layout k) b) refl e
   where
-    go : (lengthOf (layout (commandNamed layout unknown ks b)) ≡ 0 → commandNamed layout unknown ks b ≡ unknown) → (t : Bool) → hasByte (layout k) b ≡ t
-        → lengthOf (layout (cond t k (commandNamed layout unknown ks b))) ≡ 0 → cond t k (commandNamed layout unknown ks b) ≡ unknown
-    go f true p e = let n = has-length (layout k) b p in absurd (omega arith)
-    go f false p e = f e
+    go : (n : A) → (hasByte (layout n) b ≡ false → n ≡ unknown) → (t : Bool) → hasByte (layout k) b ≡ t
+        → hasByte (layout (cond t k n)) b ≡ false → cond t k n ≡ unknown
+    go n f true p e = clash (cc)
+    go n f false p e = f e
+
+-- so a length of 0 is that of the unknown one
+no-byte : (l : Layout) (b : ℕ) → lengthOf l ≡ 0 → hasByte l b ≡ false
+no-byte (line x ws) b e = absurd (omega arith)
+no-byte none b e = refl
+
+zero-only : {A : Type 0} (layout : A → Layout) (unknown : A) (ks : List A) (b : ℕ)
+    → lengthOf (layout (commandNamed layout unknown ks b)) ≡ 0 → commandNamed layout unknown ks b ≡ unknown
+zero-only layout unknown ks b e =
+    named-byte layout unknown ks b (no-byte (layout (commandNamed layout unknown ks b)) b e)
 
 -- ---- the commands ks of a kind of stream
 module _ {A : Type 0} (layout : A → Layout) (unknown : A) (h : layout unknown ≡ none) (ks : List A) where
