@@ -1,17 +1,16 @@
 -- What follows from a command of the problem stream standing where it may.
-use mathlib.Core.Path.{_≡_, refl, sym, _∙_}
+use mathlib.Core.Path.{_≡_, refl}
 use mathlib.Core.List.{List}
-use mathlib.Core.Bool.{Bool, true, false}
+use mathlib.Core.Bool.{true}
 use Prim.Native.Nat.{ℕ, _≤_}
 use native.Mathlib.Omega.{arith}
 use borrow.Author.Tests.{eqb-true}
 use Rattle.counting.proofs.Cases.{clash}
-use Rattle.format.specs.Layouts.{hasByte}
-use Rattle.format.proofs.Lengths.{named-byte}
+use Rattle.format.proofs.Lengths.{problem-byte}
 use Rattle.format.specs.declared.problem.Command.{Command}
 use Rattle.format.specs.declared.problem.Command.the-variants as C
 use Rattle.format.specs.declared.problem.Instruction.the-variants as I
-use Rattle.format.specs.ProblemLayout.{problemLayout, problemCommands, problemCommand, problemSize, problemDecoded}
+use Rattle.format.specs.ProblemLayout.{problemCommand, problemSize, problemDecoded}
 use Rattle.format.specs.ProblemRules.{Problem, problemPlaced}
 
 -- a command that stands somewhere has a byte, and 06 is the one that ends
@@ -35,14 +34,5 @@ end-command p s at C.End h e = refl
 end-command p s at C.Unknown h e = clash (cc)
 end-command p s at C.Equality h e = clash (cc)
 
--- a command of the stream has its own byte
-pub byte-of : (k : Command) (b : ℕ) → problemCommand b ≡ k → (k ≡ C.Unknown → ⊥) → hasByte (problemLayout k) b ≡ true
-unfolding problemCommand
-byte-of k b h known = go (hasByte (problemLayout k) b) refl
-  where
-    go : (t : Bool) → hasByte (problemLayout k) b ≡ t → t ≡ true
-    go true e = refl
-    go false e = absurd (known (sym h ∙ named-byte problemLayout C.Unknown problemCommands b (rw h e)))
-
 pub end-byte : (b : ℕ) → problemCommand b ≡ C.End → b ≡ 6
-end-byte b h = eqb-true b 6 (byte-of C.End b h (λ e. clash (cc)))
+end-byte b h = eqb-true b 6 (problem-byte C.End b h (λ e. clash (cc)))

@@ -19,7 +19,7 @@ use Rattle.format.specs.declared.problem.Command.the-variants as C
 use Rattle.format.specs.ProblemLayout.{problemCommand, problemDecoded}
 use Rattle.format.specs.ProblemRules.{Problem, noProblem, appendAt, problemPlaced, fitting, problemOperandsFit, problemRepeated, problemFull, problemApplied, problemCommandAt, problemRefusalAt, problemNext, problemLanguage, readProblem}
 use Rattle.format.specs.ProblemCounts.{countIf, anyOf, isMember, names, memberCommands, basesNamed}
-use Rattle.format.proofs.ProblemChecks.{byte-of}
+use Rattle.format.proofs.Lengths.{problem-byte}
 use Rattle.format.proofs.ProblemLimits.{Kept, kept-next, kept-start, nothing-basis}
 
 -- the length of basis j
@@ -42,7 +42,7 @@ member-byte b = go (eqb b 5) refl (problemCommand b) refl
   where
     go : (t : Bool) → eqb b 5 ≡ t → (k : Command) → problemCommand b ≡ k → t ≡ isMemberCommand k
     go true e k h = rw (sym h ∙ ap problemCommand (eqb-true b 5 e)) (unfold problemCommand in refl)
-    go false e C.Member h = let m = byte-of C.Member b h (λ u. clash (cc)) in clash (cc)
+    go false e C.Member h = let m = problem-byte C.Member b h (λ u. clash (cc)) in clash (cc)
     go false e C.Variables h = refl
     go false e C.Objective h = refl
     go false e C.Inequality h = refl
