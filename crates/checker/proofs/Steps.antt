@@ -4,10 +4,7 @@ use mathlib.Core.Bool.{true, false}
 use mathlib.Core.List.{List, _++_}
 use Prim.Native.Nat.{ℕ}
 use lib.ListN.{drop}
-use Rattle.format.specs.Commands.{refused}
 use Rattle.format.specs.ProblemRules.{Problem}
-use Rattle.problem_reader.specs.Stored.{problemOf}
-use Rattle.problem_reader.specs.declared.StoredProblem.{StoredProblem}
 use Rattle.joining_rule.specs.Joining.{closing, tooLarge, blockTotal}
 use Rattle.closure.specs.Tables.{ClosureLeft}
 use Rattle.closure.specs.declared.Joined.{Joined}
@@ -52,17 +49,17 @@ module _ (p : Problem) where
   pair-within low high e = rw e
 
 -- ---- the blocks
-module _ (p : StoredProblem) (t : List ℕ) (j : Joined) (t′ idx′ : List ℕ) (joined : ClosureLeft (closing (problemOf p)) t j t′ idx′) (few : j .full ≡ false) where
-  within : tooLarge (problemOf p) ≡ false
-  within = sym (full-is (problemOf p) t j t′ idx′ joined) ∙ few
+module _ {p : Problem} {t : List ℕ} {j : Joined} {t′ idx′ l′ : List ℕ} (left : ClosureLeft (closing p) t j t′ idx′ l′) (few : j .full ≡ false) where
+  pub within : tooLarge p ≡ false
+  within = sym (full-is left) ∙ few
 
-  pub blocks-found : record { refusal = noRefusal; blocks = j .blocks; rounds = j .rounds } ≡ blocksOf (problemOf p)
+  pub blocks-found : record { refusal = noRefusal; blocks = j .blocks; rounds = j .rounds } ≡ blocksOf p
   unfolding blocksOf blockTotal
-  blocks-found = rw (within, joined .blocks few, joined .rounds few)
+  blocks-found = rw (within, left .blocks few, left .rounds few)
 
-  pub bytes-found : (out out′ : List ℕ) → out′ ≡ j .labels ++ drop 576 out → out′ ≡ bytesOf (problemOf p) out
+  pub bytes-found : (out out′ : List ℕ) → out′ ≡ l′ ++ drop 576 out → out′ ≡ bytesOf p out
   unfolding bytesOf
-  bytes-found out out′ h = rw within (h ∙ ap (λ (l : List ℕ). l ++ drop 576 out) (joined .labels few))
+  bytes-found out out′ h = rw within (h ∙ ap (λ (l : List ℕ). l ++ drop 576 out) (left .labels few))
 
 -- ---- the check
 pub check-judged : (p : Problem) (j : Judgement) (d : Judged) (rounds : ℕ) → d ≡ judgedOf 1 j → rounds ≡ closing p .rounds → checkFrom d rounds ≡ checkJudged p j

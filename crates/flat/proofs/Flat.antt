@@ -16,7 +16,7 @@ use Rattle.polynomial.specs.Terms.{keysOf}
 use Rattle.format.specs.ProblemRules.{Problem}
 use Rattle.format.specs.ProblemBases.{basisOf, multiplier, multiplierOf}
 use Rattle.flat.specs.TermArrays.{termsIn, Low, Small}
-use Rattle.flat.specs.Flat.{mostAt, degreeAt, largestAt, FlatLimits, FlatProblem}
+use Rattle.flat.specs.Flat.{polynomialIn, mostAt, degreeAt, largestAt, FlatLimits, FlatProblem}
 use Rattle.flat.proofs.TermArrays.{terms-keys, terms-same}
 
 -- ---- the limits of each kind of place
@@ -222,9 +222,15 @@ module _ {p : Problem} {keys : List ℕ} {coefficients : List ℤ} {sizes : List
       rw (count-lent j h)
       (terms-same (getD sizes (9 + j) 0) _ _ _ _ (keys-lent j h) (part-take (getD sizes (9 + j) 0) (32 * j) 288 coefficients (omega arith)) ∙ f .multipliers j h)
 
-  -- the terms of multiplier j by its own slices
-  pub terms-part : (j : ℕ) → j < 9
-      → let n = getD sizes (9 + j) 0 in termsIn n (take n (drop (576 + 32 * j) keys)) (take n (drop (32 * j) coefficients)) ≡ multiplier p j
-  terms-part j h =
+  -- the terms of a polynomial by its own slices
+  slices-terms : (j : ℕ) → let n = getD sizes (9 + j) 0 in termsIn n (take n (drop (576 + 32 * j) keys)) (take n (drop (32 * j) coefficients)) ≡ polynomialIn keys coefficients sizes j
+  slices-terms j =
       let n = getD sizes (9 + j) 0 in
-      terms-same n _ _ _ _ (take-take n n (drop (576 + 32 * j) keys) (omega arith)) (take-take n n (drop (32 * j) coefficients) (omega arith)) ∙ f .multipliers j h
+      terms-same n _ _ _ _ (take-take n n (drop (576 + 32 * j) keys) (omega arith)) (take-take n n (drop (32 * j) coefficients) (omega arith))
+
+  pub terms-part : (j : ℕ) → j < 9
+      → let E = take (getD sizes (9 + j) 0) (drop (576 + 32 * j) keys) in termsIn (length E) E (take (getD sizes (9 + j) 0) (drop (32 * j) coefficients)) ≡ multiplier p j
+  terms-part j h = rw (exponents-long (f .limits) j (omega arith)) (slices-terms j ∙ f .multipliers j h)
+
+  pub objective-terms : let E = take (getD sizes 18 0) (drop 864 keys) in termsIn (length E) E (take (getD sizes 18 0) (drop 288 coefficients)) ≡ p .objective
+  objective-terms = rw (exponents-long (f .limits) 9 (omega arith)) (slices-terms 9 ∙ f .objective)

@@ -1,5 +1,5 @@
 -- The smallest key whose sum is not 0 is the first at which the claim and the squares differ.
-use mathlib.Core.Path.{_≡_, refl, sym, ap, ap₂, _∙_}
+use mathlib.Core.Path.{_≡_, refl, sym, ap, _∙_}
 use mathlib.Core.Logic.{⊎-elim}
 use mathlib.Core.Bool.{Bool, true, false, cond}
 use mathlib.Core.List.{List, [], _∷_}
@@ -8,36 +8,31 @@ use Prim.Native.Nat.{ℕ, _+_, _-_, _*_, _^_, _≤_, _<_}
 use native.Mathlib.Omega.{arith}
 use borrow.Author.Tests.{ne-eqb}
 use lib.IntN.{ℤ, pos, negsuc, negℤ, natAbs, _+ℤ_, +ℤ-idl}
-use lib.ListN.{length, getD, take, length-drop}
-use lib.Seq.{getD-take, getD-drop, length-take-le, ext-getD}
+use lib.ListN.{length, getD, take, drop, length-drop}
+use lib.Seq.{getD-drop, ext-getD}
 use Rattle.integers.proofs.Ring.{view, diffs, ⊖-eq, ⊖-eq⁻¹}
 use Rattle.counting.proofs.Cases.{clash}
-use Rattle.counting.proofs.Listed.{listed-same}
-use Rattle.polynomial.specs.Terms.{Term, term}
-use Rattle.flat.specs.TermArrays.{termsIn, objectiveTerms, FilledTerms}
-use Rattle.problem_reader.specs.declared.Objective.{Objective}
+use Rattle.polynomial.specs.Terms.{Term}
 use Rattle.polynomial.specs.Algebra.{coefficient}
 use Rattle.format.specs.ProblemRules.{Problem}
+use Rattle.format.specs.CertificateRules.{Row, Certificate}
+use Rattle.format.specs.declared.certificate.Header.{Header}
 use Rattle.joining_rule.specs.Sets.{In}
 use Rattle.joining_rule.proofs.Rising.{Rising}
-use Rattle.key_set.specs.Table.{keysIn, Holds, Indexed}
 use Rattle.joining_rule.proofs.Elements.{not-nil, in-here, in-there, in-cons, above-in}
-use Rattle.key_set.proofs.Keys.{keys-rising, keys-at, at-keys}
-use Rattle.wide_sums.specs.Sums.{valueAt, Near}
-use Rattle.format.specs.CertificateRules.{Row, Certificate}
-use Rattle.certificate_reader.specs.Rows.{rowsOf}
-use Rattle.format.specs.declared.certificate.Header.{Header}
-use Rattle.certificate_reader.proofs.Rows.{rows-read}
 use Rattle.accepting.specs.Identity.{squares, claim, claimOf}
 use Rattle.accepting.specs.Judgement.{sameNumber, firstDifference, differenceKey}
 use Rattle.accepting.proofs.Difference.{same-equal, same-self}
+use Rattle.flat.specs.TermArrays.{termsIn}
+use Rattle.flat.proofs.Flat.{objective-terms}
+use Rattle.key_set.specs.Table.{keysIn, Holds, Indexed}
+use Rattle.key_set.proofs.Keys.{keys-rising, keys-at, at-keys}
+use Rattle.wide_sums.specs.Sums.{valueAt, Near}
+use Rattle.certificate_reader.specs.Rows.{rowsBy}
 use Rattle.identity_check.specs.declared.Difference.the-variants.{Same, Differs}
-use Rattle.identity_check.specs.declared.Lengths.{Lengths}
-use Rattle.identity_check.specs.Tables.{unit, Ready, SumsGrown}
-use Rattle.identity_check.specs.Spread.{multiplierIn}
-use Rattle.identity_check.specs.Walk.{StandsFlat, Summed}
+use Rattle.identity_check.specs.Tables.{Ready, SumsGrown}
+use Rattle.identity_check.specs.Walk.{Summed}
 use Rattle.identity_check.specs.Compare.{differenceOf, Zeroed, SmallestSum, Given, Untouched}
-use Rattle.identity_check.proofs.Growth.{grown-same}
 
 -- ---- one comparison
 same-not : (a b : ℤ) → (a ≡ b → ⊥) → sameNumber a b ≡ false
@@ -116,41 +111,25 @@ near-untouched {t₀ = t₀} {t₁ = t₁} few h =
           (λ q b. getD-drop 2048 t₁ q (pos 0) ∙ h .rest (2048 + q) (omega arith) ∙ sym (getD-drop 2048 t₀ q (pos 0)));
     }
 
--- ---- the first places of two arrays
-first-terms : (n : ℕ) (E : List ℕ) (C : List ℤ) → n ≤ length E → termsIn (length (take n E)) (take n E) (take n C) ≡ termsIn n E C
-unfolding termsIn
-first-terms n E C h = rw (length-take-le n E h) (listed-same n _ _ (λ i b. ap₂ term (getD-take n E i 0 b) (getD-take n C i (pos 0) b)))
-
--- the claim over the first places is the claim over the objective
-pub claim-first : {table : List ℕ} {n : ℕ} {hi₀ hi₁ lo₀ lo₁ : List ℤ} (q : Objective) (h : Header) → FilledTerms 32 256 (2 ^ 31) (q .keys) (q .coefficients) (q .count)
-    → let E = take (q .count) (q .keys) in
-    SumsGrown table n hi₀ lo₀ (λ k. negℤ (coefficient k (claimOf (termsIn (length E) E (take (q .count) (q .coefficients))) h))) ((length E + 1) * unit) hi₁ lo₁
-    → SumsGrown table n hi₀ lo₀ (λ k. negℤ (coefficient k (claimOf (objectiveTerms q) h))) (257 * unit) hi₁ lo₁
-claim-first q h f g =
-    let w : q .count ≤ length (q .keys) = omega (arith, f .count-low, f .keys-length) in
-    let e = length-take-le (q .count) (q .keys) w in
-    grown-same g (λ k. ap (λ (P : List Term). negℤ (coefficient k (claimOf P h))) (first-terms (q .count) (q .keys) (q .coefficients) w)) (omega (arith, f .count-low))
-
 -- ---- the answer
-module _ (p : Problem) (c : Certificate) (s : List ℕ) (header : Header) (keys exponents : List ℕ) (coefficients : List ℤ) (l : Lengths) (objective : Objective) (table : List ℕ) (n : ℕ)
-    (given : Given p c s header keys exponents coefficients l objective table n) where
-  stands : StandsFlat p keys exponents coefficients l
-  unfolding multiplierIn
-  stands = record { bases = given .bases; multipliers = λ j h. given .multipliers .each j }
+module _ {p : Problem} {c : Certificate} {s starts : List ℕ} {rows : ℕ} {header : Header} {keys : List ℕ} {coefficients : List ℤ} {sizes table : List ℕ} {n : ℕ}
+    (given : Given p c s starts rows header keys coefficients sizes table n) where
+  -- the objective's terms, as they are lent
+  abbrev lent : List Term
+  lent = let E = take (getD sizes 18 0) (drop 864 keys) in termsIn (length E) E (take (getD sizes 18 0) (drop 288 coefficients))
 
-  module _ {hi₀ hi₁ hi₂ lo₀ lo₁ lo₂ : List ℤ} {a r : ℕ} (z : Zeroed table n hi₀ lo₀)
-      (g : SumsGrown table n hi₀ lo₀ (λ k. negℤ (coefficient k (claimOf (objectiveTerms objective) header))) a hi₁ lo₁)
-      (m : Summed (λ p. squares p (rowsOf s)) keys exponents coefficients l table n 9 hi₁ lo₁ hi₂ lo₂) (f : SmallestSum table hi₂ lo₂ n n r) where
-    claim-is : (k : ℕ) → coefficient k (claimOf (objectiveTerms objective) header) ≡ coefficient k (claim p (c .header))
-    claim-is k = rw (given .objective-is, given .header-is)
+  module _ {hi₀ hi₁ hi₂ lo₀ lo₁ lo₂ : List ℤ} {a r : ℕ} (z : Zeroed table n hi₀ lo₀) (g : SumsGrown table n hi₀ lo₀ (λ k. negℤ (coefficient k (claimOf lent header))) a hi₁ lo₁)
+      (m : Summed (λ p. squares p (rowsBy s starts rows)) keys coefficients sizes table n 9 hi₁ lo₁ hi₂ lo₂) (f : SmallestSum table hi₂ lo₂ n n r) where
+    claim-is : (k : ℕ) → coefficient k (claimOf lent header) ≡ coefficient k (claim p (c .header))
+    claim-is k = rw (objective-terms (given .flat), given .header-is)
 
     squares-are : (k : ℕ) → m .sums k ≡ coefficient k (squares p (c .rows))
-    squares-are k = m .are p stands k ∙ ap (λ (rs : List Row). coefficient k (squares p rs)) (rows-read p (given .limits) s c (given .read))
+    squares-are k = m .are p (given .flat) k ∙ sym (ap (λ (rs : List Row). coefficient k (squares p rs)) (given .rows-are))
 
     sum-is : (q : ℕ) → q < n → valueAt hi₂ lo₂ q ≡ negℤ (coefficient (getD table q 0) (claim p (c .header))) +ℤ coefficient (getD table q 0) (squares p (c .rows))
     sum-is q b =
         let k = getD table q 0 in
-        let x = negℤ (coefficient k (claimOf (objectiveTerms objective) header)) in
+        let x = negℤ (coefficient k (claimOf lent header)) in
         let e : valueAt hi₁ lo₁ q ≡ x = g .there q b ∙ ap (λ (v : ℤ). v +ℤ x) (zeroed-value z q b) ∙ +ℤ-idl x in
         m .grown .there q b
         ∙ ap (λ (v : ℤ). v +ℤ m .sums k) e

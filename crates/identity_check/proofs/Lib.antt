@@ -2,7 +2,6 @@ pub mod Growth
 pub mod Products
 pub mod Claims
 pub mod Spreading
-pub mod Parts
 pub mod Walks
 pub mod Differences
 pub mod Least

@@ -1,98 +1,129 @@
 -- One basis after another: the sums hold the squares of the rows on the bases so far.
 use mathlib.Core.Path.{_≡_, refl, sym, ap, _∙_}
+use mathlib.Core.Bool.{Bool, false}
 use mathlib.Core.List.{List}
-use Prim.Native.Nat.{ℕ, _+_, _^_, _≤_, _<_}
+use Prim.Native.Nat.{ℕ, _+_, _*_, _≤_, _<_}
 use native.Mathlib.Numerals.{add-one}
 use native.Mathlib.Omega.{arith}
-use lib.IntN.{ℤ, pos, natAbs, _+ℤ_}
-use lib.ListN.{getD}
+use lib.IntN.{ℤ, pos, _+ℤ_}
+use lib.ListN.{length, getD, take, drop}
 use Rattle.polynomial.specs.Algebra.{coefficient}
-use Rattle.polynomial.proofs.Keys.{Keys}
-use Rattle.polynomial.proofs.Sums.{coefficient-append, coefficient-none}
+use Rattle.polynomial.proofs.Sums.{coefficient-append}
 use Rattle.format.specs.All.{All}
-use Rattle.whole_rounds.specs.Parts.{part}
-use Rattle.format.specs.CertificateRules.{Entry, Row}
-use Rattle.certificate_reader.specs.Rows.{rowsOf}
-use Rattle.accepting.specs.Identity.{squares}
-use Rattle.row_products.specs.Gram.{gram, rowsOn, byBasis}
-use Rattle.row_products.proofs.Halves.{gram-table}
+use Rattle.format.specs.ProblemRules.{Problem}
+use Rattle.format.specs.ProblemBases.{basisOf, multiplier}
+use Rattle.format.specs.CertificateRules.{Row}
 use Rattle.format.proofs.All.{all-map}
-use Rattle.row_products.proofs.Gram.{rows-on, squares-bases}
-use Rattle.row_products.specs.Frame.{halfAt, Framed}
-use Rattle.row_products.specs.Outer.{Below}
-use Rattle.row_products.specs.Gather.{ShapedRows, Gathered}
-use Rattle.row_products.proofs.Gathering.{upper-none, Framing, gram-framed, on-bases, on-low, zero-below}
-use Rattle.identity_check.specs.declared.Lengths.{Lengths}
-use Rattle.identity_check.specs.Spread.{Spread, multiplierIn, Flattened}
-use Rattle.identity_check.specs.Walk.{Summed}
+use Rattle.accepting.specs.Identity.{squares}
+use Rattle.flat.specs.TermArrays.{termsIn}
+use Rattle.flat.specs.Flat.{constraintsAt, basisIn, FlatLimits, FlatProblem}
+use Rattle.flat.proofs.Flat.{basis-size, multiplier-size, basis-long, exponents-long, coefficients-long, basis-low, multiplier-low, coefficients-small, terms-part}
+use Rattle.certificate_reader.specs.Rows.{rowsBy}
+use Rattle.row_products.specs.Gram.{rowsOn, byBasis}
+use Rattle.row_products.specs.Frame.{spreadAt, Framed}
+use Rattle.row_products.specs.Outer.{gatheredMost}
+use Rattle.row_products.specs.Fold.{FoldedTable}
+use Rattle.row_products.specs.Gather.{RowsFor, Gathered}
+use Rattle.row_products.proofs.Gram.{squares-bases}
+use Rattle.row_products.proofs.Gathering.{gathered-framed, gathered-squares, gathered-none}
+use Rattle.identity_check.specs.Spread.{Spreadable, Spread}
+use Rattle.identity_check.specs.Walk.{Comparable, RoomFor, Summed}
 use Rattle.identity_check.proofs.Growth.{grown-none, grown-same, grown-then}
 
--- ---- one basis: what the table of sums gives is the squares of the rows on it
-module _ {s keys exponents : List ℕ} {coefficients : List ℤ} {l : Lengths} (flat : Flattened keys exponents coefficients l) (shaped : ShapedRows (l .sizes) s) (j : ℕ) where
-  abbrev size : ℕ
-  size = getD (l .sizes) j 0
+-- ---- the parts of the arrays that belong to basis j
+module _ {keys : List ℕ} {coefficients : List ℤ} {sizes : List ℕ} (f : FlatLimits keys coefficients sizes) (j : ℕ) (h : j < 9) where
+  abbrev count : ℕ
+  count = getD sizes (9 + j) 0
 
-  size-few : size ≤ 64
-  size-few = flat .arrays .sized .small j
+  abbrev exponents : List ℕ
+  exponents = take count (drop (576 + 32 * j) keys)
 
-  framing : Keys (Framing size) (gram (rowsOn j (rowsOf s)))
-  framing = gram-framed size size-few (rowsOn j (rowsOf s)) (on-low shaped j)
+  abbrev factors : List ℤ
+  factors = take count (drop (32 * j) coefficients)
 
-  -- an empty basis has no products
-  pub gathered-none : {g : List ℤ} → size ≡ 0 → Below 0 g → Gathered s j g
-  gathered-none {g} e z =
+  pub part-spreadable : Spreadable (basisIn keys sizes j) exponents factors
+  part-spreadable =
+      let a = basis-long f j h in
+      let b = exponents-long f j (omega arith) in
+      let c = coefficients-long f j (omega arith) in
       record {
-        holds = λ x h. zero-below g z x h ∙ sym (upper-none x _ (coefficient-none _ x (gram (rowsOn j (rowsOf s))) framing (λ f. omega (arith, f .0))));
-        below = record { long = z .long; small = λ x h. omega (arith, z .small x h) };
+        basis-few = omega (arith, basis-size f j h);
+        basis-low = basis-low f j h;
+        paired = omega arith;
+        few = omega (arith, multiplier-size f j h);
+        low = multiplier-low f j h;
+        coefficients-small = coefficients-small f j h;
       }
 
-  module _ {g : List ℤ} (w : Gathered s j g) where
-    pub gathered-framed : Framed size (2 ^ 53) g
-    gathered-framed =
-        record {
-          long = w .below .long;
-          rows = λ x h b. w .holds x h ∙ upper-none x _ (coefficient-none _ x (gram (rowsOn j (rowsOf s))) framing (λ f. omega (arith, f .0)));
-          columns = λ x h b. w .holds x h ∙ upper-none x _ (coefficient-none _ x (gram (rowsOn j (rowsOf s))) framing (λ f. omega (arith, f .1)));
-          small = w .below .small;
-        }
+-- ---- one basis: what the table of sums gives is the squares of the rows on it
+module _ {s starts : List ℕ} {rows : ℕ} {keys : List ℕ} {coefficients : List ℤ} {sizes : List ℕ} (w : Comparable s starts rows keys coefficients sizes) (j : ℕ) (h : j < 9) where
+  abbrev limits : FlatLimits keys coefficients sizes
+  limits = w .flat .limits
 
-    pub gathered-summed : {table : List ℕ} {n : ℕ} {hi₀ hi₁ lo₀ lo₁ : List ℤ} {g₁ : List ℤ} → j < 9
-        → Spread table n (halfAt (part 64 (l .sizes) keys j) (multiplierIn exponents coefficients (l .counts) j) g) hi₀ lo₀ g₁ hi₁ lo₁
-        → Summed (λ p. squares p (rowsOn j (rowsOf s))) keys exponents coefficients l table n 1 hi₀ lo₀ hi₁ lo₁
-    unfolding halfAt
-    gathered-summed b d =
-        let rs = rowsOn j (rowsOf s) in
-        let low : All (λ (r : Row). All (λ (e : Entry). e .index < 64) (r .entries)) rs = all-map _ _ (λ (r : Row) a. all-map _ _ (λ (e : Entry) b. omega (arith, size-few)) (r .entries) a) rs (on-low shaped j) in
-        record {
-          sums = halfAt (part 64 (l .sizes) keys j) (multiplierIn exponents coefficients (l .counts) j) g;
-          grown = grown-same (d .grown) (λ k. refl) (omega arith);
-          are = λ p t k. rw (t .bases j b, t .multipliers j b) (sym (gram-table p j rs (rows-on j (rowsOf s)) low g (w .holds) k));
-        }
+  pub size-is : length (basisOf (w .problem) j) ≡ getD sizes j 0
+  size-is = rw (← w .flat .bases j h) (basis-long limits j h)
 
-pub spread-below : {table : List ℕ} {n : ℕ} {f : ℕ → ℤ} {g₁ hi₀ hi₁ lo₀ lo₁ : List ℤ} → Spread table n f hi₀ lo₀ g₁ hi₁ lo₁ → Below 0 g₁
-spread-below d = record { long = d .long; small = λ x b. omega (arith, ap natAbs (d .cleared x b)) }
+  abbrev pub rows-for : {g : List ℤ} → RoomFor sizes g → RowsFor s starts rows j (length g)
+  rows-for r = record { problem = w .problem; rows-sound = w .rows-sound; fits = omega (arith, size-is, r .long j h) }
 
--- ---- all bases
-module _ (s : List ℕ) {keys exponents : List ℕ} {coefficients : List ℤ} {l : Lengths} {table : List ℕ} {n : ℕ} {hi₀ lo₀ : List ℤ} where
-  pub walked-start : Summed (λ p. byBasis p (rowsOf s) 0) keys exponents coefficients l table n 0 hi₀ lo₀ hi₀ lo₀
+  module _ {g₀ g₁ : List ℤ} {any : Bool} (r : RoomFor sizes g₀) (k : Gathered (rowsBy s starts rows) j g₀ g₁ any) where
+    pub part-framed : Framed (length (basisIn keys sizes j)) gatheredMost g₁
+    part-framed = rw (w .flat .bases j h) (gathered-framed (rows-for r) k)
+
+    -- without a row there is nothing to add, and the table is as it was
+    module _ (e : any ≡ false) where
+      pub none-room : RoomFor sizes g₁
+      none-room = record { empty = gathered-none (rw e at k); long = λ i b. omega (arith, r .long i b, k .long) }
+
+      pub none-summed : {table : List ℕ} {n : ℕ} {hi lo : List ℤ} → Summed (λ p. squares p (rowsOn j (rowsBy s starts rows))) keys coefficients sizes table n 1 hi lo hi lo
+      unfolding coefficient squares
+      none-summed =
+          record {
+            sums = λ _. pos 0;
+            grown = grown-none (λ q b. refl);
+            are = λ p t m. sym (ap (λ (l : List Row). coefficient m (squares p l)) (k .none e));
+          }
+
+    -- what was folded and spread
+    module _ {g₂ g₃ : List ℤ} (f : FoldedTable (basisIn keys sizes j) g₁ g₂) {table : List ℕ} {n : ℕ} {hi₀ lo₀ hi₁ lo₁ : List ℤ}
+        (d : Spread table n (spreadAt (basisIn keys sizes j) (termsIn (length (exponents limits j h)) (exponents limits j h) (factors limits j h)) g₂) g₂ hi₀ lo₀ g₃ hi₁ lo₁) where
+      pub spread-room : RoomFor sizes g₃
+      spread-room = record { empty = d .cleared; long = λ i b. omega (arith, r .long i b, k .long, f .long, d .long) }
+
+      pub rows-summed : Summed (λ p. squares p (rowsOn j (rowsBy s starts rows))) keys coefficients sizes table n 1 hi₀ lo₀ hi₁ lo₁
+      rows-summed =
+          record {
+            sums = spreadAt (basisIn keys sizes j) (termsIn (length (exponents limits j h)) (exponents limits j h) (factors limits j h)) g₂;
+            grown = grown-same (d .grown) (λ m. refl) (omega arith);
+            are = λ p t m. f .same _ m ∙ rw (t .bases j h, terms-part t j h) (sym (gathered-squares (rows-for r) k p m));
+          }
+
+-- ---- (rowsBy s starts rows) bases
+module _ (s starts : List ℕ) (rows : ℕ) {keys : List ℕ} {coefficients : List ℤ} {sizes table : List ℕ} {n : ℕ} {hi₀ lo₀ : List ℤ} where
+  pub walked-start : Summed (λ p. byBasis p (rowsBy s starts rows) 0) keys coefficients sizes table n 0 hi₀ lo₀ hi₀ lo₀
   unfolding byBasis coefficient
   walked-start = record { sums = λ k. pos 0; grown = grown-none (λ q b. refl); are = λ p t k. refl }
 
-  module _ {j : ℕ} {hi₁ lo₁ : List ℤ} (w : Summed (λ p. byBasis p (rowsOf s) j) keys exponents coefficients l table n j hi₀ lo₀ hi₁ lo₁) where
-    pub walked-more : {hi₂ lo₂ : List ℤ} → Summed (λ p. squares p (rowsOn j (rowsOf s))) keys exponents coefficients l table n 1 hi₁ lo₁ hi₂ lo₂ → Summed (λ p. byBasis p (rowsOf s) (j + 1)) keys exponents coefficients l table n (j + 1) hi₀ lo₀ hi₂ lo₂
+  module _ {j : ℕ} {hi₁ lo₁ : List ℤ} (w : Summed (λ p. byBasis p (rowsBy s starts rows) j) keys coefficients sizes table n j hi₀ lo₀ hi₁ lo₁) where
+    pub walked-more : {hi₂ lo₂ : List ℤ} → Summed (λ p. squares p (rowsOn j (rowsBy s starts rows))) keys coefficients sizes table n 1 hi₁ lo₁ hi₂ lo₂
+        → Summed (λ p. byBasis p (rowsBy s starts rows) (j + 1)) keys coefficients sizes table n (j + 1) hi₀ lo₀ hi₂ lo₂
     unfolding byBasis
     walked-more d =
         rw (add-one j)
         record {
           sums = λ k. w .sums k +ℤ d .sums k;
           grown = grown-then (w .grown) (d .grown) (λ k. refl) (omega arith);
-          are = λ p t k. rw (w .are p t k, d .are p t k) (sym (coefficient-append k (byBasis p (rowsOf s) j) (squares p (rowsOn j (rowsOf s)))));
+          are = λ p t k. rw (w .are p t k, d .are p t k) (sym (coefficient-append k (byBasis p (rowsBy s starts rows) j) (squares p (rowsOn j (rowsBy s starts rows)))));
         }
 
-    pub walked-end : ShapedRows (l .sizes) s → j ≡ 9 → Summed (λ p. squares p (rowsOf s)) keys exponents coefficients l table n 9 hi₀ lo₀ hi₁ lo₁
-    walked-end h e =
+    -- no row is on a basis behind those of the constraints
+    pub walked-end : Comparable s starts rows keys coefficients sizes → j ≡ getD sizes constraintsAt 0 + 1
+        → Summed (λ p. squares p (rowsBy s starts rows)) keys coefficients sizes table n 9 hi₀ lo₀ hi₁ lo₁
+    walked-end q e =
+        let few = q .flat .limits .sizes-low constraintsAt in
+        let on : All (λ (r : Row). r .basis < j) (rowsBy s starts rows) = all-map _ _ (λ (r : Row) b. omega (arith, b .basis, q .flat .constraints)) (rowsBy s starts rows) (q .rows-sound .sound) in
         record {
           sums = w .sums;
           grown = grown-same (w .grown) (λ k. refl) (omega arith);
-          are = λ p t k. w .are p t k ∙ ap (λ (i : ℕ). coefficient k (byBasis p (rowsOf s) i)) e ∙ sym (squares-bases p (rowsOf s) 9 (on-bases h) k);
+          are = λ p t k. w .are p t k ∙ sym (squares-bases p (rowsBy s starts rows) j on k);
         }

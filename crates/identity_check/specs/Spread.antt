@@ -6,7 +6,7 @@ use lib.IntN.{ℤ}
 use lib.ListN.{length}
 use Rattle.counting.specs.Counting.{Bounded}
 use Rattle.flat.specs.TermArrays.{Small}
-use Rattle.row_products.specs.Outer.{Empty}
+use Rattle.row_products.specs.Frame.{Empty}
 use Rattle.identity_check.specs.Tables.{unit, SumsGrown}
 
 -- what one entry at most adds to a sum: a product for each of 32 terms

@@ -2,10 +2,10 @@
 -- How large they are is counted in products: one product adds at most `unit` to either half of a sum.
 use mathlib.Core.Path.{_≡_}
 use mathlib.Core.List.{List}
-use Prim.Native.Nat.{ℕ, _*_, _^_, _≤_, _<_}
+use Prim.Native.Nat.{ℕ, _*_, _%_, _^_, _≤_, _<_}
 use lib.IntN.{ℤ, pos, natAbs, negℤ, _+ℤ_, _*ℤ_}
 use lib.ListN.{length, getD}
-use Rattle.key_set.specs.Table.{Holds, Indexed}
+use Rattle.key_set.specs.Table.{divisor, Holds, Indexed}
 use Rattle.wide_sums.specs.Sums.{valueAt, HasRoom, Near}
 use Rattle.wide_sums.specs.declared.Halves.{Halves}
 use Rattle.counting.specs.Counting.{Bounded}
@@ -21,8 +21,8 @@ abbrev pub unit : ℕ
 unit = 3 * 2 ^ 41
 
 -- the factor D × q of the claim
-abbrev pub factorMost : ℕ
-factorMost = 65535 * 65535
+abbrev pub claimMost : ℕ
+claimMost = 65535 * 65535
 
 -- r is the place of a key among the first n, or n or more where it has none
 pub record Sought (keys : List ℕ) (n key r : ℕ) : Type 0 where
@@ -47,6 +47,11 @@ pub record Scaled (x : Halves) (c : ℤ) : Type 0 where
   pub high : natAbs (x .high *ℤ c) ≤ unit
   pub low : natAbs (x .low *ℤ c) ≤ unit
 
+-- the places of exponents in the index of keys
+pub record Slots (exponents slots : List ℕ) : Type 0 where
+  pub few : length exponents ≤ 32
+  pub each : (t : ℕ) → t < length exponents → getD slots t 0 ≡ getD exponents t 0 % divisor
+
 -- a polynomial in two arrays, with coefficients of 16 bits, to be added x times and moved by a key
 pub record Addable (exponents : List ℕ) (coefficients : List ℤ) (key : ℕ) (x : ℤ) : Type 0 where
   pub paired : length exponents ≤ length coefficients
@@ -60,5 +65,5 @@ pub record Addable (exponents : List ℕ) (coefficients : List ℤ) (key : ℕ) 
 pub record Negates (side scale : ℕ) (p : ℤ) (q : ℕ) (r : Negated) : Type 0 where
   pub objective : r .objective ≡ negℤ (pos scale *ℤ turned side (pos q))
   pub constant : r .constant ≡ negℤ (pos scale *ℤ turned side (negℤ p))
-  pub objective-small : natAbs (r .objective) ≤ factorMost
+  pub objective-small : natAbs (r .objective) ≤ claimMost
   pub constant-small : natAbs (r .constant) ≤ 2 ^ 47

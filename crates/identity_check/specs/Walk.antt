@@ -10,7 +10,7 @@ use Rattle.format.specs.ProblemLimits.{mostBases}
 use Rattle.format.specs.ProblemRules.{Problem}
 use Rattle.flat.specs.Flat.{FlatProblem}
 use Rattle.certificate_reader.specs.Rows.{SoundRows}
-use Rattle.row_products.specs.Outer.{Empty}
+use Rattle.row_products.specs.Frame.{Empty}
 use Rattle.identity_check.specs.Tables.{SumsGrown}
 use Rattle.identity_check.specs.Spread.{tableUnit}
 

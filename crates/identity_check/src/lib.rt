@@ -7,33 +7,36 @@
 // that need all three have more than eight parameters.
 ghost use mathlib.Core.Path.{_≡_};
 ghost use mathlib.Core.Bool.{false};
-ghost use Prim.Native.Nat.{ℕ, _+_, _*_, _^_, _≤_, _<_};
+ghost use Prim.Native.Nat.{ℕ, _+_, _*_, _%_, _^_, _≤_, _<_};
 ghost use lib.IntN.{natAbs, negℤ, _*ℤ_};
 ghost use lib.ListN.{length, getD};
 ghost use Rattle.polynomial.specs.Algebra.{sum, match, coefficient};
 ghost use Rattle.format.specs.ProblemLimits.{mostBases};
 ghost use Rattle.accepting.specs.Identity.{squares, claimOf};
-ghost use Rattle.key_set.specs.Table.{Holds};
+ghost use Rattle.key_set.specs.Table.{divisor, Holds};
 ghost use Rattle.key_set.specs.Table as Support;
 ghost use Rattle.wide_sums.specs.Sums.{valueOf};
 ghost use Rattle.flat.specs.TermArrays.{termsIn};
 ghost use Rattle.certificate_reader.specs.Rows.{rowsBy};
 ghost use Rattle.row_products.specs.Gram.{rowsOn};
 ghost use Rattle.row_products.specs.Frame.{share, spreadAt, Framed, Entered};
+ghost use Rattle.row_products.specs.Outer.{gatheredMost};
 ghost use Rattle.row_products.specs.Fold.{foldedMost, FoldedTable};
 ghost use Rattle.counting.specs.Counting.{Bounded};
-ghost use Rattle.row_products.specs.Outer.{Empty};
-ghost use Rattle.identity_check.specs.Tables.{unit, factorMost, Sought, Ready, SumsGrown, Scaled, Addable, Negates};
+ghost use Rattle.identity_check.specs.Tables.{unit, claimMost, Sought, Ready, SumsGrown, Scaled};
+ghost use Rattle.identity_check.specs.Tables.{Slots, Addable, Negates};
 ghost use Rattle.identity_check.specs.Spread.{entryUnit, tableUnit, Spreadable, Spread};
 ghost use Rattle.identity_check.specs.Walk.{Comparable, RoomFor, Summed};
 ghost use Rattle.identity_check.specs.Compare.{Zeroed, Smaller, SmallestSum, Answered};
 
-// The place of a key among the first n; n where it has none.
-fn place_of(table: &[u64], n: usize, index: &[u16; 6144], key: u64) -> usize
-    requires { ⌜ Holds (now table) n × Support.Indexed (now index) (now table) n ⌝ }
+// The place of a key among the first n; n where it has none. `at` is its place in the index.
+fn place_of(table: &[u64], n: usize, index: &[u16; 6144], key: u64, at: usize) -> usize
+    requires { ⌜
+        (Holds (now table) n × Support.Indexed (now index) (now table) n) × (at ≡ key % divisor)
+        ⌝ }
     ensures { λ r. ⌜ Sought (now (table .entry)) n key r ⌝ }
 {
-    match key_set::find(table, index, n, key) {
+    match key_set::find_at(table, index, n, key, at) {
         key_set::Found::At(p) => p,
         key_set::Found::Nowhere => n,
     }
@@ -47,18 +50,31 @@ fn add_term(
     hi: &mut [i64],
     lo: &mut [i64],
     key: u64,
+    at: usize,
     x: wide_sums::Halves,
     c: i32,
 )
-    requires { ⌜ Ready (now table) (now index) n (now hi) (now lo) unit × Scaled x c ⌝ }
+    requires { ⌜ Ready (now table) (now index) n (now hi) (now lo) unit × Scaled x c × (at ≡ key % divisor) ⌝ }
     ensures { λ _. ⌜
         SumsGrown (now (table .entry)) n (now (hi .entry)) (now (lo .entry))
         (λ k. valueOf (x .high) (x .low) *ℤ c *ℤ match k key) unit (now (hi .exit)) (now (lo .exit))
         ⌝ }
 {
-    let p = place_of(table, n, index, key);
+    let p = place_of(table, n, index, key, at);
     if p < n {
         wide_sums::add(hi, lo, p, x, c as i64);
+    }
+}
+
+// The places of exponents in the index of keys. With them the place of a sum is found without a division.
+fn note_slots(slots: &mut [usize; 32], exponents: &[u64])
+    requires { ⌜ (length (now exponents) ≤ 32) × (length (now slots) ≡ 32) ⌝ }
+    ensures { λ _. ⌜ Slots (now (exponents .entry)) (now (slots .exit)) ⌝ }
+{
+    let mut t = 0;
+    while t < exponents.len() {
+        slots[t] = key_set::slot(exponents[t]);
+        t += 1;
     }
 }
 
@@ -70,12 +86,13 @@ fn add_terms(
     hi: &mut [i64],
     lo: &mut [i64],
     exponents: &[u64],
+    slots: &[usize; 32],
     coefficients: &[i32],
     key: u64,
     x: i64,
 )
     requires { ⌜ Ready (now table) (now index) n (now hi) (now lo) (length (now exponents) * unit) ⌝ }
-    requires { ⌜ Addable (now exponents) (now coefficients) key x ⌝ }
+    requires { ⌜ Addable (now exponents) (now coefficients) key x × Slots (now exponents) (now slots) ⌝ }
     ensures { λ _. ⌜
         SumsGrown (now (table .entry)) n (now (hi .entry)) (now (lo .entry))
         (λ k. x *ℤ sum (λ t. match k (key + t))
@@ -84,6 +101,7 @@ fn add_terms(
         ⌝ }
 {
     let h = wide_sums::cut(x);
+    let slot = key_set::slot(key);
     let mut t = 0;
     while t < exponents.len() {
         add_term(
@@ -93,6 +111,7 @@ fn add_terms(
             hi,
             lo,
             key + exponents[t],
+            key_set::slot_of_sum(slot, slots[t]),
             h,
             coefficients[t],
         );
@@ -116,7 +135,8 @@ fn add_number(
         (now (hi .exit)) (now (lo .exit))
         ⌝ }
 {
-    add_term(table, n, index, hi, lo, key, wide_sums::cut(y), 1);
+    let at = key_set::slot(key);
+    add_term(table, n, index, hi, lo, key, at, wide_sums::cut(y), 1);
 }
 
 // Adds x times the objective. Its coefficients have 32 bits, so each product is made first, and then cut.
@@ -133,7 +153,7 @@ fn add_objective(
     requires { ⌜
         Ready (now table) (now index) n (now hi) (now lo) (length (now exponents) * unit)
         × (length (now exponents) ≤ length (now coefficients))
-        × (natAbs x ≤ factorMost)
+        × (natAbs x ≤ claimMost)
         ⌝ }
     ensures { λ _. ⌜
         SumsGrown (now (table .entry)) n (now (hi .entry)) (now (lo .entry))
@@ -211,6 +231,7 @@ fn add_claim(
 fn add_entry(
     basis: &[u64],
     exponents: &[u64],
+    slots: &[usize; 32],
     coefficients: &[i32],
     table: &[u64],
     n: usize,
@@ -220,7 +241,7 @@ fn add_entry(
     x: usize,
     a: i64,
 )
-    requires { ⌜ Ready (now table) (now index) n (now hi) (now lo) entryUnit ⌝ }
+    requires { ⌜ Ready (now table) (now index) n (now hi) (now lo) entryUnit × Slots (now exponents) (now slots) ⌝ }
     requires { ⌜ Spreadable (now basis) (now exponents) (now coefficients) × Entered foldedMost (now basis) x a ⌝ }
     ensures { λ _. ⌜
         SumsGrown (now (table .entry)) n (now (hi .entry)) (now (lo .entry))
@@ -235,7 +256,18 @@ fn add_entry(
     let i = x / 64;
     let k = x % 64;
     let key = basis[i] + basis[k];
-    add_terms(table, n, index, hi, lo, exponents, coefficients, key, a);
+    add_terms(
+        table,
+        n,
+        index,
+        hi,
+        lo,
+        exponents,
+        slots,
+        coefficients,
+        key,
+        a,
+    );
 }
 
 // Adds the whole table of sums, and clears it. It holds nothing below the diagonal, nor past the basis's last index.
@@ -262,6 +294,8 @@ fn spread(
         (now (lo .exit))
         ⌝ }
 {
+    let mut slots = [0usize; 32];
+    note_slots(&mut slots, exponents);
     let size = basis.len();
     let last = 64 * size;
     let mut x = 0;
@@ -271,6 +305,7 @@ fn spread(
         add_entry(
             basis,
             exponents,
+            &slots,
             coefficients,
             table,
             n,
@@ -290,7 +325,7 @@ const SMALL: usize = 16;
 // Sums the entries with the same product b * b' at one place, where there are many of them.
 fn fold_large(g: &mut [i64], basis: &[u64])
     requires { ⌜
-        (length (now basis) ≤ 64) × Bounded (8 * 2 ^ 56) (now basis) × Framed (length (now basis)) (2 ^ 54) (now g)
+        (length (now basis) ≤ 64) × Bounded (8 * 2 ^ 56) (now basis) × Framed (length (now basis)) gatheredMost (now g)
         ⌝ }
     ensures { λ _. ⌜ FoldedTable (now (basis .entry)) (now (g .entry)) (now (g .exit)) ⌝ }
 {
@@ -353,8 +388,10 @@ fn sum_rows(
     hi: &mut [i64],
     lo: &mut [i64],
 )
-    requires { ⌜ Ready (now table) (now index) n (now hi) (now lo) (9 * tableUnit) × RoomFor (now sizes) (now g) ⌝ }
-    requires { ⌜ Comparable (now s) (now starts) rows (now keys) (now coefficients) (now sizes) ⌝ }
+    requires { ⌜ Ready (now table) (now index) n (now hi) (now lo) (9 * tableUnit) ⌝ }
+    requires { ⌜
+        Comparable (now s) (now starts) rows (now keys) (now coefficients) (now sizes) × RoomFor (now sizes) (now g)
+        ⌝ }
     ensures { λ _. ⌜
         Summed (λ p. squares p (rowsBy (now (s .entry)) (now (starts .entry)) rows)) (now (keys .entry))
         (now (coefficients .entry)) (now (sizes .entry)) (now (table .entry)) n 9 (now (hi .entry))

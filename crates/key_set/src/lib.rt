@@ -3,7 +3,7 @@
 // place 4096 + p has the same for the keys before place p, so that a search goes from the last key with a remainder to
 // the first.
 ghost use mathlib.Core.Path.{_≡_};
-ghost use Prim.Native.Nat.{_%_, _<_};
+ghost use Prim.Native.Nat.{_+_, _%_, _<_};
 ghost use lib.ListN.{length, take};
 ghost use Rattle.joining_rule.specs.Sets.{member, insert};
 ghost use Rattle.key_set.specs.Table.{divisor, keysIn, Holds, Indexed, noted, Finds, Stored};
@@ -11,10 +11,22 @@ ghost use Rattle.key_set.specs.Table.{divisor, keysIn, Holds, Indexed, n
 const DIVISOR: u64 = 3821;
 
 // The place of a key's remainder in the index.
-fn slot(key: u64) -> usize
+pub fn slot(key: u64) -> usize
     ensures { λ r. ⌜ r ≡ key % divisor ⌝ }
 {
     (key % DIVISOR) as usize
+}
+
+// That of a sum of two keys, from theirs.
+pub fn slot_of_sum(a: usize, b: usize) -> usize
+    requires { ⌜ (a < divisor) × (b < divisor) ⌝ }
+    ensures { λ r. ⌜ r ≡ (a + b) % divisor ⌝ }
+{
+    let sum = a + b;
+    if sum < 3821 {
+        return sum;
+    }
+    sum - 3821
 }
 
 // Where a key stands.
@@ -23,12 +35,14 @@ pub enum Found {
     Nowhere,
 }
 
-pub fn find(table: &[u64], index: &[u16], len: usize, key: u64) -> Found
-    requires { ⌜ Holds (now table) len × Indexed (now index) (now table) len ⌝ }
+// Looks a key up whose place in the index is known.
+pub fn find_at(table: &[u64], index: &[u16], len: usize, key: u64, at: usize) -> Found
+    requires { ⌜
+        (Holds (now table) len × Indexed (now index) (now table) len) × (at ≡ key % divisor)
+        ⌝ }
     ensures { λ r. ⌜ Finds key (take len (now (table .entry))) r ⌝ }
 {
-    let h = slot(key);
-    let mut v = index[h] as usize;
+    let mut v = index[at] as usize;
     while 0 < v {
         let p = v - 1;
         if table[p] == key {
@@ -37,6 +51,13 @@ pub fn find(table: &[u64], index: &[u16], len: usize, key: u64) -> Found
         v = index[4096 + p] as usize;
     }
     Found::Nowhere
+}
+
+pub fn find(table: &[u64], index: &[u16], len: usize, key: u64) -> Found
+    requires { ⌜ Holds (now table) len × Indexed (now index) (now table) len ⌝ }
+    ensures { λ r. ⌜ Finds key (take len (now (table .entry))) r ⌝ }
+{
+    find_at(table, index, len, key, slot(key))
 }
 
 // Whether a key is in the set.

@@ -1,44 +1,41 @@
--- The entries of the table of sums: those that are not 0 are at indices of the basis, and how often each counts.
-use mathlib.Core.Path.{_≡_, refl, sym, ap, _∙_}
-use mathlib.Core.Bool.{Bool, true, false}
+-- The entries of the table of sums: those that are not 0 are at indices of the basis, on or above the diagonal.
+use mathlib.Core.Path.{_≡_, sym, ap, _∙_}
 use mathlib.Core.List.{List}
-use Prim.Native.Nat.{ℕ, zero, suc, _+_, _/_, _%_, _≤_, _<_}
+use mathlib.Core.Logic.{⊎-elim}
+use Prim.Native.Nat.{ℕ, zero, suc, _+_, _*_, _/_, _%_, _≤_, _<_}
 use native.Mathlib.Omega.{arith}
-use borrow.Author.Tests.{eq-eqb, ne-eqb, ltb-true, ltb-false}
-use lib.Dec.{ltb}
-use lib.IntN.{ℤ, pos, _+ℤ_, _*ℤ_, +ℤ-idr, zero-*ℤ, one, *ℤ-one, *ℤ-comm}
-use lib.ListN.{length}
+use lib.IntN.{ℤ, pos, _+ℤ_, _*ℤ_, +ℤ-idr, zero-*ℤ}
+use lib.ListN.{length, getD}
 use Rattle.counting.specs.Counting.{listed}
+use Rattle.counting.proofs.Cases.{lt-or-le}
 use Rattle.polynomial.specs.Terms.{Term}
 use Rattle.polynomial.specs.Algebra.{sum}
-use Rattle.row_products.specs.Gram.{times}
-use Rattle.row_products.specs.Frame.{Entered}
+use Rattle.row_products.specs.Frame.{Framed, Next, Entered}
 use Rattle.row_products.proofs.Prefixes.{sum-more}
+
+-- ---- a table within its frame
+module _ {m c : ℕ} {g : List ℤ} (f : Framed m c g) where
+  rows-none : (x : ℕ) → m ≤ x / 64 → getD g x (pos 0) ≡ pos 0
+  rows-none x h = ⊎-elim (λ b. f .lower x (omega arith)) (f .columns x) (lt-or-le (x % 64) m)
+
+  -- past the rows of the basis
+  pub past-none : (x : ℕ) → 64 * m ≤ x → getD g x (pos 0) ≡ pos 0
+  past-none x h = rows-none x (omega arith)
+
+  -- between a place and the next
+  pub between-none : {x r : ℕ} → Next m x r → (y : ℕ) → x < y → y < r → getD g y (pos 0) ≡ pos 0
+  between-none n y a b = ⊎-elim (f .columns y) (f .lower y) (n .between y a b)
+
+pub framed-entered : {basis : List ℕ} {c : ℕ} {g : List ℤ} → Framed (length basis) c g → (x : ℕ) → Entered c basis x (getD g x (pos 0))
+framed-entered f x = record { row = rows-none f x; column = f .columns x; small = f .small x }
 
 -- an entry that is not 0 is at indices of the basis
 module _ (c : ℕ) (basis : List ℕ) (x : ℕ) (a : ℤ) (e : Entered c basis x a) (f : a ≡ pos 0 → ⊥) where
   pub entered-row : x / 64 < length basis
-  entered-row = go (ltb (x / 64) (length basis)) refl
-    where
-      go : (b : Bool) → ltb (x / 64) (length basis) ≡ b → x / 64 < length basis
-      go true q = ltb-true _ _ q
-      go false q = absurd (f (e .row (ltb-false _ _ q)))
+  entered-row = ⊎-elim (λ l. l) (λ l. absurd (f (e .row l))) (lt-or-le (x / 64) (length basis))
 
   pub entered-column : x % 64 < length basis
-  entered-column = go (ltb (x % 64) (length basis)) refl
-    where
-      go : (b : Bool) → ltb (x % 64) (length basis) ≡ b → x % 64 < length basis
-      go true q = ltb-true _ _ q
-      go false q = absurd (f (e .column (ltb-false _ _ q)))
-
--- ---- how often an entry counts
-module _ (x : ℕ) (a : ℤ) where
-  pub counts-once : x / 64 ≡ x % 64 → a ≡ times x *ℤ a
-  unfolding one
-  counts-once e = rw (eq-eqb (x / 64) (x % 64) e) (sym (*ℤ-comm (pos 1) a ∙ *ℤ-one a))
-
-  pub counts-twice : (x / 64 ≡ x % 64 → ⊥) → pos 2 *ℤ a ≡ times x *ℤ a
-  counts-twice f = rw (ne-eqb (x / 64) (x % 64) f)
+  entered-column = ⊎-elim (λ l. l) (λ l. absurd (f (e .column l))) (lt-or-le (x % 64) (length basis))
 
 -- the terms past a place of the table have coefficient 0
 pub rest-none : (m : ℕ → ℤ) (f : ℕ → Term) (n d : ℕ) → ((i : ℕ) → n ≤ i → i < n + d → f i .coefficient ≡ pos 0) → sum m (listed n f) ≡ sum m (listed (n + d) f)

@@ -1,4 +1,4 @@
--- The walk over the rows for one basis: the table of sums holds the upper half of the products of the rows on the basis so far.
+-- The walk over the rows for one basis: the table of sums holds half of the products of the rows on the basis so far, doubled.
 use mathlib.Core.Path.{_≡_, refl, sym, ap, _∙_}
 use mathlib.Core.Bool.{Bool, true, false, cond}
 use mathlib.Core.List.{List, [], _∷_, _++_, append-assoc, append-nil}
@@ -8,14 +8,16 @@ use native.Mathlib.Nat.{eq-or-lt-of-le}
 use native.Mathlib.Numerals.{add-one}
 use native.Mathlib.Omega.{arith}
 use borrow.Author.Tests.{eq-eqb, ne-eqb, lt-ltb, ltb-true, ltb-false}
-use lib.Dec.{eqb, leb, ltb}
-use lib.IntN.{ℤ, pos, natAbs, _+ℤ_, _-ℤ_, _*ℤ_, *ℤ-zero}
+use lib.Dec.{eqb, ltb}
+use lib.IntN.{ℤ, pos, natAbs, _+ℤ_, _-ℤ_, _*ℤ_, *ℤ-zero, zero-*ℤ}
 use lib.ListN.{length, getD, set, take, length-append, length-set}
 use lib.Seq.{take-suc, take-all}
 use mir.Syntax.{w16}
 use mir.Val.{SFits}
-use Rattle.integers.proofs.Ranges.{abs-zero, abs-sum, fits-abs}
+use Rattle.integers.proofs.Ranges.{abs-sum, fits-abs}
+use Rattle.integers.proofs.Ring.{*ℤ-+ℤ, *ℤ-left-comm}
 use Rattle.counting.specs.Counting.{listed}
+use Rattle.counting.proofs.Cases.{clash}
 use Rattle.counting.proofs.Listed.{listed-at, same-or-not}
 use Rattle.format.specs.Operands.{number, signed}
 use Rattle.polynomial.specs.Terms.{Term, term}
@@ -23,63 +25,46 @@ use Rattle.flat.specs.TermArrays.{termsIn}
 use Rattle.flat.proofs.TermArrays.{terms-more}
 use Rattle.polynomial.specs.Algebra.{sum, match, coefficient, _⊗_}
 use Rattle.polynomial.proofs.Keys.{Keys}
+use Rattle.polynomial.proofs.Sums.{coefficient-none}
 use Rattle.polynomial.proofs.Products.{keys-append, keys-scale, keys-⊗, keys-map}
 use Rattle.format.specs.All.{All}
+use Rattle.format.specs.ProblemRules.{Problem}
+use Rattle.format.specs.ProblemBases.{basisOf, multiplier}
 use Rattle.format.specs.CertificateRules.{Entry, Row, noRow, mostRows}
-use Rattle.format.specs.ProblemBases.{basisOf}
-use Rattle.format.proofs.CertificateLimits.{IndicesRise, SoundRow, all-within}
-use Rattle.certificate_reader.specs.Rows.{entryAt, weightAt, rowAt, rowsBy, EntriesStand, done, more, Walkable}
-use Rattle.certificate_reader.proofs.Shapes.{basis-few}
-use Rattle.certificate_reader.proofs.Rows.{rows-length, row-by}
-use Rattle.certificate_reader.proofs.Walk.{Step, step-of, step-none, walk-sound}
-use Rattle.row_products.specs.Gram.{factorTerms, rekeyed, outer, gram, upper, rowsOn}
-use Rattle.accepting.proofs.Reach.{all-both}
-use Rattle.row_products.proofs.Halves.{sum-alike, sum-zeros}
 use Rattle.format.proofs.All.{all-map}
+use Rattle.format.proofs.CertificateLimits.{IndicesRise, all-within}
+use Rattle.certificate_reader.specs.Rows.{entryAt, basisAt, weightAt, rowAt, rowsBy, EntriesStand, done, more, SoundRows}
+use Rattle.certificate_reader.proofs.Shapes.{basis-few}
+use Rattle.certificate_reader.proofs.Walk.{Step, step-of, step-none, walk-sound}
+use Rattle.accepting.specs.Identity.{squares}
+use Rattle.accepting.proofs.Reach.{all-both}
+use Rattle.row_products.specs.Gram.{factorTerms, rekeyed, outer, gram, times, doubled, rowsOn}
+use Rattle.row_products.specs.Frame.{spreadAt, Empty, Below, Framed}
+use Rattle.row_products.specs.Outer.{weightMost, factorMost, rowUnit, gatheredMost, HasRow, Entries, HoldsEntries, Raised, above, inRow, outerAt}
+use Rattle.row_products.specs.Gather.{RowsFor, LowRow, RowAdded, Gathered}
 use Rattle.row_products.proofs.Gram.{sum-same, keys-rekeyed, factors-small, gram-more, outer-coefficient, rows-on, rows-all}
-use Rattle.row_products.specs.Outer.{rowUnit, Entries, HoldsEntries, Below, Raised, above, inRow, outerAt}
-use Rattle.row_products.specs.Gather.{ShapedRows, LowRow, RowAdded, Gathered}
-use Rattle.row_products.proofs.Outers.{match-other, above-other, outer-bound, raised-same}
+use Rattle.row_products.proofs.Halves.{sum-alike, sum-times, gram-table}
+use Rattle.row_products.proofs.Outers.{match-other, lower-never, above-other, outer-bound, raised-same}
 
--- ---- the upper half
+-- ---- the half that is kept
 module _ (x : ℕ) where
-  upper-plus : (a b : ℤ) → upper x a +ℤ upper x b ≡ upper x (a +ℤ b)
-  upper-plus a b = go (leb (x / 64) (x % 64))
-    where
-      go : (t : Bool) → cond t a (pos 0) +ℤ cond t b (pos 0) ≡ cond t (a +ℤ b) (pos 0)
-      go true = refl
-      go false = refl
+  abbrev here : ℤ
+  here = times (x / 64) (x % 64)
 
-  upper-times : (a b : ℤ) → a *ℤ upper x b ≡ upper x (a *ℤ b)
-  upper-times a b = go (leb (x / 64) (x % 64))
-    where
-      go : (t : Bool) → a *ℤ cond t b (pos 0) ≡ cond t (a *ℤ b) (pos 0)
-      go true = refl
-      go false = *ℤ-zero a
-
-  pub upper-none : (a : ℤ) → a ≡ pos 0 → upper x a ≡ pos 0
-  upper-none a e = go (leb (x / 64) (x % 64))
-    where
-      go : (t : Bool) → cond t a (pos 0) ≡ pos 0
-      go true = e
-      go false = refl
-
-  above-is : (i k : ℕ) → k < 64 → above x i k ≡ upper x (match x (64 * i + k))
+  above-is : (i k : ℕ) → k < 64 → above x i k ≡ doubled x (match x (64 * i + k))
   above-is i k h =
       ⊎-elim
       (λ e.
       let q : x / 64 ≡ i = omega arith in
       let r : x % 64 ≡ k = omega arith in
       rw (q, r))
-      (λ f. above-other x i k f ∙ sym (upper-none _ (match-other x (64 * i + k) f)))
+      (λ f. above-other x i k f ∙ sym (ap (doubled x) (match-other x (64 * i + k) f) ∙ *ℤ-zero here))
       (same-or-not (64 * i + k) x)
 
-  outer-upper : (F : List Term) → Keys (λ i. i < 64) F → sum (inRow F x) F ≡ upper x (sum (λ i. sum (λ i′. match x (64 * i + i′)) F) F)
-  outer-upper F low = sum-alike _ _ (λ i. sum-same (λ i. i < 64) _ _ (λ k b. above-is i k b) F low) F ∙ go (leb (x / 64) (x % 64))
-    where
-      go : (t : Bool) → sum (λ i. sum (λ i′. cond t (match x (64 * i + i′)) (pos 0)) F) F ≡ cond t (sum (λ i. sum (λ i′. match x (64 * i + i′)) F) F) (pos 0)
-      go true = refl
-      go false = sum-alike _ _ (λ i. sum-zeros F) F ∙ sum-zeros F
+  outer-doubled : (F : List Term) → Keys (λ i. i < 64) F → sum (inRow F x) F ≡ doubled x (sum (λ i. sum (λ i′. match x (64 * i + i′)) F) F)
+  outer-doubled F low =
+      sum-alike _ _ (λ i. sum-same (λ i. i < 64) _ _ (λ k b. above-is i k b) F low ∙ sum-times here (λ i′. match x (64 * i + i′)) F) F
+      ∙ sum-times here (λ i. sum (λ i′. match x (64 * i + i′)) F) F
 
 -- ---- a row in arrays, as the table of sums takes it
 abbrev noEntry : Entry
@@ -95,16 +80,16 @@ factors-at [] k d t h = absurd (omega arith)
 factors-at (e ∷ es) zero d t h = refl
 factors-at (e ∷ es) (suc k) d t h = factors-at es k d t (omega arith)
 
--- the upper half of the products
+-- half of the products, doubled
 outer-is : (r : Row) (indices : List ℕ) (factors : List ℤ) (count : ℕ) → HoldsEntries (r .entries) indices factors count → All (λ (e : Entry). e .index < 64) (r .entries)
-    → (x : ℕ) → outerAt (r .weight) (termsIn count indices factors) x ≡ upper x (coefficient x (outer r))
+    → (x : ℕ) → outerAt (r .weight) (termsIn count indices factors) x ≡ doubled x (coefficient x (outer r))
 unfolding outerAt
 outer-is r indices factors count k low x =
     let F = factorTerms (r .entries) in
     ap (λ (P : List Term). r .weight *ℤ sum (inRow P x) P) (k .terms)
-    ∙ ap (λ (z : ℤ). r .weight *ℤ z) (outer-upper x F (factors-small (r .entries) low))
-    ∙ upper-times x (r .weight) (sum (λ i. sum (λ i′. match x (64 * i + i′)) F) F)
-    ∙ ap (upper x) (sym (outer-coefficient x r))
+    ∙ ap (λ (z : ℤ). r .weight *ℤ z) (outer-doubled x F (factors-small (r .entries) low))
+    ∙ *ℤ-left-comm (r .weight) (here x) (sum (λ i. sum (λ i′. match x (64 * i + i′)) F) F)
+    ∙ ap (doubled x) (sym (outer-coefficient x r))
 
 rising-next : (es : List Entry) (d : Entry) → IndicesRise es → (k : ℕ) → suc k < length es → getD es k d .index < getD es (suc k) d .index
 unfolding IndicesRise
@@ -118,6 +103,9 @@ rising-any es d r i zero a b = absurd (omega arith)
 rising-any es d r i (suc k) a b =
     let n = rising-next es d r k b in
     ⊎-elim (λ e. rw e n) (λ l. omega (arith, rising-any es d r i k l (omega arith))) (eq-or-lt-of-le {n = i} {m = k} (omega arith))
+
+pub rows-low : (room : ℕ) (es : List Entry) → All (λ (e : Entry). HasRow room (e .index)) es → All (λ (e : Entry). e .index < 64) es
+rows-low room es h = all-map _ _ (λ (e : Entry) b. b .0) es h
 
 -- rising indices below 64 are at most 64
 rising-above : (es : List Entry) (d : Entry) → IndicesRise es → (k : ℕ) → k < length es → k ≤ getD es k d .index
@@ -149,17 +137,17 @@ signed-fits x h = go (ltb x (2 ^ 15)) refl
         rw (lt-ltb x (2 ^ 16) l) (record { sfits = omega arith })
 
 module _ (s : List ℕ) (bytes : (i : ℕ) → getD s i 0 < 256) where
-  stand-small : {to at : ℕ} {es : List Entry} → EntriesStand s to at es → All (λ (e : Entry). natAbs (e .factor) ≤ 2 ^ 15) es
+  stand-small : {to at : ℕ} {es : List Entry} → EntriesStand s to at es → All (λ (e : Entry). natAbs (e .factor) ≤ factorMost) es
   unfolding All entryAt
   stand-small done = tt
   stand-small (more {at} e w) = (fits-abs (signed-fits _ (number-low s bytes (at + 2))), stand-small w)
 
-  pub weight-small : (at : ℕ) → natAbs (weightAt s at) ≤ 2 ^ 16
+  pub weight-small : (at : ℕ) → natAbs (weightAt s at) ≤ weightMost
   weight-small at = omega (arith, number-low s bytes (at + 2))
 
 -- the entries of a row that keeps its limits, in arrays
-module _ (es : List Entry) (indices : List ℕ) (factors : List ℤ) (count : ℕ) (q : HoldsEntries es indices factors count)
-    (rise : IndicesRise es) (low : All (λ (e : Entry). e .index < 64) es) (small : All (λ (e : Entry). natAbs (e .factor) ≤ 2 ^ 15) es) where
+module _ (es : List Entry) (indices : List ℕ) (factors : List ℤ) (count room : ℕ) (q : HoldsEntries es indices factors count)
+    (rise : IndicesRise es) (inside : All (λ (e : Entry). HasRow room (e .index)) es) (small : All (λ (e : Entry). natAbs (e .factor) ≤ factorMost) es) where
   entry-held : (k : ℕ) → k < count → term (getD indices k 0) (getD factors k (pos 0)) ≡ term (getD es k noEntry .index) (getD es k noEntry .factor)
   unfolding termsIn
   entry-held k b =
@@ -170,15 +158,15 @@ module _ (es : List Entry) (indices : List ℕ) (factors : List ℤ) (count : �
   index-held : (k : ℕ) → k < count → getD indices k 0 ≡ getD es k noEntry .index
   index-held k b = ap (λ (t : Term). t .key) (entry-held k b)
 
-  pub row-entries : Entries indices factors count
+  pub row-entries : Entries indices factors count room
   row-entries =
       let n = q .count-is in
       record {
-        few = omega (arith, rising-few es rise low);
-        indices-low = λ k b. rw (index-held k b) (all-within (λ (e : Entry). e .index < 64) es k noEntry (omega arith) low);
+        few = omega (arith, rising-few es rise (rows-low room es inside));
+        inside = λ k b. rw (index-held k b) (all-within (λ (e : Entry). HasRow room (e .index)) es k noEntry (omega arith) inside);
         rising = λ i k a b. rw (index-held i (omega arith), index-held k b) (rising-any es noEntry rise i k a (omega arith));
         factors-small = λ k b.
-            rw (ap (λ (t : Term). t .coefficient) (entry-held k b)) (all-within (λ (e : Entry). natAbs (e .factor) ≤ 2 ^ 15) es k noEntry (omega arith) small);
+            rw (ap (λ (t : Term). t .coefficient) (entry-held k b)) (all-within (λ (e : Entry). natAbs (e .factor) ≤ factorMost) es k noEntry (omega arith) small);
       }
 
 -- ---- the products of rows with low indices are at low indices
@@ -208,25 +196,16 @@ module _ (m : ℕ) where
     gram-framed (r ∷ rs) h = keys-append _ (outer r) (gram rs) (outer-framed r (h .0)) (gram-framed rs (h .1))
 
 -- ---- the rows of a stream keep the limits
-module _ {sizes s starts : List ℕ} {rows : ℕ} (w : ShapedRows sizes s starts rows) where
+module _ {p : Problem} {s starts : List ℕ} {rows : ℕ} (w : SoundRows p s starts rows) where
   abbrev all : List Row
   all = rowsBy s starts rows
 
   pub on-bases : All (λ (r : Row). r .basis < 9) all
-  on-bases = all-map _ _ (λ (r : Row) q. omega (arith, q .basis, w .rows-sound .limits .constraints)) all (w .rows-sound .sound)
+  on-bases = all-map _ _ (λ (r : Row) q. omega (arith, q .basis, w .limits .constraints)) all (w .sound)
 
   -- those on basis j have its indices
-  pub on-low : (j : ℕ) → All (Low (getD sizes j 0)) (rowsOn j all)
-  on-low j =
-      all-both _ _ _ (λ (r : Row) e q. low r e q) (rowsOn j all) (rows-on j all) (rows-all _ j all (w .rows-sound .sound))
-    where
-      low : (r : Row) → r .basis ≡ j → SoundRow (w .problem) r → Low (getD sizes j 0) r
-      low r e q =
-          let n : length (basisOf (w .problem) j) ≡ getD sizes j 0 = sym (w .sized .bases j (omega (arith, q .basis, w .rows-sound .limits .constraints))) in
-          rw (e, n) at (q .indices)
-
-pub zero-below : (g : List ℤ) → Below 0 g → (x : ℕ) → x < 4096 → getD g x (pos 0) ≡ pos 0
-zero-below g b x h = abs-zero _ (omega (arith, b .small x h))
+  pub on-low : (j : ℕ) → All (Low (length (basisOf p j))) (rowsOn j all)
+  on-low j = all-both _ _ _ (λ (r : Row) e q. rw e at (q .indices)) (rowsOn j all) (rows-on j all) (rows-all _ j all (w .sound))
 
 -- ---- the rows on basis j, with one more row at the end
 on-more : (j : ℕ) (rs : List Row) (r : Row) → r .basis ≡ j → rowsOn j (rs ++ (r ∷ [])) ≡ rowsOn j rs ++ (r ∷ [])
@@ -243,30 +222,36 @@ unfolding rowsOn
 on-other j [] r f = rw (ne-eqb (r .basis) j f)
 on-other j (x ∷ rs) r f = rw (on-other j rs r f)
 
--- ---- the walk for basis j: the table of sums holds the products of the first t rows
-pub record Gathering (rs : List Row) (j t : ℕ) (g : List ℤ) : Type 0 where
+-- ---- the walk for basis j: the table of sums holds the products of the first t rows, and `any` says whether one is on it
+pub record Gathering (rs : List Row) (j t : ℕ) (g₀ g₁ : List ℤ) (any : Bool) : Type 0 where
   pub within : t ≤ length rs
-  pub holds : (x : ℕ) → x < 4096 → getD g x (pos 0) ≡ upper x (coefficient x (gram (rowsOn j (take t rs))))
-  pub below : Below (t * rowUnit) g
+  pub holds : (x : ℕ) → getD g₁ x (pos 0) ≡ doubled x (coefficient x (gram (rowsOn j (take t rs))))
+  pub below : Below (t * rowUnit) g₁
+  pub long : length g₁ ≡ length g₀
+  pub none : any ≡ false → rowsOn j (take t rs) ≡ []
 
-pub gathering-start : {rs : List Row} {j : ℕ} {g : List ℤ} → Below 0 g → Gathering rs j 0 g
+pub gathering-start : {rs : List Row} {j : ℕ} {g : List ℤ} → Empty g → Gathering rs j 0 g g false
 unfolding gram coefficient rowsOn
 gathering-start {g = g} z =
     record {
       within = omega arith;
-      holds = λ x h. zero-below g z x h ∙ sym (upper-none x (pos 0) refl);
-      below = record { long = z .long; small = λ x h. omega (arith, z .small x h) };
+      holds = λ x. z x ∙ sym (*ℤ-zero (here x));
+      below = λ x. omega (arith, ap natAbs (z x));
+      long = refl;
+      none = λ e. refl;
     }
 
-module _ {rs : List Row} {j t : ℕ} {g : List ℤ} (w : Gathering rs j t g) where
-  pub gathering-small : length rs ≤ mostRows → Below (2 ^ 53) g
-  gathering-small n = record { long = w .below .long; small = λ x h. omega (arith, w .below .small x h, w .within) }
+module _ {rs : List Row} {j t : ℕ} {g₀ g : List ℤ} {any : Bool} (w : Gathering rs j t g₀ g any) where
+  pub gathering-small : length rs ≤ mostRows → Below gatheredMost g
+  gathering-small n x = omega (arith, w .below x, w .within)
 
-  pub gathering-end : length rs ≤ mostRows → length rs ≤ t → Gathered rs j g
+  pub gathering-end : length rs ≤ mostRows → length rs ≤ t → Gathered rs j g₀ g any
   gathering-end n f =
       record {
-        holds = λ x h. w .holds x h ∙ ap (λ (l : List Row). upper x (coefficient x (gram (rowsOn j l)))) (take-all t rs f);
-        below = gathering-small n;
+        holds = λ x. w .holds x ∙ ap (λ (l : List Row). doubled x (coefficient x (gram (rowsOn j l)))) (take-all t rs f);
+        small = gathering-small n;
+        long = w .long;
+        none = λ e. ap (rowsOn j) (sym (take-all t rs f)) ∙ w .none e;
       }
 
   -- one row more
@@ -274,67 +259,103 @@ module _ {rs : List Row} {j t : ℕ} {g : List ℤ} (w : Gathering rs j t g) whe
     taken : take (t + 1) rs ≡ take t rs ++ (r ∷ [])
     taken = rw (add-one t, take-suc rs t noRow h, is)
 
-    pub gathering-other : (r .basis ≡ j → ⊥) → Gathering rs j (t + 1) g
+    pub gathering-other : (r .basis ≡ j → ⊥) → Gathering rs j (t + 1) g₀ g any
     gathering-other f =
+        let e : rowsOn j (take (t + 1) rs) ≡ rowsOn j (take t rs) = ap (rowsOn j) taken ∙ on-other j (take t rs) r f in
         record {
           within = omega arith;
-          holds = λ x b. w .holds x b ∙ ap (λ (l : List Row). upper x (coefficient x (gram l))) (sym (ap (rowsOn j) taken ∙ on-other j (take t rs) r f));
-          below = record { long = w .below .long; small = λ x b. omega (arith, w .below .small x b) };
+          holds = λ x. w .holds x ∙ ap (λ (l : List Row). doubled x (coefficient x (gram l))) (sym e);
+          below = λ x. omega (arith, w .below x);
+          long = w .long;
+          none = λ n. e ∙ w .none n;
         }
 
-    pub gathering-row : {g₂ : List ℤ} → r .basis ≡ j → RowAdded r g g₂ → Gathering rs j (t + 1) g₂
+    pub gathering-row : {g₂ : List ℤ} → r .basis ≡ j → RowAdded r g g₂ → Gathering rs j (t + 1) g₀ g₂ true
     gathering-row {g₂} e a =
         let on = rowsOn j (take t rs) in
         let d = a .raised in
         record {
           within = omega arith;
-          holds = λ x b.
-              d .there x b
-              ∙ ap (λ (z : ℤ). z +ℤ upper x (coefficient x (outer r))) (w .holds x b)
-              ∙ upper-plus x (coefficient x (gram on)) (coefficient x (outer r))
-              ∙ ap (upper x) (sym (gram-more x on r))
-              ∙ ap (λ (l : List Row). upper x (coefficient x (gram l))) (sym (ap (rowsOn j) taken ∙ on-more j (take t rs) r e));
-          below = record {
-            long = d .long;
-            small = λ x b.
-                let v = ap natAbs (d .there x b) in
-                omega (arith, abs-sum (getD g x (pos 0)) (upper x (coefficient x (outer r))), w .below .small x b, a .small x);
-          };
+          holds = λ x.
+              d .there x
+              ∙ ap (λ (z : ℤ). z +ℤ doubled x (coefficient x (outer r))) (w .holds x)
+              ∙ sym (*ℤ-+ℤ (here x) (coefficient x (gram on)) (coefficient x (outer r)))
+              ∙ ap (doubled x) (sym (gram-more x on r))
+              ∙ ap (λ (l : List Row). doubled x (coefficient x (gram l))) (sym (ap (rowsOn j) taken ∙ on-more j (take t rs) r e));
+          below = λ x.
+              let v = ap natAbs (d .there x) in
+              omega (arith, abs-sum (getD g x (pos 0)) (doubled x (coefficient x (outer r))), w .below x, a .small x);
+          long = d .long ∙ w .long;
+          none = λ n. clash (cc);
         }
 
+-- ---- what the walk gives: the table is within the frame of the basis, and gives the squares
+module _ {s starts : List ℕ} {rows j : ℕ} {g₀ g : List ℤ} {any : Bool} (w : RowsFor s starts rows j (length g₀)) (k : Gathered (rowsBy s starts rows) j g₀ g any) where
+  abbrev on : List Row
+  on = rowsOn j (rowsBy s starts rows)
+
+  abbrev size : ℕ
+  size = length (basisOf (w .problem) j)
+
+  few : size ≤ 64
+  few = basis-few (w .problem) (w .rows-sound .limits) j
+
+  low : All (Low size) on
+  low = on-low (w .rows-sound) j
+
+  pub gathered-framed : Framed size gatheredMost g
+  gathered-framed =
+      record {
+        long = omega (arith, w .fits, k .long);
+        columns = λ x h. k .holds x ∙ ap (doubled x) (coefficient-none _ x (gram on) (gram-framed size few on low) (λ f. omega (arith, f .1))) ∙ *ℤ-zero (here x);
+        lower = λ x h. k .holds x ∙ ap (λ (z : ℤ). z *ℤ coefficient x (gram on)) (lower-never (x / 64) (x % 64) h) ∙ zero-*ℤ (coefficient x (gram on));
+        small = k .small;
+      }
+
+  -- it gives the squares of the rows, of whatever problem the basis and its multiplier are
+  pub gathered-squares : (p : Problem) (m : ℕ) → coefficient m (squares p on) ≡ spreadAt (basisOf p j) (multiplier p j) g m
+  gathered-squares p =
+      gram-table p j on (rows-on j (rowsBy s starts rows))
+      (all-map _ _ (λ (r : Row) a. all-map _ _ (λ (e : Entry) b. omega (arith, few)) (r .entries) a) on low) g (k .holds)
+
+-- without a row on basis j it stays empty
+pub gathered-none : {rs : List Row} {j : ℕ} {g₀ g : List ℤ} → Gathered rs j g₀ g false → Empty g
+unfolding gram coefficient
+gathered-none k x = k .holds x ∙ ap (λ (l : List Row). doubled x (coefficient x (gram l))) (k .none refl) ∙ *ℤ-zero (here x)
+
 -- ---- a row that keeps its limits, in arrays: what is added for it
-module _ {s : List ℕ} {from to : ℕ} (bytes : (i : ℕ) → getD s i 0 < 256) (k : LowRow s from to) where
-  abbrev here : Row
-  here = rowAt s from to
+module _ {s : List ℕ} {from to room : ℕ} (bytes : (i : ℕ) → getD s i 0 < 256) (k : LowRow s from to room) where
+  abbrev row : Row
+  row = rowAt s from to
 
-  pub low-few : length (here .entries) ≤ 64
-  low-few = rising-few (here .entries) (k .rising) (k .low)
+  pub low-few : length (row .entries) ≤ 64
+  low-few = rising-few (row .entries) (k .rising) (rows-low room (row .entries) (k .inside))
 
-  module _ {indices : List ℕ} {factors : List ℤ} {count : ℕ} (q : HoldsEntries (here .entries) indices factors count) where
-    pub low-entries : Entries indices factors count
-    low-entries = row-entries (here .entries) indices factors count q (k .rising) (k .low) (stand-small s bytes (k .stands .entries))
+  module _ {indices : List ℕ} {factors : List ℤ} {count : ℕ} (q : HoldsEntries (row .entries) indices factors count) where
+    pub low-entries : Entries indices factors count room
+    low-entries = row-entries (row .entries) indices factors count room q (k .rising) (k .inside) (stand-small s bytes (k .stands .entries))
 
-    products : (x : ℕ) → outerAt (here .weight) (termsIn count indices factors) x ≡ upper x (coefficient x (outer here))
-    products = outer-is here indices factors count q (k .low)
+    products : (x : ℕ) → outerAt (row .weight) (termsIn count indices factors) x ≡ doubled x (coefficient x (outer row))
+    products = outer-is row indices factors count q (rows-low room (row .entries) (k .inside))
 
-    products-small : (x : ℕ) → natAbs (outerAt (here .weight) (termsIn count indices factors) x) ≤ rowUnit
+    products-small : (x : ℕ) → natAbs (outerAt (row .weight) (termsIn count indices factors) x) ≤ rowUnit
     unfolding outerAt
-    products-small x = outer-bound _ _ _ low-entries (here .weight) (weight-small s bytes from) x count (omega arith)
+    products-small x = outer-bound _ _ _ _ low-entries (row .weight) (weight-small s bytes from) x count (omega arith)
 
-    pub low-added : {g g₂ : List ℤ} → Raised g (outerAt (here .weight) (termsIn count indices factors)) g₂ → RowAdded here g g₂
+    pub low-added : {g g₂ : List ℤ} → Raised g (outerAt (row .weight) (termsIn count indices factors)) g₂ → RowAdded row g g₂
     low-added d = record { raised = raised-same d products; small = λ x. rw (← products x) (products-small x) }
 
--- a row that is walked
-module _ {s starts : List ℕ} {rows : ℕ} (w : Walkable s starts rows) (t : ℕ) (h : t < rows) where
-  pub walked-low : LowRow s (getD starts t 0) (getD starts (t + 1) 0)
-  walked-low =
-      let r = rowAt s (getD starts t 0) (getD starts (t + 1) 0) in
-      let q = walk-sound w t h in
-      record {
-        stands = w .rows-sound .stand .each t h;
-        rising = q .rising;
-        low = all-map _ _ (λ (e : Entry) b. omega (arith, basis-few (w .problem) (w .rows-sound .limits) (r .basis))) (r .entries) (q .indices);
-      }
+-- a row on basis j that is walked
+pub walked-low : {s starts : List ℕ} {rows j room : ℕ} → RowsFor s starts rows j room → (t : ℕ) → t < rows → basisAt s (getD starts t 0) ≡ j
+    → LowRow s (getD starts t 0) (getD starts (t + 1) 0) room
+walked-low {s} {starts} {rows} w t h e =
+    let r = rowAt s (getD starts t 0) (getD starts (t + 1) 0) in
+    let q = walk-sound (record { problem = w .problem; rows-sound = w .rows-sound }) t h in
+    record {
+      stands = w .rows-sound .stand .each t h;
+      rising = q .rising;
+      inside = all-map _ _ (λ (i : Entry) b. omega (arith, basis-few (w .problem) (w .rows-sound .limits) (r .basis), w .fits, ap (λ (j : ℕ). length (basisOf (w .problem) j)) e)) (r .entries) (q .indices);
+    }
 
 -- ---- the loop of `read_row`: the arrays hold the entries before the offset x, and the others stand from there on
 pub record Filling (s : List ℕ) (to : ℕ) (es : List Entry) (indices : List ℕ) (factors : List ℤ) (n x : ℕ) : Type 0 where

@@ -6,11 +6,11 @@ use mathlib.Core.Logic.{⊎-elim}
 use Prim.Native.Nat.{ℕ, zero, suc, _+_, _*_, _/_, _%_, _<_}
 use native.Mathlib.Nat.{add-comm, eq-or-lt-of-le}
 use native.Mathlib.Omega.{arith}
-use lib.Dec.{eqb, leb, ltb}
+use lib.Dec.{leb, ltb}
 use lib.IntN.{ℤ, pos, _+ℤ_, _*ℤ_, *ℤ-zero, zero-*ℤ, +ℤ-idl}
 use lib.ListN.{getD}
 use borrow.Author.Tests.{eq-eqb, ne-eqb, leb-true, leb-false, lt-ltb, le-ltb}
-use Rattle.integers.proofs.Ring.{view, diffs, ⊖-eq}
+use Rattle.integers.proofs.Ring.{view, diffs, ⊖-eq, *ℤ-assoc, *ℤ-left-comm}
 use Rattle.counting.specs.Counting.{listed}
 use Rattle.polynomial.specs.Terms.{Term, term}
 use Rattle.polynomial.specs.Algebra.{sum, match, coefficient, _⊗_}
@@ -21,7 +21,8 @@ use Rattle.format.specs.ProblemBases.{basisOf, multiplier}
 use Rattle.format.specs.All.{All}
 use Rattle.format.specs.CertificateRules.{Entry, Row}
 use Rattle.accepting.specs.Identity.{squares}
-use Rattle.row_products.specs.Gram.{factorTerms, rekeyed, outer, gram, pairKey, tableTerms, upper, times}
+use Rattle.row_products.specs.Gram.{factorTerms, rekeyed, outer, gram, tableTerms, times, doubled}
+use Rattle.row_products.specs.Frame.{spreadAt}
 use Rattle.row_products.proofs.Gram.{sum-same, sum-rekeyed, factors-small, gram-places, at, under, place-key, rows-gram}
 
 -- ---- sums over one list and over two
@@ -41,7 +42,7 @@ module _ (a b : ℕ → ℤ) where
   sum-plus [] = refl
   sum-plus (t ∷ P) = rw (sum-plus P) (plus-step (t .coefficient) (a (t .key)) (b (t .key)) (sum a P) (sum b P))
 
-sum-times : (x : ℤ) (m : ℕ → ℤ) (P : List Term) → sum (λ k. x *ℤ m k) P ≡ x *ℤ sum m P
+pub sum-times : (x : ℤ) (m : ℕ → ℤ) (P : List Term) → sum (λ k. x *ℤ m k) P ≡ x *ℤ sum m P
 sum-times x m [] = sym (*ℤ-zero x)
 sum-times x m (t ∷ P) = rw (sum-times x m P) (step (t .coefficient) x (m (t .key)) (sum m P))
   where
@@ -62,9 +63,6 @@ pairs-plus : (f g : ℕ → ℕ → ℤ) (F : List Term) → pairs (λ i k. f i 
 pairs-plus f g F = sum-alike _ _ (λ i. sum-plus (f i) (g i) F) F ∙ sum-plus (λ i. sum (f i) F) (λ i. sum (g i) F) F
 
 -- ---- the half
-abbrev weight : ℕ → ℕ → ℤ
-weight i k = cond (leb i k) (cond (eqb i k) (pos 1) (pos 2)) (pos 0)
-
 module _ (m : ℕ → ℕ → ℤ) where
   abbrev below : ℕ → ℕ → ℤ
   below i k = cond (ltb k i) (m i k) (pos 0)
@@ -84,7 +82,7 @@ module _ (m : ℕ → ℕ → ℤ) where
 
   module _ (symmetric : (i k : ℕ) → i < 64 → k < 64 → m i k ≡ m k i) where
     -- what is below the diagonal, mirrored, and what is not
-    mirrored : (i k : ℕ) → i < 64 → k < 64 → below k i +ℤ above i k ≡ weight i k *ℤ m i k
+    mirrored : (i k : ℕ) → i < 64 → k < 64 → below k i +ℤ above i k ≡ times i k *ℤ m i k
     mirrored i k a b = go (leb i k) refl
       where
         two : (z : ℤ) → z +ℤ z ≡ pos 2 *ℤ z
@@ -93,7 +91,7 @@ module _ (m : ℕ → ℕ → ℤ) where
         one : (z : ℤ) → pos 0 +ℤ z ≡ pos 1 *ℤ z
         one z = rw (view z .eq) (simp diffs (⊖-eq _ _ _ _ (omega arith)))
 
-        go : (b : Bool) → leb i k ≡ b → below k i +ℤ above i k ≡ weight i k *ℤ m i k
+        go : (b : Bool) → leb i k ≡ b → below k i +ℤ above i k ≡ times i k *ℤ m i k
         go true e =
             ⊎-elim
             (λ q. rw (le-ltb i k (omega arith), e, eq-eqb i k q) (one (m i k)))
@@ -101,7 +99,7 @@ module _ (m : ℕ → ℕ → ℤ) where
             (eq-or-lt-of-le {n = i} {m = k} (leb-true i k e))
         go false e = let l = leb-false i k e in rw (le-ltb i k (omega arith), e) (sym (zero-*ℤ (m i k)))
 
-    halved : (F : List Term) → Keys (λ i. i < 64) F → pairs m F ≡ pairs (λ i k. weight i k *ℤ m i k) F
+    halved : (F : List Term) → Keys (λ i. i < 64) F → pairs m F ≡ pairs (λ i k. times i k *ℤ m i k) F
     halved F low =
         sum-alike _ _ (λ i. sum-alike _ _ (parted i) F) F
         ∙ pairs-plus below above F
@@ -112,7 +110,7 @@ module _ (m : ℕ → ℕ → ℤ) where
 -- ---- the products of the rows
 module _ (M : ℕ → ℤ) (symmetric : (i k : ℕ) → i < 64 → k < 64 → M (64 * i + k) ≡ M (64 * k + i)) where
   abbrev half : ℕ → ℤ
-  half n = upper n (times n) *ℤ M n
+  half n = doubled n (M n)
 
   outer-pairs : (m : ℕ → ℤ) (r : Row) → sum m (outer r) ≡ r .weight *ℤ pairs (λ i k. m (64 * i + k)) (factorTerms (r .entries))
   outer-pairs m r =
@@ -120,7 +118,7 @@ module _ (M : ℕ → ℤ) (symmetric : (i k : ℕ) → i < 64 → k < 64 → M 
       sum-scale m (r .weight) (rekeyed (λ i. 64 * i) F ⊗ F)
       ∙ ap (λ (z : ℤ). r .weight *ℤ z) (sum-⊗ m (rekeyed (λ i. 64 * i) F) F ∙ sum-rekeyed _ (λ i. 64 * i) F)
 
-  half-at : (i k : ℕ) → k < 64 → weight i k *ℤ M (64 * i + k) ≡ half (64 * i + k)
+  half-at : (i k : ℕ) → k < 64 → times i k *ℤ M (64 * i + k) ≡ half (64 * i + k)
   half-at i k h =
       let q : (64 * i + k) / 64 ≡ i = omega arith in
       let r : (64 * i + k) % 64 ≡ k = omega arith in
@@ -140,36 +138,32 @@ module _ (M : ℕ → ℤ) (symmetric : (i k : ℕ) → i < 64 → k < 64 → M 
   gram-half [] h = refl
   gram-half (r ∷ rs) h = rw (sum-append M (outer r) (gram rs), sum-append half (outer r) (gram rs), outer-half r (h .0), gram-half rs (h .1))
 
-  -- a table of the upper half, with what is off the diagonal doubled
-  listed-same-sum : (f f′ m m′ : ℕ → ℤ) (n : ℕ) → ((i : ℕ) → i < n → f i *ℤ m i ≡ f′ i *ℤ m′ i) → sum m (listed n (λ i. term i (f i))) ≡ sum m′ (listed n (λ i. term i (f′ i)))
+  -- a table of half of it, doubled
+  listed-same-sum : (f f′ m m′ : ℕ → ℤ) (n : ℕ) → ((i : ℕ) → f i *ℤ m i ≡ f′ i *ℤ m′ i) → sum m (listed n (λ i. term i (f i))) ≡ sum m′ (listed n (λ i. term i (f′ i)))
   unfolding listed
   listed-same-sum f f′ m m′ zero h = refl
   listed-same-sum f f′ m m′ (suc n) h =
-      rw (sum-append m (listed n (λ i. term i (f i))) (term n (f n) ∷ []), sum-append m′ (listed n (λ i. term i (f′ i))) (term n (f′ n) ∷ []), listed-same-sum f f′ m m′ n (λ i b. h i (omega arith)), h n (omega arith))
+      rw (sum-append m (listed n (λ i. term i (f i))) (term n (f n) ∷ []), sum-append m′ (listed n (λ i. term i (f′ i))) (term n (f′ n) ∷ []), listed-same-sum f f′ m m′ n h, h n)
 
-  upper-moved : (n : ℕ) (c t x : ℤ) → upper n c *ℤ (t *ℤ x) ≡ c *ℤ (upper n t *ℤ x)
-  upper-moved n c t x = go (leb (n / 64) (n % 64))
-    where
-      go : (b : Bool) → cond b c (pos 0) *ℤ (t *ℤ x) ≡ c *ℤ (cond b t (pos 0) *ℤ x)
-      go true = refl
-      go false = rw (zero-*ℤ (t *ℤ x), zero-*ℤ x) (sym (*ℤ-zero c))
+  doubled-moved : (n : ℕ) (c x : ℤ) → doubled n c *ℤ x ≡ c *ℤ doubled n x
+  doubled-moved n c x = *ℤ-assoc (times (n / 64) (n % 64)) c x ∙ *ℤ-left-comm (times (n / 64) (n % 64)) c x
 
-  upper-table : (rs : List Row) → All (λ (r : Row). All (λ (e : Entry). e .index < 64) (r .entries)) rs → (table : List ℤ)
-      → ((n : ℕ) → n < 4096 → getD table n (pos 0) ≡ upper n (coefficient n (gram rs))) → sum M (gram rs) ≡ sum (λ n. times n *ℤ M n) (tableTerms table)
-  upper-table rs small table e =
+  half-table : (rs : List Row) → All (λ (r : Row). All (λ (e : Entry). e .index < 64) (r .entries)) rs → (table : List ℤ)
+      → ((n : ℕ) → getD table n (pos 0) ≡ doubled n (coefficient n (gram rs))) → sum M (gram rs) ≡ sum M (tableTerms table)
+  half-table rs small table e =
       gram-half rs small
       ∙ gram-places rs small half
-      ∙ listed-same-sum (λ n. coefficient n (gram rs)) (λ n. getD table n (pos 0)) half (λ n. times n *ℤ M n) 4096
-      (λ n b. sym (ap (λ (z : ℤ). z *ℤ (times n *ℤ M n)) (e n b) ∙ upper-moved n (coefficient n (gram rs)) (times n) (M n)))
+      ∙ listed-same-sum (λ n. coefficient n (gram rs)) (λ n. getD table n (pos 0)) half M 4096
+      (λ n. sym (ap (λ (z : ℤ). z *ℤ M n) (e n) ∙ doubled-moved n (coefficient n (gram rs)) (M n)))
 
--- ---- the law: a table with the upper half of the rows' products gives the same polynomial as the rows
+-- ---- the law: a table with half of the rows' products, doubled, gives the same polynomial as the rows
 module _ (p : Problem) (j : ℕ) where
   pair-symmetric : (m : ℕ → ℤ) (i k : ℕ) → i < 64 → k < 64 → at p j m (64 * i + k) ≡ at p j m (64 * k + i)
   pair-symmetric m i k a b =
       ap (under p j m) (place-key p j i k b ∙ add-comm (getD (basisOf p j) i 0) (getD (basisOf p j) k 0) ∙ sym (place-key p j k i a))
 
   pub gram-table : (rs : List Row) → All (λ (r : Row). r .basis ≡ j) rs → All (λ (r : Row). All (λ (e : Entry). e .index < 64) (r .entries)) rs
-      → (table : List ℤ) → ((n : ℕ) → n < 4096 → getD table n (pos 0) ≡ upper n (coefficient n (gram rs)))
-      → (k : ℕ) → coefficient k (squares p rs) ≡ sum (λ n. times n *ℤ sum (λ t. match k (pairKey (basisOf p j) n + t)) (multiplier p j)) (tableTerms table)
-  unfolding coefficient
-  gram-table rs on small table e k = rows-gram p j (match k) rs on small ∙ upper-table (at p j (match k)) (pair-symmetric (match k)) rs small table e
+      → (table : List ℤ) → ((n : ℕ) → getD table n (pos 0) ≡ doubled n (coefficient n (gram rs)))
+      → (k : ℕ) → coefficient k (squares p rs) ≡ spreadAt (basisOf p j) (multiplier p j) table k
+  unfolding coefficient spreadAt
+  gram-table rs on small table e k = rows-gram p j (match k) rs on small ∙ half-table (at p j (match k)) (pair-symmetric (match k)) rs small table e

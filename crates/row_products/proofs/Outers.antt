@@ -3,21 +3,23 @@ use mathlib.Core.Path.{_≡_, refl, sym, ap, _∙_, subst}
 use mathlib.Core.Bool.{Bool, true, false, cond}
 use mathlib.Core.List.{List}
 use mathlib.Core.Logic.{⊎-elim}
-use Prim.Native.Nat.{ℕ, zero, suc, _+_, _-_, _*_, _/_, _^_, _≤_, _<_}
-use native.Mathlib.Nat.{eq-or-lt-of-le}
+use Prim.Native.Nat.{ℕ, zero, suc, _+_, _-_, _*_, _/_, _≤_, _<_}
 use native.Mathlib.Numerals.{add-one}
 use native.Mathlib.Omega.{arith}
 use borrow.Author.Tests.{eq-eqb, ne-eqb, le-leb, lt-leb}
 use lib.Dec.{eqb, leb}
-use lib.IntN.{ℤ, pos, one, natAbs, _+ℤ_, _*ℤ_, +ℤ-assoc, +ℤ-idl, +ℤ-idr, *ℤ-zero, *ℤ-one}
-use lib.ListN.{length, getD, set, replicate, length-set, length-replicate, getD-replicate}
+use lib.IntN.{ℤ, pos, one, natAbs, _+ℤ_, _*ℤ_, +ℤ-assoc, +ℤ-idl, +ℤ-idr, *ℤ-zero, zero-*ℤ, *ℤ-one}
+use lib.ListN.{length, getD, set, length-set}
 use lib.Seq.{getD-set-same, getD-set-other}
 use Rattle.integers.proofs.Ranges.{abs-sum, abs-mul-le}
+use Rattle.integers.proofs.Ring.{view, diffs, ⊖-eq}
 use Rattle.counting.proofs.Listed.{same-or-not}
 use Rattle.polynomial.specs.Terms.{Term}
 use Rattle.flat.specs.TermArrays.{termsIn}
 use Rattle.polynomial.specs.Algebra.{sum, match}
-use Rattle.row_products.specs.Outer.{rowUnit, Entries, Below, Raised, above, inRow, outerAt}
+use Rattle.row_products.specs.Gram.{times}
+use Rattle.row_products.specs.Frame.{Below}
+use Rattle.row_products.specs.Outer.{weightMost, factorMost, rowUnit, Entries, Raised, above, inRow}
 use Rattle.row_products.proofs.Prefixes.{at, sum-none, sum-more, times-more}
 
 pub match-other : (x y : ℕ) → (y ≡ x → ⊥) → match x y ≡ pos 0
@@ -30,27 +32,34 @@ match-small x y = go (eqb y x)
     go true = omega arith
     go false = omega arith
 
--- ---- the places on and above the diagonal
+-- ---- how often a product counts
+module _ (i k : ℕ) where
+  pub lower-never : k < i → times i k ≡ pos 0
+  lower-never h = rw (lt-leb i k h)
+
+  upper-twice : i < k → times i k ≡ pos 2
+  upper-twice h = rw (le-leb i k (omega arith), ne-eqb i k (λ e. omega arith))
+
+  times-small : natAbs (times i k) ≤ 2
+  times-small = go (leb i k) (eqb i k)
+    where
+      go : (a b : Bool) → natAbs (cond a (cond b (pos 1) (pos 2)) (pos 0)) ≤ 2
+      go true true = omega arith
+      go true false = omega arith
+      go false b = omega arith
+
+diagonal-once : (i : ℕ) → times i i ≡ pos 1
+diagonal-once i = rw (le-leb i i (omega arith), eq-eqb i i refl)
+
 module _ (x i k : ℕ) where
   pub above-other : (64 * i + k ≡ x → ⊥) → above x i k ≡ pos 0
-  above-other f = go (leb i k)
-    where
-      go : (b : Bool) → cond b (match x (64 * i + k)) (pos 0) ≡ pos 0
-      go true = match-other x (64 * i + k) f
-      go false = refl
+  above-other f = ap (λ (z : ℤ). times i k *ℤ z) (match-other x (64 * i + k) f) ∙ *ℤ-zero (times i k)
 
-  above-small : natAbs (above x i k) ≤ 1
-  above-small = go (leb i k)
-    where
-      go : (b : Bool) → natAbs (cond b (match x (64 * i + k)) (pos 0)) ≤ 1
-      go true = match-small x (64 * i + k)
-      go false = omega arith
+  above-small : natAbs (above x i k) ≤ 2
+  above-small = abs-mul-le (times i k) (match x (64 * i + k)) 2 1 (times-small i k) (match-small x (64 * i + k))
 
-  above-low : k < i → above x i k ≡ pos 0
-  above-low h = rw (lt-leb i k h)
-
-  above-high : i ≤ k → above x i k ≡ match x (64 * i + k)
-  above-high h = rw (le-leb i k h)
+  above-lower : k < i → above x i k ≡ pos 0
+  above-lower h = ap (λ (z : ℤ). z *ℤ match x (64 * i + k)) (lower-never i k h) ∙ zero-*ℤ (match x (64 * i + k))
 
 -- ---- a sum in which at most one term counts is no larger than that term
 module _ (m : ℕ → ℤ) (E : List ℕ) (C : List ℤ) where
@@ -81,102 +90,81 @@ module _ (m : ℕ → ℤ) (E : List ℕ) (C : List ℤ) where
       (same-or-not (getD E n 0) y)
 
 -- ---- the entries of a row
-module _ (E : List ℕ) (C : List ℤ) (count : ℕ) (e : Entries E C count) where
+module _ (E : List ℕ) (C : List ℤ) (count room : ℕ) (e : Entries E C count room) where
   abbrev F : List Term
   F = termsIn count E C
 
   -- one entry with the first n
-  inner-small : (x i n : ℕ) → n ≤ count → natAbs (inRow (termsIn n E C) x i) ≤ 2 ^ 15
+  inner-small : (x i n : ℕ) → n ≤ count → natAbs (inRow (termsIn n E C) x i) ≤ factorMost * 2
   inner-small x i n h =
-      omega (
-        arith,
-        single (above x i) E C (x - 64 * i) 1 (2 ^ 15) (λ k f. above-other x i k (λ q. f (omega arith))) (above-small x i) n
-            (λ i k a b. e .rising i k a (omega arith)) (λ k b. e .factors-small k (omega arith)),
-      )
+      single (above x i) E C (x - 64 * i) 2 factorMost (λ k f. above-other x i k (λ q. f (omega arith))) (above-small x i) n
+      (λ i k a b. e .rising i k a (omega arith)) (λ k b. e .factors-small k (omega arith))
 
   other-row : (x i : ℕ) → (i ≡ x / 64 → ⊥) → inRow F x i ≡ pos 0
-  other-row x i f = sum-zero (above x i) E C count (λ k b. above-other x i (getD E k 0) (λ q. f (let l = e .indices-low k b in omega arith)))
+  other-row x i f = sum-zero (above x i) E C count (λ k b. above-other x i (getD E k 0) (λ q. f (let l = e .inside k b in omega arith)))
 
   -- the entries before one have lower indices
   pub before-none : (first : ℕ) → first < count → (x : ℕ) → inRow (termsIn first E C) x (getD E first 0) ≡ pos 0
-  before-none first h x = sum-zero (above x (getD E first 0)) E C first (λ k b. above-low x (getD E first 0) (getD E k 0) (e .rising k first b h))
-
-  -- and those from it on have no lower ones
-  pub from-high : (first k : ℕ) → first ≤ k → k < count → (x : ℕ) → above x (getD E first 0) (getD E k 0) ≡ match x (64 * getD E first 0 + getD E k 0)
-  from-high first k l h x =
-      above-high x (getD E first 0) (getD E k 0)
-      (⊎-elim (λ q. omega (arith, ap (λ (i : ℕ). getD E i 0) q)) (λ b. omega (arith, e .rising first k b h)) (eq-or-lt-of-le {n = first} {m = k} l))
+  before-none first h x = sum-zero (above x (getD E first 0)) E C first (λ k b. above-lower x (getD E first 0) (getD E k 0) (e .rising k first b h))
 
   -- the first n entries with all
-  outer-small : (x n : ℕ) → n ≤ count → natAbs (sum (inRow F x) (termsIn n E C)) ≤ 2 ^ 30
+  outer-small : (x n : ℕ) → n ≤ count → natAbs (sum (inRow F x) (termsIn n E C)) ≤ factorMost * (factorMost * 2)
   outer-small x n h =
-      omega (
-        arith,
-        single (inRow F x) E C (x / 64) (2 ^ 15) (2 ^ 15) (other-row x) (λ i. inner-small x i count (omega arith)) n
-            (λ i k a b. e .rising i k a (omega arith)) (λ k b. e .factors-small k (omega arith)),
-      )
+      single (inRow F x) E C (x / 64) (factorMost * 2) factorMost (other-row x) (λ i. inner-small x i count (omega arith)) n
+      (λ i k a b. e .rising i k a (omega arith)) (λ k b. e .factors-small k (omega arith))
 
-  pub inner-bound : (a : ℤ) → natAbs a ≤ 2 ^ 31 → (x i n : ℕ) → n ≤ count → natAbs (a *ℤ inRow (termsIn n E C) x i) ≤ rowUnit
-  inner-bound a h x i n l = abs-mul-le a (inRow (termsIn n E C) x i) (2 ^ 31) (2 ^ 15) h (inner-small x i n l)
+  pub inner-bound : (a : ℤ) → natAbs a ≤ weightMost * factorMost → (x i n : ℕ) → n ≤ count → natAbs (a *ℤ inRow (termsIn n E C) x i) ≤ rowUnit
+  inner-bound a h x i n l = abs-mul-le a (inRow (termsIn n E C) x i) (weightMost * factorMost) (factorMost * 2) h (inner-small x i n l)
 
-  pub outer-bound : (w : ℤ) → natAbs w ≤ 2 ^ 16 → (x n : ℕ) → n ≤ count → natAbs (w *ℤ sum (inRow F x) (termsIn n E C)) ≤ rowUnit
-  outer-bound w h x n l = abs-mul-le w (sum (inRow F x) (termsIn n E C)) (2 ^ 16) (2 ^ 30) h (outer-small x n l)
+  pub outer-bound : (w : ℤ) → natAbs w ≤ weightMost → (x n : ℕ) → n ≤ count → natAbs (w *ℤ sum (inRow F x) (termsIn n E C)) ≤ rowUnit
+  outer-bound w h x n l = abs-mul-le w (sum (inRow F x) (termsIn n E C)) weightMost (factorMost * (factorMost * 2)) h (outer-small x n l)
 
 -- ---- the turns of the loops: x times the sum over the first t entries
 pub record Raising (g₀ : List ℤ) (m : ℕ → ℕ → ℤ) (x : ℤ) (E : List ℕ) (C : List ℤ) (t : ℕ) (g₁ : List ℤ) : Type 0 where
   pub raised : Raised g₀ (λ y. x *ℤ sum (m y) (termsIn t E C)) g₁
 
 module _ {g₀ : List ℤ} {m : ℕ → ℕ → ℤ} {x : ℤ} {E : List ℕ} {C : List ℤ} where
-  pub raising-from : {t : ℕ} → length g₀ ≡ 4096 → ((y : ℕ) → sum (m y) (termsIn t E C) ≡ pos 0) → Raising g₀ m x E C t g₀
-  raising-from {t} l e =
-      record { raised = record { long = l; there = λ y b. sym (ap (λ (z : ℤ). getD g₀ y (pos 0) +ℤ x *ℤ z) (e y) ∙ ap (λ (z : ℤ). getD g₀ y (pos 0) +ℤ z) (*ℤ-zero x) ∙ +ℤ-idr (getD g₀ y (pos 0))) } }
+  pub raising-from : {t : ℕ} → ((y : ℕ) → sum (m y) (termsIn t E C) ≡ pos 0) → Raising g₀ m x E C t g₀
+  raising-from {t} e =
+      record { raised = record { long = refl; there = λ y. sym (ap (λ (z : ℤ). getD g₀ y (pos 0) +ℤ x *ℤ z) (e y) ∙ ap (λ (z : ℤ). getD g₀ y (pos 0) +ℤ z) (*ℤ-zero x) ∙ +ℤ-idr (getD g₀ y (pos 0))) } }
 
-  pub raising-start : length g₀ ≡ 4096 → Raising g₀ m x E C 0 g₀
+  pub raising-start : Raising g₀ m x E C 0 g₀
   unfolding termsIn
-  raising-start l = raising-from l (λ y. sum-none (m y) (at E C))
+  raising-start = raising-from (λ y. sum-none (m y) (at E C))
 
   pub raising-more : {g₁ g₂ : List ℤ} {t : ℕ} → Raising g₀ m x E C t g₁ → Raised g₁ (λ y. x *ℤ getD C t (pos 0) *ℤ m y (getD E t 0)) g₂ → Raising g₀ m x E C (t + 1) g₂
   unfolding termsIn
   raising-more {g₁} {g₂} {t} h k =
       record {
         raised = record {
-          long = k .long;
-          there = λ y b.
-              k .there y b
-              ∙ ap (λ (z : ℤ). z +ℤ x *ℤ getD C t (pos 0) *ℤ m y (getD E t 0)) (h .raised .there y b)
+          long = k .long ∙ h .raised .long;
+          there = λ y.
+              k .there y
+              ∙ ap (λ (z : ℤ). z +ℤ x *ℤ getD C t (pos 0) *ℤ m y (getD E t 0)) (h .raised .there y)
               ∙ +ℤ-assoc (getD g₀ y (pos 0)) (x *ℤ sum (m y) (termsIn t E C)) (x *ℤ getD C t (pos 0) *ℤ m y (getD E t 0))
               ∙ ap (λ (z : ℤ). getD g₀ y (pos 0) +ℤ z) (times-more (m y) (at E C) x t);
         };
       }
 
-  pub raising-below : {g₁ : List ℤ} {t c d : ℕ} → Raising g₀ m x E C t g₁ → Below c g₀ → ((y : ℕ) → natAbs (x *ℤ sum (m y) (termsIn t E C)) ≤ d) → Below (c + d) g₁
-  raising-below {g₁} {t} h b f =
-      record {
-        long = h .raised .long;
-        small = λ y l.
-            let e = ap natAbs (h .raised .there y l) in
-            omega (arith, abs-sum (getD g₀ y (pos 0)) (x *ℤ sum (m y) (termsIn t E C)), b .small y l, f y);
-      }
+  pub raising-below : {g₁ : List ℤ} {t : ℕ} (c d : ℕ) → Raising g₀ m x E C t g₁ → Below c g₀ → ((y : ℕ) → natAbs (x *ℤ sum (m y) (termsIn t E C)) ≤ d) → Below (c + d) g₁
+  raising-below {g₁} {t} c d h b f y =
+      let e = ap natAbs (h .raised .there y) in
+      omega (arith, abs-sum (getD g₀ y (pos 0)) (x *ℤ sum (m y) (termsIn t E C)), b y, f y)
+
+  -- the last turn
+  pub raising-end : {g₁ : List ℤ} {t n : ℕ} → Raising g₀ m x E C t g₁ → t ≡ n → Raised g₀ (λ y. x *ℤ sum (m y) (termsIn n E C)) g₁
+  raising-end {g₁} h e = subst (λ (n : ℕ). Raised g₀ (λ y. x *ℤ sum (m y) (termsIn n E C)) g₁) e (h .raised)
 
 pub raised-same : {g₀ g₁ : List ℤ} {f h : ℕ → ℤ} → Raised g₀ f g₁ → ((y : ℕ) → f y ≡ h y) → Raised g₀ h g₁
-raised-same {g₀} r e = record { long = r .long; there = λ y b. r .there y b ∙ ap (λ (z : ℤ). getD g₀ y (pos 0) +ℤ z) (e y) }
-
--- all entries with all
-pub raising-all : {g₀ g₁ : List ℤ} {w : ℤ} {count t : ℕ} {E : List ℕ} {C : List ℤ} → Raising g₀ (inRow (termsIn count E C)) w E C t g₁ → t ≡ count → Raised g₀ (outerAt w (termsIn count E C)) g₁
-unfolding outerAt
-raising-all {g₀} {g₁} {w} {count} {t} {E} {C} h e = subst (λ (n : ℕ). Raised g₀ (λ y. w *ℤ sum (inRow (termsIn count E C) y) (termsIn n E C)) g₁) e (h .raised)
-
--- a table of zeros
-pub none-below : Below 0 (replicate 4096 (pos 0))
-none-below = record { long = length-replicate 4096 (pos 0); small = λ x h. let e = ap natAbs (getD-replicate 4096 x (pos 0) (pos 0) h) in omega arith }
+raised-same {g₀} r e = record { long = r .long; there = λ y. r .there y ∙ ap (λ (z : ℤ). getD g₀ y (pos 0) +ℤ z) (e y) }
 
 -- one number added at a place
-pub raised-set : (g : List ℤ) (y : ℕ) (v : ℤ) → length g ≡ 4096 → y < 4096 → Raised g (λ z. v *ℤ match z y) (set g y (getD g y (pos 0) +ℤ v))
+pub raised-set : (g : List ℤ) (y : ℕ) (v : ℤ) → y < length g → Raised g (λ z. v *ℤ match z y) (set g y (getD g y (pos 0) +ℤ v))
 unfolding one
-raised-set g y v l b =
+raised-set g y v b =
     record {
-      long = length-set g y _ ∙ l;
-      there = λ z h.
+      long = length-set g y _;
+      there = λ z.
           ⊎-elim
           (λ e. subst (λ (w : ℕ). getD (set g y (getD g y (pos 0) +ℤ v)) w (pos 0) ≡ getD g w (pos 0) +ℤ v *ℤ match w y) (sym e) here)
           (λ d.
@@ -186,4 +174,20 @@ raised-set g y v l b =
     }
   where
     here : getD (set g y (getD g y (pos 0) +ℤ v)) y (pos 0) ≡ getD g y (pos 0) +ℤ v *ℤ match y y
-    here = rw (eq-eqb y y refl) (getD-set-same g y (getD g y (pos 0) +ℤ v) (pos 0) (omega arith) ∙ ap (λ (u : ℤ). getD g y (pos 0) +ℤ u) (sym (*ℤ-one v)))
+    here = rw (eq-eqb y y refl) (getD-set-same g y (getD g y (pos 0) +ℤ v) (pos 0) b ∙ ap (λ (u : ℤ). getD g y (pos 0) +ℤ u) (sym (*ℤ-one v)))
+
+-- the product of an entry with itself, and with a later one
+module _ (a f : ℤ) (i : ℕ) {g₀ g₁ : List ℤ} where
+  pub added-once : Raised g₀ (λ z. a *ℤ f *ℤ match z (65 * i)) g₁ → Raised g₀ (λ z. a *ℤ f *ℤ above z i i) g₁
+  added-once r =
+      let e : 65 * i ≡ 64 * i + i = omega arith in
+      raised-same r (λ z. rw (e, diagonal-once i) (ap (λ (v : ℤ). a *ℤ f *ℤ v) (once (match z (64 * i + i)))))
+    where
+      once : (z : ℤ) → z ≡ pos 1 *ℤ z
+      once z = rw (view z .eq) (simp diffs (⊖-eq _ _ _ _ (omega arith)))
+
+  pub added-twice : (k : ℕ) → i < k → Raised g₀ (λ z. pos 2 *ℤ a *ℤ f *ℤ match z (64 * i + k)) g₁ → Raised g₀ (λ z. a *ℤ f *ℤ above z i k) g₁
+  added-twice k h r = raised-same r (λ z. rw (upper-twice i k h) (twice a f (match z (64 * i + k))))
+    where
+      twice : (a f m : ℤ) → pos 2 *ℤ a *ℤ f *ℤ m ≡ a *ℤ f *ℤ (pos 2 *ℤ m)
+      twice a f m = rw (view a .eq, view f .eq, view m .eq) (simp diffs (⊖-eq _ _ _ _ (omega arith)))

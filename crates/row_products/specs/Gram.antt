@@ -5,7 +5,7 @@ use mathlib.Core.Bool.{cond}
 use mathlib.Core.List.{List, [], _∷_, _++_}
 use Prim.Native.Nat.{ℕ, zero, suc, _+_, _*_, _/_, _%_}
 use lib.Dec.{eqb, leb}
-use lib.IntN.{ℤ, pos}
+use lib.IntN.{ℤ, pos, _*ℤ_}
 use lib.ListN.{getD}
 use Rattle.counting.specs.Counting.{listed}
 use Rattle.polynomial.specs.Terms.{Term, term}
@@ -42,13 +42,14 @@ pairKey B n = getD B (n / 64) 0 + getD B (n % 64) 0
 abbrev pub tableTerms : List ℤ → List Term
 tableTerms table = listed 4096 (λ n. term n (getD table n (pos 0)))
 
--- half of a symmetric matrix: what stands below the diagonal, at places with i' < i, is left out
-abbrev pub upper : ℕ → ℤ → ℤ
-upper n v = cond (leb (n / 64) (n % 64)) v (pos 0)
+-- how often the number at i and i' is taken where half of a symmetric matrix is kept: once on the diagonal, above it
+-- for its mirror image too, and never below it, where i' < i
+abbrev pub times : ℕ → ℕ → ℤ
+times i i′ = cond (leb i i′) (cond (eqb i i′) (pos 1) (pos 2)) (pos 0)
 
--- how often a number of the upper half counts: once on the diagonal, and else for its mirror image too
-abbrev pub times : ℕ → ℤ
-times n = cond (eqb (n / 64) (n % 64)) (pos 1) (pos 2)
+-- the number at a place, as often
+abbrev pub doubled : ℕ → ℤ → ℤ
+doubled n v = times (n / 64) (n % 64) *ℤ v
 
 -- each entry of a matrix times b × b' times g_j
 abbrev pub expanded : Problem → ℕ → List Term → List Term

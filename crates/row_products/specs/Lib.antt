@@ -1,5 +1,5 @@
 pub mod Gram
-pub mod Outer
 pub mod Frame
+pub mod Outer
 pub mod Fold
 pub mod Gather

@@ -1,21 +1,21 @@
-// The table of 64 x 64 sums: the products w * l * l' of the rows on one basis, read off the certificate's bytes by
-// their offsets, are summed by their indices; then the entries with the same product b * b' are summed at one place.
-// The compared keys have no part in it.
+// The table of sums, 64 places to an index: the products w * l * l' of the rows on one basis, read off the
+// certificate's bytes by their offsets, are summed by their indices, on and above the diagonal; then the entries with
+// the same product b * b' are summed at one place. The compared keys have no part in it.
 ghost use mathlib.Core.Path.{_≡_};
 ghost use mathlib.Core.Bool.{true};
 ghost use mathlib.Core.List.{List};
 ghost use Prim.Native.Nat.{ℕ, _+_, _*_, _^_, _≤_, _<_};
 ghost use lib.IntN.{pos, natAbs, _*ℤ_};
 ghost use lib.ListN.{length, getD};
-ghost use Rattle.polynomial.specs.Terms.{Term};
+ghost use Rattle.polynomial.specs.Algebra.{match};
 ghost use Rattle.flat.specs.TermArrays.{termsIn};
 ghost use Rattle.counting.specs.Counting.{Bounded};
-ghost use Rattle.row_products.specs.Gram.{times};
-ghost use Rattle.certificate_reader.specs.Rows.{rowAt, rowsBy, RowStands, Walkable};
-ghost use Rattle.row_products.specs.Frame.{spreadAt, halfAt, Next, Framed, Entered};
-ghost use Rattle.row_products.specs.Fold.{foldedMost, WithProduct, Folded};
-ghost use Rattle.row_products.specs.Outer.{Entries, HoldsEntries, Below, Raised, inRow, outerAt};
-ghost use Rattle.row_products.specs.Gather.{LowRow, RowAdded, Gathered};
+ghost use Rattle.certificate_reader.specs.Rows.{rowAt, rowsBy, RowStands};
+ghost use Rattle.row_products.specs.Frame.{Empty, Below, Next, Framed, Entered};
+ghost use Rattle.row_products.specs.Outer.{weightMost, factorMost, gatheredMost, Entries, HoldsEntries};
+ghost use Rattle.row_products.specs.Outer.{Raised, inRow, outerAt};
+ghost use Rattle.row_products.specs.Fold.{WithProduct, Folded, FoldedTable};
+ghost use Rattle.row_products.specs.Gather.{RowsFor, LowRow, RowAdded, Gathered};
 
 // The entries of the row between two offsets, put into arrays; how many they are.
 fn read_row(
@@ -46,9 +46,25 @@ fn read_row(
     n
 }
 
-// Adds a times each factor of a row from entry `first` on, in the table's row of that entry's index.
+// Adds a times a factor to the entry at place x.
+fn add_at(g: &mut [i64], x: usize, a: i64, factor: i32)
+    requires { ⌜
+        (x < length (now g))
+        × Below (2 ^ 61) (now g)
+        × (natAbs a ≤ 2 * (weightMost * factorMost))
+        × (natAbs factor ≤ factorMost)
+        ⌝ }
+    ensures { λ _. ⌜ Raised (now (g .entry)) (λ y. a *ℤ factor *ℤ match y x) (now (g .exit)) ⌝ }
+{
+    let y = a * (factor as i64);
+    let z = g[x];
+    g[x] = z + y;
+}
+
+// Adds a times each factor of a row from entry `first` on, in the table's row of that entry's index: with itself once,
+// and with a later one twice, for its mirror image too.
 fn add_products(
-    g: &mut [i64; 4096],
+    g: &mut [i64],
     indices: &[u8; 64],
     factors: &[i32; 64],
     count: usize,
@@ -56,7 +72,10 @@ fn add_products(
     a: i64,
 )
     requires { ⌜
-        Entries (now indices) (now factors) count × Below (2 ^ 54) (now g) × (first < count) × (natAbs a ≤ 2 ^ 31)
+        Entries (now indices) (now factors) count (length (now g))
+        × Below (2 ^ 60) (now g)
+        × (first < count)
+        × (natAbs a ≤ weightMost * factorMost)
         ⌝ }
     ensures { λ _. ⌜
         Raised (now (g .entry))
@@ -64,21 +83,24 @@ fn add_products(
         (getD (now (indices .entry)) first 0)) (now (g .exit))
         ⌝ }
 {
-    let from = 64 * (indices[first] as usize);
-    let mut k = first;
+    let i = indices[first] as usize;
+    add_at(g, 65 * i, a, factors[first]);
+    let twice = 2 * a;
+    let mut k = first + 1;
     while k < count {
-        let x = from + (indices[k] as usize);
-        let y = a * (factors[k] as i64);
-        let z = g[x];
-        g[x] = z + y;
+        add_at(g, 64 * i + (indices[k] as usize), twice, factors[k]);
         k += 1;
     }
 }
 
 // Adds the products w * l * l' of each two entries of a row, an entry with itself and with those after it, to the table
 // of sums.
-fn add_outer(g: &mut [i64; 4096], indices: &[u8; 64], factors: &[i32; 64], count: usize, w: i64)
-    requires { ⌜ Entries (now indices) (now factors) count × Below (2 ^ 53) (now g) × (natAbs w ≤ 2 ^ 16) ⌝ }
+fn add_outer(g: &mut [i64], indices: &[u8; 64], factors: &[i32; 64], count: usize, w: i64)
+    requires { ⌜
+        Entries (now indices) (now factors) count (length (now g))
+        × Below gatheredMost (now g)
+        × (natAbs w ≤ weightMost)
+        ⌝ }
     ensures { λ _. ⌜
         Raised (now (g .entry)) (outerAt w (termsIn count (now (indices .entry)) (now (factors .entry))))
         (now (g .exit))
@@ -93,8 +115,8 @@ fn add_outer(g: &mut [i64; 4096], indices: &[u8; 64], factors: &[i32; 64], count
 }
 
 // Adds the products of the row between two offsets.
-fn add_row(g: &mut [i64; 4096], s: &[u8], from: usize, to: usize)
-    requires { ⌜ Below (2 ^ 53) (now g) × LowRow (now s) from to ⌝ }
+fn add_row(g: &mut [i64], s: &[u8], from: usize, to: usize)
+    requires { ⌜ Below gatheredMost (now g) × LowRow (now s) from to (length (now g)) ⌝ }
     ensures { λ _. ⌜ RowAdded (rowAt (now (s .entry)) from to) (now (g .entry)) (now (g .exit)) ⌝ }
 {
     let mut indices: [u8; 64] = [0; 64];
@@ -104,22 +126,28 @@ fn add_row(g: &mut [i64; 4096], s: &[u8], from: usize, to: usize)
     add_outer(g, &indices, &factors, n, w);
 }
 
-// Adds the products of the rows on basis j to the table of sums, which is empty. Other rows are stepped over.
-pub fn add_basis_rows(g: &mut [i64; 4096], s: &[u8], starts: &[usize; 129], rows: usize, j: usize)
-    requires { ⌜ Below 0 (now g) × Walkable (now s) (now starts) rows ⌝ }
-    ensures { λ _. ⌜ Gathered (rowsBy (now (s .entry)) (now (starts .entry)) rows) j (now (g .exit)) ⌝ }
+// Adds the products of the rows on basis j to the table of sums, which is empty; whether there is such a row. Other
+// rows are stepped over.
+pub fn add_basis_rows(g: &mut [i64], s: &[u8], starts: &[usize; 129], rows: usize, j: usize) -> bool
+    requires { ⌜ Empty (now g) × RowsFor (now s) (now starts) rows j (length (now g)) ⌝ }
+    ensures { λ r. ⌜
+        Gathered (rowsBy (now (s .entry)) (now (starts .entry)) rows) j (now (g .entry)) (now (g .exit)) r
+        ⌝ }
 {
+    let mut any = false;
     let mut r = 0;
     while r < rows {
         let at = starts[r];
         if certificate_reader::basis_at(s, at) == j {
             add_row(g, s, at, starts[r + 1]);
+            any = true;
         }
         r += 1;
     }
+    any
 }
 
-// The place after x, past the columns that no index of a basis of this size has.
+// The place after x on or above the diagonal, for a basis of this size.
 pub fn next_place(x: usize, size: usize) -> usize
     requires { ⌜ (x < 64 * size) × (size ≤ 64) ⌝ }
     ensures { λ r. ⌜ Next size x r ⌝ }
@@ -127,28 +155,17 @@ pub fn next_place(x: usize, size: usize) -> usize
     if x % 64 + 1 < size {
         return x + 1;
     }
-    64 * (x / 64 + 1)
+    65 * (x / 64 + 1)
 }
 
-// An entry on the diagonal counts once, and any other for its mirror image too.
-fn counted(x: usize, a: i64) -> i64
-    requires { ⌜ natAbs a ≤ 2 ^ 53 ⌝ }
-    ensures { λ r. ⌜ (r ≡ times x *ℤ a) × (natAbs r ≤ 2 ^ 54) ⌝ }
-{
-    if x / 64 == x % 64 {
-        return a;
-    }
-    2 * a
-}
-
-// Whether place y is one of the basis, with this product b * b'.
+// Whether place y is one of the basis, on or above the diagonal, with this product b * b'.
 fn is_pair(basis: &[u64], y: usize, key: u64) -> bool
     requires { ⌜ Bounded (8 * 2 ^ 56) (now basis) ⌝ }
     ensures { λ r. ⌜ (r ≡ true → WithProduct (now (basis .entry)) y key) ⌝ }
 {
     let i = y / 64;
     let k = y % 64;
-    if i < basis.len() {
+    if i <= k {
         if k < basis.len() {
             return basis[i] + basis[k] == key;
         }
@@ -156,7 +173,7 @@ fn is_pair(basis: &[u64], y: usize, key: u64) -> bool
     false
 }
 
-// At most 2^53 in size, so that there is room for an entry that counts twice.
+// At most 2^53 in size, so that there is room for another entry.
 fn is_low(z: i64) -> bool
     ensures { λ r. ⌜ (r ≡ true → natAbs z ≤ 2 ^ 53) ⌝ }
 {
@@ -168,9 +185,9 @@ fn is_low(z: i64) -> bool
 
 // Where `lasts` names a place with this product b * b'.
 fn hint(key: u64) -> usize
-    ensures { λ r. ⌜ r < 2048 ⌝ }
+    ensures { λ r. ⌜ r < 1024 ⌝ }
 {
-    (key % 2027) as usize
+    (key % 1017) as usize
 }
 
 // A number of 16 bits as a place.
@@ -180,14 +197,14 @@ fn wide(x: u16) -> usize
     x as usize
 }
 
-// Moves the entry at place x, as often as it counts, to an earlier place with the same product b * b', if `lasts` names
-// one. What it names is looked at before it is believed.
-fn fold_entry(g: &mut [i64; 4096], basis: &[u64], lasts: &mut [u16; 2048], x: usize)
+// Moves the entry at place x to an earlier place with the same product b * b', if `lasts` names one. What it names is
+// looked at before it is believed.
+fn fold_entry(g: &mut [i64], basis: &[u64], lasts: &mut [u16; 1024], x: usize)
     requires { ⌜
         Bounded (8 * 2 ^ 56) (now basis)
         × (x < 4096)
-        × Entered (2 ^ 53) (now basis) x (getD (now g) x (pos 0))
-        × (length (now g) ≡ 4096)
+        × (x < length (now g))
+        × Entered gatheredMost (now basis) x (getD (now g) x (pos 0))
         ⌝ }
     ensures { λ _. ⌜ Folded (now (basis .entry)) x (now (g .entry)) (now (g .exit)) ⌝ }
 {
@@ -195,7 +212,6 @@ fn fold_entry(g: &mut [i64; 4096], basis: &[u64], lasts: &mut [u16; 2048], x: us
     if a == 0 {
         return;
     }
-    let v = counted(x, a);
     let i = x / 64;
     let k = x % 64;
     let key = basis[i] + basis[k];
@@ -205,34 +221,31 @@ fn fold_entry(g: &mut [i64; 4096], basis: &[u64], lasts: &mut [u16; 2048], x: us
         if is_pair(basis, y, key) {
             let z = g[y];
             if is_low(z) {
-                g[y] = z + v;
+                g[y] = z + a;
                 g[x] = 0;
                 return;
             }
         }
     }
     lasts[t] = x as u16;
-    g[x] = v;
 }
 
 // Sums the entries with the same product b * b', so that most products with the multiplier are made once for all of
-// them. `lasts` may name anything.
-pub fn fold(g: &mut [i64; 4096], basis: &[u64], lasts: &mut [u16; 2048])
+// them.
+pub fn fold(g: &mut [i64], basis: &[u64])
     requires { ⌜
-        (length (now basis) ≤ 64) × Bounded (8 * 2 ^ 56) (now basis) × Framed (length (now basis)) (2 ^ 53) (now g)
+        (length (now basis) ≤ 64)
+        × Bounded (8 * 2 ^ 56) (now basis)
+        × Framed (length (now basis)) gatheredMost (now g)
         ⌝ }
-    ensures { λ _. ⌜
-        Framed (length (now (basis .entry))) foldedMost (now (g .exit))
-        ×
-        ((G : List Term) (k : ℕ)
-        → spreadAt (now (basis .entry)) G (now (g .exit)) k ≡ halfAt (now (basis .entry)) G (now (g .entry)) k)
-        ⌝ }
+    ensures { λ _. ⌜ FoldedTable (now (basis .entry)) (now (g .entry)) (now (g .exit)) ⌝ }
 {
+    let mut lasts = [0u16; 1024];
     let size = basis.len();
     let last = 64 * size;
     let mut x = 0;
     while x < last {
-        fold_entry(g, basis, lasts, x);
+        fold_entry(g, basis, &mut lasts, x);
         x = next_place(x, size);
     }
 }

@@ -58,14 +58,17 @@ add-terms-requires : tie.Need-add-terms-requires
 add-terms-requires c κs =
     let e = c .before .before .before .before in
     let p = s e .pre .1 .0 in (
-      ready-less (s e .pre .0) (omega (arith, p .few)),
-      simp (toZ-ofZ (s e .fits .a)) record {
-        paired = p .paired;
-        low = λ i. omega (arith, p .low i);
-        key-low = omega (arith, p .basis-low (s e .args .x / 64), p .basis-low (s e .args .x % 64));
-        coefficients-small = p .coefficients-small;
-        small = s e .pre .1 .1 .small;
-      },
+      ready-less (s e .pre .0 .0) (omega (arith, p .few)),
+      (
+        simp (toZ-ofZ (s e .fits .a)) record {
+          paired = p .paired;
+          low = λ i. omega (arith, p .low i);
+          key-low = omega (arith, p .basis-low (s e .args .x / 64), p .basis-low (s e .args .x % 64));
+          coefficients-small = p .coefficients-small;
+          small = s e .pre .1 .1 .small;
+        },
+        s e .pre .0 .1,
+      ),
     )
 
 same-length : tie.Need-same-length

@@ -11,16 +11,19 @@ use Rattle.identity_check.proofs.add_number.Tie as tie
 
 module _ (c : tie.After-cut) where
   abbrev s : tie.Start
-  s = c .before .before .before .before
+  s = c .before .before .before .before .before
 
   cut-is : c .cut .result ≡ halvesOf (s .args .y)
   cut-is = rw (toZ-ofZ (s .fits .y)) at (c .cut .ensures)
+
+slot-requires : tie.Need-slot-requires
+slot-requires c κs = search needs
 
 cut-requires : tie.Need-cut-requires
 cut-requires c κs = search needs
 
 add-term-requires : tie.Need-add-term-requires
-add-term-requires c κs = (s c .pre, rw (cut-is c) (scaled-once (s c .args .y) (s c .fits .y)))
+add-term-requires c κs = (s c .pre, rw (cut-is c) (scaled-once (s c .args .y) (s c .fits .y)), c .before .before .before .slot .ensures)
 
 same-length : tie.Need-same-length
 same-length c = search needs
@@ -35,4 +38,4 @@ returns c =
     grown-same (a .add-term .ensures) (λ k. halves-once (s h .args .y) _ (cut-is h) _) (omega arith)
 
 pub add-number-spec : {M : Type 1} → statement M
-add-number-spec = tie.close (tie.spec cut-requires add-term-requires same-length same-length-2 returns)
+add-number-spec = tie.close (tie.spec slot-requires cut-requires add-term-requires same-length same-length-2 returns)

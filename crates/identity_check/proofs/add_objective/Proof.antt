@@ -10,7 +10,7 @@ use mir.Syntax.{w32, w64}
 use mir.Val.{SFits, toZ}
 use Rattle.integers.proofs.Ranges.{abs-fits, fits-abs, abs-mul-le}
 use Rattle.polynomial.specs.Algebra.{match}
-use Rattle.identity_check.specs.Tables.{factorMost}
+use Rattle.identity_check.specs.Tables.{claimMost}
 use Rattle.identity_check.proofs.Growth.{ready-after}
 use Rattle.identity_check.proofs.Products.{Summing, summing-start, summing-more}
 use Rattle.identity_check.proofs.add_objective.Statement.{statement}
@@ -41,7 +41,7 @@ module _ (c : tie.After-y Inv-loop μ-loop) where
   wide = sfits-widen tt fits
 
   product-fits : SFits w64 (s .args .x *ℤ coefficient)
-  product-fits = abs-fits (omega (arith, abs-mul-le (s .args .x) coefficient factorMost (2 ^ 31) (s .pre .2) (fits-abs fits)))
+  product-fits = abs-fits (omega (arith, abs-mul-le (s .args .x) coefficient claimMost (2 ^ 31) (s .pre .2) (fits-abs fits)))
 
 loop-holds : tie.Need-loop-holds Inv-loop μ-loop
 loop-holds c = (omega arith, summing-start)

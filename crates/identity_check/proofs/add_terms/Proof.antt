@@ -1,6 +1,6 @@
 -- `add_terms`: after t turns x times the first t terms are added.
 use mathlib.Core.Path.{_≡_}
-use Prim.Native.Nat.{_+_, _-_, _≤_}
+use Prim.Native.Nat.{_+_, _-_, _%_, _≤_}
 use native.Mathlib.Omega.{arith}
 use borrow.Author.Needs.{needs, sfits-of}
 use lib.IntN.{pos}
@@ -9,6 +9,7 @@ use mir.Facts.{toZ-ofZ}
 use mir.Syntax.{w32, w64}
 use mir.Val.{SFits, toZ}
 use Rattle.polynomial.specs.Algebra.{match}
+use Rattle.key_set.specs.Table.{divisor}
 use Rattle.wide_sums.specs.Sums.{halvesOf}
 use Rattle.identity_check.proofs.Growth.{ready-after, grown-same}
 use Rattle.identity_check.proofs.Products.{scaled-entry, halves-times, Summing, summing-start, summing-more}
@@ -16,17 +17,26 @@ use Rattle.identity_check.proofs.add_terms.Statement.{statement}
 use Rattle.identity_check.proofs.add_terms.Tie as tie
 
 abbrev Inv-loop : tie.InvT-loop
-Inv-loop table n places high₀ low₀ exponents coefficients key x h t₀ high low t =
-    (t ≤ length exponents) × (h ≡ halvesOf (toZ w64 x)) × Summing table n high₀ low₀ (λ k e. match k (key + e)) (toZ w64 x) exponents coefficients t high low
+Inv-loop table n places high₀ low₀ exponents slots coefficients key x h slot t₀ high low t =
+    (t ≤ length exponents)
+    × (h ≡ halvesOf (toZ w64 x))
+    × (slot ≡ key % divisor)
+    × Summing table n high₀ low₀ (λ k e. match k (key + e)) (toZ w64 x) exponents coefficients t high low
 
 abbrev μ-loop : tie.MeasureT-loop
-μ-loop table n places high₀ low₀ exponents coefficients key x h t₀ high low t = length exponents - t
+μ-loop table n places high₀ low₀ exponents slots coefficients key x h slot t₀ high low t = length exponents - t
+
+abbrev at-start : tie.At-loop Inv-loop μ-loop → tie.Start Inv-loop μ-loop
+at-start l = l .before .before .before .before .before
 
 cut-requires : tie.Need-cut-requires Inv-loop μ-loop
 cut-requires c κs = search needs
 
+slot-requires : tie.Need-slot-requires Inv-loop μ-loop
+slot-requires c κs = search needs
+
 loop-holds : tie.Need-loop-holds Inv-loop μ-loop
-loop-holds c = (omega arith, c .cut .ensures, summing-start)
+loop-holds c = (omega arith, c .before .cut .ensures, c .slot .ensures, summing-start)
 
 mul-add-term : tie.Need-mul-add-term Inv-loop μ-loop
 mul-add-term c = search needs
@@ -37,32 +47,52 @@ shared-slice-read-add-term c = search needs
 add-add-term : tie.Need-add-add-term Inv-loop μ-loop
 add-add-term c =
     let l = c .before .before .before .before in
-    let s = l .before .before .before .before in
-    let p = s .pre .1 in
+    let p = at-start l .pre .1 .0 in
     omega (arith, p .low (l .loop .t), p .key-low)
+
+mul-slot-of-sum : tie.Need-mul-slot-of-sum Inv-loop μ-loop
+mul-slot-of-sum c = search needs
+
+element-copy-out-slot-of-sum : tie.Need-element-copy-out-slot-of-sum Inv-loop μ-loop
+element-copy-out-slot-of-sum c = let l = c .before .before .before .before in omega (arith, at-start l .pre .1 .1 .few)
+
+-- the place of the key in the index
+slot-of-sum-requires : tie.Need-slot-of-sum-requires Inv-loop μ-loop
+slot-of-sum-requires c κs =
+    let i = c .before .before .before .before in
+    let l = i .before in
+    let e = at-start l .pre .1 .1 .each (l .loop .t) (i .loop-test .taken) in
+    (omega (arith, l .loop .inv .2), omega arith)
 
 mul-add-term-2 : tie.Need-mul-add-term-2 Inv-loop μ-loop
 mul-add-term-2 c = search needs
 
 shared-slice-copy-out-add-term : tie.Need-shared-slice-copy-out-add-term Inv-loop μ-loop
-shared-slice-copy-out-add-term c = let s = c .before .before .before .before .before .before .before .before in omega (arith, s .pre .1 .paired)
+shared-slice-copy-out-add-term c =
+    let i = c .before .before .before .before .before in
+    omega (arith, i .loop-test .taken, at-start (i .before) .pre .1 .0 .paired)
 
 -- one turn
 module _ (c : tie.After-add-term-arg3 Inv-loop μ-loop) where
+  abbrev i : tie.In-loop Inv-loop μ-loop
+  i = c .before .before .before .before .before .before
+
   abbrev l : tie.At-loop Inv-loop μ-loop
-  l = c .before .before .before .before .before
+  l = i .before
 
   abbrev s : tie.Start Inv-loop μ-loop
-  s = l .before .before .before .before
+  s = at-start l
 
   coefficient-fits : SFits w32 (getD (s .args .coefficients .now) (l .loop .t) (pos 0))
   coefficient-fits = sfits-of (c .add-term-arg3 .given)
 
 add-term-requires : tie.Need-add-term-requires Inv-loop μ-loop
 add-term-requires c κs =
-    let p = s c .pre in (
-      ready-after (p .0) (l c .loop .inv .2 .grown) (omega arith),
-      simp (l c .loop .inv .1, toZ-ofZ, s c .fits .x, coefficient-fits c) (scaled-entry _ _ (p .1 .small) (p .1 .coefficients-small (l c .loop .t))),
+    let p = s c .pre in
+    let v = l c .loop .inv in (
+      ready-after (p .0) (v .3 .grown) (omega (arith, i c .loop-test .taken)),
+      simp (v .1, toZ-ofZ, s c .fits .x, coefficient-fits c) (scaled-entry _ _ (p .1 .0 .small) (p .1 .0 .coefficients-small (l c .loop .t))),
+      omega (arith, c .before .slot-of-sum .ensures, v .2, p .1 .1 .each (l c .loop .t) (i c .loop-test .taken)),
     )
 
 add-t : tie.Need-add-t Inv-loop μ-loop
@@ -75,7 +105,12 @@ loop-again : tie.Need-loop-again Inv-loop μ-loop
 loop-again c =
     let a = c .before .before in
     let b = a .before in
-    (omega arith, l b .loop .inv .1, summing-more (l b .loop .inv .2) (grown-same (rw (toZ-ofZ (coefficient-fits b)) at (a .add-term .ensures)) (λ k. halves-times _ _ (l b .loop .inv .1) _ _) (omega arith)))
+    let v = l b .loop .inv in (
+      omega (arith, i b .loop-test .taken),
+      v .1,
+      v .2,
+      summing-more (v .3) (grown-same (rw (toZ-ofZ (coefficient-fits b)) at (a .add-term .ensures)) (λ k. halves-times _ _ (v .1) _ _) (omega arith)),
+    )
 
 same-length : tie.Need-same-length Inv-loop μ-loop
 same-length c = search needs
@@ -86,9 +121,9 @@ same-length-2 c = search needs
 returns : tie.Need-returns Inv-loop μ-loop
 returns c =
     let l = c .before in
-    let s = l .before .before .before .before in
+    let s = at-start l in
     let e : l .loop .t ≡ length (s .args .exponents .now) = omega (arith, l .loop .inv .0, c .loop-test .left) in
-    rw (← e) (simp (toZ-ofZ (s .fits .x)) at (l .loop .inv .2 .grown))
+    rw (← e) (simp (toZ-ofZ (s .fits .x)) at (l .loop .inv .3 .grown))
 
 pub add-terms-spec : {M : Type 1} → statement M
 add-terms-spec =
@@ -97,10 +132,14 @@ add-terms-spec =
     Inv-loop
     μ-loop
     cut-requires
+    slot-requires
     loop-holds
     mul-add-term
     shared-slice-read-add-term
     add-add-term
+    mul-slot-of-sum
+    element-copy-out-slot-of-sum
+    slot-of-sum-requires
     mul-add-term-2
     shared-slice-copy-out-add-term
     add-term-requires

@@ -8,7 +8,7 @@ use mir.Facts.{toZ-ofZ, sfits-widen}
 use mir.Syntax.{w64}
 use mir.Val.{SFits}
 use Rattle.integers.proofs.Ranges.{abs-fits, fits-abs, abs-mul-le, abs-neg}
-use Rattle.identity_check.specs.Tables.{factorMost}
+use Rattle.identity_check.specs.Tables.{claimMost}
 use Rattle.identity_check.proofs.Claims.{minus, back, back-twice, turned-other}
 use Rattle.identity_check.proofs.negate.Statement.{statement}
 use Rattle.identity_check.proofs.negate.Tie as tie
@@ -30,7 +30,7 @@ module _ (c : tie.Start) where
   fits-p : SFits w64 (c .args .p)
   fits-p = sfits-widen tt (c .fits .p)
 
-  small-M : natAbs M ≤ factorMost
+  small-M : natAbs M ≤ claimMost
   small-M = abs-mul-le (pos (c .args .scale)) (pos (c .args .q)) 65535 65535 (omega arith) (omega arith)
 
   small-N : natAbs N ≤ 2 ^ 47

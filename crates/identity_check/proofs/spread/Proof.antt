@@ -9,17 +9,24 @@ use mir.Facts.{toZ-ofZ}
 use mir.Syntax.{w64}
 use mir.Val.{SFits}
 use Rattle.flat.specs.TermArrays.{termsIn}
+use Rattle.identity_check.specs.Tables.{Slots}
 use Rattle.identity_check.proofs.Growth.{ready-after}
 use Rattle.identity_check.proofs.Spreading.{Spreading, spreading-start, spreading-entered, spreading-more, spreading-skip, spreading-end}
 use Rattle.identity_check.proofs.spread.Statement.{statement}
 use Rattle.identity_check.proofs.spread.Tie as tie
 
 abbrev Inv-loop : tie.InvT-loop
-Inv-loop g₀ basis exponents coefficients table n places high₀ low₀ size last x₀ g high low x =
-    (size ≡ length basis) × (last ≡ 64 * length basis) × Spreading table n basis (termsIn (length exponents) exponents coefficients) g₀ high₀ low₀ x g high low
+Inv-loop g₀ basis exponents coefficients table n places hi₀ lo₀ slots size last x₀ g hi lo x =
+    (size ≡ length basis)
+    × (last ≡ 64 * length basis)
+    × Slots exponents slots
+    × Spreading table n basis (termsIn (length exponents) exponents coefficients) g₀ hi₀ lo₀ x g hi lo
 
 abbrev μ-loop : tie.MeasureT-loop
-μ-loop g₀ basis exponents coefficients table n places high₀ low₀ size last x₀ g high low x = last - x
+μ-loop g₀ basis exponents coefficients table n places hi₀ lo₀ slots size last x₀ g hi lo x = last - x
+
+abbrev at-start : tie.At-loop Inv-loop μ-loop → tie.Start Inv-loop μ-loop
+at-start l = l .before .before .before .before .before .before
 
 -- the entry that is read
 module _ (c : tie.After-a Inv-loop μ-loop) where
@@ -27,7 +34,7 @@ module _ (c : tie.After-a Inv-loop μ-loop) where
   l = c .before .before
 
   abbrev s : tie.Start Inv-loop μ-loop
-  s = l .before .before .before .before
+  s = at-start l
 
   here : l .loop .x < 64 * length (s .args .basis .now)
   here = omega (arith, l .loop .inv .1, c .before .loop-test .taken)
@@ -35,61 +42,65 @@ module _ (c : tie.After-a Inv-loop μ-loop) where
   fits-a : SFits w64 (getD (l .loop .g) (l .loop .x) (pos 0))
   fits-a = sfits-of (c .a .given)
 
+note-slots-requires : tie.Need-note-slots-requires Inv-loop μ-loop
+note-slots-requires c κs = (c .before .before .before .before .pre .1 .0 .few, search needs)
+
 mul-last : tie.Need-mul-last Inv-loop μ-loop
-mul-last c = let s = c .before .before .before in let p = s .pre .1 .0 in omega arith
+mul-last c = let s = c .before .before .before .before .before in omega (arith, s .pre .1 .0 .basis-few)
 
 loop-holds : tie.Need-loop-holds Inv-loop μ-loop
-loop-holds c = let s = c .before .before .before in (refl, refl, spreading-start (s .pre .1 .1 .long))
+loop-holds c = (refl, refl, c .note-slots .ensures, spreading-start)
 
 mul-a : tie.Need-mul-a Inv-loop μ-loop
 mul-a c = search needs
 
-element-copy-out-a : tie.Need-element-copy-out-a Inv-loop μ-loop
-element-copy-out-a c =
+-- the table has a place for x
+slice-copy-out-a : tie.Need-slice-copy-out-a Inv-loop μ-loop
+slice-copy-out-a c =
     let l = c .before in
-    let s = l .before .before .before .before in
-    omega (arith, l .loop .inv .1, s .pre .1 .0 .basis-few)
+    let v = l .loop .inv in
+    omega (arith, v .1, c .loop-test .taken, v .3 .long, at-start l .pre .1 .1 .long)
 
 mul-g : tie.Need-mul-g Inv-loop μ-loop
 mul-g c = search needs
 
-element-set-of-g : tie.Need-element-set-of-g Inv-loop μ-loop
-element-set-of-g c =
-    let l = c .before .before in
-    let s = l .before .before .before .before in
-    omega (arith, l .loop .inv .1, s .pre .1 .0 .basis-few)
+slice-set-of-g : tie.Need-slice-set-of-g Inv-loop μ-loop
+slice-set-of-g c = omega (arith, here c, l c .loop .inv .3 .long, s c .pre .1 .1 .long)
 
 add-entry-requires : tie.Need-add-entry-requires Inv-loop μ-loop
 add-entry-requires c κs =
-    let a = c .before .before in
-    let v = l a .loop .inv .2 in
+    let a = c .before .before .before in
+    let v = l a .loop .inv in
     let p = s a .pre in
     let few = p .1 .0 .basis-few in
-    let w = v .within in
-    (ready-after (p .0) (v .grown) (omega (arith, here a)), (p .1 .0, simp (toZ-ofZ (fits-a a)) (spreading-entered v few (here a) (p .1 .1))))
+    let w = v .3 .few in (
+      (ready-after (p .0) (v .3 .grown) (omega (arith, here a)), v .2),
+      (p .1 .0, simp (toZ-ofZ (fits-a a)) (spreading-entered (v .3) (p .1 .1))),
+    )
 
 next-place-requires : tie.Need-next-place-requires Inv-loop μ-loop
 next-place-requires c κs =
-    let a = c .before .before .before .before .before in
+    let a = c .before .before .before .before .before .before in
     let n = l a .loop .inv .0 in
     (omega (arith, here a), omega (arith, s a .pre .1 .0 .basis-few))
 
 loop-less : tie.Need-loop-less Inv-loop μ-loop
 loop-less c =
-    let a = c .before .before .before .before .before .before in
+    let a = c .before .before .before .before .before .before .before in
     omega (arith, c .next-place .ensures .later, here a, l a .loop .inv .1)
 
 loop-again : tie.Need-loop-again Inv-loop μ-loop
 loop-again c =
     let e = c .before .before .before in
-    let a = e .before .before .before in
-    let w = l a .loop .inv in
+    let a = e .before .before .before .before in
+    let v = l a .loop .inv in
     let p = s a .pre .1 in
     let q = c .next-place .ensures in
-    let n = w .0 in (
+    let n = v .0 in (
       n,
-      w .1,
-      spreading-skip (spreading-more (w .2) (p .0 .basis-few) (here a) (simp (toZ-ofZ (fits-a a)) at (e .add-entry .ensures))) (p .0 .basis-few) (p .1) (omega (arith, q .later)) (omega (arith, q .within)) (λ z i b. omega (arith, q .between z (omega arith) b)),
+      v .1,
+      v .2,
+      spreading-skip (spreading-more (v .3) (p .1) (here a) (simp (toZ-ofZ (fits-a a)) at (e .add-entry .ensures))) (p .1) (omega (arith, q .later)) (λ z i b. rw n at (q .between z (omega arith) b)),
     )
 
 same-length : tie.Need-same-length Inv-loop μ-loop
@@ -98,11 +109,15 @@ same-length c = search needs
 same-length-2 : tie.Need-same-length-2 Inv-loop μ-loop
 same-length-2 c = search needs
 
+same-length-3 : tie.Need-same-length-3 Inv-loop μ-loop
+same-length-3 c = search needs
+
 returns : tie.Need-returns Inv-loop μ-loop
 returns c =
     let l = c .before in
-    let s = l .before .before .before .before in
-    spreading-end (l .loop .inv .2) (s .pre .1 .0 .basis-few) (s .pre .1 .1) (omega (arith, l .loop .inv .1, c .loop-test .left))
+    let v = l .loop .inv in
+    let p = at-start l .pre .1 in
+    spreading-end (v .3) (p .1) (p .0 .basis-few) (omega (arith, v .1, c .loop-test .left))
 
 pub spread-spec : {M : Type 1} → statement M
 spread-spec =
@@ -110,16 +125,18 @@ spread-spec =
     (tie.spec
     Inv-loop
     μ-loop
+    note-slots-requires
     mul-last
     loop-holds
     mul-a
-    element-copy-out-a
+    slice-copy-out-a
     mul-g
-    element-set-of-g
+    slice-set-of-g
     add-entry-requires
     next-place-requires
     loop-less
     loop-again
     same-length
     same-length-2
+    same-length-3
     returns)

@@ -1,58 +1,59 @@
--- `sum_rows`: after j turns the squares of the rows on the first j bases are added, and the table of sums is empty.
-use Prim.Native.Nat.{_-_, _≤_}
-use native.Mathlib.Omega.{arith}
 use borrow.Author.Needs.{needs}
-use Rattle.certificate_reader.specs.Rows.{rowsOf}
-use Rattle.row_products.specs.Gram.{byBasis}
-use Rattle.row_products.specs.Outer.{Below}
-use Rattle.identity_check.specs.Walk.{Summed}
-use Rattle.identity_check.proofs.Growth.{ready-after}
-use Rattle.identity_check.proofs.Walks.{walked-start, walked-more, walked-end}
+use native.Mathlib.Omega.{arith}
+use mathlib.Core.Path.{_≡_, refl, sym, ap, _∙_, subst}
+use Prim.Native.Nat.{ℕ, zero, suc, _+_, _-_, _*_, _≤_, _<_}
+use lib.ListN.{length, getD, take, drop, set, length-set}
 use Rattle.identity_check.proofs.sum_rows.Statement.{statement}
 use Rattle.identity_check.proofs.sum_rows.Tie as tie
+use Rattle.identity_check.proofs.sum_rows.Reads as reads
+use Rattle.identity_check.proofs.sum_rows.Lts as lts
+use Rattle.identity_check.proofs.add_basis.Reads as add-basis-reads
 
 abbrev Inv-loop : tie.InvT-loop
-Inv-loop g₀ lasts₀ s keys exponents coefficients l table n places hi₀ lo₀ j₀ g lasts hi lo j =
-    (j ≤ 9) × Below 0 g × Summed (λ p. byBasis p (rowsOf s) j) keys exponents coefficients l table n j hi₀ lo₀ hi lo
+Inv-loop g₀ s starts rows keys coefficients sizes table n index hi₀ lo₀ last j₀ g hi lo j = ?
 
 abbrev μ-loop : tie.MeasureT-loop
-μ-loop g₀ lasts₀ s keys exponents coefficients l table n places hi₀ lo₀ j₀ g lasts hi lo j = 9 - j
+μ-loop g₀ s starts rows keys coefficients sizes table n index hi₀ lo₀ last j₀ g hi lo j = ?
 
-abbrev at-start : tie.At-loop Inv-loop μ-loop → tie.Start Inv-loop μ-loop
-at-start l = l .before .before .before .before .before
+-- src/lib.rt:401:16
+shared-slice-read-last : tie.Need-shared-slice-read-last Inv-loop μ-loop
+shared-slice-read-last c = search needs
 
+-- src/lib.rt:403:5
 loop-holds : tie.Need-loop-holds Inv-loop μ-loop
-loop-holds c = let s = c .before .before .before .before in (omega arith, s .pre .0 .1, walked-start (s .args .s .now))
+loop-holds c = search needs
 
+-- src/lib.rt:404:9
 add-basis-requires : tie.Need-add-basis-requires Inv-loop μ-loop
-add-basis-requires c κs =
-    let l = c .before .before .before .before .before in
-    let p = at-start l .pre in
-    let w = l .loop .inv in
-    ((ready-after (p .0 .0) (w .2 .grown) (omega arith), w .1, search needs), p .1)
+add-basis-requires c κs = search needs
 
+-- src/lib.rt:419:9
 add-j : tie.Need-add-j Inv-loop μ-loop
 add-j c = search needs
 
+-- src/lib.rt:403:5
 loop-less : tie.Need-loop-less Inv-loop μ-loop
 loop-less c = search needs
 
+-- src/lib.rt:403:5
 loop-again : tie.Need-loop-again Inv-loop μ-loop
-loop-again c =
-    let a = c .before .before in
-    let l = a .before .before .before .before .before .before in
-    (omega arith, a .add-basis .ensures .1, walked-more (at-start l .args .s .now) (l .loop .inv .2) (a .add-basis .ensures .0))
+loop-again c = search needs
 
+-- src/lib.rt:377:1
 same-length : tie.Need-same-length Inv-loop μ-loop
 same-length c = search needs
 
+-- src/lib.rt:377:1
 same-length-2 : tie.Need-same-length-2 Inv-loop μ-loop
 same-length-2 c = search needs
 
+-- src/lib.rt:377:1
+same-length-3 : tie.Need-same-length-3 Inv-loop μ-loop
+same-length-3 c = search needs
+
+-- src/lib.rt:377:1
 returns : tie.Need-returns Inv-loop μ-loop
-returns c =
-    let l = c .before in
-    (walked-end (at-start l .args .s .now) (l .loop .inv .2) (at-start l .pre .1 .1) (omega (arith, l .loop .inv .0, c .loop-test .left)), l .loop .inv .1)
+returns c = search needs
 
 pub sum-rows-spec : {M : Type 1} → statement M
 sum-rows-spec =
@@ -60,6 +61,7 @@ sum-rows-spec =
     (tie.spec
     Inv-loop
     μ-loop
+    shared-slice-read-last
     loop-holds
     add-basis-requires
     add-j
@@ -67,4 +69,5 @@ sum-rows-spec =
     loop-again
     same-length
     same-length-2
+    same-length-3
     returns)

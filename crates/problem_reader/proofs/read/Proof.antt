@@ -176,7 +176,7 @@ put-requires : tie.Need-put-requires Inv-loop μ-loop
 put-requires c κs =
     let l = head (c .before .before .before .before .before) in
     let h = basis-named (c .before .before) in
-    (omega arith, basis-size (kept l .limits) _ h, omega arith)
+    (omega arith, omega (arith, basis-size (kept l .limits) _ h), omega arith)
 
 enum-told-2 : tie.Need-enum-told-2 Inv-loop μ-loop
 enum-told-2 c = search needs

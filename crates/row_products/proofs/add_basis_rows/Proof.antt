@@ -3,7 +3,6 @@ use mathlib.Core.Path.{_≡_, sym, _∙_}
 use mathlib.Core.Logic.{⊎-elim}
 use Prim.Native.Nat.{_+_, _-_, _≤_, _<_}
 use native.Mathlib.Omega.{arith}
-use borrow.Author.Needs.{needs}
 use lib.ListN.{length, getD}
 use Rattle.format.specs.CertificateRules.{noRow}
 use Rattle.certificate_reader.specs.Rows.{rowsBy, RowStands}
@@ -13,10 +12,10 @@ use Rattle.row_products.proofs.add_basis_rows.Statement.{statement}
 use Rattle.row_products.proofs.add_basis_rows.Tie as tie
 
 abbrev Inv-loop : tie.InvT-loop
-Inv-loop g₀ s starts rows j r₀ g r = Gathering (rowsBy s starts rows) j r g
+Inv-loop g₀ s starts rows j any₀ r₀ g any r = Gathering (rowsBy s starts rows) j r g₀ g any
 
 abbrev μ-loop : tie.MeasureT-loop
-μ-loop g₀ s starts rows j r₀ g r = rows - r
+μ-loop g₀ s starts rows j any₀ r₀ g any r = rows - r
 
 -- at a row
 module _ (c : tie.In-loop Inv-loop μ-loop) where
@@ -65,7 +64,9 @@ element-copy-out-add-row c = let b = row-low (c .before .before .before .before)
 add-row-requires : tie.Need-add-row-requires Inv-loop μ-loop
 add-row-requires c κs =
     let i = c .before .before .before .before .before in
-    (gathering-small (l i .loop .inv) (omega (arith, few i, count i)), walked-low (start i .pre .1) (l i .loop .r) (i .loop-test .taken))
+    let w = l i .loop .inv in
+    let b = c .before .before .before in
+    (gathering-small w (omega (arith, few i, count i)), rw (w .long) (walked-low (start i .pre .1) (l i .loop .r) (i .loop-test .taken) (sym (b .basis-at .ensures) ∙ c .before .before .if1 .taken)))
 
 add-r : tie.Need-add-r Inv-loop μ-loop
 add-r c = let b = row-low (c .before .before .before) in omega arith
@@ -80,9 +81,12 @@ loop-again c =
     let h = i .loop-test .taken in
     let is = row-by (start i .args .s .now) (start i .args .starts .now) (start i .args .rows) (l i .loop .r) noRow h in
     ⊎-elim
-    (λ t. rw (t .4) (gathering-row (l i .loop .inv) (omega (arith, count i)) _ is (sym (b .basis-at .ensures) ∙ t .0 .taken) (t .3 .ensures)))
-    (λ f. rw (f .1) (gathering-other (l i .loop .inv) (omega (arith, count i)) _ is (λ e. f .0 .left (b .basis-at .ensures ∙ e))))
+    (λ t. rw (t .5, t .6) (gathering-row (l i .loop .inv) (omega (arith, count i)) _ is (sym (b .basis-at .ensures) ∙ t .0 .taken) (t .3 .ensures)))
+    (λ f. rw (f .1, f .2) (gathering-other (l i .loop .inv) (omega (arith, count i)) _ is (λ e. f .0 .left (b .basis-at .ensures ∙ e))))
     (c .if1 .came)
+
+same-length : tie.Need-same-length Inv-loop μ-loop
+same-length c = c .before .loop .inv .long
 
 returns : tie.Need-returns Inv-loop μ-loop
 returns c =
@@ -107,4 +111,5 @@ add-basis-rows-spec =
     add-r
     loop-less
     loop-again
+    same-length
     returns)

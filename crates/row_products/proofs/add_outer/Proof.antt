@@ -1,6 +1,5 @@
 -- `add_outer`: after k turns the products of the first k entries with all are added.
-use mathlib.Core.Path.{_≡_}
-use Prim.Native.Nat.{_^_, _-_, _*_, _≤_, _<_}
+use Prim.Native.Nat.{_+_, _-_, _*_, _≤_, _<_}
 use native.Mathlib.Omega.{arith}
 use borrow.Author.Needs.{needs, sfits-of}
 use lib.IntN.{ℤ, pos, natAbs, _*ℤ_}
@@ -10,8 +9,9 @@ use mir.Syntax.{w32, w64}
 use mir.Val.{SFits, toZ}
 use Rattle.integers.proofs.Ranges.{abs-fits, abs-mul-le}
 use Rattle.flat.specs.TermArrays.{termsIn}
-use Rattle.row_products.specs.Outer.{Below, inRow}
-use Rattle.row_products.proofs.Outers.{Raising, raising-start, raising-more, raising-below, raising-all, outer-bound}
+use Rattle.row_products.specs.Frame.{Below}
+use Rattle.row_products.specs.Outer.{weightMost, factorMost, rowUnit, gatheredMost, inRow, outerAt}
+use Rattle.row_products.proofs.Outers.{Raising, raising-start, raising-more, raising-below, raising-end, outer-bound}
 use Rattle.row_products.proofs.add_outer.Statement.{statement}
 use Rattle.row_products.proofs.add_outer.Tie as tie
 
@@ -34,19 +34,17 @@ module _ (l : tie.At-loop Inv-loop μ-loop) where
   turning = simp (toZ-ofZ (s .fits .w)) at (l .loop .inv .1)
 
   module _ (here : l .loop .k < s .args .count) where
-    product-small : natAbs (s .args .w *ℤ factor) ≤ 2 ^ 31
-    product-small = abs-mul-le (s .args .w) factor (2 ^ 16) (2 ^ 15) (s .pre .2) (s .pre .0 .factors-small (l .loop .k) here)
+    product-small : natAbs (s .args .w *ℤ factor) ≤ weightMost * factorMost
+    product-small = abs-mul-le (s .args .w) factor weightMost factorMost (s .pre .2) (s .pre .0 .factors-small (l .loop .k) here)
 
     fits-product : SFits w64 (s .args .w *ℤ factor)
     fits-product = abs-fits (omega (arith, product-small))
 
-    below : Below (2 ^ 54) (l .loop .g)
-    below =
-        let b = raising-below turning (s .pre .1) (λ y. outer-bound _ _ _ (s .pre .0) (s .args .w) (s .pre .2) y (l .loop .k) (omega arith)) in
-        record { long = b .long; small = λ x h. omega (arith, b .small x h) }
+    below : Below (gatheredMost + rowUnit) (l .loop .g)
+    below = raising-below gatheredMost rowUnit turning (s .pre .1) (λ y. outer-bound _ _ _ _ (s .pre .0) (s .args .w) (s .pre .2) y (l .loop .k) (omega arith))
 
 loop-holds : tie.Need-loop-holds Inv-loop μ-loop
-loop-holds c = (omega arith, raising-start (c .pre .1 .long))
+loop-holds c = (omega arith, raising-start)
 
 mul-a : tie.Need-mul-a Inv-loop μ-loop
 mul-a c = search needs
@@ -74,7 +72,7 @@ add-products-requires c κs =
     let h = a .before .loop-test .taken in
     let v : SFits w32 (factor l) = sfits-of (a .a .given) in
     let u : SFits w64 (factor l) = sfits-widen tt v in
-    (s l .pre .0, below l h, h, simp (toZ-ofZ, s l .fits .w, v, u, fits-product l h) (product-small l h))
+    (rw (turning l .raised .long) (s l .pre .0), λ x. omega (arith, below l h x), h, simp (toZ-ofZ, s l .fits .w, v, u, fits-product l h) (product-small l h))
 
 add-k : tie.Need-add-k Inv-loop μ-loop
 add-k c = search needs
@@ -84,18 +82,21 @@ loop-less c = search needs
 
 loop-again : tie.Need-loop-again Inv-loop μ-loop
 loop-again c =
-    let a = c .before .before in
+    let a = c .before .before .before in
     let l = a .before .before in
     let h = a .before .loop-test .taken in
     let v : SFits w32 (factor l) = sfits-of (a .a .given) in
     let u : SFits w64 (factor l) = sfits-widen tt v in
-    (omega arith, simp (toZ-ofZ (s l .fits .w)) (raising-more (turning l) (simp (toZ-ofZ, s l .fits .w, v, u, fits-product l h) at (c .add-products .ensures))))
+    (omega arith, simp (toZ-ofZ (s l .fits .w)) (raising-more (turning l) (simp (toZ-ofZ, s l .fits .w, v, u, fits-product l h) at (c .before .add-products .ensures))))
+
+same-length : tie.Need-same-length Inv-loop μ-loop
+same-length c = c .before .loop .inv .1 .raised .long
 
 returns : tie.Need-returns Inv-loop μ-loop
+unfolding outerAt
 returns c =
     let l = c .before in
-    let e : l .loop .k ≡ s l .args .count = omega (arith, l .loop .inv .0, c .loop-test .left) in
-    raising-all (turning l) e
+    raising-end (turning l) (omega (arith, l .loop .inv .0, c .loop-test .left))
 
 pub add-outer-spec : {M : Type 1} → statement M
 add-outer-spec =
@@ -112,4 +113,5 @@ add-outer-spec =
     add-k
     loop-less
     loop-again
+    same-length
     returns)

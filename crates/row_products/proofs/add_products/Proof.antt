@@ -1,151 +1,172 @@
 -- `add_products`: at entry k the products with the entries before it are added. The indices rise, so no place gets two, and every sum
 -- fits; and before the first there is no index from its own on.
-use mathlib.Core.Path.{_≡_, sym, ap}
-use Prim.Native.Nat.{_^_, ℕ, _+_, _-_, _*_, _≤_, _<_}
+use mathlib.Core.List.{List}
+use Prim.Native.Nat.{ℕ, _^_, _+_, _-_, _*_, _≤_, _<_}
 use native.Mathlib.Omega.{arith}
 use borrow.Author.Needs.{needs, sfits-of}
-use lib.IntN.{ℤ, pos, natAbs, _+ℤ_, _*ℤ_}
-use lib.ListN.{getD, set}
-use mir.Facts.{toZ-ofZ, sfits-widen}
+use lib.IntN.{ℤ, pos, natAbs, _*ℤ_}
+use lib.ListN.{length, getD}
+use mir.Facts.{toZ-ofZ}
 use mir.Syntax.{w32, w64}
 use mir.Val.{SFits, toZ}
-use Rattle.integers.proofs.Ranges.{abs-fits, abs-sum, abs-mul-le}
-use Rattle.row_products.specs.Outer.{rowUnit, Below, Raised, above}
-use Rattle.row_products.proofs.Outers.{Raising, raising-from, raising-more, raising-below, raised-same, raised-set, before-none, from-high, inner-bound}
+use Rattle.integers.proofs.Ranges.{abs-fits, abs-mul-le}
+use Rattle.row_products.specs.Frame.{Below}
+use Rattle.row_products.specs.Outer.{weightMost, factorMost, rowUnit, HasRow, above}
+use Rattle.row_products.proofs.Outers.{Raising, raising-from, raising-more, raising-below, raising-end, before-none, inner-bound, added-once, added-twice}
 use Rattle.row_products.proofs.add_products.Statement.{statement}
 use Rattle.row_products.proofs.add_products.Tie as tie
 
+-- the products of entry `first` with the first k are added to the table G
+abbrev Along : List ℕ → List ℤ → ℕ → ℤ → List ℤ → ℕ → List ℤ → Type 0
+Along indices factors first a G k g = Raising G (λ x. above x (getD indices first 0)) a indices factors k g
+
 abbrev Inv-loop : tie.InvT-loop
-Inv-loop g₀ indices factors count first a from k₀ g k =
-    (first ≤ k) × (k ≤ count) × Raising g₀ (λ x. above x (getD indices first 0)) (toZ w64 a) indices factors k g
+Inv-loop g₀ indices factors count first a i twice k₀ g k =
+    (first < k)
+    × (k ≤ count)
+    × ((G : List ℤ) → Along indices factors first (toZ w64 a) G (first + 1) g₀ → Along indices factors first (toZ w64 a) G k g)
 
 abbrev μ-loop : tie.MeasureT-loop
-μ-loop g₀ indices factors count first a from k₀ g k = count - k
+μ-loop g₀ indices factors count first a i twice k₀ g k = count - k
 
--- one product
-module _ (c : tie.After-y Inv-loop μ-loop) where
-  abbrev l : tie.At-loop Inv-loop μ-loop
-  l = c .before .before .before
-
-  abbrev s : tie.Start Inv-loop μ-loop
-  s = l .before .before
-
+module _ (s : tie.Start Inv-loop μ-loop) where
   abbrev i : ℕ
   i = getD (s .args .indices .now) (s .args .first) 0
 
-  abbrev factor : ℤ
-  factor = getD (s .args .factors .now) (l .loop .k) (pos 0)
+  abbrev factor : ℕ → ℤ
+  factor k = getD (s .args .factors .now) k (pos 0)
 
-  abbrev place : ℕ
-  place = 64 * i + getD (s .args .indices .now) (l .loop .k) 0
+  abbrev Added : ℕ → List ℤ → Type 0
+  Added = Along (s .args .indices .now) (s .args .factors .now) (s .args .first) (s .args .a) (s .args .g .now)
 
-  here : l .loop .k < s .args .count
-  here = c .before .before .loop-test .taken
+  row : HasRow (length (s .args .g .now)) i
+  row = s .pre .0 .inside (s .args .first) (s .pre .2)
 
-  place-in : place < 4096
-  place-in = omega (arith, s .pre .0 .indices-low (l .loop .k) here, s .pre .0 .indices-low (s .args .first) (s .pre .2))
+  twice-small : natAbs (pos 2 *ℤ s .args .a) ≤ 2 * (weightMost * factorMost)
+  twice-small = abs-mul-le (pos 2) (s .args .a) 2 (weightMost * factorMost) (omega arith) (s .pre .3)
 
-  fits-factor : SFits w32 factor
-  fits-factor = sfits-of (c .y .given)
+  fits-twice : SFits w64 (pos 2 *ℤ s .args .a)
+  fits-twice = abs-fits (omega (arith, twice-small))
 
-  wide-factor : SFits w64 factor
-  wide-factor = sfits-widen tt fits-factor
+-- the product of the first entry with itself
+module _ (c : tie.After-add-at-arg2 Inv-loop μ-loop) where
+  abbrev s : tie.Start Inv-loop μ-loop
+  s = c .before .before .before
 
-  product-small : natAbs (s .args .a *ℤ factor) ≤ rowUnit
-  product-small = abs-mul-le (s .args .a) factor (2 ^ 31) (2 ^ 15) (s .pre .3) (s .pre .0 .factors-small (l .loop .k) here)
+  fits-first : SFits w32 (factor s (s .args .first))
+  fits-first = sfits-of (c .add-at-arg2 .given)
 
-  fits-product : SFits w64 (s .args .a *ℤ factor)
-  fits-product = abs-fits (omega (arith, product-small))
+added : (c : tie.After-add-at Inv-loop μ-loop) → Added (s (c .before)) (s (c .before) .args .first + 1) (c .add-at .last .0)
+added c =
+    let b = c .before in
+    raising-more (raising-from (before-none _ _ _ _ (s b .pre .0) (s b .args .first) (s b .pre .2)))
+    (added-once (s b .args .a) _ (i (s b)) (simp (toZ-ofZ, s b .fits .a, fits-first b) at (c .add-at .ensures)))
 
-  turning : Raising (s .args .g .now) (λ x. above x i) (s .args .a) (s .args .indices .now) (s .args .factors .now) (l .loop .k) (l .loop .g)
-  turning = simp (toZ-ofZ (s .fits .a)) at (l .loop .inv .2)
+-- the products with those after it
+module _ (l : tie.At-loop Inv-loop μ-loop) where
+  abbrev t : tie.Start Inv-loop μ-loop
+  t = s (l .before .before .before)
 
-  below : Below (2 ^ 54 + rowUnit) (l .loop .g)
-  below = raising-below turning (s .pre .1) (λ y. inner-bound _ _ _ (s .pre .0) (s .args .a) (s .pre .3) y i (l .loop .k) (omega (arith, here)))
+  turning : Added t (l .loop .k) (l .loop .g)
+  turning = simp (toZ-ofZ (t .fits .a)) at (l .loop .inv .2) (t .args .g .now) (added (l .before .before))
 
-  fits-sum : SFits w64 (getD (l .loop .g) place (pos 0) +ℤ s .args .a *ℤ factor)
-  fits-sum = abs-fits (omega (arith, below .small place place-in, product-small, abs-sum (getD (l .loop .g) place (pos 0)) (s .args .a *ℤ factor)))
+  module _ (here : l .loop .k < t .args .count) where
+    column : HasRow (length (t .args .g .now)) (getD (t .args .indices .now) (l .loop .k) 0)
+    column = t .pre .0 .inside (l .loop .k) here
 
-  added : Raised (l .loop .g) (λ z. s .args .a *ℤ factor *ℤ above z i (getD (s .args .indices .now) (l .loop .k) 0)) (set (l .loop .g) place (getD (l .loop .g) place (pos 0) +ℤ s .args .a *ℤ factor))
-  added =
-      raised-same (raised-set (l .loop .g) place (s .args .a *ℤ factor) (below .long) place-in)
-      (λ z. ap (λ (m : ℤ). s .args .a *ℤ factor *ℤ m) (sym (from-high _ _ _ (s .pre .0) (s .args .first) (l .loop .k) (l .loop .inv .0) here z)))
+    below : Below (2 ^ 60 + rowUnit) (l .loop .g)
+    below = raising-below (2 ^ 60) rowUnit turning (t .pre .1) (λ y. inner-bound _ _ _ _ (t .pre .0) (t .args .a) (t .pre .3) y (i t) (l .loop .k) (omega arith))
 
-element-copy-out-from : tie.Need-element-copy-out-from Inv-loop μ-loop
-element-copy-out-from c = omega (arith, c .pre .0 .few, c .pre .2)
+element-copy-out-i : tie.Need-element-copy-out-i Inv-loop μ-loop
+element-copy-out-i c = omega (arith, c .pre .0 .few, c .pre .2)
 
-cast-from : tie.Need-cast-from Inv-loop μ-loop
-cast-from c = let s = c .before in omega (arith, s .pre .0 .indices-low (s .args .first) (s .pre .2))
+cast-i : tie.Need-cast-i Inv-loop μ-loop
+cast-i c = omega (arith, row (c .before))
 
-mul-from : tie.Need-mul-from Inv-loop μ-loop
-mul-from c = let s = c .before in omega (arith, s .pre .0 .indices-low (s .args .first) (s .pre .2))
+mul-add-at : tie.Need-mul-add-at Inv-loop μ-loop
+mul-add-at c = omega (arith, row (c .before .before))
 
-loop-holds : tie.Need-loop-holds Inv-loop μ-loop
-loop-holds c = let s = c .before in (omega arith, omega (arith, s .pre .2), raising-from (s .pre .1 .long) (before-none _ _ _ (s .pre .0) (s .args .first) (s .pre .2)))
+mul-add-at-2 : tie.Need-mul-add-at-2 Inv-loop μ-loop
+mul-add-at-2 c = search needs
 
-element-copy-out-x : tie.Need-element-copy-out-x Inv-loop μ-loop
-element-copy-out-x c = omega (arith, c .before .before .before .pre .0 .few, c .loop-test .taken)
+element-copy-out-add-at : tie.Need-element-copy-out-add-at Inv-loop μ-loop
+element-copy-out-add-at c = let s = c .before .before in omega (arith, s .pre .0 .few, s .pre .2)
 
-cast-x : tie.Need-cast-x Inv-loop μ-loop
-cast-x c = let l = c .before .before in omega (arith, l .before .before .pre .0 .indices-low (l .loop .k) (c .before .loop-test .taken))
+add-at-requires : tie.Need-add-at-requires Inv-loop μ-loop
+add-at-requires c κs =
+    let p = s c .pre in (
+      omega (arith, row (s c)),
+      λ x. omega (arith, p .1 x),
+      simp (toZ-ofZ (s c .fits .a)) (omega (arith, p .3)),
+      simp (toZ-ofZ (fits-first c)) (p .0 .factors-small (s c .args .first) (p .2)),
+    )
 
-add-x : tie.Need-add-x Inv-loop μ-loop
-add-x c =
-    let l = c .before .before in
-    let s = l .before .before in
-    omega (arith, s .pre .0 .indices-low (l .loop .k) (c .before .loop-test .taken), s .pre .0 .indices-low (s .args .first) (s .pre .2))
-
-mul-y : tie.Need-mul-y Inv-loop μ-loop
-mul-y c = search needs
-
-element-copy-out-y : tie.Need-element-copy-out-y Inv-loop μ-loop
-element-copy-out-y c = omega (arith, c .before .before .before .before .pre .0 .few, c .before .loop-test .taken)
-
-cast-y : tie.Need-cast-y Inv-loop μ-loop
-cast-y c = simp (toZ-ofZ (fits-factor c)) (wide-factor c)
-
-mul-y-2 : tie.Need-mul-y-2 Inv-loop μ-loop
-mul-y-2 c = simp (toZ-ofZ, s c .fits .a, fits-factor c, wide-factor c) (fits-product c)
-
-mul-z : tie.Need-mul-z Inv-loop μ-loop
-mul-z c = omega (arith, place-in c)
-
-element-copy-out-z : tie.Need-element-copy-out-z Inv-loop μ-loop
-element-copy-out-z c = place-in c
-
-add-g : tie.Need-add-g Inv-loop μ-loop
-add-g c =
-    let y = c .before in
-    let v : SFits w64 (getD (l y .loop .g) (place y) (pos 0)) = sfits-of (c .z .given) in
-    simp (toZ-ofZ, s y .fits .a, v, fits-factor y, wide-factor y, fits-product y) (fits-sum y)
-
-mul-t20 : tie.Need-mul-t20 Inv-loop μ-loop
-mul-t20 c = omega (arith, place-in (c .before))
-
-element-set-from-g : tie.Need-element-set-from-g Inv-loop μ-loop
-element-set-from-g c = place-in (c .before)
+mul-twice : tie.Need-mul-twice Inv-loop μ-loop
+mul-twice c = let s = s (c .before .before) in simp (toZ-ofZ (s .fits .a)) (fits-twice s)
 
 add-k : tie.Need-add-k Inv-loop μ-loop
-add-k c = search needs
+add-k c = let s = s (c .before .before) in omega (arith, s .pre .0 .few, s .pre .2)
+
+loop-holds : tie.Need-loop-holds Inv-loop μ-loop
+loop-holds c = (omega arith, omega (arith, s (c .before .before) .pre .2), λ G h. h)
+
+mul-add-at-3 : tie.Need-mul-add-at-3 Inv-loop μ-loop
+mul-add-at-3 c = omega (arith, row (t (c .before .before)))
+
+element-copy-out-add-at-2 : tie.Need-element-copy-out-add-at-2 Inv-loop μ-loop
+element-copy-out-add-at-2 c = search needs
+
+cast-add-at : tie.Need-cast-add-at Inv-loop μ-loop
+cast-add-at c = let n = c .before .before in omega (arith, column (n .before) (n .loop-test .taken))
+
+add-add-at : tie.Need-add-add-at Inv-loop μ-loop
+add-add-at c = let n = c .before .before in omega (arith, row (t (n .before)), column (n .before) (n .loop-test .taken))
+
+mul-add-at-4 : tie.Need-mul-add-at-4 Inv-loop μ-loop
+mul-add-at-4 c = search needs
+
+element-copy-out-add-at-3 : tie.Need-element-copy-out-add-at-3 Inv-loop μ-loop
+element-copy-out-add-at-3 c = search needs
+
+fits-later : (c : tie.After-add-at-arg5 Inv-loop μ-loop) → let l = c .before .before .before .before in SFits w32 (factor (t l) (l .loop .k))
+fits-later c = sfits-of (c .add-at-arg5 .given)
+
+add-at-requires-2 : tie.Need-add-at-requires-2 Inv-loop μ-loop
+add-at-requires-2 c κs =
+    let n = c .before .before .before in
+    let l = n .before in
+    let h = n .loop-test .taken in (
+      omega (arith, row (t l), column l h, turning l .raised .long),
+      λ x. omega (arith, below l h x),
+      simp (toZ-ofZ, t l .fits .a, fits-twice (t l)) (twice-small (t l)),
+      simp (toZ-ofZ (fits-later c)) (t l .pre .0 .factors-small (l .loop .k) h),
+    )
+
+add-k-2 : tie.Need-add-k-2 Inv-loop μ-loop
+add-k-2 c = search needs
 
 loop-less : tie.Need-loop-less Inv-loop μ-loop
 loop-less c = search needs
 
 loop-again : tie.Need-loop-again Inv-loop μ-loop
 loop-again c =
-    let y = c .before in
-    let v : SFits w64 (getD (l y .loop .g) (place y) (pos 0)) = sfits-of (c .z .given) in (
-      omega (arith, l y .loop .inv .0),
-      omega (arith, here y),
-      simp (toZ-ofZ, s y .fits .a, v, fits-factor y, wide-factor y, fits-product y, fits-sum y) (raising-more (turning y) (added y)),
+    let b = c .before .before in
+    let n = b .before .before .before in
+    let l = n .before in
+    let h = n .loop-test .taken in (
+      omega arith,
+      omega (arith, h),
+      λ G r. raising-more (l .loop .inv .2 G r)
+          (simp (toZ-ofZ (t l .fits .a))
+          (added-twice (t l .args .a) _ (i (t l)) _ (t l .pre .0 .rising (t l .args .first) (l .loop .k) (l .loop .inv .0) h)
+          (simp (toZ-ofZ, t l .fits .a, fits-twice (t l), fits-later b) at (c .before .add-at2 .ensures)))),
     )
 
+same-length : tie.Need-same-length Inv-loop μ-loop
+same-length c = turning (c .before) .raised .long
+
 returns : tie.Need-returns Inv-loop μ-loop
-returns c =
-    let l = c .before in
-    let s = l .before .before in
-    let e : l .loop .k ≡ s .args .count = omega (arith, l .loop .inv .1, c .loop-test .left) in
-    rw (← e) (simp (toZ-ofZ (s .fits .a)) at (l .loop .inv .2 .raised))
+returns c = let l = c .before in raising-end (turning l) (omega (arith, l .loop .inv .1, c .loop-test .left))
 
 pub add-products-spec : {M : Type 1} → statement M
 add-products-spec =
@@ -153,23 +174,24 @@ add-products-spec =
     (tie.spec
     Inv-loop
     μ-loop
-    element-copy-out-from
-    cast-from
-    mul-from
-    loop-holds
-    element-copy-out-x
-    cast-x
-    add-x
-    mul-y
-    element-copy-out-y
-    cast-y
-    mul-y-2
-    mul-z
-    element-copy-out-z
-    add-g
-    mul-t20
-    element-set-from-g
+    element-copy-out-i
+    cast-i
+    mul-add-at
+    mul-add-at-2
+    element-copy-out-add-at
+    add-at-requires
+    mul-twice
     add-k
+    loop-holds
+    mul-add-at-3
+    element-copy-out-add-at-2
+    cast-add-at
+    add-add-at
+    mul-add-at-4
+    element-copy-out-add-at-3
+    add-at-requires-2
+    add-k-2
     loop-less
     loop-again
+    same-length
     returns)

@@ -2,7 +2,7 @@
 use mathlib.Core.Path.{_≡_, refl, _∙_}
 use Prim.Native.Nat.{ℕ, _+_, _≤_, _<_}
 use native.Mathlib.Omega.{arith}
-use borrow.Author.Needs.{needs, sfits-of}
+use borrow.Author.Needs.{sfits-of}
 use lib.ListN.{length, getD}
 use mir.Facts.{toZ-ofZ}
 use mir.Syntax.{w64}
@@ -38,12 +38,15 @@ add-outer-requires c κs =
     let k = r .before .before .before in
     (low-entries (bytes k) (k .before .pre .1) (r .read-row .ensures), k .before .pre .0, rw (weight-is w) (weight-small _ (bytes k) (k .before .args .from)))
 
+same-length : tie.Need-same-length
+same-length c = c .before .add-outer .ensures .long
+
 returns : tie.Need-returns
 returns c =
-    let w = c .before .before .before .before in
+    let w = c .before .before .before .before .before in
     let r = w .before in
     let k = r .before .before .before in
-    low-added (bytes k) (k .before .pre .1) (r .read-row .ensures) (rw (weight-is w) at (c .add-outer .ensures))
+    low-added (bytes k) (k .before .pre .1) (r .read-row .ensures) (rw (weight-is w) at (c .before .add-outer .ensures))
 
 pub add-row-spec : {M : Type 1} → statement M
-add-row-spec = tie.close (tie.spec read-row-requires weight-at-requires add-outer-requires returns)
+add-row-spec = tie.close (tie.spec read-row-requires weight-at-requires add-outer-requires same-length returns)

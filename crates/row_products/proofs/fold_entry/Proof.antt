@@ -1,17 +1,16 @@
--- `fold_entry`: an entry is moved to a place that has the same product b × b', or kept, as often as it counts.
+-- `fold_entry`: an entry is moved to a place that has the same product b × b', or left.
 use mathlib.Core.Path.{_≡_, refl}
-use Prim.Native.Nat.{ℕ, _/_, _%_, _^_, _-_, _*_, _+_, _≤_, _<_}
+use Prim.Native.Nat.{ℕ, _/_, _%_, _^_, _≤_, _<_}
 use native.Mathlib.Omega.{arith}
 use borrow.Author.Needs.{needs, sfits-of}
-use lib.IntN.{ℤ, pos, natAbs, _+ℤ_, _*ℤ_}
+use lib.IntN.{ℤ, pos, natAbs, _+ℤ_}
 use lib.ListN.{length, getD}
 use mir.Facts.{toZ-ofZ}
 use mir.Syntax.{w64}
 use mir.Val.{SFits}
-use Rattle.integers.proofs.Ranges.{zero-bits, abs-fits, abs-sum}
-use Rattle.row_products.specs.Gram.{times}
+use Rattle.integers.proofs.Ranges.{abs-fits, abs-sum}
 use Rattle.row_products.proofs.Frames.{entered-row, entered-column}
-use Rattle.row_products.proofs.Folds.{folded-none, folded-kept, folded-moved}
+use Rattle.row_products.proofs.Folds.{folded-left, folded-moved}
 use Rattle.row_products.proofs.fold_entry.Statement.{statement}
 use Rattle.row_products.proofs.fold_entry.Tie as tie
 
@@ -35,52 +34,35 @@ module _ (c : tie.Else1) where
   not-zero e = c .if1 .left (rw e refl)
 
   row : b .args .x / 64 < length (b .args .basis .now)
-  row = entered-row _ _ (b .args .x) (a (c .before)) (b .pre .2) not-zero
+  row = entered-row _ _ (b .args .x) (a (c .before)) (b .pre .3) not-zero
 
   column : b .args .x % 64 < length (b .args .basis .now)
-  column = entered-column _ _ (b .args .x) (a (c .before)) (b .pre .2) not-zero
-
--- how often it counts
-module _ (c : tie.After-counted) where
-  abbrev e : tie.Else1
-  e = c .before
-
-  abbrev v : ℤ
-  v = c .counted .result
-
-  counted-is : (v ≡ times (b e .args .x) *ℤ a (e .before)) × (natAbs v ≤ 2 ^ 54)
-  counted-is = simp (toZ-ofZ (fits-a (e .before))) at (c .counted .ensures)
-
-  fits-v : SFits w64 v
-  fits-v = abs-fits (omega (arith, counted-is .1))
+  column = entered-column _ _ (b .args .x) (a (c .before)) (b .pre .3) not-zero
 
 mul-a : tie.Need-mul-a
 mul-a c = search needs
 
-element-copy-out-a : tie.Need-element-copy-out-a
-element-copy-out-a c = search needs
+slice-copy-out-a : tie.Need-slice-copy-out-a
+slice-copy-out-a c = search needs
 
 returns : tie.Need-returns
-returns c = folded-none _ _ _ (zero-bits (fits-a (c .before)) (c .if1 .taken))
-
-counted-requires : tie.Need-counted-requires
-counted-requires c κs = search needs
+returns c = folded-left _ _ _
 
 mul-key : tie.Need-mul-key
 mul-key c = search needs
 
 shared-slice-read-key : tie.Need-shared-slice-read-key
-shared-slice-read-key c = row (c .before .before)
+shared-slice-read-key c = row (c .before)
 
 mul-key-2 : tie.Need-mul-key-2
 mul-key-2 c = search needs
 
 shared-slice-read-key-2 : tie.Need-shared-slice-read-key-2
-shared-slice-read-key-2 c = column (c .before .before .before)
+shared-slice-read-key-2 c = column (c .before .before)
 
 add-key : tie.Need-add-key
 add-key c =
-    let s = b (c .before .before .before) in
+    let s = b (c .before .before) in
     omega (arith, s .pre .0 (s .args .x / 64), s .pre .0 (s .args .x % 64))
 
 hint-requires : tie.Need-hint-requires
@@ -101,8 +83,8 @@ is-pair-requires c κs = search needs
 mul-z : tie.Need-mul-z
 mul-z c = search needs
 
-element-copy-out-z : tie.Need-element-copy-out-z
-element-copy-out-z c = search needs
+slice-copy-out-z : tie.Need-slice-copy-out-z
+slice-copy-out-z c = search needs
 
 is-low-requires : tie.Need-is-low-requires
 is-low-requires c κs = search needs
@@ -115,14 +97,17 @@ module _ (c : tie.Then4) where
   abbrev w : tie.After-wide
   w = p .before .before
 
-  abbrev d : tie.After-counted
-  d = w .before .before .before .before .before
+  abbrev e : tie.Else1
+  e = w .before .before .before .before .before
+
+  abbrev v : ℤ
+  v = a (e .before)
 
   abbrev y : ℕ
   y = w .wide .result
 
   abbrev z : ℤ
-  z = getD (b (e d) .args .g .now) y (pos 0)
+  z = getD (b e .args .g .now) y (pos 0)
 
   fits-z : SFits w64 z
   fits-z = sfits-of (c .before .before .z .given)
@@ -130,30 +115,32 @@ module _ (c : tie.Then4) where
   room : natAbs z ≤ 2 ^ 53
   room = rw (toZ-ofZ fits-z) at (c .before .is-low .ensures (c .if4 .taken))
 
-  fits-sum : SFits w64 (z +ℤ v d)
-  fits-sum = abs-fits (omega (arith, room, counted-is d .1, abs-sum z (v d)))
+  fits-sum : SFits w64 (z +ℤ v)
+  fits-sum = abs-fits (omega (arith, room, b e .pre .3 .small, abs-sum z v))
 
 add-g : tie.Need-add-g
-add-g c = simp (toZ-ofZ, fits-z c, fits-v (d c)) (fits-sum c)
+add-g c = simp (toZ-ofZ, fits-z c, fits-a (e c .before)) (fits-sum c)
 
-mul-t33 : tie.Need-mul-t33
-mul-t33 c = search needs
+mul-t30 : tie.Need-mul-t30
+mul-t30 c = search needs
 
-element-set-from-g : tie.Need-element-set-from-g
-element-set-from-g c = search needs
+slice-set-from-g : tie.Need-slice-set-from-g
+slice-set-from-g c = search needs
 
 mul-g : tie.Need-mul-g
 mul-g c = search needs
 
-element-set-of-g : tie.Need-element-set-of-g
-element-set-of-g c = search needs
+slice-set-of-g : tie.Need-slice-set-of-g
+slice-set-of-g c = search needs
+
+same-length : tie.Need-same-length
+same-length c = search needs
 
 returns-2 : tie.Need-returns-2
 returns-2 c =
-    let k = d c in
-    let s = b (e k) in
-    simp (toZ-ofZ, fits-z c, fits-v k, fits-sum c)
-    (folded-moved _ (s .args .x) _ (omega (arith, s .pre .1, s .pre .3)) (row (e k)) (column (e k)) (v k) (counted-is k .0) (counted-is k .1) (y c) (p c .before .if2 .taken) (p c .is-pair .ensures (c .before .before .before .if3 .taken)) (room c))
+    let s = b (e c) in
+    simp (toZ-ofZ, fits-z c, fits-a (e c .before), fits-sum c)
+    (folded-moved _ (s .args .x) _ (s .pre .1) (s .pre .2) (s .pre .3 .small) (y c) (p c .before .if2 .taken) (p c .is-pair .ensures (c .before .before .before .if3 .taken)) (room c))
 
 cast-lasts : tie.Need-cast-lasts
 cast-lasts c = search needs
@@ -164,26 +151,16 @@ mul-lasts c = search needs
 element-write-lasts : tie.Need-element-write-lasts
 element-write-lasts c = search needs
 
-mul-v : tie.Need-mul-v
-mul-v c = search needs
-
-element-set-from-v : tie.Need-element-set-from-v
-element-set-from-v c = search needs
-
 returns-3 : tie.Need-returns-3
-returns-3 c =
-    let k = c .before .before .before .before .before .before in
-    let s = b (e k) in
-    simp (toZ-ofZ (fits-v k)) (folded-kept _ (s .args .x) _ (omega (arith, s .pre .1, s .pre .3)) (row (e k)) (column (e k)) (v k) (counted-is k .0) (counted-is k .1))
+returns-3 c = folded-left _ _ _
 
 pub fold-entry-spec : {M : Type 1} → statement M
 fold-entry-spec =
     tie.close
     (tie.spec
     mul-a
-    element-copy-out-a
+    slice-copy-out-a
     returns
-    counted-requires
     mul-key
     shared-slice-read-key
     mul-key-2
@@ -195,17 +172,16 @@ fold-entry-spec =
     wide-requires
     is-pair-requires
     mul-z
-    element-copy-out-z
+    slice-copy-out-z
     is-low-requires
     add-g
-    mul-t33
-    element-set-from-g
+    mul-t30
+    slice-set-from-g
     mul-g
-    element-set-of-g
+    slice-set-of-g
+    same-length
     returns-2
     cast-lasts
     mul-lasts
     element-write-lasts
-    mul-v
-    element-set-from-v
     returns-3)

@@ -25,7 +25,7 @@ add-result c =
     omega (arith, s .pre (s .args .y / 64), s .pre (s .args .y % 64))
 
 returns : tie.Need-returns
-returns c = λ e. record { row = c .before .before .before .if1 .taken; column = c .before .before .if2 .taken; is = eqb-true _ _ e }
+returns c = λ e. record { upper = c .before .before .before .if1 .taken; column = c .before .before .if2 .taken; is = eqb-true _ _ e }
 
 returns-2 : tie.Need-returns-2
 returns-2 c = λ e. clash (cc)
