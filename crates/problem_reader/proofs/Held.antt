@@ -1,14 +1,14 @@
 -- What the arrays and the condition begun last hold of a problem while it is read, and what each command's stores make of it.
-use mathlib.Core.Path.{_≡_, refl, sym, ap, subst, _∙_}
+use mathlib.Core.Path.{_≡_, refl, sym, ap, _∙_}
 use mathlib.Core.List.{List, [], _∷_, _++_}
 use mathlib.Core.Logic.{inl, inr, ⊎-elim, _≢_}
-use Prim.Native.Nat.{ℕ, _+_, _-_, _*_, _^_, _≤_, _<_, zero-le}
+use Prim.Native.Nat.{ℕ, _+_, _*_, _^_, _≤_, _<_, zero-le}
 use native.Mathlib.Nat.{eq-or-lt-of-le}
 use native.Mathlib.Numerals.{add-one}
 use native.Mathlib.Omega.{arith}
 use lib.IntN.{ℤ, pos, natAbs}
 use lib.ListN.{length, drop, set, getD, replicate, length-set, length-append, length-drop, length-replicate}
-use lib.Seq.{paste, length-paste, take-suc-set, drop-set-add, getD-set-same, getD-set-other}
+use lib.Seq.{paste, length-paste, take-suc-set, drop-set-add, getD-set-same}
 use Rattle.counting.specs.Counting.{listed}
 use Rattle.counting.proofs.Bounded.{bounded-zeros}
 use Rattle.counting.proofs.Cases.{lt-or-le}
@@ -17,7 +17,7 @@ use Rattle.polynomial.specs.Terms.{Term, term}
 use Rattle.format.specs.declared.problem.Instruction.the-variants as I
 use Rattle.format.specs.declared.problem.Kind.{Kind}
 use Rattle.format.specs.declared.problem.Kind.the-variants as K
-use Rattle.format.specs.ProblemRules.{Problem, Condition, withCondition, problemApplied, noProblem}
+use Rattle.format.specs.ProblemRules.{Problem, withCondition, problemApplied, noProblem}
 use Rattle.format.proofs.ProblemLimits.{nothing-basis}
 use Rattle.format.specs.ProblemBases.{basisOf}
 use Rattle.flat.specs.TermArrays.{termsIn, FilledTerms}
@@ -27,7 +27,7 @@ use Rattle.flat.proofs.Flat.{basis-most, multiplier-most, basis-degree, multipl
 use Rattle.problem_reader.specs.Storing.{noTerms, terms}
 use Rattle.problem_reader.specs.declared.Polynomial.{Polynomial}
 use Rattle.problem_reader.proofs.Arrays.{basis-list, polynomial-place, Apart, apart-set, apart-paste, paste-all, paste-here, Others, coefficients-apart, others, limits-more, number-others, number-limits}
-use Rattle.problem_reader.proofs.Problems.{conditionOf, multiplier-is, kind-is, appended-length, condition-same, condition-none, nothing-kind, member-here, member-other, begun-other, begun-here, term-other, term-here}
+use Rattle.problem_reader.proofs.Problems.{conditionOf, multiplier-is, kind-is, same-terms, same-kind, appended-length, condition-same, condition-none, nothing-kind, member-here, member-other, begun-other, begun-here, term-other, term-here}
 
 -- the problem p as it was read so far: keys, coefficients and sizes are the arrays, v is the number of variables, last the
 -- condition begun last (g_0 before the first), which is not laid out yet, and n the number of conditions
@@ -51,14 +51,6 @@ module _ {p : Problem} {keys : List ℕ} {coefficients : List ℤ} {sizes : List
   abbrev limits : FlatLimits keys coefficients sizes
   limits = held .limits
 
-  -- ---- a command that leaves the conditions leaves their terms and kinds
-  module _ (q : Problem) (e : p .conditions ≡ q .conditions) (j : ℕ) where
-    terms-kept : conditionOf p j .terms ≡ conditionOf q j .terms
-    terms-kept = ap (λ (g : Condition). g .terms) (condition-same p q e j)
-
-    kind-kept : kindNumber (conditionOf p j .kind) ≡ kindNumber (conditionOf q j .kind)
-    kind-kept = ap (λ (g : Condition). kindNumber (g .kind)) (condition-same p q e j)
-
   -- ---- the number of variables
   pub held-variables : (m : ℕ) → m ≤ 8 → Held (problemApplied p (I.Variables m)) keys coefficients sizes m last n
   unfolding problemApplied basisOf
@@ -71,11 +63,11 @@ module _ {p : Problem} {keys : List ℕ} {coefficients : List ℤ} {sizes : List
     nine = held .nine;
     bases = held .bases;
     objective = held .objective;
-    laid = λ j l. held .laid j l ∙ terms-kept _ refl j;
-    latest = held .latest ∙ terms-kept _ refl n;
+    laid = λ j l. held .laid j l ∙ same-terms (condition-same p _ refl j);
+    latest = held .latest ∙ same-terms (condition-same p _ refl n);
     filled = held .filled;
     empty = held .empty;
-    kinds = λ j l. held .kinds j l ∙ kind-kept _ refl j;
+    kinds = λ j l. held .kinds j l ∙ same-kind (condition-same p _ refl j);
   }
 
   -- ---- a monomial of basis j
@@ -127,11 +119,11 @@ module _ {p : Problem} {keys : List ℕ} {coefficients : List ℤ} {sizes : List
               (λ d. o .bases i q d ∙ held .bases i q ∙ sym (member-other p j k i d))
               (same-or-not i j);
           objective = o .polynomials 9 (omega arith) (λ e. omega arith) ∙ held .objective;
-          laid = λ i q. o .polynomials i (omega arith) (λ e. omega arith) ∙ held .laid i q ∙ terms-kept _ refl i;
-          latest = held .latest ∙ terms-kept _ refl n;
+          laid = λ i q. o .polynomials i (omega arith) (λ e. omega arith) ∙ held .laid i q ∙ same-terms (condition-same p _ refl i);
+          latest = held .latest ∙ same-terms (condition-same p _ refl n);
           filled = held .filled;
           empty = λ i q l. o .lengths (9 + i) (λ e. omega arith) ∙ held .empty i q l;
-          kinds = λ i q. o .lengths (20 + i) (λ e. omega arith) ∙ held .kinds i q ∙ kind-kept _ refl i;
+          kinds = λ i q. o .lengths (20 + i) (λ e. omega arith) ∙ held .kinds i q ∙ same-kind (condition-same p _ refl i);
         }
 
   -- ---- a term of the objective
@@ -182,11 +174,11 @@ module _ {p : Problem} {keys : List ℕ} {coefficients : List ℤ} {sizes : List
           nine = held .nine;
           bases = λ i q. o .bases i q (λ e. omega arith) ∙ held .bases i q;
           objective = objective-more ∙ ap (λ (x : List Term). x ++ (term k c ∷ [])) (held .objective);
-          laid = λ i q. o .polynomials i (omega arith) (λ e. omega arith) ∙ held .laid i q ∙ terms-kept _ refl i;
-          latest = held .latest ∙ terms-kept _ refl n;
+          laid = λ i q. o .polynomials i (omega arith) (λ e. omega arith) ∙ held .laid i q ∙ same-terms (condition-same p _ refl i);
+          latest = held .latest ∙ same-terms (condition-same p _ refl n);
           filled = held .filled;
           empty = λ i q l. o .lengths (9 + i) (λ e. omega arith) ∙ held .empty i q l;
-          kinds = λ i q. o .lengths (20 + i) (λ e. omega arith) ∙ held .kinds i q ∙ kind-kept _ refl i;
+          kinds = λ i q. o .lengths (20 + i) (λ e. omega arith) ∙ held .kinds i q ∙ same-kind (condition-same p _ refl i);
         }
 
   -- ---- a term of the condition begun last
@@ -208,17 +200,17 @@ module _ {p : Problem} {keys : List ℕ} {coefficients : List ℤ} {sizes : List
         nine = held .nine;
         bases = held .bases;
         objective = held .objective;
-        laid = λ i q. held .laid i q ∙ ap (λ (g : Condition). g .terms) (sym (other i (λ z. omega arith)));
+        laid = λ i q. held .laid i q ∙ same-terms (sym (other i (λ z. omega arith)));
         latest =
             terms-more (last .count) (last .keys) (last .coefficients) k c (omega arith) (omega arith)
             ∙ ap (λ (x : List Term). x ++ (term k c ∷ [])) (held .latest)
-            ∙ ap (λ (g : Condition). g .terms) (sym here);
+            ∙ same-terms (sym here);
         filled = filled-more 16 32 (2 ^ 15) (last .keys) (last .coefficients) (last .count) k c f r low small;
         empty = held .empty;
         kinds = λ i q. held .kinds i q ∙
             ⊎-elim
-            (λ z. rw z (ap (λ (g : Condition). kindNumber (g .kind)) (sym here)))
-            (λ d. ap (λ (g : Condition). kindNumber (g .kind)) (sym (other i d)))
+            (λ z. rw z (same-kind (sym here)))
+            (λ d. same-kind (sym (other i d)))
             (same-or-not i n);
       }
 
@@ -334,13 +326,13 @@ module _ {p : Problem} {keys : List ℕ} {coefficients : List ℤ} {sizes : List
         nine = held .nine;
         bases = stored-bases i _ far few;
         objective = stored-objective i _ far few;
-        laid = λ j q. stored-laid i _ far few j (omega arith) ∙ ap (λ (g : Condition). g .terms) (sym (other j (λ z. omega arith)));
-        latest = ap (λ (g : Condition). g .terms) (sym here);
+        laid = λ j q. stored-laid i _ far few j (omega arith) ∙ same-terms (sym (other j (λ z. omega arith)));
+        latest = same-terms (sym here);
         filled = filled-none 16 32 (2 ^ 15);
         empty = λ j q l. stored-other i _ far few (9 + j) (λ z. omega arith) (λ z. omega arith) ∙ held .empty j (omega arith) l;
         kinds = λ j q.
             ⊎-elim
-            (λ z. rw z (stored-here i _ far few (omega arith) ∙ ap (λ (g : Condition). kindNumber (g .kind)) (sym here)))
+            (λ z. rw z (stored-here i _ far few (omega arith) ∙ same-kind (sym here)))
             (λ d. rw (other j d) (stored-other i _ far few (20 + j) (λ z. d (omega arith)) (λ z. omega arith) ∙ held .kinds j q))
             (same-or-not j (n + 1));
       }

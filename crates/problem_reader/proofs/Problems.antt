@@ -4,7 +4,7 @@ use mathlib.Core.Path.{_≡_, refl, sym, ap, _∙_}
 use mathlib.Core.Bool.{true, false}
 use mathlib.Core.List.{List, [], _∷_, _++_}
 use mathlib.Core.Logic.{_⊎_, ⊎-elim, _≢_}
-use Prim.Native.Nat.{ℕ, zero, suc, _+_, _-_, _≤_, _<_}
+use Prim.Native.Nat.{ℕ, zero, suc, _+_, _-_, _<_}
 use native.Mathlib.Numerals.{add-one}
 use native.Mathlib.Omega.{arith}
 use lib.IntN.{ℤ, pos}
@@ -20,6 +20,7 @@ use Rattle.format.specs.declared.problem.Kind.the-variants as K
 use Rattle.format.proofs.problem.Instruction.{the-type}
 use Rattle.format.specs.ProblemRules.{Condition, Problem, noCondition, lastCondition, appendAt, conditionsFull, withCondition, withTerm, problemApplied}
 use Rattle.format.specs.ProblemBases.{basisOf, multiplier, kindOf}
+use Rattle.flat.specs.Flat.{kindNumber}
 use Rattle.problem_reader.specs.Checks.{late}
 use Rattle.problem_reader.specs.Storing.{beginning}
 
@@ -63,6 +64,12 @@ pub condition-same : (p q : Problem) → p .conditions ≡ q .conditions → (j 
 unfolding conditionOf
 condition-same p q e zero = refl
 condition-same p q e (suc j) = ap (λ (l : List Condition). getD l j noCondition) e
+
+pub same-terms : {g h : Condition} → g ≡ h → g .terms ≡ h .terms
+same-terms e = ap (λ (g : Condition). g .terms) e
+
+pub same-kind : {g h : Condition} → g ≡ h → kindNumber (g .kind) ≡ kindNumber (h .kind)
+same-kind e = ap (λ (g : Condition). kindNumber (g .kind)) e
 
 -- before the first command
 pub nothing-kind : (p : Problem) → p .conditions ≡ [] → (j : ℕ) → conditionOf p j .kind ≡ K.Inequality

@@ -1,8 +1,8 @@
 -- One command of the reading loop: what it stores is what the definition says, and the loop's invariant goes on.
-use mathlib.Core.Path.{_≡_, refl, sym, ap, _∙_}
+use mathlib.Core.Path.{_≡_, refl, sym, _∙_}
 use mathlib.Core.List.{List, [], _∷_}
 use mathlib.Core.Bool.{Bool, true, false, cond}
-use Prim.Native.Nat.{ℕ, _+_, _-_, _*_, _^_, _≤_, _<_, zero-le}
+use Prim.Native.Nat.{ℕ, _+_, _*_, _^_, _≤_, _<_, zero-le}
 use native.Mathlib.Omega.{arith}
 use lib.Dec.{eqb, leb, ltb}
 use lib.IntN.{ℤ, pos}
@@ -22,7 +22,7 @@ use Rattle.format.specs.declared.problem.Instruction.{Instruction}
 use Rattle.format.specs.declared.problem.Instruction.the-variants as I
 use Rattle.format.specs.declared.problem.Kind.{Kind}
 use Rattle.format.specs.ProblemLayout.{problemCommand, problemDecoded}
-use Rattle.format.specs.ProblemRules.{Problem, Condition, lastCondition, problemPlaced, fitting, nonzero, problemApplied, problemCommandAt, problemRefusalAt, problemNext, problemLanguage, noProblem, readProblem}
+use Rattle.format.specs.ProblemRules.{Problem, lastCondition, problemPlaced, fitting, nonzero, problemApplied, problemCommandAt, problemRefusalAt, problemNext, problemLanguage, noProblem, readProblem}
 use Rattle.format.specs.ProblemBases.{basisOf}
 use Rattle.flat.specs.TermArrays.{termsIn, FilledTerms}
 use Rattle.flat.specs.Flat.{exponentsAt, coefficientsAt, kindAt, kindNumber, FlatLimits, FlatZero}
@@ -33,7 +33,7 @@ use Rattle.problem_reader.specs.Storing.{terms, noTerms, beginning, stor
 use Rattle.problem_reader.specs.declared.Polynomial.{Polynomial}
 use Rattle.problem_reader.specs.declared.Reading.{Reading}
 use Rattle.problem_reader.proofs.Checks.{Passes, passes-size, passes-end, passes-on, space}
-use Rattle.problem_reader.proofs.Problems.{condition-last, begins-on, begins-applied, begins-late}
+use Rattle.problem_reader.proofs.Problems.{condition-last, same-terms, begins-on, begins-applied, begins-late}
 use Rattle.problem_reader.proofs.Coefficients.{passed-small}
 use Rattle.problem_reader.proofs.Held.{Held, held-variables, held-member, held-objective, held-term, held-condition, held-end, held-start}
 
@@ -220,7 +220,7 @@ module _ {p : Problem} {keys : List ℕ} {coefficients : List ℤ} {sizes : List
       begun = rw (held .count) at (term-placed p s at (problemCommandAt s at) k c (t .stands) (t .instruction))
 
       latest : terms last ≡ lastCondition (p .conditions) .terms
-      latest = held .latest ∙ ap (λ (g : Condition). g .terms) (condition-last p n (held .count) begun)
+      latest = held .latest ∙ same-terms (condition-last p n (held .count) begun)
 
       term-room : lateIn (last .keys) 0 (last .count) k 32 ≡ late p (I.Term k c)
       term-room = let f = held .filled in terms-room (last .count) 32 k (last .keys) (last .coefficients) (lastCondition (p .conditions) .terms) (omega arith) latest
