@@ -1,6 +1,6 @@
 -- Laws of stores in the arrays: one list changes, and the others stay. The lists have the numbers of their lengths'
 -- places: 0 to 8 are the bases, 9 to 17 the multipliers, and 18 is the objective.
-use mathlib.Core.Path.{_≡_, sym, ap, subst, _∙_}
+use mathlib.Core.Path.{_≡_, refl, sym, ap, subst, _∙_}
 use mathlib.Core.Bool.{cond}
 use mathlib.Core.List.{List, _++_}
 use mathlib.Core.Logic.{_⊎_, inl, inr, ⊎-elim, _≢_}
