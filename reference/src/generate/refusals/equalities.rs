@@ -46,6 +46,11 @@ const ON_EQUAL_F: &str = "10 00 02 00 FF FF FF FF 01 00 | 11 00 01 00 | 12 00 01
 const ABOVE_EQUAL_F: &str = "10 01 02 00 01 00 00 00 01 00 | 11 00 01 00 | 12 00 01 00 \
     | 12 01 FF FF | 14 01 01 00 | 12 00 01 00 | 13";
 
+/// The streams of case F with an equality.
+pub fn equal_f() -> [Vec<u8>; 3] {
+    [EQUAL_F, ON_EQUAL_F, ABOVE_EQUAL_F].map(bytes)
+}
+
 /// In a certificate for it.
 #[rustfmt::skip]
 const CERTIFICATES: &[Line] = &[
