@@ -11,8 +11,8 @@ from gapfile.model import parse
 from gapfile.points import attain
 from gapfile.polynomials import evaluate
 from gapfile.problem import LimitError, allowed, encode_problem, pose
-from gapfile.programs import gapcheck, reads
-from gapfile.reading import read_problem
+from gapfile.programs import gapcheck
+from gapfile.reading import read_certificate, read_problem
 from gapfile.solver import Csdp, NoSolver, Recorded, sparse_format
 from gapfile.solving import NoCertificate, Solved, solve_model
 from gapfile.tests.streams import EXAMPLES, ROOT
@@ -112,25 +112,38 @@ class Replayed(unittest.TestCase):
         self.assertEqual(result.sides[0].attained.value / result.posed.factor, 1)
         self.tight(result)
 
+    @unittest.skipUnless(BUILT, "gapcheck and replay are not built")
+    def test_bolted_decks(self) -> None:
+        """An equality: the checker reads 07, and accepts rows of both signs by 14."""
+        result = solved(EXAMPLES / "bolted_decks.gap", Recorded(RECORDED / "bolted_decks"), Checker())
+        verdict = gapcheck(result.problem, *(side.certificate for side in result.sides))
+        self.assertEqual((verdict.lower, verdict.upper), (Fraction(-1334495, 50000), Fraction(1677784, 50000)))
+        problem = read_problem(result.problem)
+        for side in result.sides:
+            weights = [row.weight for row in read_certificate(side.certificate, problem).rows if row.basis == 5]
+            self.assertTrue(min(weights) < 0 < max(weights))
+        self.tight(result)
+
     def test_equality_narrow_and_wide(self) -> None:
-        """Equalities by 14, and 15 where it gains, by this tool's plain check until gapcheck reads them."""
+        """15 where it gains, by this tool's plain check until gapcheck reads it."""
         bounds = []
         for narrow in (True, False):
-            result = solved(MODELS / "bolted_decks.gap", Recorded(RECORDED / "bolted_decks"), Plain(), narrow)
+            result = solved(EXAMPLES / "bolted_decks.gap", Recorded(RECORDED / "bolted_decks"), Plain(), narrow)
             lines = exact.pair(result.problem, *(side.certificate for side in result.sides))
             self.assertTrue(lines[0].startswith("lower "), lines)
-            self.assertTrue(all(b"\x14\x05" in side.certificate for side in result.sides))
             self.assertEqual(any(side.wide for side in result.sides), not narrow)
             bounds.append(result.sides[1].bound - result.sides[0].bound)
             self.tight(result)
         self.assertLess(bounds[1], bounds[0])
 
-    @unittest.skipUnless(BUILT, "gapcheck and replay are not built")
     def test_equality_without_a_checker_that_reads_it(self) -> None:
-        if reads(0x07):
-            self.skipTest("this gapcheck reads equalities")
+        """An older gapcheck: the model is refused, and nothing is solved."""
+        class Older(Plain):
+            def reads(self, byte: int) -> bool:
+                return byte != 0x07
+
         with self.assertRaises(LimitError) as caught:
-            solved(MODELS / "bolted_decks.gap", Recorded(RECORDED / "bolted_decks"), Checker())
+            solved(EXAMPLES / "bolted_decks.gap", Recorded(RECORDED / "bolted_decks"), Older())
         self.assertIn("does not read equalities", str(caught.exception))
 
 

@@ -19,7 +19,7 @@ use Rattle.accepting.specs.Judgement.{splitPlace, differenceKey, refused
 use Rattle.accepting.proofs.Blocks.{split-none, split-kept}
 use Rattle.accepting.proofs.Difference.{identity-none, none-identity, difference-smallest}
 use Rattle.accepting.specs.Bounds.{BoundedBelow, BoundedAbove}
-use Rattle.accepting.proofs.Bounds.{Weighted, identity-below, identity-above}
+use Rattle.accepting.proofs.Bounds.{RowWeighted, Weighted, identity-below, identity-above}
 
 -- a refusal is not an acceptance
 not-refused : {X : Type 0} (n place key : ℕ) (c : Certificate) → refused n place key ≡ accepted c → X
@@ -69,8 +69,9 @@ module _ (p : Problem) where
     sound : Sound p c
     sound = read-sound p s c (a .read)
 
-    weighted : Weighted (c .rows)
-    weighted = all-map _ _ (λ (r : Row) k. nonneg-of-one (r .weight) (k .weight)) (c .rows) (sound .rows)
+    weighted : Weighted p (c .rows)
+    weighted =
+        all-map _ (RowWeighted p) (λ (r : Row) k e. nonneg-of-one (r .weight) (k .positive e)) (c .rows) (sound .rows)
 
     pub accepted-below : c .header .side ≡ 0 → BoundedBelow p (c .header .p) (c .header .q)
     accepted-below = identity-below p limits c (sound .scale) weighted (a .identity)

@@ -1,37 +1,49 @@
 -- The identity bounds the objective at every allowed point, and two bounds give the gap.
-use mathlib.Core.Path.{_≡_, sym, ap, _∙_, subst}
+use mathlib.Core.Path.{_≡_, refl, sym, ap, _∙_, subst}
 use mathlib.Core.List.{List, [], _∷_}
 use Prim.Native.Nat.{ℕ, zero, suc, _*_, _≤_, _^_}
 use native.Mathlib.Omega.{arith}
 use lib.Dec.{lit≤}
 use lib.ListN.{length}
-use lib.IntN.{ℤ, pos, negℤ, _+ℤ_, _-ℤ_, _*ℤ_, +ℤ-comm, negℤ-negℤ}
+use lib.IntN.{ℤ, pos, negℤ, _+ℤ_, _-ℤ_, _*ℤ_, +ℤ-comm, *ℤ-zero, negℤ-negℤ}
 use lib.Signed.{_≤ℤ_}
 use Rattle.integers.proofs.Ring.{negℤ-*ℤ, ≤ℤ-of-sub, nonneg-pos, nonneg-+, nonneg-*, nonneg-square, nonneg-cancel, cross}
 use Rattle.polynomial.specs.Monomial.{degreeOf, degree}
-use Rattle.polynomial.specs.Terms.{Term}
 use Rattle.polynomial.specs.Algebra.{scale, _⊗_}
 use Rattle.polynomial.specs.Point.{Point, value}
 use Rattle.polynomial.proofs.Products.{Degree, degree-⊗}
 use Rattle.polynomial.proofs.Values.{value-append, value-scale, same-values, value-constant, value-⊗}
-use Rattle.format.specs.ProblemRules.{Problem}
-use Rattle.format.specs.ProblemBases.{basisOf, multiplier}
+use Rattle.format.specs.declared.problem.Kind.{Kind}
+use Rattle.format.specs.declared.problem.Kind.the-variants as K
+use Rattle.format.specs.ProblemRules.{Problem, noCondition}
+use Rattle.format.specs.ProblemBases.{basisOf, multiplier, kindOf}
 use Rattle.format.specs.All.{All}
-use Rattle.format.proofs.WithinLimits.{Terms, Limits}
-use Rattle.format.proofs.ProblemLimits.{all-at, monomials-none}
+use Rattle.format.proofs.WithinLimits.{ConditionTerms, Limits}
+use Rattle.format.proofs.ProblemLimits.{all-at, monomials-none, terms-none}
 use Rattle.format.specs.CertificateRules.{Entry, Row, Certificate}
 use Rattle.format.specs.declared.certificate.Header.{Header}
 use Rattle.accepting.specs.Identity.{combination, square, squares, turned, claimOf, claim, Identity}
-use Rattle.accepting.specs.Bounds.{Allowed, objectiveValue, objectiveScale, BoundedBelow, BoundedAbove, WithinGap}
+use Rattle.accepting.specs.Bounds.{Meets, Allowed, objectiveValue, objectiveScale, BoundedBelow, BoundedAbove, WithinGap}
 use Rattle.accepting.proofs.Reach.{keys-all}
 
 combination-degree : (B : List ℕ) → All (λ k. degree k ≤ 8) B → (es : List Entry) → Degree 8 (combination B es)
 combination-degree B h [] = tt
 combination-degree B h (e ∷ es) = (all-at _ B (e .index) 0 h (unfold degree degreeOf in lit≤ tt), combination-degree B h es)
 
--- rows with weights at least 0
-abbrev pub Weighted : List Row → Type 0
-Weighted rs = All (λ (r : Row). pos 0 ≤ℤ r .weight) rs
+-- a weight is at least 0 on basis 0 and on an inequality; on an equality it may have either sign
+abbrev pub RowWeighted : Problem → Row → Type 0
+RowWeighted p r = kindOf p (r .basis) ≡ K.Inequality → pos 0 ≤ℤ r .weight
+
+abbrev pub Weighted : Problem → List Row → Type 0
+Weighted p rs = All (RowWeighted p) rs
+
+-- w × s × v is at least 0, where s is a square and v the value of a condition that is met: of an inequality because
+-- none of the three is below 0, and of an equality because v is 0, so that a negative weight does no harm there
+weighted-nonneg : (k : Kind) (w s v : ℤ) → (k ≡ K.Inequality → pos 0 ≤ℤ w) → pos 0 ≤ℤ s → Meets k v
+    → pos 0 ≤ℤ (w *ℤ (s *ℤ v))
+unfolding Meets
+weighted-nonneg K.Inequality w s v weight square met = nonneg-* (weight refl) (nonneg-* square met)
+weighted-nonneg K.Equality w s v weight square met = rw (met, *ℤ-zero s, *ℤ-zero w) (nonneg-pos 0)
 
 -- the two sides' claims as differences
 lower-form : (q x v s : ℤ) → q *ℤ v +ℤ negℤ x *ℤ s ≡ q *ℤ v -ℤ x *ℤ s
@@ -49,22 +61,21 @@ module _ (p : Problem) (limits : Limits p) where
   multiplier-degree : (j : ℕ) → Degree 16 (multiplier p j)
   unfolding multiplier All
   multiplier-degree zero = unfold degree degreeOf in (lit≤ tt, tt)
-  multiplier-degree (suc j) = all-at (Degree 16) (p .constraints) j [] (all-degree (p .constraints) (limits .terms)) tt
-    where
-      all-degree : (gs : List (List Term)) → All (Terms (p .variables) 16 32) gs → All (Degree 16) gs
-      all-degree [] h = tt
-      all-degree (g ∷ gs) h = (keys-all _ g (h .0 .monomials .degrees), all-degree gs (h .1))
+  multiplier-degree (suc j) =
+      let g = all-at (ConditionTerms _) (p .conditions) j noCondition (limits .terms) (terms-none _ 16 32) in
+      keys-all _ _ (g .monomials .degrees)
 
   -- ---- at an allowed point
   module _ (a : Point) (allowed : Allowed p a) where
     few : length (a .numerators) ≤ 8
     few = let v = limits .variables .1 in let c = allowed .coordinates in omega arith
 
-    -- g_0 = 1, and "every constraint's scaled value is at least 0"
-    multiplier-nonneg : (j : ℕ) → pos 0 ≤ℤ value a 16 (multiplier p j)
-    unfolding multiplier
-    multiplier-nonneg zero = rw (value-constant a 16 (pos 1)) (nonneg-pos (1 * a .denominator ^ 16))
-    multiplier-nonneg (suc j) = all-at _ (p .constraints) j [] (allowed .constraints) (unfold value in nonneg-pos 0)
+    -- g_0 = 1 is at least 0, "the inequalities are at least 0 and the equalities are 0"
+    multiplier-meets : (j : ℕ) → Meets (kindOf p j) (value a 16 (multiplier p j))
+    unfolding multiplier kindOf
+    multiplier-meets zero = unfold Meets in rw (value-constant a 16 (pos 1)) (nonneg-pos (1 * a .denominator ^ 16))
+    multiplier-meets (suc j) =
+        all-at _ (p .conditions) j noCondition (allowed .conditions) (unfold Meets value in nonneg-pos 0)
 
     -- the value of w × (sum of l × b)² × g_j, scaled by c^32 = c^8 × c^8 × c^16
     pub square-value : (r : Row)
@@ -80,12 +91,16 @@ module _ (p : Problem) (limits : Limits p) where
         ∙ ap (λ z. z *ℤ value a 16 G) (value-⊗ a few 8 8 (lit≤ tt) L L v v))
 
     -- each weighted square times g_j is at least 0, and so is their sum T
-    pub squares-nonneg : (rs : List Row) → Weighted rs → pos 0 ≤ℤ value a 32 (squares p rs)
+    row-nonneg : (r : Row) → RowWeighted p r → pos 0 ≤ℤ value a 32 (square p r)
+    row-nonneg r w =
+        let s = nonneg-square (value a 8 (combination (basisOf p (r .basis)) (r .entries))) in
+        rw (square-value r) (weighted-nonneg (kindOf p (r .basis)) (r .weight) _ _ w s (multiplier-meets (r .basis)))
+
+    pub squares-nonneg : (rs : List Row) → Weighted p rs → pos 0 ≤ℤ value a 32 (squares p rs)
     unfolding squares All
     squares-nonneg [] w = unfold value in nonneg-pos 0
     squares-nonneg (r ∷ rs) w =
-        rw (value-append a 32 (square p r) (squares p rs), square-value r)
-        (nonneg-+ (nonneg-* (w .0) (nonneg-* (nonneg-square (value a 8 (combination (basisOf p (r .basis)) (r .entries)))) (multiplier-nonneg (r .basis)))) (squares-nonneg rs (w .1)))
+        rw (value-append a 32 (square p r) (squares p rs)) (nonneg-+ (row-nonneg r (w .0)) (squares-nonneg rs (w .1)))
 
     -- the claim's value: D × (q × V − p × c^32), and for side 1 with both signs turned
     claim-value : (h : Header) → value a 32 (claim p h) ≡ pos (h .scale) *ℤ (turned (h .side) (pos (h .q)) *ℤ objectiveValue p a +ℤ turned (h .side) (negℤ (h .p)) *ℤ pos (objectiveScale a))
@@ -93,7 +108,7 @@ module _ (p : Problem) (limits : Limits p) where
     claim-value h = simp (value-scale, value-append, value-constant)
 
     -- by the identity it is T's, so at least 0; D is at least 1
-    claim-nonneg : (c : Certificate) → 1 ≤ c .header .scale → Weighted (c .rows) → Identity p c
+    claim-nonneg : (c : Certificate) → 1 ≤ c .header .scale → Weighted p (c .rows) → Identity p c
         → pos 0 ≤ℤ (turned (c .header .side) (pos (c .header .q)) *ℤ objectiveValue p a +ℤ turned (c .header .side) (negℤ (c .header .p)) *ℤ pos (objectiveScale a))
     unfolding Identity
     claim-nonneg c d w e =
@@ -101,7 +116,8 @@ module _ (p : Problem) (limits : Limits p) where
         (sym (same-values a 32 (claim p (c .header)) (squares p (c .rows)) e) ∙ claim-value (c .header)) (squares-nonneg (c .rows) w))
 
   -- ---- the bounds
-  module _ (c : Certificate) (scaled : 1 ≤ c .header .scale) (weighted : Weighted (c .rows)) (identity : Identity p c) where
+  module _ (c : Certificate) (scaled : 1 ≤ c .header .scale) (weighted : Weighted p (c .rows))
+      (identity : Identity p c) where
     -- side 0: "p/q ≤ value is p × c^32 ≤ q × V", at every allowed point
     pub identity-below : c .header .side ≡ 0 → BoundedBelow p (c .header .p) (c .header .q)
     unfolding BoundedBelow

@@ -84,7 +84,8 @@ module _ (p : Problem) where
     unfolding squares All
     squares-reach [] f o = tt
     squares-reach (r ∷ rs) f o =
-        keys-append _ (square p r) (squares p rs) (row-reach r (let c = limits .constraints in let b = f .0 .basis in omega arith) (f .0) (o .0)) (squares-reach rs (f .1) (o .1))
+        keys-append _ (square p r) (squares p rs)
+        (row-reach r (omega (arith, limits .conditions, f .0 .basis)) (f .0) (o .0)) (squares-reach rs (f .1) (o .1))
 
   -- ---- the claim
   -- "S starts as all exponents of the objective ..", and never loses one

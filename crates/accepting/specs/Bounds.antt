@@ -1,21 +1,27 @@
 -- Points of a problem, and what a bound and a gap mean there.
 use mathlib.Core.Path.{_≡_}
 use Prim.Native.Nat.{ℕ, _*_, _^_, _≤_}
-use mathlib.Core.List.{List}
 use lib.IntN.{ℤ, pos, _*ℤ_, _-ℤ_}
 use lib.ListN.{length}
 use lib.Signed.{_≤ℤ_}
-use Rattle.polynomial.specs.Terms.{Term}
 use Rattle.polynomial.specs.Point.{Point, value}
-use Rattle.format.specs.ProblemRules.{Problem}
+use Rattle.format.specs.declared.problem.Kind.{Kind}
+use Rattle.format.specs.declared.problem.Kind.the-variants as K
+use Rattle.format.specs.ProblemRules.{Condition, Problem}
 use Rattle.format.specs.All.{All}
 
--- "A point is allowed when every constraint's scaled value is at least 0": n numerators over one c ≥ 1, and constraints
--- by c^16
+-- what a condition asks of its value: "the inequalities are at least 0 and the equalities are 0"
+unfoldable pub Meets : Kind → ℤ → Type 0
+Meets K.Inequality v = pos 0 ≤ℤ v
+Meets K.Equality v = v ≡ pos 0
+
+-- "A point is allowed when every constraint's scaled value is at least 0": n numerators over one c ≥ 1, and conditions
+-- by c^16. "An allowed point of the third demand is from here on one where the inequalities are at least 0 and the
+-- equalities are 0"
 pub record Allowed (p : Problem) (a : Point) : Type 0 where
   pub denominator : 1 ≤ a .denominator
   pub coordinates : length (a .numerators) ≡ p .variables
-  pub constraints : All (λ (g : List Term). pos 0 ≤ℤ value a 16 g) (p .constraints)
+  pub conditions : All (λ (g : Condition). Meets (g .kind) (value a 16 (g .terms))) (p .conditions)
 
 -- V: "Scaled by c^32 the objective's value is a whole number V"
 abbrev pub objectiveValue : Problem → Point → ℤ

@@ -75,7 +75,8 @@ pub record SevenExactly (s : List ℕ) (number : ℕ) : Type 0 where
       → mostKeys < length (closedWithZero (closing p)) → number ≡ 7
 
 -- ---- bounds and gap
--- "at every rational point where all constraints are at least 0, p/q ≤ value ≤ P/Q"
+-- "at every rational point where all constraints are at least 0, p/q ≤ value ≤ P/Q"; such a point "is from here on one
+-- where the inequalities are at least 0 and the equalities are 0"
 abbrev pub HoldsBelow : List ℕ → ℕ → Fraction → Type 0
 HoldsBelow s number f = WhereAccepted s number (λ p. BoundedBelow p (f .num) (f .den))
 

@@ -1,11 +1,12 @@
 -- The header and the progress that the reader keeps are those of the certificate that is read.
 use mathlib.Core.Path.{_≡_, refl, ap, sym, _∙_}
 use mathlib.Core.List.{List}
-use mathlib.Core.Bool.{true}
+use mathlib.Core.Bool.{true, false}
 use Prim.Native.Nat.{ℕ, _+_, _≤_, _<_}
 use native.Mathlib.Numerals.{add-one}
 use native.Mathlib.Omega.{arith}
-use lib.Dec.{ltb}
+use lib.Dec.{leb, ltb}
+use lib.IntN.{ℤ}
 use lib.ListN.{length, getD, set, length-append, length-set}
 use borrow.Author.Tests.{leb-true, leb-false, ltb-true}
 use Rattle.counting.proofs.Cases.{and-left, and-right}
@@ -18,16 +19,20 @@ use Rattle.format.specs.declared.certificate.Command.{Command}
 use Rattle.format.specs.declared.certificate.Command.the-variants as C
 use Rattle.format.specs.declared.certificate.Header.{Header}
 use Rattle.format.specs.CertificateLayout.{certificateDecoded}
-use Rattle.format.specs.CertificateRules.{Certificate, noHeader, noCertificate, lastRow, mostRows, certificatePlaced, certificateApplied, certificateCommandAt, certificateInstructionAt, certificateRefusalAt, certificateNext, certificateLanguage, readCertificate}
+use Rattle.format.specs.CertificateRules.{Certificate, noHeader, noCertificate, lastRow, mostRows, rowsFull, withRow, certificatePlaced, certificateApplied, certificateCommandAt, certificateInstructionAt, certificateRefusalAt, certificateNext, certificateLanguage, readCertificate}
 use Rattle.format.proofs.CertificateChecks.{last-append, last-set, Passed, passed, taken-size, taken-whole}
 use Rattle.certificate_reader.specs.declared.Progress.{Progress}
 use Rattle.certificate_reader.specs.declared.Reading.{Reading}
-use Rattle.certificate_reader.specs.Kept.{Sized, progressOf, noProgress, headed, advanced, ProgressWithin}
+use Rattle.certificate_reader.specs.Kept.{Sized, progressOf, noProgress, headed, begun, advanced, ProgressWithin}
 use Rattle.certificate_reader.specs.Rows.{sizeAt, GivenRows, Validated}
 use Rattle.certificate_reader.proofs.Shapes.{rows-are, floor-more}
 use Rattle.certificate_reader.proofs.Rows.{Noted, noted-start, noted-next}
 
--- the header and the progress of what has been read after a command
+-- ---- the header and the progress of what has been read after a command
+with-row-progress : (c : Certificate) (j : ℕ) (w : ℤ) → progressOf (withRow c j w) ≡ begun (progressOf c) j
+unfolding progressOf
+with-row-progress c j w = rw (last-append (c .rows), length-append (c .rows))
+
 module _ (c : Certificate) (s : List ℕ) (at : ℕ) where
   next-header : certificateNext c s at .header ≡ headed (c .header) (certificateInstructionAt s at)
   unfolding certificateNext certificateApplied
@@ -39,16 +44,18 @@ module _ (c : Certificate) (s : List ℕ) (at : ℕ) where
       go C.Entry = refl
       go C.End = refl
       go C.Unknown = refl
+      go C.EqualityRow = refl
 
   applied-progress : (k : Command) → certificatePlaced c at k ≡ true → progressOf (certificateApplied c (certificateDecoded k s at) at) ≡ advanced (progressOf c) (certificateDecoded k s at)
   unfolding certificateApplied progressOf
   applied-progress C.Header p = refl
-  applied-progress C.Row p = rw (last-append (c .rows), length-append (c .rows))
+  applied-progress C.Row p = with-row-progress c _ _
   applied-progress C.Entry p =
       let n = ltb-true 0 (length (c .rows)) (and-right (ltb 0 at) _ p) in
       rw (last-set (c .rows) _ n, length-set (c .rows), floor-more (lastRow (c .rows) .entries), ← add-one (number 1 s (at + 1)))
   applied-progress C.End p = refl
   applied-progress C.Unknown p = refl
+  applied-progress C.EqualityRow p = with-row-progress c _ _
 
   next-progress : certificatePlaced c at (certificateCommandAt s at) ≡ true → progressOf (certificateNext c s at) ≡ advanced (progressOf c) (certificateInstructionAt s at)
   unfolding certificateNext
@@ -113,19 +120,23 @@ module _ (p : Problem) (s : List ℕ) where
         }
 
         -- the progress keeps its limits
+        begun-within : Limits p → (j : ℕ) → leb j (length (p .conditions)) ≡ true → rowsFull (k .read) ≡ false → ProgressWithin (begun g j)
+        begun-within l j b full =
+            let low = leb-true j (length (p .conditions)) b in
+            let r = leb-false mostRows (length (k .read .rows)) full in
+            let n = rows-are (k .read) g (k .progress) in
+            record { rows = omega arith; basis = let m = l .conditions in omega arith }
+
         pub bounded-next : Limits p → ProgressWithin (advanced g (certificateInstructionAt s at))
         bounded-next l = go (certificateCommandAt s at) (passed p (k .read) s at v)
           where
             go : (i : Command) → Passed p (k .read) s at i → ProgressWithin (advanced g (certificateDecoded i s at))
             go C.Header h = k .bounded
-            go C.Row h =
-                let j = leb-true _ (length (p .constraints)) (and-left _ _ (h .allowed)) in
-                let r = leb-false mostRows (length (k .read .rows)) (h .full) in
-                let n = rows-are (k .read) g (k .progress) in
-                record { rows = omega arith; basis = let m = l .constraints in omega arith }
+            go C.Row h = begun-within l _ (and-left _ _ (h .allowed)) (h .full)
             go C.Entry h = record { rows = k .bounded .rows; basis = k .bounded .basis }
             go C.End h = k .bounded
             go C.Unknown h = k .bounded
+            go C.EqualityRow h = begun-within l _ (and-left _ _ (h .allowed)) (h .full)
 
         pub held-next : Limits p → (getD s at 0 ≡ 0x13 → ⊥)
             → let h = advanced g (certificateInstructionAt s at) in let x = at + sizeAt s at in

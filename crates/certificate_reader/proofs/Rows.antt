@@ -1,13 +1,14 @@
 -- Laws of the rows by their offsets: a row begun, one entry more, and what the reader's loop notes.
 use mathlib.Core.Path.{_≡_, refl, ap, ap₂, sym, _∙_}
 use mathlib.Core.List.{List, [], _∷_, _++_}
-use mathlib.Core.Bool.{Bool, true, false, cond}
+use mathlib.Core.Bool.{false}
 use mathlib.Core.Logic.{⊎-elim}
 use Prim.Native.Nat.{ℕ, zero, suc, _+_, _-_, _≤_, _<_}
 use native.Mathlib.Nat.{eq-or-lt-of-le}
 use native.Mathlib.Numerals.{add-one}
 use native.Mathlib.Omega.{arith}
-use lib.Dec.{eqb, ltb}
+use lib.Dec.{ltb}
+use lib.IntN.{pos}
 use lib.ListN.{length, getD, set, length-set}
 use lib.Seq.{getD-set-same, getD-set-other}
 use borrow.Author.Tests.{lt-ltb, le-ltb, leb-true, leb-false, ltb-true, eqb-true}
@@ -17,12 +18,14 @@ use Rattle.counting.proofs.Listed.{listed-at, listed-length, listed-more, liste
 use Rattle.format.specs.declared.certificate.Command.{Command}
 use Rattle.format.specs.declared.certificate.Command.the-variants as C
 use Rattle.format.specs.ProblemRules.{Problem}
-use Rattle.format.specs.CertificateLayout.{certificateCommand, certificateSize, certificateDecoded}
-use Rattle.format.specs.CertificateRules.{Entry, Row, Certificate, noRow, lastRow, mostRows, withEntry, certificateApplied, certificateCommandAt, certificateInstructionAt, certificateRefusalAt, certificateNext}
+use Rattle.format.specs.Operands.{number, signed}
+use Rattle.format.specs.CertificateLayout.{certificateSize, certificateDecoded}
+use Rattle.format.specs.CertificateRules.{Entry, Row, Certificate, noRow, lastRow, mostRows, rowsFull, withRow, withEntry, certificateApplied, certificateCommandAt, certificateInstructionAt, certificateRefusalAt, certificateNext}
+use Rattle.format.proofs.Lengths.{certificate-byte}
 use Rattle.format.proofs.CertificateChecks.{Passed, passed}
 use Rattle.certificate_reader.specs.declared.Progress.{Progress}
 use Rattle.certificate_reader.specs.Kept.{progressOf, advanced}
-use Rattle.certificate_reader.specs.Rows.{sizeAt, entryAt, entriesFrom, rowAt, rowsBy, EntriesStand, done, more, RowStands, RowsStand}
+use Rattle.certificate_reader.specs.Rows.{sizeAt, entryAt, basisAt, weightAt, entriesFrom, rowAt, rowsBy, EntriesStand, done, more, BeginsRow, by-row, by-equality, RowStands, RowsStand}
 use Rattle.certificate_reader.proofs.Shapes.{rows-are}
 
 -- ---- the walk over the entries
@@ -50,11 +53,22 @@ module _ {s : List ℕ} where
   stand-more done e = more e done
   stand-more (more f w) e = more f (stand-more w e)
 
--- ---- one row: begun, and with one entry more
+-- ---- one row: begun, by 11 or by 14, and with one entry more
+begins-size : {k : Command} → BeginsRow k → certificateSize k ≡ 4
+begins-size by-row = refl
+begins-size by-equality = refl
+
 module _ (s : List ℕ) where
-  module _ (at : ℕ) (e : certificateCommandAt s at ≡ C.Row) where
+  -- its weight is the operand of its command
+  weight-row : (at : ℕ) → certificateCommandAt s at ≡ C.Row → weightAt s at ≡ pos (number 2 s (at + 2))
+  weight-row at e = rw (eqb-true (getD s at 0) 0x11 (certificate-byte C.Row (getD s at 0) e (λ u. clash (cc))))
+
+  weight-equality : (at : ℕ) → certificateCommandAt s at ≡ C.EqualityRow → weightAt s at ≡ signed 15 (number 2 s (at + 2))
+  weight-equality at e = rw (certificate-byte C.EqualityRow (getD s at 0) e (λ u. clash (cc)))
+
+  module _ (at : ℕ) (e : BeginsRow (certificateCommandAt s at)) where
     begun-none : rowAt s at (at + 4) .entries ≡ []
-    begun-none = rw e (none-left s (at + 4 - at) (at + 4))
+    begun-none = rw (begins-size e) (none-left s (at + 4 - at) (at + 4))
 
     row-begun : at + 4 ≤ length s → RowStands s at (at + 4)
     row-begun h = record { command = e; entries = rw begun-none done; inside = h }
@@ -68,7 +82,7 @@ module _ (s : List ℕ) where
 
     entries-longer : rowAt s from (at + 4) .entries ≡ longer
     entries-longer =
-        ap (λ (i : Command). entriesFrom (at + 4 - from) s (at + 4) (from + certificateSize i)) (k .command)
+        ap (λ (n : ℕ). entriesFrom (at + 4 - from) s (at + 4) (from + n)) (begins-size (k .command))
         ∙ stand-is stand-longer (at + 4 - from) (omega arith)
 
     row-longer : at + 4 ≤ length s → RowStands s from (at + 4)
@@ -134,25 +148,6 @@ noted-start s starts h = record {
   stand = record { few = omega arith; each = λ r b. absurd (omega arith) };
 }
 
--- the end command is that of the byte 13
-abbrev EndIs : Command → ℕ → Type 0
-EndIs C.End b = b ≡ 0x13
-EndIs C.Header b = Unit {0}
-EndIs C.Row b = Unit {0}
-EndIs C.Entry b = Unit {0}
-EndIs C.Unknown b = Unit {0}
-
-end-is : (b : ℕ) → EndIs (certificateCommand b) b
-unfolding certificateCommand
-end-is b = go (eqb b 0x10) (eqb b 0x11) (eqb b 0x12) (eqb b 0x13) refl
-  where
-    go : (t u v w : Bool) → eqb b 0x13 ≡ w → EndIs (cond t C.Header (cond u C.Row (cond v C.Entry (cond w C.End C.Unknown)))) b
-    go true u v w h = tt
-    go false true v w h = tt
-    go false false true w h = tt
-    go false false false true h = eqb-true b 0x13 h
-    go false false false false h = tt
-
 module _ (p : Problem) (s starts : List ℕ) (at : ℕ) (c : Certificate) (g : Progress) (is : g ≡ progressOf c) (k : Noted s starts at (g .rows) (c .rows)) where
   -- the offset after the command, stored
   abbrev After : Command → Type 0
@@ -176,12 +171,11 @@ module _ (p : Problem) (s starts : List ℕ) (at : ℕ) (c : Certificate) (g : P
         stand = record { few = omega arith; each = λ r b. absurd (omega arith) };
       }
 
-  noted-row : certificateCommandAt s at ≡ C.Row → Passed p c s at C.Row → After C.Row
-  unfolding certificateApplied
-  noted-row e h =
-      let z = ltb-true 0 at (h .placed) in
+  noted-begun : BeginsRow (certificateCommandAt s at) → 0 < at → rowsFull c ≡ false → at + 4 ≤ length s
+      → Noted s (set starts (g .rows + 1) (at + 4)) (at + 4) (g .rows + 1) (withRow c (basisAt s at) (weightAt s at) .rows)
+  noted-begun e z full whole =
       let n = g .rows in
-      let m : n < mostRows = let f = leb-false mostRows (length (c .rows)) (h .full) in let q = rows-are c g is in omega arith in
+      let m : n < mostRows = let f = leb-false mostRows (length (c .rows)) full in let q = rows-are c g is in omega arith in
       let l = k .starts-length in
       let y = k .last z in
       record {
@@ -189,8 +183,18 @@ module _ (p : Problem) (s starts : List ℕ) (at : ℕ) (c : Certificate) (g : P
         first = λ q. absurd (omega arith);
         last = λ q. getD-set-same starts (n + 1) _ 0 (omega arith);
         are = sym (rows-begun s starts n (at + 4) (omega arith) ∙ rw (y, begun-none s at e, ← k .are));
-        stand = stand-set s starts n (at + 4) (omega arith) (omega arith) (k .stand .each) (rw y (row-begun s at e (leb-true _ _ (h .whole))));
+        stand = stand-set s starts n (at + 4) (omega arith) (omega arith) (k .stand .each) (rw y (row-begun s at e whole));
       }
+
+  noted-row : certificateCommandAt s at ≡ C.Row → Passed p c s at C.Row → After C.Row
+  unfolding certificateApplied
+  noted-row e h =
+      rw (weight-row s at e) at (noted-begun (rw e by-row) (ltb-true 0 at (h .placed)) (h .full) (leb-true _ _ (h .whole)))
+
+  noted-equality : certificateCommandAt s at ≡ C.EqualityRow → Passed p c s at C.EqualityRow → After C.EqualityRow
+  unfolding certificateApplied
+  noted-equality e h =
+      rw (weight-equality s at e) at (noted-begun (rw e by-equality) (ltb-true 0 at (h .placed)) (h .full) (leb-true _ _ (h .whole)))
 
   noted-entry : certificateCommandAt s at ≡ C.Entry → Passed p c s at C.Entry → After C.Entry
   unfolding certificateApplied entryAt
@@ -222,11 +226,12 @@ module _ (p : Problem) (s starts : List ℕ) (at : ℕ) (c : Certificate) (g : P
   pub noted-next : certificateRefusalAt p c s at ≡ 0 → (getD s at 0 ≡ 0x13 → ⊥)
       → let n = advanced g (certificateInstructionAt s at) .rows in Noted s (set starts n (at + sizeAt s at)) (at + sizeAt s at) n (certificateNext c s at .rows)
   unfolding certificateNext
-  noted-next v d = go (certificateCommandAt s at) refl (end-is (getD s at 0)) (passed p c s at v)
+  noted-next v d = go (certificateCommandAt s at) refl (passed p c s at v)
     where
-      go : (i : Command) → certificateCommandAt s at ≡ i → EndIs i (getD s at 0) → Passed p c s at i → After i
-      go C.Header e b h = noted-header h
-      go C.Row e b h = noted-row e h
-      go C.Entry e b h = noted-entry e h
-      go C.End e b h = absurd (d b)
-      go C.Unknown e b h = clash (let y = h .placed in cc)
+      go : (i : Command) → certificateCommandAt s at ≡ i → Passed p c s at i → After i
+      go C.Header e h = noted-header h
+      go C.Row e h = noted-row e h
+      go C.Entry e h = noted-entry e h
+      go C.End e h = absurd (d (eqb-true _ 0x13 (certificate-byte C.End _ e (λ u. clash (cc)))))
+      go C.Unknown e h = clash (let y = h .placed in cc)
+      go C.EqualityRow e h = noted-equality e h

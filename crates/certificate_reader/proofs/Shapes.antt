@@ -9,14 +9,15 @@ use lib.IntN.{ℤ}
 use lib.ListN.{length, getD}
 use borrow.Author.Tests.{le-leb, leb-true, leb-false, lt-ltb, le-ltb}
 use Rattle.format.specs.ProblemRules.{Problem}
-use Rattle.format.specs.ProblemBases.{basisOf}
+use Rattle.format.specs.ProblemLimits.{mostConditions}
+use Rattle.format.specs.ProblemBases.{basisOf, isEquality, kindOf}
 use Rattle.format.proofs.WithinLimits.{Monomials, Limits as ProblemLimits, Limits}
 use Rattle.format.proofs.ProblemLimits.{all-at, monomials-none}
 use Rattle.format.specs.CertificateRules.{Entry, Certificate, lastRow, rises}
-use Rattle.flat.specs.Flat.{FlatProblem}
-use Rattle.flat.proofs.Flat.{basis-long}
+use Rattle.flat.specs.Flat.{conditionsAt, equalityIn, FlatProblem}
+use Rattle.flat.proofs.Flat.{basis-long, kind-part}
 use Rattle.certificate_reader.specs.declared.Progress.{Progress}
-use Rattle.certificate_reader.specs.Kept.{Sized, floorOf, progressOf}
+use Rattle.certificate_reader.specs.Kept.{Sized, ProblemSizes, floorOf, progressOf}
 
 -- ---- the bases of a problem within its limits
 pub basis-few : (p : Problem) → Limits p → (j : ℕ) → length (basisOf p j) ≤ 64
@@ -29,8 +30,18 @@ flat-sized f =
     record {
       sizes-length = f .limits .sizes-length;
       bases = λ j h. sym (basis-long (f .limits) j h) ∙ ap length (f .bases j h);
-      constraints = f .constraints;
+      conditions = f .conditions;
+      kinds = kind-part f;
     }
+
+-- ---- the conditions of a problem by its sizes
+module _ {sizes : List ℕ} (k : ProblemSizes sizes) where
+  pub conditions-few : getD sizes conditionsAt 0 ≤ mostConditions
+  conditions-few = let n = k .sized .conditions in let l = k .limits .conditions in omega arith
+
+  -- the kind that is looked up is that of the condition
+  pub kind-is : {p : Problem} {b v : Bool} → Sized p sizes → (j : ℕ) → j ≤ getD sizes conditionsAt 0 → b ≡ equalityIn sizes j → b ≡ v → isEquality (kindOf p j) ≡ v
+  kind-is e j h is q = let n = conditions-few in sym (e .kinds j (omega arith)) ∙ sym is ∙ q
 
 -- ---- "Indices rise within a row": an index rises exactly where it is at least the least that may follow
 rises-floor : (es : List Entry) (i : ℕ) → rises es i ≡ leb (floorOf es) i

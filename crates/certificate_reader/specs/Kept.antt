@@ -1,25 +1,26 @@
 -- What the reader keeps of the certificate read so far: what the checks of a command ask. Of the problem they ask the
--- sizes.
+-- sizes, and of which kind each condition is.
 use mathlib.Core.Path.{_≡_}
 use mathlib.Core.List.{List, [], _∷_}
 use Prim.Native.Nat.{suc, ℕ, _+_, _≤_, _<_}
 use lib.ListN.{length, getD}
 use Rattle.format.specs.ProblemLimits.{mostBases}
 use Rattle.format.specs.ProblemRules.{Problem}
-use Rattle.format.specs.ProblemBases.{basisOf}
+use Rattle.format.specs.ProblemBases.{basisOf, isEquality, kindOf}
 use Rattle.format.proofs.WithinLimits.{Limits}
 use Rattle.format.specs.CertificateRules.{Entry, Certificate, lastRow, mostRows}
 use Rattle.format.specs.declared.certificate.Instruction.{Instruction}
 use Rattle.format.specs.declared.certificate.Instruction.the-variants as I
 use Rattle.format.specs.declared.certificate.Header.{Header}
-use Rattle.flat.specs.Flat.{constraintsAt}
+use Rattle.flat.specs.Flat.{conditionsAt, equalityIn}
 use Rattle.certificate_reader.specs.declared.Progress.{Progress}
 
 -- ---- a problem's sizes
 pub record Sized (p : Problem) (sizes : List ℕ) : Type 0 where
-  pub sizes-length : length sizes ≡ 20
+  pub sizes-length : length sizes ≡ 29
   pub bases : (j : ℕ) → j < mostBases → getD sizes j 0 ≡ length (basisOf p j)
-  pub constraints : getD sizes constraintsAt 0 ≡ length (p .constraints)
+  pub conditions : getD sizes conditionsAt 0 ≡ length (p .conditions)
+  pub kinds : (j : ℕ) → j < mostBases → equalityIn sizes j ≡ isEquality (kindOf p j)
 
 -- those of a problem within its limits
 pub record ProblemSizes (sizes : List ℕ) : Type 0 where
@@ -55,9 +56,15 @@ headed t (I.Header side d p q) = record { side = side; scale = d; p = p; q = q }
 headed t (I.Row j w) = t
 headed t (I.Entry i l) = t
 headed t I.End = t
+headed t (I.EqualityRow j w) = t
+
+-- a row begun on basis j
+abbrev pub begun : Progress → ℕ → Progress
+begun g j = record { rows = g .rows + 1; basis = j; floor = 0 }
 
 abbrev pub advanced : Progress → Instruction → Progress
 advanced g (I.Header side d p q) = g
-advanced g (I.Row j w) = record { rows = g .rows + 1; basis = j; floor = 0 }
+advanced g (I.Row j w) = begun g j
 advanced g (I.Entry i l) = record { rows = g .rows; basis = g .basis; floor = i + 1 }
 advanced g I.End = g
+advanced g (I.EqualityRow j w) = begun g j

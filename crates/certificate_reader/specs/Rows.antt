@@ -4,13 +4,14 @@ use mathlib.Core.Path.{_≡_}
 use mathlib.Core.Bool.{cond}
 use mathlib.Core.List.{List, [], _∷_}
 use Prim.Native.Nat.{ℕ, zero, suc, _+_, _-_, _≤_, _<_}
-use lib.Dec.{ltb}
+use lib.Dec.{eqb, ltb}
 use lib.IntN.{ℤ, pos}
 use lib.ListN.{length, getD}
 use Rattle.counting.specs.Counting.{listed}
 use Rattle.format.specs.All.{All}
 use Rattle.format.specs.Commands.{refused, given}
 use Rattle.format.specs.Operands.{number, signed}
+use Rattle.format.specs.declared.certificate.Command.{Command}
 use Rattle.format.specs.declared.certificate.Command.the-variants as C
 use Rattle.format.specs.declared.certificate.Header.{Header}
 use Rattle.format.specs.ProblemRules.{Problem}
@@ -29,12 +30,12 @@ sizeAt s at = certificateSize (certificateCommandAt s at)
 unfoldable pub entryAt : List ℕ → ℕ → Entry
 entryAt s at = record { index = number 1 s (at + 1); factor = signed 15 (number 2 s (at + 2)); place = at }
 
--- the basis and the weight of the row whose command stands there
+-- the basis and the weight of the row whose command stands there: the weight of 14 has a sign
 abbrev pub basisAt : List ℕ → ℕ → ℕ
 basisAt s at = number 1 s (at + 1)
 
 abbrev pub weightAt : List ℕ → ℕ → ℤ
-weightAt s at = pos (number 2 s (at + 2))
+weightAt s at = let w = number 2 s (at + 2) in cond (eqb (getD s at 0) 0x14) (signed 15 w) (pos w)
 
 -- ---- the walk over the entries of a row, from an offset up to another, each step as long as its command: at most n
 unfoldable pub entriesFrom : ℕ → List ℕ → ℕ → ℕ → List Entry
@@ -59,9 +60,14 @@ pub data EntriesStand (s : List ℕ) (to : ℕ) : ℕ → List Entry → Type 0 
   more : {at : ℕ} {es : List Entry} → certificateCommandAt s at ≡ C.Entry
       → EntriesStand s to (at + certificateSize C.Entry) es → EntriesStand s to at (entryAt s at ∷ es)
 
+-- the commands that begin a row, 11 and 14: they have the same length
+pub data BeginsRow : Command → Type 0 where
+  by-row : BeginsRow C.Row
+  by-equality : BeginsRow C.EqualityRow
+
 -- a row between two offsets
 pub record RowStands (s : List ℕ) (from to : ℕ) : Type 0 where
-  pub command : certificateCommandAt s from ≡ C.Row
+  pub command : BeginsRow (certificateCommandAt s from)
   pub entries : EntriesStand s to (from + certificateSize C.Row) (rowAt s from to .entries)
   pub inside : to ≤ length s
 

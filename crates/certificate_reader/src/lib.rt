@@ -7,8 +7,8 @@ ghost use Rattle.format.proofs.WithinLimits.{Limits};
 ghost use Rattle.format.specs.Layouts.{ZeroUnknown};
 ghost use Rattle.format.specs.declared.certificate.Command.the-variants as C;
 ghost use Rattle.format.specs.CertificateLayout.{certificateCommand, certificateSize, certificateDecoded};
-ghost use Rattle.format.specs.CertificateRules.{Certificate, noHeader, certificatePlaced, certificateOperandsFit, certificateRepeated, certificateFull, certificateCommandAt, certificateRefusalAt};
-ghost use Rattle.certificate_reader.specs.Kept.{Sized, ProblemSizes, progressOf, ProgressWithin, noProgress, headed, advanced};
+ghost use Rattle.format.specs.CertificateRules.{Certificate, noHeader, certificatePlaced, certificateOperandsFit, certificateRepeated, rowsFull, certificateFull, certificateCommandAt, certificateRefusalAt};
+ghost use Rattle.certificate_reader.specs.Kept.{Sized, ProblemSizes, progressOf, ProgressWithin, noProgress, headed, begun, advanced};
 ghost use Rattle.certificate_reader.specs.Rows.{sizeAt, entryAt, basisAt, weightAt, Validated};
 use format::certificate::Command;
 use format::certificate::Header;
@@ -60,6 +60,7 @@ fn command_of(byte: u8) -> Command
         0x11 => Command::Row,
         0x12 => Command::Entry,
         0x13 => Command::End,
+        0x14 => Command::EqualityRow,
         _ => Command::Unknown,
     }
 }
@@ -71,9 +72,9 @@ pub fn length_of(byte: u8) -> usize
 {
     match byte {
         0x13 => 1,
-        0x11 | 0x12 => 4,
+        0x11 | 0x12 | 0x14 => 4,
         0x10 => 10,
-        0x00..=0x0F | 0x14..=0xFF => 0,
+        0x00..=0x0F | 0x15..=0xFF => 0,
     }
 }
 
@@ -87,6 +88,7 @@ fn is_placed(g: Progress, at: usize, command: Command) -> bool
         Command::Entry => 0 < at && 0 < g.rows,
         Command::End => 0 < at,
         Command::Unknown => false,
+        Command::EqualityRow => 0 < at,
     }
 }
 
@@ -118,12 +120,18 @@ fn decode_at(command: Command, s: &[u8], at: usize) -> Instruction
         }
         Command::End => Instruction::End,
         Command::Unknown => Instruction::End,
+        Command::EqualityRow => {
+            Instruction::EqualityRow(
+                operand_reader::number_at(s, at + 1, 1) as u8,
+                operand_reader::signed16(operand_reader::number_at(s, at + 2, 2)),
+            )
+        }
     }
 }
 
 // Whether a command's operands keep their rules.
 fn is_allowed(sizes: &[usize], g: Progress, i: Instruction) -> bool
-    requires { ⌜ ProgressWithin g × (length (now sizes) ≡ 20) ⌝ }
+    requires { ⌜ ProgressWithin g × ProblemSizes (now sizes) ⌝ }
     ensures { λ r. ⌜
         ((p : Problem) (c : Certificate) → Sized p (now (sizes .entry)) → g ≡ progressOf c
         → r ≡ certificateOperandsFit p c i)
@@ -131,12 +139,20 @@ fn is_allowed(sizes: &[usize], g: Progress, i: Instruction) -> bool
 {
     match i {
         Instruction::Header(side, d, _, q) => side <= 1 && (1 <= d && 1 <= q),
-        Instruction::Row(j, w) => (j as usize) <= sizes[flat::CONSTRAINTS] && 1 <= w,
+        Instruction::Row(j, w) => {
+            let j = j as usize;
+            j <= sizes[flat::CONDITIONS] && (!flat::is_equality(sizes, j) && 1 <= w)
+        }
         Instruction::Entry(k, l) => {
             let j = g.basis;
             (k as usize) < sizes[j] && operand_reader::is_nonzero(l)
         }
         Instruction::End => true,
+        Instruction::EqualityRow(j, w) => {
+            let j = j as usize;
+            j <= sizes[flat::CONDITIONS]
+                && (flat::is_equality(sizes, j) && operand_reader::is_nonzero(w))
+        }
     }
 }
 
@@ -149,7 +165,15 @@ fn is_repeated(g: Progress, i: Instruction) -> bool
         Instruction::Row(_, _) => false,
         Instruction::Entry(k, _) => (k as usize) < g.floor,
         Instruction::End => false,
+        Instruction::EqualityRow(_, _) => false,
     }
+}
+
+// Whether there are as many rows, of either kind, as there may be.
+fn rows_full(g: Progress) -> bool
+    ensures { λ r. ⌜ ((c : Certificate) → g ≡ progressOf c → r ≡ rowsFull c) ⌝ }
+{
+    128 <= g.rows
 }
 
 // Whether a row is one too many.
@@ -158,15 +182,16 @@ fn is_full(g: Progress, i: Instruction) -> bool
 {
     match i {
         Instruction::Header(_, _, _, _) => false,
-        Instruction::Row(_, _) => 128 <= g.rows,
+        Instruction::Row(_, _) => rows_full(g),
         Instruction::Entry(_, _) => false,
         Instruction::End => false,
+        Instruction::EqualityRow(_, _) => rows_full(g),
     }
 }
 
 // The number of the refusal that the command at an offset meets, or 0.
 fn verdict_at(sizes: &[usize], g: Progress, s: &[u8], at: usize) -> u8
-    requires { ⌜ ProgressWithin g × (length (now sizes) ≡ 20) × (at < length (now s)) ⌝ }
+    requires { ⌜ ProgressWithin g × ProblemSizes (now sizes) × (at < length (now s)) ⌝ }
     ensures { λ r. ⌜
         ((p : Problem) (c : Certificate) → Sized p (now (sizes .entry)) → g ≡ progressOf c
         → r ≡ certificateRefusalAt p c (now (s .entry)) at)
@@ -209,6 +234,19 @@ fn header_after(t: Header, i: Instruction) -> Header
         Instruction::Row(_, _) => t,
         Instruction::Entry(_, _) => t,
         Instruction::End => t,
+        Instruction::EqualityRow(_, _) => t,
+    }
+}
+
+// The progress after a row is begun on basis j.
+fn row_begun(g: Progress, j: u8) -> Progress
+    requires { ⌜ ProgressWithin g ⌝ }
+    ensures { λ r. ⌜ r ≡ begun g j ⌝ }
+{
+    Progress {
+        rows: g.rows + 1,
+        basis: j as usize,
+        floor: 0,
     }
 }
 
@@ -219,13 +257,7 @@ fn progress_after(g: Progress, i: Instruction) -> Progress
 {
     match i {
         Instruction::Header(_, _, _, _) => g,
-        Instruction::Row(j, _) => {
-            Progress {
-                rows: g.rows + 1,
-                basis: j as usize,
-                floor: 0,
-            }
-        }
+        Instruction::Row(j, _) => row_begun(g, j),
         Instruction::Entry(k, _) => {
             Progress {
                 rows: g.rows,
@@ -234,6 +266,7 @@ fn progress_after(g: Progress, i: Instruction) -> Progress
             }
         }
         Instruction::End => g,
+        Instruction::EqualityRow(j, _) => row_begun(g, j),
     }
 }
 
@@ -295,12 +328,17 @@ pub fn basis_at(s: &[u8], at: usize) -> usize
     operand_reader::number_at(s, at + 1, 1) as usize
 }
 
-// Its weight.
+// Its weight, which has a sign where the command is 14.
 pub fn weight_at(s: &[u8], at: usize) -> i64
     requires { ⌜ at + certificateSize C.Row ≤ length (now s) ⌝ }
     ensures { λ r. ⌜ r ≡ weightAt (now (s .entry)) at ⌝ }
 {
-    operand_reader::number_at(s, at + 2, 2) as i64
+    let w = operand_reader::number_at(s, at + 2, 2);
+    if s[at] == 0x14 {
+        operand_reader::signed16(w) as i64
+    } else {
+        w as i64
+    }
 }
 
 // The index of the entry whose command stands at an offset.

@@ -133,7 +133,7 @@ fn answer_blocks(problem: &[u8], out: &mut [u8], table: &mut [u64]) -> BlocksVer
 {
     let mut keys = [0u64; 1120];
     let mut coefficients = [0i32; 544];
-    let mut sizes = [0usize; 20];
+    let mut sizes = [0usize; 29];
     let r = problem_reader::read(problem, &mut keys, &mut coefficients, &mut sizes);
     let number = r.number;
     if 0 < number {
@@ -278,7 +278,7 @@ fn answer_check(
 {
     let mut keys = [0u64; 1120];
     let mut coefficients = [0i32; 544];
-    let mut sizes = [0usize; 20];
+    let mut sizes = [0usize; 29];
     let r = problem_reader::read(problem, &mut keys, &mut coefficients, &mut sizes);
     let number = r.number;
     if 0 < number {
@@ -497,7 +497,7 @@ fn answer_pair(
 {
     let mut keys = [0u64; 1120];
     let mut coefficients = [0i32; 544];
-    let mut sizes = [0usize; 20];
+    let mut sizes = [0usize; 29];
     let r = problem_reader::read(problem, &mut keys, &mut coefficients, &mut sizes);
     let number = r.number;
     if 0 < number {

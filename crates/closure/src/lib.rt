@@ -64,8 +64,8 @@ fn put_polynomial(
     put_keys(table, index, len, exponents, 1)
 }
 
-// The exponents of every constraint put in.
-fn put_constraints(
+// The exponents of every condition put in.
+fn put_conditions(
     table: &mut [u64],
     index: &mut [u16],
     len: usize,
@@ -93,7 +93,7 @@ fn put_constraints(
     n
 }
 
-// The start of the support: the exponents of the objective and of the constraints, and twice those of basis 0.
+// The start of the support: the exponents of the objective and of the conditions, and twice those of basis 0.
 fn seed(keys: &[u64], sizes: &[usize], table: &mut [u64], index: &mut [u16]) -> usize
     requires { ⌜
         (2048 ≤ length (now table)) × Indexed (now index) (now table) 0 × FlatKeys (now keys) (now sizes)
@@ -107,7 +107,7 @@ fn seed(keys: &[u64], sizes: &[usize], table: &mut [u64], index: &mut [u16]) -> 
     if 2048 < a {
         return a;
     }
-    let b = put_constraints(table, index, a, keys, sizes);
+    let b = put_conditions(table, index, a, keys, sizes);
     if 2048 < b {
         return b;
     }

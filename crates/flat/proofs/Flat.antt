@@ -5,6 +5,7 @@ use mathlib.Core.List.{List, [], _∷_}
 use mathlib.Core.Logic.{⊎-elim}
 use Prim.Native.Nat.{ℕ, zero, suc, _+_, _*_, _^_, _≤_, _<_, zero-le}
 use native.Mathlib.Omega.{arith}
+use lib.Dec.{eqb}
 use lib.IntN.{ℤ, pos, natAbs}
 use lib.ListN.{length, getD, take, drop, length-drop}
 use lib.Seq.{length-take-le, take-take, drop-drop, getD-take, getD-drop}
@@ -14,9 +15,11 @@ use Rattle.counting.proofs.Bounded.{bounded-take}
 use Rattle.counting.proofs.Cases.{lt-or-le}
 use Rattle.polynomial.specs.Terms.{keysOf}
 use Rattle.format.specs.ProblemRules.{Problem}
-use Rattle.format.specs.ProblemBases.{basisOf, multiplier, multiplierOf}
+use Rattle.format.specs.declared.problem.Kind.{Kind}
+use Rattle.format.specs.declared.problem.Kind.the-variants as K
+use Rattle.format.specs.ProblemBases.{basisOf, multiplier, multiplierOf, kindOf, isEquality}
 use Rattle.flat.specs.TermArrays.{termsIn, Low, Small}
-use Rattle.flat.specs.Flat.{polynomialIn, mostAt, degreeAt, largestAt, FlatLimits, FlatProblem}
+use Rattle.flat.specs.Flat.{polynomialIn, kindNumber, equalityIn, mostAt, degreeAt, largestAt, FlatLimits, FlatProblem}
 use Rattle.flat.proofs.TermArrays.{terms-keys, terms-same}
 
 -- ---- the limits of each kind of place
@@ -40,6 +43,9 @@ multiplier-largest i h = rw (lt-ltb i 288 h)
 
 pub objective-largest : (i : ℕ) → 288 ≤ i → largestAt i ≡ 2 ^ 31
 objective-largest i h = rw (le-ltb i 288 h)
+
+pub kind-most : (i : ℕ) → 20 ≤ i → mostAt i ≡ 1
+kind-most i h = rw (le-ltb i 9 (omega arith), le-ltb i 18 (omega arith), le-ltb i 19 (omega arith), le-ltb i 20 h)
 
 -- ---- parts of parts
 module _ {A : Type 0} where
@@ -89,8 +95,8 @@ module _ {keys : List ℕ} {coefficients : List ℤ} {sizes : List ℕ} (f : Fla
   pub objective-size : getD sizes 18 0 ≤ 256
   objective-size = f .sizes-low 18
 
-  pub constraints-few : getD sizes 19 0 ≤ 8
-  constraints-few = f .sizes-low 19
+  pub conditions-few : getD sizes 19 0 ≤ 8
+  conditions-few = f .sizes-low 19
 
   pub bases-length : length (take 576 keys) ≡ 576
   bases-length = let e = f .keys-length in length-take-le 576 keys (omega arith)
@@ -184,7 +190,15 @@ module _ {keys : List ℕ} {coefficients : List ℤ} {sizes : List ℕ} (f : Fla
       part-small (2 ^ 31) (getD sizes 18 0) 288 coefficients
       (λ i a b. rw (objective-largest i a) at (f .coefficients-low i))
 
+-- a kind by its number
+pub kind-told : (k : Kind) → eqb (kindNumber k) 1 ≡ isEquality k
+kind-told K.Inequality = refl
+kind-told K.Equality = refl
+
 module _ {p : Problem} {keys : List ℕ} {coefficients : List ℤ} {sizes : List ℕ} (f : FlatProblem p keys coefficients sizes) where
+  pub kind-part : (j : ℕ) → j < 9 → equalityIn sizes j ≡ isEquality (kindOf p j)
+  kind-part j h = rw (f .kinds j h) (kind-told (kindOf p j))
+
   -- the exponents of a multiplier and of the objective
   pub multiplier-part : (j : ℕ) → j < 9 → take (getD sizes (9 + j) 0) (drop (576 + 32 * j) keys) ≡ multiplierOf p j
   unfolding multiplierOf

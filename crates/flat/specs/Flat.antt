@@ -1,16 +1,17 @@
 -- Where a problem stands in the three arrays that a call owns and lends to its steps, always in this order: `keys`
--- (1,120 numbers), `coefficients` (544 signed numbers) and `sizes` (20 numbers).
+-- (1,120 numbers), `coefficients` (544 signed numbers) and `sizes` (29 numbers).
 use mathlib.Core.Path.{_≡_}
-use mathlib.Core.Bool.{cond}
+use mathlib.Core.Bool.{Bool, cond}
 use mathlib.Core.List.{List}
 use Prim.Native.Nat.{ℕ, _+_, _*_, _^_, _≤_, _<_}
-use lib.Dec.{ltb}
+use lib.Dec.{eqb, ltb}
 use lib.IntN.{ℤ, pos, natAbs}
 use lib.ListN.{length, getD, take, drop, replicate}
 use Rattle.polynomial.specs.Terms.{Term}
-use Rattle.format.specs.ProblemLimits.{mostObjectiveDegree, mostObjectiveTerms, mostConstraints, mostConstraintDegree, mostConstraintTerms, mostBasisDegree, mostMonomials, mostBases}
+use Rattle.format.specs.ProblemLimits.{mostObjectiveDegree, mostObjectiveTerms, mostConditions, mostConditionDegree, mostConditionTerms, mostBasisDegree, mostMonomials, mostBases}
 use Rattle.format.specs.ProblemRules.{Problem}
-use Rattle.format.specs.ProblemBases.{basisOf, multiplier}
+use Rattle.format.specs.declared.problem.Kind.{Kind}
+use Rattle.format.specs.ProblemBases.{basisOf, multiplier, kindOf, isEquality}
 use Rattle.flat.specs.TermArrays.{termsIn}
 
 -- ---- the places
@@ -34,9 +35,13 @@ coefficientsAt j = 32 * j
 abbrev pub countAt : ℕ → ℕ
 countAt j = 9 + j
 
--- the last of sizes is the number of constraints
-abbrev pub constraintsAt : ℕ
-constraintsAt = 19
+-- behind these stands the number of conditions
+abbrev pub conditionsAt : ℕ
+conditionsAt = 19
+
+-- and the kind of g_j behind that
+abbrev pub kindAt : ℕ → ℕ
+kindAt j = 20 + j
 
 -- ---- what stands there
 abbrev pub basisIn : List ℕ → List ℕ → ℕ → List ℕ
@@ -46,20 +51,27 @@ abbrev pub polynomialIn : List ℕ → List ℤ → List ℕ → ℕ → List Te
 polynomialIn keys coefficients sizes j =
     termsIn (getD sizes (countAt j) 0) (drop (exponentsAt j) keys) (drop (coefficientsAt j) coefficients)
 
+-- a kind as a number
+abbrev pub kindNumber : Kind → ℕ
+kindNumber k = cond (isEquality k) 1 0
+
+abbrev pub equalityIn : List ℕ → ℕ → Bool
+equalityIn sizes j = eqb (getD sizes (kindAt j) 0) 1
+
 -- ---- the limits, by place
 -- the most that may stand at a place of sizes
 abbrev pub mostAt : ℕ → ℕ
 mostAt i =
-    cond (ltb i (countAt 0)) mostMonomials (cond (ltb i (countAt objectiveNumber)) mostConstraintTerms
-    (cond (ltb i constraintsAt) mostObjectiveTerms mostConstraints))
+    cond (ltb i (countAt 0)) mostMonomials (cond (ltb i (countAt objectiveNumber)) mostConditionTerms
+    (cond (ltb i conditionsAt) mostObjectiveTerms (cond (ltb i (kindAt 0)) mostConditions 1)))
 
 -- the highest degree of a monomial at a place of keys
 abbrev pub degreeAt : ℕ → ℕ
 degreeAt i =
     cond (ltb i (exponentsAt 0)) mostBasisDegree
-    (cond (ltb i (exponentsAt objectiveNumber)) mostConstraintDegree mostObjectiveDegree)
+    (cond (ltb i (exponentsAt objectiveNumber)) mostConditionDegree mostObjectiveDegree)
 
--- the largest size of a coefficient at a place of coefficients: those of constraints have 16 bits, the objective's 32
+-- the largest size of a coefficient at a place of coefficients: those of conditions have 16 bits, the objective's 32
 abbrev pub largestAt : ℕ → ℕ
 largestAt i = cond (ltb i (coefficientsAt objectiveNumber)) (2 ^ 15) (2 ^ 31)
 
@@ -67,7 +79,7 @@ largestAt i = cond (ltb i (coefficientsAt objectiveNumber)) (2 ^ 15) (2 ^ 31)
 pub record FlatLimits (keys : List ℕ) (coefficients : List ℤ) (sizes : List ℕ) : Type 0 where
   pub keys-length : length keys ≡ 1120
   pub coefficients-length : length coefficients ≡ 544
-  pub sizes-length : length sizes ≡ 20
+  pub sizes-length : length sizes ≡ 29
   pub sizes-low : (i : ℕ) → getD sizes i 0 ≤ mostAt i
   -- no key of a monomial of degree at most d is above d × 256^7
   pub keys-low : (i : ℕ) → getD keys i 0 ≤ degreeAt i * 2 ^ 56
@@ -79,10 +91,11 @@ pub record FlatProblem (p : Problem) (keys : List ℕ) (coefficients : List ℤ)
   pub bases : (j : ℕ) → j < mostBases → basisIn keys sizes j ≡ basisOf p j
   pub multipliers : (j : ℕ) → j < mostBases → polynomialIn keys coefficients sizes j ≡ multiplier p j
   pub objective : polynomialIn keys coefficients sizes objectiveNumber ≡ p .objective
-  pub constraints : getD sizes constraintsAt 0 ≡ length (p .constraints)
+  pub conditions : getD sizes conditionsAt 0 ≡ length (p .conditions)
+  pub kinds : (j : ℕ) → j < mostBases → getD sizes (kindAt j) 0 ≡ kindNumber (kindOf p j)
 
 -- the arrays as a call makes them
 pub record FlatZero (keys : List ℕ) (coefficients : List ℤ) (sizes : List ℕ) : Type 0 where
   pub keys-zero : keys ≡ replicate 1120 0
   pub coefficients-zero : coefficients ≡ replicate 544 (pos 0)
-  pub sizes-zero : sizes ≡ replicate 20 0
+  pub sizes-zero : sizes ≡ replicate 29 0

@@ -3,7 +3,7 @@
 ghost use mathlib.Core.Path.{_≡_};
 ghost use Prim.Native.Nat.{_+_, _*_, _≤_, _<_};
 ghost use lib.ListN.{length, getD, take, drop};
-ghost use Rattle.flat.specs.Flat.{basisAt, exponentsAt, coefficientsAt, countAt, basisIn};
+ghost use Rattle.flat.specs.Flat.{basisAt, exponentsAt, coefficientsAt, countAt, kindAt, basisIn, equalityIn};
 
 // The keys of polynomial 0 begin here, behind those of the bases.
 pub const TERMS: usize = 576;
@@ -11,8 +11,11 @@ pub const TERMS: usize = 576;
 // The objective is the polynomial behind the multipliers 0 to 8.
 pub const OBJECTIVE: usize = 9;
 
-// The number of constraints is the last of the sizes.
-pub const CONSTRAINTS: usize = 19;
+// The number of conditions stands in sizes behind the numbers of terms.
+pub const CONDITIONS: usize = 19;
+
+// The kinds of the multipliers stand in sizes from here on: 1 for an equality, 0 for an inequality.
+pub const KINDS: usize = 20;
 
 // The n numbers from a place on.
 pub fn part(l: &[u64], from: usize, n: usize) -> &[u64]
@@ -55,4 +58,12 @@ pub fn coefficients<'a, 'b>(coefficients: &'a [i32], sizes: &'b [usize], j: usiz
     let from = 32 * j;
     let to = from + sizes[9 + j];
     &coefficients[from..to]
+}
+
+// Whether g_j is an equality.
+pub fn is_equality(sizes: &[usize], j: usize) -> bool
+    requires { ⌜ kindAt j < length (now sizes) ⌝ }
+    ensures { λ r. ⌜ r ≡ equalityIn (now (sizes .entry)) j ⌝ }
+{
+    sizes[KINDS + j] == 1
 }

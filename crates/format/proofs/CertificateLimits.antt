@@ -5,22 +5,24 @@ use mathlib.Core.Bool.{true, false, not, _&&_}
 use Prim.Native.Nat.{ℕ, zero, suc, _+_, _≤_, _<_}
 use native.Mathlib.Omega.{arith}
 use lib.Dec.{leb, ltb, le→leb}
-use lib.IntN.{pos}
+use lib.IntN.{ℤ, pos}
 use lib.ListN.{length, getD, length-append, length-set}
 use lib.Signed.{_≤ℤ_, leZ-yes}
 use borrow.Author.Tests.{leb-true, leb-false, ltb-true, eqb-true, not-false}
-use Rattle.counting.proofs.Cases.{and-left, and-right}
+use Rattle.counting.proofs.Cases.{never, and-left, and-right}
 use Rattle.format.specs.Commands.{given}
 use Rattle.format.specs.Operands.{number}
 use Rattle.format.proofs.Run.{read-induction}
 use Rattle.format.specs.ProblemRules.{nonzero, Problem}
 use Rattle.format.specs.All.{All}
-use Rattle.format.specs.ProblemBases.{basisOf}
+use Rattle.format.specs.declared.problem.Kind.{Kind}
+use Rattle.format.specs.declared.problem.Kind.the-variants as K
+use Rattle.format.specs.ProblemBases.{basisOf, isEquality, kindOf}
 use Rattle.format.proofs.ProblemLimits.{all-more, all-set, nonzero-not}
 use Rattle.format.specs.declared.certificate.Command.{Command}
 use Rattle.format.specs.declared.certificate.Command.the-variants as C
 use Rattle.format.specs.CertificateLayout.{certificateCommand, certificateSize, certificateDecoded}
-use Rattle.format.specs.CertificateRules.{Entry, Row, Certificate, noCertificate, noRow, lastRow, rises, mostRows, withEntry, certificateApplied, certificateCommandAt, certificateRefusalAt, certificateNext, certificateLanguage, readCertificate}
+use Rattle.format.specs.CertificateRules.{Entry, Row, Certificate, noCertificate, noRow, lastRow, rises, mostRows, rowsFull, withRow, withEntry, certificateApplied, certificateCommandAt, certificateRefusalAt, certificateNext, certificateLanguage, readCertificate}
 use Rattle.format.proofs.CertificateChecks.{Passed, passed, taken-size}
 
 -- ---- the limits
@@ -30,10 +32,12 @@ IndicesRise [] = Unit {0}
 IndicesRise (e ∷ []) = Unit {0}
 IndicesRise (e ∷ f ∷ es) = (e .index < f .index) × IndicesRise (f ∷ es)
 
--- a row on a basis of the problem, with indices of that basis that rise
+-- a row on a basis of the problem, with indices of that basis that rise. Its weight is never 0, and at least 1 on
+-- basis 0 and on an inequality
 pub record SoundRow (p : Problem) (r : Row) : Type 0 where
-  pub basis : r .basis ≤ length (p .constraints)
-  pub weight : pos 1 ≤ℤ r .weight
+  pub basis : r .basis ≤ length (p .conditions)
+  pub weight : r .weight ≡ pos 0 → ⊥
+  pub positive : kindOf p (r .basis) ≡ K.Inequality → pos 1 ≤ℤ r .weight
   pub indices : All (λ (e : Entry). e .index < length (basisOf p (r .basis))) (r .entries)
   pub rising : IndicesRise (r .entries)
   pub factors : All (λ (e : Entry). e .factor ≡ pos 0 → ⊥) (r .entries)
@@ -58,26 +62,56 @@ rising-more [] e h b = tt
 rising-more (x ∷ []) e h b = (ltb-true (x .index) (e .index) b, tt)
 rising-more (x ∷ y ∷ es) e h b = (h .0, rising-more (y ∷ es) e (h .1) b)
 
--- ---- a row: begun, and with one entry more
+-- ---- weights: one of at least 1 is not 0, and 14 stands on no inequality
+positive-not : (w : ℤ) → pos 1 ≤ℤ w → w ≡ pos 0 → ⊥
+positive-not w h e = subst (λ (z : ℤ). pos 1 ≤ℤ z) e h .le
+
+not-inequality : (k : Kind) → isEquality k ≡ true → k ≡ K.Inequality → ⊥
+not-inequality k h e = never (rw e at h)
+
+-- ---- a row: begun by 11 or by 14, and with one entry more
 module _ (p : Problem) where
-  row-begun : (j w : ℕ) → (leb j (length (p .constraints)) && leb 1 w) ≡ true → SoundRow p (record { basis = j; weight = pos w; entries = [] })
+  without-entries : (j : ℕ) (w : ℤ) → j ≤ length (p .conditions) → (w ≡ pos 0 → ⊥)
+      → (kindOf p j ≡ K.Inequality → pos 1 ≤ℤ w) → SoundRow p (record { basis = j; weight = w; entries = [] })
   unfolding All IndicesRise
-  row-begun j w a = record {
-    basis = leb-true j (length (p .constraints)) (and-left _ _ a);
-    weight = leZ-yes (le→leb 1 w (leb-true 1 w (and-right (leb j (length (p .constraints))) _ a)));
-    indices = tt;
-    rising = tt;
-    factors = tt;
-  }
+  without-entries j w b n h = record { basis = b; weight = n; positive = h; indices = tt; rising = tt; factors = tt }
+
+  row-begun : (j w : ℕ) → (leb j (length (p .conditions)) && (not (isEquality (kindOf p j)) && leb 1 w)) ≡ true
+      → SoundRow p (record { basis = j; weight = pos w; entries = [] })
+  row-begun j w a =
+      let low = leb j (length (p .conditions)) in
+      let one = leb-true 1 w (and-right (not (isEquality (kindOf p j))) _ (and-right low _ a)) in
+      let h : pos 1 ≤ℤ pos w = leZ-yes (le→leb 1 w one) in
+      without-entries j (pos w) (leb-true j _ (and-left low _ a)) (positive-not (pos w) h) (λ _. h)
+
+  equality-begun : (j : ℕ) (w : ℤ) → (leb j (length (p .conditions)) && (isEquality (kindOf p j) && nonzero w)) ≡ true
+      → SoundRow p (record { basis = j; weight = w; entries = [] })
+  equality-begun j w a =
+      let low = leb j (length (p .conditions)) in
+      let b = and-right low (isEquality (kindOf p j) && nonzero w) a in
+      without-entries j w (leb-true j _ (and-left low _ a)) (nonzero-not w (and-right (isEquality (kindOf p j)) _ b))
+      (λ e. absurd (not-inequality (kindOf p j) (and-left _ (nonzero w) b) e))
 
   row-more : (r : Row) (e : Entry) → SoundRow p r → (ltb (e .index) (length (basisOf p (r .basis))) && nonzero (e .factor)) ≡ true → not (rises (r .entries) (e .index)) ≡ false → SoundRow p (withEntry r e)
   row-more r e k a f = record {
     basis = k .basis;
     weight = k .weight;
+    positive = k .positive;
     indices = all-more _ (r .entries) e (k .indices) (ltb-true _ _ (and-left _ (nonzero (e .factor)) a));
     rising = rising-more (r .entries) e (k .rising) (not-false _ f);
     factors = all-more _ (r .entries) e (k .factors) (nonzero-not (e .factor) (and-right (ltb (e .index) (length (basisOf p (r .basis)))) _ a));
   }
+
+-- a row is begun, by either command
+with-row-sound : (p : Problem) (c : Certificate) (j : ℕ) (w : ℤ) → Sound p c → rowsFull c ≡ false
+    → SoundRow p (record { basis = j; weight = w; entries = [] }) → Sound p (withRow c j w)
+with-row-sound p c j w q full r = record {
+  side = q .side;
+  scale = q .scale;
+  q = q .q;
+  count = rw (length-append (c .rows)) (omega (arith, leb-false mostRows (length (c .rows)) full));
+  rows = all-more _ (c .rows) _ (q .rows) r;
+}
 
 -- ---- a command
 -- what was read before the command at an offset: nothing where it is the first, else a certificate within the limits
@@ -103,14 +137,7 @@ module _ (p : Problem) (c : Certificate) (s : List ℕ) (at : ℕ) (kept : Kept 
         rows = tt;
       })
   applied-sound C.Row h =
-      let q = kept .later (ltb-true 0 at (h .placed)) in
-      record {
-        side = q .side;
-        scale = q .scale;
-        q = q .q;
-        count = rw (length-append (c .rows)) (omega (arith, leb-false mostRows (length (c .rows)) (h .full)));
-        rows = all-more _ (c .rows) _ (q .rows) (row-begun p _ _ (h .allowed));
-      }
+      with-row-sound p c _ _ (kept .later (ltb-true 0 at (h .placed))) (h .full) (row-begun p _ _ (h .allowed))
   applied-sound C.Entry h =
       let q = kept .later (ltb-true 0 at (and-left _ _ (h .placed))) in
       let n = ltb-true 0 (length (c .rows)) (and-right (ltb 0 at) _ (h .placed)) in
@@ -123,6 +150,8 @@ module _ (p : Problem) (c : Certificate) (s : List ℕ) (at : ℕ) (kept : Kept 
       }
   applied-sound C.End h = kept .later (ltb-true 0 at (h .placed))
   applied-sound C.Unknown h = absurd (let z : _≡_ {A = ℕ} 0 1 = let e = h .placed in cc in omega arith)
+  applied-sound C.EqualityRow h =
+      with-row-sound p c _ _ (kept .later (ltb-true 0 at (h .placed))) (h .full) (equality-begun p _ _ (h .allowed))
 
   next-sound : certificateRefusalAt p c s at ≡ 0 → Sound p (certificateNext c s at)
   unfolding certificateNext

@@ -1,5 +1,5 @@
--- The length of the command that a byte names, for every kind of stream: what an arm of a match on the byte has to show
--- for its bytes.
+-- The command that a byte names, for every kind of stream: it has that byte; and its length, what an arm of a match on
+-- the byte has to show for its bytes.
 use mathlib.Core.Path.{_≡_, refl, sym, ap, subst, _∙_}
 use mathlib.Core.Bool.{Bool, true, false, cond, _&&_}
 use mathlib.Core.List.{List, [], _∷_}
@@ -12,7 +12,9 @@ use lib.Dec.{eqb}
 use borrow.Author.Tests.{eqb-true}
 use Rattle.counting.proofs.Cases.{clash, and-left, and-right}
 use Rattle.format.specs.Layouts.{Layout, line, none, lengthOf, hasByte, commandNamed, ZeroUnknown}
+use Rattle.format.specs.declared.problem.Command.{Command as ProblemCommand}
 use Rattle.format.specs.declared.problem.Command.the-variants as Problem
+use Rattle.format.specs.declared.certificate.Command.{Command as CertificateCommand}
 use Rattle.format.specs.declared.certificate.Command.the-variants as Certificate
 use Rattle.format.specs.ProblemLayout.{problemLayout, problemCommands, problemCommand, problemSize}
 use Rattle.format.specs.CertificateLayout.{certificateLayout, certificateCommands, certificateCommand, certificateSize}
@@ -34,20 +36,35 @@ every-at test lo (suc n) t k h g =
 pub past : {k b : ℕ} → k ≤ b → (b ≡ k → ⊥) → suc k ≤ b
 past h d = lt-of-le-of-ne h (λ e. d (sym e))
 
--- ---- a length of 0
--- a layout that has a byte has a length
-has-length : (l : Layout) (b : ℕ) → hasByte l b ≡ true → 0 < lengthOf l
-has-length (line x ws) b h = omega arith
-has-length none b h = clash (cc)
-
-zero-only : {A : Type 0} (layout : A → Layout) (unknown : A) (ks : List A) (b : ℕ) → lengthOf (layout (commandNamed layout unknown ks b)) ≡ 0 → commandNamed layout unknown ks b ≡ unknown
-zero-only layout unknown [] b e = refl
-zero-only layout unknown (k ∷ ks) b e = go (zero-only layout unknown ks b) (hasByte (layout k) b) refl e
+-- ---- the command that a byte names has that byte, unless it is the unknown one
+named-byte : {A : Type 0} (layout : A → Layout) (unknown : A) (ks : List A) (b : ℕ)
+    → hasByte (layout (commandNamed layout unknown ks b)) b ≡ false → commandNamed layout unknown ks b ≡ unknown
+named-byte layout unknown [] b e = refl
+named-byte {A = A} layout unknown (k ∷ ks) b e =
+    go (commandNamed layout unknown ks b) (named-byte layout unknown ks b) (hasByte (layout k) b) refl e
   where
-    go : (lengthOf (layout (commandNamed layout unknown ks b)) ≡ 0 → commandNamed layout unknown ks b ≡ unknown) → (t : Bool) → hasByte (layout k) b ≡ t
-        → lengthOf (layout (cond t k (commandNamed layout unknown ks b))) ≡ 0 → cond t k (commandNamed layout unknown ks b) ≡ unknown
-    go f true p e = let n = has-length (layout k) b p in absurd (omega arith)
-    go f false p e = f e
+    go : (n : A) → (hasByte (layout n) b ≡ false → n ≡ unknown) → (t : Bool) → hasByte (layout k) b ≡ t
+        → hasByte (layout (cond t k n)) b ≡ false → cond t k n ≡ unknown
+    go n f true p e = clash (cc)
+    go n f false p e = f e
+
+known-byte : {A : Type 0} (layout : A → Layout) (unknown : A) (ks : List A) (k : A) (b : ℕ)
+    → commandNamed layout unknown ks b ≡ k → (k ≡ unknown → ⊥) → hasByte (layout k) b ≡ true
+known-byte layout unknown ks k b h known = go (hasByte (layout k) b) refl
+  where
+    go : (t : Bool) → hasByte (layout k) b ≡ t → t ≡ true
+    go true e = refl
+    go false e = absurd (known (sym h ∙ named-byte layout unknown ks b (rw h e)))
+
+-- so a length of 0 is that of the unknown one
+no-byte : (l : Layout) (b : ℕ) → lengthOf l ≡ 0 → hasByte l b ≡ false
+no-byte (line x ws) b e = absurd (omega arith)
+no-byte none b e = refl
+
+zero-only : {A : Type 0} (layout : A → Layout) (unknown : A) (ks : List A) (b : ℕ)
+    → lengthOf (layout (commandNamed layout unknown ks b)) ≡ 0 → commandNamed layout unknown ks b ≡ unknown
+zero-only layout unknown ks b e =
+    named-byte layout unknown ks b (no-byte (layout (commandNamed layout unknown ks b)) b e)
 
 -- ---- the commands ks of a kind of stream
 module _ {A : Type 0} (layout : A → Layout) (unknown : A) (h : layout unknown ≡ none) (ks : List A) where
@@ -64,7 +81,17 @@ module _ {A : Type 0} (layout : A → Layout) (unknown : A) (h : layout unknown 
       let e : r ≡ size b = eqb-true r (size b) (every-at (λ k. eqb r (size k)) lo n t b p q) in
       (e, record { zero = λ u. e ∙ ap (λ (k : A). lengthOf (layout k)) u ∙ ap lengthOf h; only = λ z. zero-only layout unknown ks b (sym e ∙ z) })
 
--- the same for each kind
+-- ---- the same for each kind of stream
+pub problem-byte : (k : ProblemCommand) (b : ℕ) → problemCommand b ≡ k → (k ≡ Problem.Unknown → ⊥)
+    → hasByte (problemLayout k) b ≡ true
+unfolding problemCommand
+problem-byte = known-byte problemLayout Problem.Unknown problemCommands
+
+pub certificate-byte : (k : CertificateCommand) (b : ℕ) → certificateCommand b ≡ k → (k ≡ Certificate.Unknown → ⊥)
+    → hasByte (certificateLayout k) b ≡ true
+unfolding certificateCommand
+certificate-byte = known-byte certificateLayout Certificate.Unknown certificateCommands
+
 pub problem-arm : {r : ℕ} (lo n : ℕ) → every (λ k. eqb r (problemSize (problemCommand k))) lo n ≡ true → (b : ℕ) → lo ≤ b → b < lo + n
     → (r ≡ problemSize (problemCommand b)) × ZeroUnknown Problem.Unknown (problemCommand b) r
 unfolding problemCommand

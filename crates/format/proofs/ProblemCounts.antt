@@ -19,6 +19,7 @@ use Rattle.format.specs.declared.problem.Command.the-variants as C
 use Rattle.format.specs.ProblemLayout.{problemCommand, problemDecoded}
 use Rattle.format.specs.ProblemRules.{Problem, noProblem, appendAt, problemPlaced, fitting, problemOperandsFit, problemRepeated, problemFull, problemApplied, problemCommandAt, problemRefusalAt, problemNext, problemLanguage, readProblem}
 use Rattle.format.specs.ProblemCounts.{countIf, anyOf, isMember, names, memberCommands, basesNamed}
+use Rattle.format.proofs.Lengths.{problem-byte}
 use Rattle.format.proofs.ProblemLimits.{Kept, kept-next, kept-start, nothing-basis}
 
 -- the length of basis j
@@ -29,36 +30,26 @@ size-of p j = length (getD (p .bases) j [])
 abbrev isMemberCommand : Command → Bool
 isMemberCommand C.Variables = false
 isMemberCommand C.Objective = false
-isMemberCommand C.Constraint = false
+isMemberCommand C.Inequality = false
 isMemberCommand C.Term = false
 isMemberCommand C.Member = true
 isMemberCommand C.End = false
 isMemberCommand C.Unknown = false
+isMemberCommand C.Equality = false
 
 member-byte : (b : ℕ) → eqb b 5 ≡ isMemberCommand (problemCommand b)
-unfolding problemCommand
-member-byte b = one (eqb b 1) refl
+member-byte b = go (eqb b 5) refl (problemCommand b) refl
   where
-    five : (u v : Bool) → u ≡ isMemberCommand (cond u C.Member (cond v C.End C.Unknown))
-    five true v = refl
-    five false true = refl
-    five false false = refl
-
-    four : (u : Bool) → eqb b 4 ≡ u → eqb b 5 ≡ isMemberCommand (cond u C.Term (cond (eqb b 5) C.Member (cond (eqb b 6) C.End C.Unknown)))
-    four true e = rw (eqb-true b 4 e)
-    four false e = five (eqb b 5) (eqb b 6)
-
-    three : (u : Bool) → eqb b 3 ≡ u → eqb b 5 ≡ isMemberCommand (cond u C.Constraint (cond (eqb b 4) C.Term (cond (eqb b 5) C.Member (cond (eqb b 6) C.End C.Unknown))))
-    three true e = rw (eqb-true b 3 e)
-    three false e = four (eqb b 4) refl
-
-    two : (u : Bool) → eqb b 2 ≡ u → eqb b 5 ≡ isMemberCommand (cond u C.Objective (cond (eqb b 3) C.Constraint (cond (eqb b 4) C.Term (cond (eqb b 5) C.Member (cond (eqb b 6) C.End C.Unknown)))))
-    two true e = rw (eqb-true b 2 e)
-    two false e = three (eqb b 3) refl
-
-    one : (u : Bool) → eqb b 1 ≡ u → eqb b 5 ≡ isMemberCommand (cond u C.Variables (cond (eqb b 2) C.Objective (cond (eqb b 3) C.Constraint (cond (eqb b 4) C.Term (cond (eqb b 5) C.Member (cond (eqb b 6) C.End C.Unknown))))))
-    one true e = rw (eqb-true b 1 e)
-    one false e = two (eqb b 2) refl
+    go : (t : Bool) → eqb b 5 ≡ t → (k : Command) → problemCommand b ≡ k → t ≡ isMemberCommand k
+    go true e k h = rw (sym h ∙ ap problemCommand (eqb-true b 5 e)) (unfold problemCommand in refl)
+    go false e C.Member h = let m = problem-byte C.Member b h (λ u. clash (cc)) in clash (cc)
+    go false e C.Variables h = refl
+    go false e C.Objective h = refl
+    go false e C.Inequality h = refl
+    go false e C.Term h = refl
+    go false e C.End h = refl
+    go false e C.Unknown h = refl
+    go false e C.Equality h = refl
 
 -- ---- one command
 module _ (p : Problem) (s : List ℕ) (at : ℕ) (kept : Kept p at) where
@@ -75,8 +66,10 @@ module _ (p : Problem) (s : List ℕ) (at : ℕ) (kept : Kept p at) where
   named-low : (w r f : Bool) → Passes (problemPlaced p at C.Member) w (problemOperandsFit p (problemDecoded C.Member s at)) r f → number 1 s (at + 1) < 9
   named-low w r f c =
       let q = kept .later (ltb-true 0 at (c .placed)) in
-      let b = leb-true _ (length (p .constraints)) (and-left (leb (number 1 s (at + 1)) (length (p .constraints))) (fitting (p .variables) 8 (number 8 s (at + 2))) (c .allowed)) in
-      omega (arith, q .constraints)
+      let low = leb (number 1 s (at + 1)) (length (p .conditions)) in
+      let fits = fitting (p .variables) 8 (number 8 s (at + 2)) in
+      let b = leb-true _ (length (p .conditions)) (and-left low fits (c .allowed)) in
+      omega (arith, q .conditions)
 
   record Step (k : Command) : Type 0 where
     grows : (j : ℕ) → size-of (problemApplied p (problemDecoded k s at)) j ≡ size-of p j + cond (isMemberCommand k && eqb (number 1 s (at + 1)) j) 1 0
@@ -92,7 +85,7 @@ module _ (p : Problem) (s : List ℕ) (at : ℕ) (kept : Kept p at) where
   unfolding problemApplied
   step C.Variables w c = same-step C.Variables refl refl
   step C.Objective w c = same-step C.Objective refl refl
-  step C.Constraint w c = same-step C.Constraint refl refl
+  step C.Inequality w c = same-step C.Inequality refl refl
   step C.Term w c = same-step C.Term refl refl
   step C.Member w c =
       let h = named-low w _ _ c in
@@ -100,6 +93,7 @@ module _ (p : Problem) (s : List ℕ) (at : ℕ) (kept : Kept p at) where
       record { grows = λ j. member-grows (p .bases) _ j _ (omega (arith, q .bases)); named = λ _. h }
   step C.End w c = same-step C.End refl refl
   step C.Unknown w c = same-step C.Unknown refl refl
+  step C.Equality w c = same-step C.Equality refl refl
 
   step-at : problemRefusalAt p s at ≡ 0 → Step (problemCommandAt s at)
   unfolding problemRefusalAt

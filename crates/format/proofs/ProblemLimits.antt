@@ -12,17 +12,17 @@ use lib.IntN.{ℤ, pos, negsuc}
 use borrow.Author.Tests.{leb-true, leb-false, ltb-true, eqb-true, eqb-false, ne-eqb}
 use Rattle.counting.proofs.Cases.{clash, and-left, and-right}
 use Rattle.format.specs.Commands.{given}
-use Rattle.format.specs.Operands.{number, signed}
+use Rattle.format.specs.Operands.{number}
 use Rattle.format.proofs.Run.{Passes, passes, read-induction}
 use Rattle.polynomial.specs.Monomial.{degree, within, among}
 use Rattle.polynomial.specs.Terms.{Term, term, keysOf}
 use Rattle.format.specs.declared.problem.Command.{Command}
 use Rattle.format.specs.declared.problem.Command.the-variants as C
-use Rattle.format.specs.declared.problem.Instruction.the-variants as I
+use Rattle.format.specs.declared.problem.Kind.{Kind}
 use Rattle.format.specs.ProblemLayout.{problemCommand, problemSize, problemDecoded}
-use Rattle.format.specs.ProblemRules.{Problem, noProblem, appendAt, lastOf, problemPlaced, nonzero, fitting, problemOperandsFit, problemRepeated, problemFull, problemApplied, problemCommandAt, problemRefusalAt, problemNext, problemLanguage, readProblem}
+use Rattle.format.specs.ProblemRules.{Problem, noProblem, noCondition, appendAt, withCondition, conditionsFull, problemPlaced, nonzero, fitting, problemOperandsFit, problemRepeated, problemFull, problemApplied, problemCommandAt, problemRefusalAt, problemNext, problemLanguage, readProblem}
 use Rattle.format.specs.All.{All}
-use Rattle.format.proofs.WithinLimits.{Distinct, Monomials, Terms, Limits}
+use Rattle.format.proofs.WithinLimits.{Distinct, Monomials, Terms, ConditionTerms, Limits}
 use Rattle.format.proofs.ProblemChecks.{placed-size}
 
 -- ---- lists: one more at the end, one replaced
@@ -94,7 +94,7 @@ pub nonzero-not : (c : ℤ) → nonzero c ≡ true → c ≡ pos 0 → ⊥
 nonzero-not (pos n) h e = let z : n ≡ 0 = cc in let k = ltb-true 0 n h in omega arith
 nonzero-not (negsuc n) h e = clash (cc)
 
-terms-none : (n d most : ℕ) → Terms n d most []
+pub terms-none : (n d most : ℕ) → Terms n d most []
 unfolding All keysOf
 terms-none n d most = record { monomials = monomials-none n d most; nonzero = tt }
 
@@ -126,17 +126,32 @@ nothing-basis j = go 9 j
     go (suc n) (suc j) = go n j
 
 -- the first command gives the number of variables
-first-limits : (n : ℕ) → (leb 1 n && leb n 8) ≡ true → Limits (record { variables = n; objective = []; constraints = []; bases = noProblem .bases })
+first-limits : (n : ℕ) → (leb 1 n && leb n 8) ≡ true
+    → Limits (record { variables = n; objective = []; conditions = []; bases = noProblem .bases })
 unfolding All
 first-limits n h = record {
   variables = (leb-true 1 n (and-left _ _ h), leb-true n 8 (and-right (leb 1 n) _ h));
   objective = terms-none n 32 256;
-  constraints = omega arith;
+  conditions = omega arith;
   terms = tt;
   bases = refl;
   members = nothing-members n;
   begun = λ j _. nothing-basis j;
 }
+
+-- a condition is begun, of either kind
+begun-limits : (p : Problem) (k : Kind) → Limits p → conditionsFull p ≡ false → Limits (withCondition p k)
+begun-limits p k q full =
+    let e = length-append (p .conditions) (record { kind = k; terms = [] } ∷ []) in
+    record {
+      variables = q .variables;
+      objective = q .objective;
+      conditions = rw e (omega (arith, leb-false 8 (length (p .conditions)) full));
+      terms = all-more _ (p .conditions) _ (q .terms) (terms-none (p .variables) 16 32);
+      bases = q .bases;
+      members = q .members;
+      begun = λ j h. q .begun j (omega arith);
+    }
 
 appended-length : {A : Type 0} (ls : List (List A)) (j : ℕ) (a : A) → length (appendAt ls j a) ≡ length ls
 unfolding appendAt
@@ -158,50 +173,44 @@ module _ (p : Problem) (s : List ℕ) (at : ℕ) (kept : Kept p at) where
       record {
         variables = q .variables;
         objective = terms-more (p .variables) 32 256 (p .objective) _ _ (q .objective) (c .allowed) (c .repeated) (c .full);
-        constraints = q .constraints;
+        conditions = q .conditions;
         terms = q .terms;
         bases = q .bases;
         members = q .members;
         begun = q .begun;
       }
-  applied-limits w C.Constraint c =
-      let q = kept .later (ltb-true 0 at (c .placed)) in
-      let e = length-append (p .constraints) ([] ∷ []) in
-      record {
-        variables = q .variables;
-        objective = q .objective;
-        constraints = rw e (omega (arith, leb-false 8 (length (p .constraints)) (c .full)));
-        terms = all-more _ (p .constraints) [] (q .terms) (terms-none (p .variables) 16 32);
-        bases = q .bases;
-        members = q .members;
-        begun = λ j h. q .begun j (omega arith);
-      }
+  applied-limits w C.Inequality c = begun-limits p _ (kept .later (ltb-true 0 at (c .placed))) (c .full)
   applied-limits w C.Term c =
       let q = kept .later (ltb-true 0 at (and-left _ _ (c .placed))) in
-      let j = length (p .constraints) - 1 in
-      let e = appended-length (p .constraints) j (term (number 8 s (at + 1)) (signed 15 (number 2 s (at + 9)))) in
+      let gs = p .conditions in
+      let last = all-at (ConditionTerms _) gs (length gs - 1) noCondition (q .terms) (terms-none _ 16 32) in
       record {
         variables = q .variables;
         objective = q .objective;
-        constraints = rw e (q .constraints);
-        terms = all-append _ (p .constraints) j _ (q .terms) (terms-none (p .variables) 16 32) (λ t. terms-more (p .variables) 16 32 (lastOf (p .constraints)) _ _ t (c .allowed) (c .repeated) (c .full));
+        conditions = rw (length-set gs) (q .conditions);
+        terms = all-set _ gs _ _ (q .terms) (terms-more _ 16 32 _ _ _ last (c .allowed) (c .repeated) (c .full));
         bases = q .bases;
         members = q .members;
-        begun = λ i h. q .begun i (rw e at h);
+        begun = λ i h. q .begun i (rw (length-set gs) at h);
       }
   applied-limits w C.Member c =
       let q = kept .later (ltb-true 0 at (c .placed)) in
+      let low = leb (number 1 s (at + 1)) (length (p .conditions)) in
+      let j-low = leb-true _ (length (p .conditions)) (and-left low (fitting (p .variables) 8 _) (c .allowed)) in
       record {
         variables = q .variables;
         objective = q .objective;
-        constraints = q .constraints;
+        conditions = q .conditions;
         terms = q .terms;
         bases = appended-length (p .bases) _ _ ∙ q .bases;
-        members = all-append _ (p .bases) _ _ (q .members) (monomials-none (p .variables) 8 64) (λ m. monomials-more (p .variables) 8 64 _ _ m (and-right (leb _ (length (p .constraints))) _ (c .allowed)) (c .repeated) (c .full));
-        begun = λ i h. appended-other (p .bases) _ i _ (λ e. let b = leb-true _ (length (p .constraints)) (and-left _ (fitting (p .variables) 8 _) (c .allowed)) in omega arith) ∙ q .begun i h;
+        members =
+            all-append _ (p .bases) _ _ (q .members) (monomials-none (p .variables) 8 64)
+            (λ m. monomials-more (p .variables) 8 64 _ _ m (and-right low _ (c .allowed)) (c .repeated) (c .full));
+        begun = λ i h. appended-other (p .bases) _ i _ (λ e. omega (arith, j-low)) ∙ q .begun i h;
       }
   applied-limits w C.End c = kept .later (ltb-true 0 at (c .placed))
   applied-limits w C.Unknown c = let z : _≡_ {A = ℕ} 0 1 = let e = c .placed in cc in absurd (omega arith)
+  applied-limits w C.Equality c = begun-limits p _ (kept .later (ltb-true 0 at (c .placed))) (c .full)
 
   next-limits : problemRefusalAt p s at ≡ 0 → Limits (problemNext p s at)
   unfolding problemRefusalAt problemNext

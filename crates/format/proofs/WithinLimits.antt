@@ -1,4 +1,4 @@
--- What a problem within the limits of document 01 is. Every problem that a stream gives is such (ProblemLimits.antt).
+-- What a problem within the limits of the documents is. Every problem that a stream gives is such (ProblemLimits.antt).
 use mathlib.Core.Path.{_≡_}
 use mathlib.Core.Bool.{true, false}
 use mathlib.Core.List.{List, [], _∷_}
@@ -8,8 +8,8 @@ use lib.ListN.{length, getD}
 use Rattle.polynomial.specs.Monomial.{degree, within, among}
 use Rattle.polynomial.specs.Terms.{Term, keysOf}
 use Rattle.format.specs.All.{All}
-use Rattle.format.specs.ProblemLimits.{mostVariables, mostObjectiveDegree, mostObjectiveTerms, mostConstraints, mostConstraintDegree, mostConstraintTerms, mostBasisDegree, mostMonomials, mostBases}
-use Rattle.format.specs.ProblemRules.{Problem}
+use Rattle.format.specs.ProblemLimits.{mostVariables, mostObjectiveDegree, mostObjectiveTerms, mostConditions, mostConditionDegree, mostConditionTerms, mostBasisDegree, mostMonomials, mostBases}
+use Rattle.format.specs.ProblemRules.{Condition, Problem}
 
 -- "no monomial twice"
 unfoldable pub Distinct : List ℕ → Type 0
@@ -28,12 +28,16 @@ pub record Terms (n d most : ℕ) (ts : List Term) : Type 0 where
   pub monomials : Monomials n d most (keysOf ts)
   pub nonzero : All (λ (t : Term). t .coefficient ≡ pos 0 → ⊥) ts
 
+-- a condition whose terms are such, of either kind
+abbrev pub ConditionTerms : ℕ → Condition → Type 0
+ConditionTerms n g = Terms n mostConditionDegree mostConditionTerms (g .terms)
+
 pub record Limits (p : Problem) : Type 0 where
   pub variables : (1 ≤ p .variables) × (p .variables ≤ mostVariables)
   pub objective : Terms (p .variables) mostObjectiveDegree mostObjectiveTerms (p .objective)
-  pub constraints : length (p .constraints) ≤ mostConstraints
-  pub terms : All (Terms (p .variables) mostConstraintDegree mostConstraintTerms) (p .constraints)
+  pub conditions : length (p .conditions) ≤ mostConditions
+  pub terms : All (ConditionTerms (p .variables)) (p .conditions)
   pub bases : length (p .bases) ≡ mostBases
   pub members : All (Monomials (p .variables) mostBasisDegree mostMonomials) (p .bases)
-  -- a basis above 0 has a constraint
-  pub begun : (j : ℕ) → length (p .constraints) < j → getD (p .bases) j [] ≡ []
+  -- a basis above 0 has a condition
+  pub begun : (j : ℕ) → length (p .conditions) < j → getD (p .bases) j [] ≡ []

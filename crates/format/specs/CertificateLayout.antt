@@ -18,10 +18,12 @@ certificateLayout C.Row = line 0x11 (u8 ∷ u16 ∷ [])
 certificateLayout C.Entry = line 0x12 (u8 ∷ i16 ∷ [])
 -- "13: end"
 certificateLayout C.End = line 0x13 []
+-- "Certificate command 14 j(u8) w(i16) begins a row on an equality"
+certificateLayout C.EqualityRow = line 0x14 (u8 ∷ i16 ∷ [])
 certificateLayout C.Unknown = none
 
 abbrev pub certificateCommands : List Command
-certificateCommands = C.Header ∷ C.Row ∷ C.Entry ∷ C.End ∷ []
+certificateCommands = C.Header ∷ C.Row ∷ C.Entry ∷ C.End ∷ C.EqualityRow ∷ []
 
 -- the command that a byte names
 unfoldable pub certificateCommand : ℕ → Command
@@ -46,4 +48,6 @@ certificateDecoded C.Header s at =
 certificateDecoded C.Row s at = I.Row (certificateUnsigned C.Row 0 s at) (certificateUnsigned C.Row 1 s at)
 certificateDecoded C.Entry s at = I.Entry (certificateUnsigned C.Entry 0 s at) (certificateSigned C.Entry 1 s at)
 certificateDecoded C.End s at = I.End
+certificateDecoded C.EqualityRow s at =
+    I.EqualityRow (certificateUnsigned C.EqualityRow 0 s at) (certificateSigned C.EqualityRow 1 s at)
 certificateDecoded C.Unknown s at = I.End

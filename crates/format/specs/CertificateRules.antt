@@ -7,7 +7,7 @@ use lib.IntN.{ℤ, pos}
 use lib.ListN.{length, getD, set}
 use Rattle.format.specs.Commands.{Outcome, firstRefusal, Language, readWhole}
 use Rattle.format.specs.ProblemRules.{Problem, nonzero}
-use Rattle.format.specs.ProblemBases.{basisOf}
+use Rattle.format.specs.ProblemBases.{basisOf, isEquality, kindOf}
 use Rattle.format.specs.declared.certificate.Command.{Command}
 use Rattle.format.specs.declared.certificate.Command.the-variants as C
 use Rattle.format.specs.declared.certificate.Instruction.{Instruction}
@@ -38,7 +38,7 @@ noHeader = record { side = 0; scale = 0; p = pos 0; q = 0 }
 abbrev pub noCertificate : Certificate
 noCertificate = record { header = noHeader; rows = [] }
 
--- ---- "the row begun last"
+-- ---- "the row begun last", by 11 or by 14
 abbrev pub noRow : Row
 noRow = record { basis = 0; weight = pos 0; entries = [] }
 
@@ -51,15 +51,20 @@ certificatePlaced c at C.Header = eqb at 0
 certificatePlaced c at C.Row = ltb 0 at
 certificatePlaced c at C.Entry = ltb 0 at && ltb 0 (length (c .rows))
 certificatePlaced c at C.End = ltb 0 at
+certificatePlaced c at C.EqualityRow = ltb 0 at
 certificatePlaced c at C.Unknown = false
 
--- ---- refusal 4: "side 0 lower, 1 upper; D and q at least 1"; a row "on basis j, 0 or a constraint of the problem,
--- with weight w at least 1"; an index "less than the basis's length"; "factors are never 0"
+-- ---- refusal 4: "side 0 lower, 1 upper; D and q at least 1"; 11 is "on basis j, 0 or a constraint of the problem,
+-- with weight w at least 1"; an index "less than the basis's length"; "factors are never 0"; 14 is "on an equality,
+-- with w negative or positive, never 0"; "Command 11 on an equality, or 14 on another basis, breaks an operand rule"
 abbrev pub certificateOperandsFit : Problem → Certificate → Instruction → Bool
 certificateOperandsFit p c (I.Header side d x q) = leb side 1 && (leb 1 d && leb 1 q)
-certificateOperandsFit p c (I.Row j w) = leb j (length (p .constraints)) && leb 1 w
+certificateOperandsFit p c (I.Row j w) =
+    leb j (length (p .conditions)) && (not (isEquality (kindOf p j)) && leb 1 w)
 certificateOperandsFit p c (I.Entry i l) = ltb i (length (basisOf p (lastRow (c .rows) .basis))) && nonzero l
 certificateOperandsFit p c I.End = true
+certificateOperandsFit p c (I.EqualityRow j w) =
+    leb j (length (p .conditions)) && (isEquality (kindOf p j) && nonzero w)
 
 -- ---- refusal 5: "index not rising"
 -- "Indices rise within a row": an index is above that of the row's last entry
@@ -73,19 +78,31 @@ certificateRepeated c (I.Header side d x q) = false
 certificateRepeated c (I.Row j w) = false
 certificateRepeated c (I.Entry i l) = not (rises (lastRow (c .rows) .entries) i)
 certificateRepeated c I.End = false
+certificateRepeated c (I.EqualityRow j w) = false
 
 -- ---- refusal 6: "one more than a count allows"
--- "at most 128 rows"
+-- "at most 128 rows", and a row on an equality is "counted among the 128"
 abbrev pub mostRows : ℕ
 mostRows = 128
 
+abbrev pub rowsFull : Certificate → Bool
+rowsFull c = leb mostRows (length (c .rows))
+
 abbrev pub certificateFull : Certificate → Instruction → Bool
 certificateFull c (I.Header side d x q) = false
-certificateFull c (I.Row j w) = leb mostRows (length (c .rows))
+certificateFull c (I.Row j w) = rowsFull c
 certificateFull c (I.Entry i l) = false
 certificateFull c I.End = false
+certificateFull c (I.EqualityRow j w) = rowsFull c
 
 -- ---- what a command that is not refused does; an entry belongs to the row begun last
+-- a row begun on basis j with weight w
+abbrev pub withRow : Certificate → ℕ → ℤ → Certificate
+withRow c j w = record {
+  header = c .header;
+  rows = c .rows ++ (record { basis = j; weight = w; entries = [] } ∷ []);
+}
+
 abbrev pub withEntry : Row → Entry → Row
 withEntry r e = record { basis = r .basis; weight = r .weight; entries = r .entries ++ (e ∷ []) }
 
@@ -94,10 +111,7 @@ certificateApplied c (I.Header side d p q) at = record {
   header = record { side = side; scale = d; p = p; q = q };
   rows = c .rows;
 }
-certificateApplied c (I.Row j w) at = record {
-  header = c .header;
-  rows = c .rows ++ (record { basis = j; weight = pos w; entries = [] } ∷ []);
-}
+certificateApplied c (I.Row j w) at = withRow c j (pos w)
 certificateApplied c (I.Entry i l) at = record {
   header = c .header;
   rows =
@@ -105,6 +119,7 @@ certificateApplied c (I.Entry i l) at = record {
       set (c .rows) (length (c .rows) - 1) (withEntry (lastRow (c .rows)) e);
 }
 certificateApplied c I.End at = c
+certificateApplied c (I.EqualityRow j w) at = withRow c j w
 
 -- ---- the command at an offset
 abbrev pub certificateCommandAt : List ℕ → ℕ → Command

@@ -15,17 +15,19 @@ problemLayout C.Variables = line 0x01 (u8 ∷ [])
 -- "02 E c(i32): objective term"
 problemLayout C.Objective = line 0x02 (E ∷ i32 ∷ [])
 -- "03: begins the next constraint"
-problemLayout C.Constraint = line 0x03 []
+problemLayout C.Inequality = line 0x03 []
 -- "04 E c(i16): term of the constraint begun last"
 problemLayout C.Term = line 0x04 (E ∷ i16 ∷ [])
 -- "05 j(u8) E: next monomial of basis j"
 problemLayout C.Member = line 0x05 (u8 ∷ E ∷ [])
 -- "06: end"
 problemLayout C.End = line 0x06 []
+-- "Problem command 07 begins an equality"
+problemLayout C.Equality = line 0x07 []
 problemLayout C.Unknown = none
 
 abbrev pub problemCommands : List Command
-problemCommands = C.Variables ∷ C.Objective ∷ C.Constraint ∷ C.Term ∷ C.Member ∷ C.End ∷ []
+problemCommands = C.Variables ∷ C.Objective ∷ C.Inequality ∷ C.Term ∷ C.Member ∷ C.End ∷ C.Equality ∷ []
 
 -- the command that a byte names
 unfoldable pub problemCommand : ℕ → Command
@@ -46,8 +48,9 @@ problemSigned k i s at = signedOperand (problemLayout k) i s at
 abbrev pub problemDecoded : Command → List ℕ → ℕ → Instruction
 problemDecoded C.Variables s at = I.Variables (problemUnsigned C.Variables 0 s at)
 problemDecoded C.Objective s at = I.Objective (problemUnsigned C.Objective 0 s at) (problemSigned C.Objective 1 s at)
-problemDecoded C.Constraint s at = I.Constraint
+problemDecoded C.Inequality s at = I.Inequality
 problemDecoded C.Term s at = I.Term (problemUnsigned C.Term 0 s at) (problemSigned C.Term 1 s at)
 problemDecoded C.Member s at = I.Member (problemUnsigned C.Member 0 s at) (problemUnsigned C.Member 1 s at)
 problemDecoded C.End s at = I.End
+problemDecoded C.Equality s at = I.Equality
 problemDecoded C.Unknown s at = I.End

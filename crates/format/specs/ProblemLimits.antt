@@ -1,4 +1,4 @@
--- The limits that document 01 states with the problem's commands.
+-- The limits that the documents state with the problem's commands.
 use Prim.Native.Nat.{ℕ, _+_}
 
 -- "01 n(u8): number of variables, 1 to 8"
@@ -12,16 +12,18 @@ mostObjectiveDegree = 32
 abbrev pub mostObjectiveTerms : ℕ
 mostObjectiveTerms = 256
 
--- "03: begins the next constraint, at most 8"
-abbrev pub mostConstraints : ℕ
-mostConstraints = 8
+-- "03: begins the next constraint, at most 8", and "07 begins an equality, numbered together with the constraints and
+-- counted among the 8": at most 8 conditions of both kinds
+abbrev pub mostConditions : ℕ
+mostConditions = 8
 
--- "04 E c(i16): term of the constraint begun last, degree at most 16, at most 32 each"
-abbrev pub mostConstraintDegree : ℕ
-mostConstraintDegree = 16
+-- "04 E c(i16): term of the constraint begun last, degree at most 16, at most 32 each"; of an equality too: "its terms
+-- use 04"
+abbrev pub mostConditionDegree : ℕ
+mostConditionDegree = 16
 
-abbrev pub mostConstraintTerms : ℕ
-mostConstraintTerms = 32
+abbrev pub mostConditionTerms : ℕ
+mostConditionTerms = 32
 
 -- "05 j(u8) E: next monomial of basis j, degree at most 8, at most 64 each"
 abbrev pub mostBasisDegree : ℕ
@@ -30,6 +32,6 @@ mostBasisDegree = 8
 abbrev pub mostMonomials : ℕ
 mostMonomials = 64
 
--- "j is 0 or a constraint already begun"
+-- "j is 0 or a constraint already begun": a basis for g_0 and one for each condition
 abbrev pub mostBases : ℕ
-mostBases = 1 + mostConstraints
+mostBases = 1 + mostConditions

@@ -12,36 +12,48 @@ use Rattle.format.specs.declared.problem.Command.{Command}
 use Rattle.format.specs.declared.problem.Command.the-variants as C
 use Rattle.format.specs.declared.problem.Instruction.{Instruction}
 use Rattle.format.specs.declared.problem.Instruction.the-variants as I
+use Rattle.format.specs.declared.problem.Kind.{Kind}
+use Rattle.format.specs.declared.problem.Kind.the-variants as K
 use Rattle.format.specs.ProblemLayout.{problemCommand, problemSize, problemDecoded}
-use Rattle.format.specs.ProblemLimits.{mostVariables, mostObjectiveDegree, mostObjectiveTerms, mostConstraints, mostConstraintDegree, mostConstraintTerms, mostBasisDegree, mostMonomials, mostBases}
+use Rattle.format.specs.ProblemLimits.{mostVariables, mostObjectiveDegree, mostObjectiveTerms, mostConditions, mostConditionDegree, mostConditionTerms, mostBasisDegree, mostMonomials, mostBases}
 
--- a problem: the number of variables, the objective, the constraints from number 1 on, and the bases 0 to 8
+-- a condition: an inequality (document 01's constraint) or an equality, with its terms
+pub record Condition : Type 0 where
+  pub kind : Kind
+  pub terms : List Term
+
+-- a problem: the number of variables, the objective, the conditions from number 1 on, and the bases 0 to 8
 pub record Problem : Type 0 where
   pub variables : ℕ
   pub objective : List Term
-  pub constraints : List (List Term)
+  pub conditions : List Condition
   pub bases : List (List ℕ)
 
 -- before the first command
 abbrev pub noProblem : Problem
-noProblem = record { variables = 0; objective = []; constraints = []; bases = replicate mostBases [] }
+noProblem = record { variables = 0; objective = []; conditions = []; bases = replicate mostBases [] }
 
 -- one more at the end of list j
 unfoldable pub appendAt {ℓ} : {A : Type ℓ} → List (List A) → ℕ → A → List (List A)
 appendAt ls j a = set ls j (getD ls j [] ++ (a ∷ []))
 
--- "the constraint begun last"
-abbrev pub lastOf {ℓ} : {A : Type ℓ} → List (List A) → List A
-lastOf ls = getD ls (length ls - 1) []
+-- ---- "the constraint begun last", by 03 or by 07
+abbrev pub noCondition : Condition
+noCondition = record { kind = K.Inequality; terms = [] }
 
--- ---- refusal 3: 01 stands "first, and only first", and "a 04 before any 03 .. is misplaced"
+abbrev pub lastCondition : List Condition → Condition
+lastCondition gs = getD gs (length gs - 1) noCondition
+
+-- ---- refusal 3: 01 stands "first, and only first", and "a 04 before any 03 .. is misplaced"; 04 "from now on needs a
+-- 03 or 07 before it"
 abbrev pub problemPlaced : Problem → ℕ → Command → Bool
 problemPlaced p at C.Variables = eqb at 0
 problemPlaced p at C.Objective = ltb 0 at
-problemPlaced p at C.Constraint = ltb 0 at
-problemPlaced p at C.Term = ltb 0 at && ltb 0 (length (p .constraints))
+problemPlaced p at C.Inequality = ltb 0 at
+problemPlaced p at C.Term = ltb 0 at && ltb 0 (length (p .conditions))
 problemPlaced p at C.Member = ltb 0 at
 problemPlaced p at C.End = ltb 0 at
+problemPlaced p at C.Equality = ltb 0 at
 problemPlaced p at C.Unknown = false
 
 -- ---- refusal 4: "operand outside its rule"
@@ -57,63 +69,80 @@ fitting n d k = leb (degree k) d && within n k
 abbrev pub problemOperandsFit : Problem → Instruction → Bool
 problemOperandsFit p (I.Variables n) = leb 1 n && leb n mostVariables
 problemOperandsFit p (I.Objective k c) = fitting (p .variables) mostObjectiveDegree k && nonzero c
-problemOperandsFit p I.Constraint = true
-problemOperandsFit p (I.Term k c) = fitting (p .variables) mostConstraintDegree k && nonzero c
+problemOperandsFit p I.Inequality = true
+problemOperandsFit p (I.Term k c) = fitting (p .variables) mostConditionDegree k && nonzero c
 problemOperandsFit p (I.Member j k) =
-    leb j (length (p .constraints)) && fitting (p .variables) mostBasisDegree k
+    leb j (length (p .conditions)) && fitting (p .variables) mostBasisDegree k
 problemOperandsFit p I.End = true
+problemOperandsFit p I.Equality = true
 
 -- ---- refusal 5: "A polynomial or a basis has no monomial twice"
 abbrev pub problemRepeated : Problem → Instruction → Bool
 problemRepeated p (I.Variables n) = false
 problemRepeated p (I.Objective k c) = among k (keysOf (p .objective))
-problemRepeated p I.Constraint = false
-problemRepeated p (I.Term k c) = among k (keysOf (lastOf (p .constraints)))
+problemRepeated p I.Inequality = false
+problemRepeated p (I.Term k c) = among k (keysOf (lastCondition (p .conditions) .terms))
 problemRepeated p (I.Member j k) = among k (getD (p .bases) j [])
 problemRepeated p I.End = false
+problemRepeated p I.Equality = false
 
 -- ---- refusal 6: "one more than a count allows"
+-- of the conditions, of either kind
+abbrev pub conditionsFull : Problem → Bool
+conditionsFull p = leb mostConditions (length (p .conditions))
+
 abbrev pub problemFull : Problem → Instruction → Bool
 problemFull p (I.Variables n) = false
 problemFull p (I.Objective k c) = leb mostObjectiveTerms (length (p .objective))
-problemFull p I.Constraint = leb mostConstraints (length (p .constraints))
-problemFull p (I.Term k c) = leb mostConstraintTerms (length (lastOf (p .constraints)))
+problemFull p I.Inequality = conditionsFull p
+problemFull p (I.Term k c) = leb mostConditionTerms (length (lastCondition (p .conditions) .terms))
 problemFull p (I.Member j k) = leb mostMonomials (length (getD (p .bases) j []))
 problemFull p I.End = false
+problemFull p I.Equality = conditionsFull p
 
 -- ---- what a command that is not refused does
+-- a condition begun, without terms; an equality is "numbered together with the constraints"
+abbrev pub withCondition : Problem → Kind → Problem
+withCondition p k = record {
+  variables = p .variables;
+  objective = p .objective;
+  conditions = p .conditions ++ (record { kind = k; terms = [] } ∷ []);
+  bases = p .bases;
+}
+
+-- a condition with one more term
+abbrev pub withTerm : Condition → Term → Condition
+withTerm g t = record { kind = g .kind; terms = g .terms ++ (t ∷ []) }
+
 unfoldable pub problemApplied : Problem → Instruction → Problem
 problemApplied p (I.Variables n) = record {
   variables = n;
   objective = p .objective;
-  constraints = p .constraints;
+  conditions = p .conditions;
   bases = p .bases;
 }
 problemApplied p (I.Objective k c) = record {
   variables = p .variables;
   objective = p .objective ++ (term k c ∷ []);
-  constraints = p .constraints;
+  conditions = p .conditions;
   bases = p .bases;
 }
-problemApplied p I.Constraint = record {
-  variables = p .variables;
-  objective = p .objective;
-  constraints = p .constraints ++ ([] ∷ []);
-  bases = p .bases;
-}
+problemApplied p I.Inequality = withCondition p K.Inequality
 problemApplied p (I.Term k c) = record {
   variables = p .variables;
   objective = p .objective;
-  constraints = appendAt (p .constraints) (length (p .constraints) - 1) (term k c);
+  conditions =
+      set (p .conditions) (length (p .conditions) - 1) (withTerm (lastCondition (p .conditions)) (term k c));
   bases = p .bases;
 }
 problemApplied p (I.Member j k) = record {
   variables = p .variables;
   objective = p .objective;
-  constraints = p .constraints;
+  conditions = p .conditions;
   bases = appendAt (p .bases) j k;
 }
 problemApplied p I.End = p
+problemApplied p I.Equality = withCondition p K.Equality
 
 -- ---- the command at an offset
 abbrev pub problemCommandAt : List ℕ → ℕ → Command

@@ -6,6 +6,7 @@ pub enum Command {
     Entry,
     End,
     Unknown,
+    EqualityRow,
 }
 
 // A command with its operands.
@@ -14,6 +15,7 @@ pub enum Instruction {
     Row(u8, u16),
     Entry(u8, i32),
     End,
+    EqualityRow(u8, i32),
 }
 
 // What the first command states: the side (0 lower, 1 upper), D, and the bound p/q.

@@ -1,4 +1,4 @@
-// What the bytes of the two streams say: the types of commands and headers here, definitions in specs/, theorems in
-// proofs/. No code.
+// What the bytes of the two streams say: the types of commands, conditions and headers here, definitions in specs/,
+// theorems in proofs/. No code.
 pub mod certificate;
 pub mod problem;

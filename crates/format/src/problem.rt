@@ -1,21 +1,29 @@
-// The commands of the problem stream.
+// The commands of the problem stream, and the kinds of its conditions.
 
 pub enum Command {
     Variables,
     Objective,
-    Constraint,
+    Inequality,
     Term,
     Member,
     End,
     Unknown,
+    Equality,
 }
 
 // A command with its operands. A monomial is its key.
 pub enum Instruction {
     Variables(usize),
     Objective(u64, i32),
-    Constraint,
+    Inequality,
     Term(u64, i32),
     Member(usize, u64),
     End,
+    Equality,
+}
+
+// The kind of a condition: an inequality asks that its polynomial be at least 0, an equality that it be 0.
+pub enum Kind {
+    Inequality,
+    Equality,
 }

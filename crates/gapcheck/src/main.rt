@@ -20,12 +20,13 @@ usage: gapcheck [PROBLEM [LOW [HIGH]]]
 Three files are read, each to at most 65,536 bytes. Where one is not named, the file in
 brackets of the current folder is. A missing file is an empty stream.
 
-  PROBLEM  the polynomial, the constraints and the bases  [problem.bin]
-  LOW      the certificate of the lower bound             [low.bin]
-  HIGH     the certificate of the upper bound             [high.bin]
+  PROBLEM  the polynomial, the conditions and the bases  [problem.bin]
+  LOW      the certificate of the lower bound            [low.bin]
+  HIGH     the certificate of the upper bound            [high.bin]
 
 Where both certificates are accepted, four lines are written, in base ten, unreduced.
-A point is allowed if its coordinates are rational and no constraint is below 0 there.
+A point is allowed if its coordinates are rational, and there no inequality is below 0 and
+every equality is 0.
 
   lower p/q   at every allowed point the polynomial is at least p/q
   upper P/Q   at every allowed point it is at most P/Q

@@ -15,7 +15,7 @@ use Rattle.format.specs.CertificateRules.{Row}
 use Rattle.format.proofs.All.{all-map}
 use Rattle.accepting.specs.Identity.{squares}
 use Rattle.flat.specs.TermArrays.{termsIn}
-use Rattle.flat.specs.Flat.{constraintsAt, basisIn, FlatLimits}
+use Rattle.flat.specs.Flat.{conditionsAt, basisIn, FlatLimits}
 use Rattle.flat.proofs.Flat.{basis-size, multiplier-size, basis-long, exponents-long, coefficients-long, basis-low, multiplier-low, coefficients-small, terms-part}
 use Rattle.certificate_reader.specs.Rows.{rowsBy}
 use Rattle.row_products.specs.Gram.{rowsOn, byBasis}
@@ -120,12 +120,12 @@ module _ (s starts : List ℕ) (rows : ℕ) {keys : List ℕ} {coefficients : Li
           are = λ p t k. rw (w .are p t k, d .are p t k) (sym (coefficient-append k (byBasis p (rowsBy s starts rows) j) (squares p (rowsOn j (rowsBy s starts rows)))));
         }
 
-    -- no row is on a basis behind those of the constraints
-    pub walked-end : Comparable s starts rows keys coefficients sizes → j ≡ getD sizes constraintsAt 0 + 1
+    -- no row is on a basis behind those of the conditions
+    pub walked-end : Comparable s starts rows keys coefficients sizes → j ≡ getD sizes conditionsAt 0 + 1
         → Summed (λ p. squares p (rowsBy s starts rows)) keys coefficients sizes table n 9 hi₀ lo₀ hi₁ lo₁
     walked-end q e =
-        let few = q .flat .limits .sizes-low constraintsAt in
-        let on : All (λ (r : Row). r .basis < j) (rowsBy s starts rows) = all-map _ _ (λ (r : Row) b. omega (arith, b .basis, q .flat .constraints)) (rowsBy s starts rows) (q .rows-sound .sound) in
+        let few = q .flat .limits .sizes-low conditionsAt in
+        let on : All (λ (r : Row). r .basis < j) (rowsBy s starts rows) = all-map _ _ (λ (r : Row) b. omega (arith, b .basis, q .flat .conditions)) (rowsBy s starts rows) (q .rows-sound .sound) in
         record {
           sums = w .sums;
           grown = grown-same (w .grown) (λ k. refl) (omega arith);

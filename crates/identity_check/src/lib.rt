@@ -398,7 +398,7 @@ fn sum_rows(
         (now (lo .entry)) (now (hi .exit)) (now (lo .exit))
         ⌝ }
 {
-    let last = sizes[flat::CONSTRAINTS];
+    let last = sizes[flat::CONDITIONS];
     let mut j: usize = 0;
     while j <= last {
         add_basis(

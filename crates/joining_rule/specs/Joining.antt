@@ -21,7 +21,7 @@ abbrev pub multiples : ℕ → List ℕ → List ℕ
 multiples c ks = map (λ (k : ℕ). c * k) ks
 
 -- "S starts as all exponents of the objective and constraints, and 2b for each b in basis 0": the objective's exponents
--- are given, and the constraints are the multipliers 1 to 8
+-- are given, and the constraints, equalities among them, are the multipliers 1 to 8
 unfoldable pub startFrom : List ℕ → Bases → List ℕ
 startFrom objective g =
     insertAll (multiples 2 (g .basis 0)) (fromTo 1 9 (λ j. insertAll (g .multiplier j)) (insertAll objective []))

@@ -1,6 +1,6 @@
 -- Laws of stores in the arrays: one list changes, and the others stay. The lists have the numbers of their lengths'
 -- places: 0 to 8 are the bases, 9 to 17 the multipliers, and 18 is the objective.
-use mathlib.Core.Path.{_≡_, sym, ap, subst, _∙_}
+use mathlib.Core.Path.{_≡_, refl, sym, ap, subst, _∙_}
 use mathlib.Core.Bool.{cond}
 use mathlib.Core.List.{List, _++_}
 use mathlib.Core.Logic.{_⊎_, inl, inr, ⊎-elim, _≢_}
@@ -130,3 +130,14 @@ module _ {keys : List ℕ} {coefficients : List ℤ} {sizes : List ℕ} (f : Fla
       keys-low = low;
       coefficients-low = small;
     }
+
+  -- ---- a number of sizes alone: the lists stay, but for one whose length it is
+  pub number-others : (i m : ℕ) → Others i keys coefficients sizes keys coefficients (set sizes i m)
+  number-others i m = record {
+    bases = λ j q d. rw (getD-set-other sizes i j m 0 d);
+    polynomials = λ j q d. rw (getD-set-other sizes i (9 + j) m 0 d);
+    lengths = λ j d. getD-set-other sizes i j m 0 d;
+  }
+
+  pub number-limits : (i m : ℕ) → m ≤ mostAt i → FlatLimits keys coefficients (set sizes i m)
+  number-limits i m few = limits-more i m keys coefficients refl refl (f .keys-low) (f .coefficients-low) few

@@ -37,10 +37,11 @@ module _ (w m : ℕ) (e : 2 ^ (w + 1) ≡ suc m) (d : 2 ^ w + 2 ^ w ≡ suc m) w
 abbrev pub Sized : Instruction → Type 0
 Sized (I.Variables n) = Unit {0}
 Sized (I.Objective k c) = natAbs c ≤ 2 ^ 31
-Sized I.Constraint = Unit {0}
+Sized I.Inequality = Unit {0}
 Sized (I.Term k c) = natAbs c ≤ 2 ^ 15
 Sized (I.Member j k) = Unit {0}
 Sized I.End = Unit {0}
+Sized I.Equality = Unit {0}
 
 module _ (s : List ℕ) (bytes : Bounded 255 s) where
   number-low : (w at : ℕ) → number w s at < 256 ^ w
@@ -51,11 +52,12 @@ module _ (s : List ℕ) (bytes : Bounded 255 s) where
   decoded-small : (w : Command) (at : ℕ) → Sized (problemDecoded w s at)
   decoded-small C.Variables at = tt
   decoded-small C.Objective at = signed-small 31 (2 ^ 32 - 1) refl refl _ (omega (arith, number-low 4 (at + 9)))
-  decoded-small C.Constraint at = tt
+  decoded-small C.Inequality at = tt
   decoded-small C.Term at = signed-small 15 (2 ^ 16 - 1) refl refl _ (omega (arith, number-low 2 (at + 9)))
   decoded-small C.Member at = tt
   decoded-small C.End at = tt
   decoded-small C.Unknown at = tt
+  decoded-small C.Equality at = tt
 
   pub passed-small : {p : Problem} {at after : ℕ} {i : Instruction} → Passes p s at i after → Sized i
   passed-small {at = at} t = rw (t .instruction) at (decoded-small (problemCommandAt s at) at)

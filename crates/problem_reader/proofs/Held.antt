@@ -1,48 +1,51 @@
--- What the arrays and the constraint begun last hold of a problem while it is read, and what each command's stores make of it.
-use mathlib.Core.Path.{_≡_, refl, sym, ap, subst, _∙_}
+-- What the arrays and the condition begun last hold of a problem while it is read, and what each command's stores make of it.
+use mathlib.Core.Path.{_≡_, refl, sym, ap, _∙_}
 use mathlib.Core.List.{List, [], _∷_, _++_}
-use mathlib.Core.Logic.{inl, inr, ⊎-elim}
-use Prim.Native.Nat.{ℕ, _+_, _-_, _*_, _^_, _≤_, _<_, zero-le}
+use mathlib.Core.Logic.{inl, inr, ⊎-elim, _≢_}
+use Prim.Native.Nat.{ℕ, _+_, _*_, _^_, _≤_, _<_, zero-le}
 use native.Mathlib.Nat.{eq-or-lt-of-le}
 use native.Mathlib.Numerals.{add-one}
 use native.Mathlib.Omega.{arith}
 use lib.IntN.{ℤ, pos, natAbs}
 use lib.ListN.{length, drop, set, getD, replicate, length-set, length-append, length-drop, length-replicate}
-use lib.Seq.{paste, length-paste, take-suc-set, drop-set-add, getD-set-same, getD-set-other}
+use lib.Seq.{paste, length-paste, take-suc-set, drop-set-add, getD-set-same}
 use Rattle.counting.specs.Counting.{listed}
 use Rattle.counting.proofs.Bounded.{bounded-zeros}
 use Rattle.counting.proofs.Cases.{lt-or-le}
 use Rattle.counting.proofs.Listed.{same-or-not}
 use Rattle.polynomial.specs.Terms.{Term, term}
 use Rattle.format.specs.declared.problem.Instruction.the-variants as I
-use Rattle.format.specs.ProblemRules.{Problem, problemApplied, noProblem}
+use Rattle.format.specs.declared.problem.Kind.{Kind}
+use Rattle.format.specs.declared.problem.Kind.the-variants as K
+use Rattle.format.specs.ProblemRules.{Problem, withCondition, problemApplied, noProblem}
 use Rattle.format.proofs.ProblemLimits.{nothing-basis}
-use Rattle.format.specs.ProblemBases.{basisOf, multiplier}
+use Rattle.format.specs.ProblemBases.{basisOf}
 use Rattle.flat.specs.TermArrays.{termsIn, FilledTerms}
-use Rattle.flat.specs.Flat.{basisIn, polynomialIn, mostAt, degreeAt, largestAt, FlatLimits, FlatProblem, FlatZero}
+use Rattle.flat.specs.Flat.{basisIn, polynomialIn, kindNumber, mostAt, degreeAt, largestAt, FlatLimits, FlatProblem, FlatZero}
 use Rattle.flat.proofs.TermArrays.{set-all, terms-same, terms-more, small-zeros, filled-none, filled-more}
-use Rattle.flat.proofs.Flat.{basis-most, multiplier-most, basis-degree, multiplier-degree, objective-degree, multiplier-largest, objective-largest}
+use Rattle.flat.proofs.Flat.{basis-most, multiplier-most, basis-degree, multiplier-degree, objective-degree, multiplier-largest, objective-largest, kind-most}
 use Rattle.problem_reader.specs.Storing.{noTerms, terms}
 use Rattle.problem_reader.specs.declared.Polynomial.{Polynomial}
-use Rattle.problem_reader.proofs.Arrays.{basis-list, polynomial-place, Apart, apart-set, apart-paste, paste-all, paste-here, Others, coefficients-apart, others, limits-more}
-use Rattle.problem_reader.proofs.Problems.{appended-length, multiplier-same, multiplier-none, member-here, member-other, begun-before, begun-here, term-other, term-here}
+use Rattle.problem_reader.proofs.Arrays.{basis-list, polynomial-place, Apart, apart-set, apart-paste, paste-all, paste-here, Others, coefficients-apart, others, limits-more, number-others, number-limits}
+use Rattle.problem_reader.proofs.Problems.{conditionOf, multiplier-is, kind-is, same-terms, same-kind, appended-length, condition-same, condition-none, nothing-kind, member-here, member-other, begun-other, begun-here, term-other, term-here}
 
 -- the problem p as it was read so far: keys, coefficients and sizes are the arrays, v is the number of variables, last the
--- constraint begun last (g_0 before the first), which is not laid out yet, and n the number of constraints
+-- condition begun last (g_0 before the first), which is not laid out yet, and n the number of conditions
 pub record Held (p : Problem) (keys : List ℕ) (coefficients : List ℤ) (sizes : List ℕ) (v : ℕ) (last : Polynomial) (n : ℕ) : Type 0 where
   pub limits : FlatLimits keys coefficients sizes
   pub variables : p .variables ≡ v
   pub variables-low : v ≤ 8
-  pub count : length (p .constraints) ≡ n
+  pub count : length (p .conditions) ≡ n
   pub count-low : n ≤ 8
   pub nine : length (p .bases) ≡ 9
   pub bases : (j : ℕ) → j < 9 → basisIn keys sizes j ≡ basisOf p j
   pub objective : polynomialIn keys coefficients sizes 9 ≡ p .objective
   -- the multipliers before the last are laid out, and behind it none is
-  pub laid : (j : ℕ) → j < n → polynomialIn keys coefficients sizes j ≡ multiplier p j
-  pub latest : terms last ≡ multiplier p n
+  pub laid : (j : ℕ) → j < n → polynomialIn keys coefficients sizes j ≡ conditionOf p j .terms
+  pub latest : terms last ≡ conditionOf p n .terms
   pub filled : FilledTerms 16 32 (2 ^ 15) (last .keys) (last .coefficients) (last .count)
   pub empty : (j : ℕ) → n ≤ j → j < 9 → getD sizes (9 + j) 0 ≡ 0
+  pub kinds : (j : ℕ) → j < 9 → getD sizes (20 + j) 0 ≡ kindNumber (conditionOf p j .kind)
 
 module _ {p : Problem} {keys : List ℕ} {coefficients : List ℤ} {sizes : List ℕ} {v : ℕ} {last : Polynomial} {n : ℕ} (held : Held p keys coefficients sizes v last n) where
   abbrev limits : FlatLimits keys coefficients sizes
@@ -60,10 +63,11 @@ module _ {p : Problem} {keys : List ℕ} {coefficients : List ℤ} {sizes : List
     nine = held .nine;
     bases = held .bases;
     objective = held .objective;
-    laid = λ j l. held .laid j l ∙ multiplier-same _ _ refl j;
-    latest = held .latest ∙ multiplier-same _ _ refl n;
+    laid = λ j l. held .laid j l ∙ same-terms (condition-same p _ refl j);
+    latest = held .latest ∙ same-terms (condition-same p _ refl n);
     filled = held .filled;
     empty = held .empty;
+    kinds = λ j l. held .kinds j l ∙ same-kind (condition-same p _ refl j);
   }
 
   -- ---- a monomial of basis j
@@ -115,10 +119,11 @@ module _ {p : Problem} {keys : List ℕ} {coefficients : List ℤ} {sizes : List
               (λ d. o .bases i q d ∙ held .bases i q ∙ sym (member-other p j k i d))
               (same-or-not i j);
           objective = o .polynomials 9 (omega arith) (λ e. omega arith) ∙ held .objective;
-          laid = λ i q. o .polynomials i (omega arith) (λ e. omega arith) ∙ held .laid i q ∙ multiplier-same _ _ refl i;
-          latest = held .latest ∙ multiplier-same _ _ refl n;
+          laid = λ i q. o .polynomials i (omega arith) (λ e. omega arith) ∙ held .laid i q ∙ same-terms (condition-same p _ refl i);
+          latest = held .latest ∙ same-terms (condition-same p _ refl n);
           filled = held .filled;
           empty = λ i q l. o .lengths (9 + i) (λ e. omega arith) ∙ held .empty i q l;
+          kinds = λ i q. o .lengths (20 + i) (λ e. omega arith) ∙ held .kinds i q ∙ same-kind (condition-same p _ refl i);
         }
 
   -- ---- a term of the objective
@@ -169,13 +174,14 @@ module _ {p : Problem} {keys : List ℕ} {coefficients : List ℤ} {sizes : List
           nine = held .nine;
           bases = λ i q. o .bases i q (λ e. omega arith) ∙ held .bases i q;
           objective = objective-more ∙ ap (λ (x : List Term). x ++ (term k c ∷ [])) (held .objective);
-          laid = λ i q. o .polynomials i (omega arith) (λ e. omega arith) ∙ held .laid i q ∙ multiplier-same _ _ refl i;
-          latest = held .latest ∙ multiplier-same _ _ refl n;
+          laid = λ i q. o .polynomials i (omega arith) (λ e. omega arith) ∙ held .laid i q ∙ same-terms (condition-same p _ refl i);
+          latest = held .latest ∙ same-terms (condition-same p _ refl n);
           filled = held .filled;
           empty = λ i q l. o .lengths (9 + i) (λ e. omega arith) ∙ held .empty i q l;
+          kinds = λ i q. o .lengths (20 + i) (λ e. omega arith) ∙ held .kinds i q ∙ same-kind (condition-same p _ refl i);
         }
 
-  -- ---- a term of the constraint begun last
+  -- ---- a term of the condition begun last
   pub held-term : (k : ℕ) (c : ℤ) → 0 < n → last .count < 32 → k ≤ 16 * 2 ^ 56 → natAbs c ≤ 2 ^ 15
       → Held (problemApplied p (I.Term k c)) keys coefficients sizes v
       (record { keys = set (last .keys) (last .count) k; coefficients = set (last .coefficients) (last .count) c; count = last .count + 1 }) n
@@ -183,25 +189,32 @@ module _ {p : Problem} {keys : List ℕ} {coefficients : List ℤ} {sizes : List
   held-term k c h r low small =
       let f = held .filled in
       let e = held .count in
+      let here = term-here p k c n e h in
+      let other = term-other p k c n e h in
       record {
         limits = limits;
         variables = held .variables;
         variables-low = held .variables-low;
-        count = appended-length (p .constraints) _ (term k c) ∙ held .count;
+        count = length-set (p .conditions) _ _ ∙ e;
         count-low = held .count-low;
         nine = held .nine;
         bases = held .bases;
         objective = held .objective;
-        laid = λ i q. held .laid i q ∙ sym (term-other p k c (omega arith) i (omega arith));
+        laid = λ i q. held .laid i q ∙ same-terms (sym (other i (λ z. omega arith)));
         latest =
             terms-more (last .count) (last .keys) (last .coefficients) k c (omega arith) (omega arith)
             ∙ ap (λ (x : List Term). x ++ (term k c ∷ [])) (held .latest)
-            ∙ sym (term-here p k c (omega arith) n e);
+            ∙ same-terms (sym here);
         filled = filled-more 16 32 (2 ^ 15) (last .keys) (last .coefficients) (last .count) k c f r low small;
         empty = held .empty;
+        kinds = λ i q. held .kinds i q ∙
+            ⊎-elim
+            (λ z. rw z (same-kind (sym here)))
+            (λ d. same-kind (sym (other i d)))
+            (same-or-not i n);
       }
 
-  -- ---- the constraint begun last is laid out
+  -- ---- the condition begun last is laid out
   abbrev laid-keys : List ℕ
   laid-keys = paste keys (576 + 32 * n) (last .keys) (last .count)
 
@@ -228,7 +241,7 @@ module _ {p : Problem} {keys : List ℕ} {coefficients : List ℤ} {sizes : List
       (coefficients-apart limits n laid-coefficients (omega arith)
       (rw laid-most (wider _ _ 32 coefficients laid-coefficients (f .count-low) (apart-paste coefficients (32 * n) (last .coefficients) (pos 0) (last .count) (omega arith) (omega arith)))))
 
-  laid-here : polynomialIn laid-keys laid-coefficients laid-sizes n ≡ multiplier p n
+  laid-here : polynomialIn laid-keys laid-coefficients laid-sizes n ≡ conditionOf p n .terms
   laid-here =
       let f = held .filled in
       let w = held .count-low in
@@ -256,65 +269,99 @@ module _ {p : Problem} {keys : List ℕ} {coefficients : List ℤ} {sizes : List
       (λ i q. rw (multiplier-largest (32 * n + i) (omega arith)) (f .coefficients-small i)))
       (rw laid-most (f .count-low))
 
-  -- the next constraint begins
-  pub held-constraint : n < 8 → Held (problemApplied p I.Constraint) laid-keys laid-coefficients laid-sizes v noTerms (n + 1)
-  unfolding problemApplied basisOf termsIn listed
-  held-constraint h =
-      let o = laid-others in
+  -- then a number is stored that is the length of no list: all that was read stands in the arrays
+  module _ (i m : ℕ) (far : 19 ≤ i) (few : m ≤ mostAt i) where
+    abbrev stored-sizes : List ℕ
+    stored-sizes = set laid-sizes i m
+
+    stored-limits : FlatLimits laid-keys laid-coefficients stored-sizes
+    stored-limits = number-limits laid-limits i m few
+
+    stored-others : Others i laid-keys laid-coefficients laid-sizes laid-keys laid-coefficients stored-sizes
+    stored-others = number-others laid-limits i m
+
+    stored-bases : (j : ℕ) → j < 9 → basisIn laid-keys stored-sizes j ≡ basisOf p j
+    stored-bases j q = stored-others .bases j q (λ e. omega arith) ∙ laid-others .bases j q (λ e. omega arith) ∙ held .bases j q
+
+    stored-objective : polynomialIn laid-keys laid-coefficients stored-sizes 9 ≡ p .objective
+    stored-objective =
+        let w = held .count-low in
+        stored-others .polynomials 9 (omega arith) (λ e. omega arith) ∙ laid-others .polynomials 9 (omega arith) (λ e. omega arith) ∙ held .objective
+
+    stored-laid : (j : ℕ) → j ≤ n → polynomialIn laid-keys laid-coefficients stored-sizes j ≡ conditionOf p j .terms
+    stored-laid j h =
+        let w = held .count-low in
+        stored-others .polynomials j (omega arith) (λ e. omega arith)
+        ∙ ⊎-elim
+        (λ e. rw e laid-here)
+        (λ d. laid-others .polynomials j (omega arith) (λ e. omega arith) ∙ held .laid j d)
+        (eq-or-lt-of-le {n = j} {m = n} h)
+
+    stored-other : (j : ℕ) → j ≢ i → j ≢ 9 + n → getD stored-sizes j 0 ≡ getD sizes j 0
+    stored-other j d e = stored-others .lengths j d ∙ laid-others .lengths j e
+
+    stored-here : i < 29 → getD stored-sizes i 0 ≡ m
+    stored-here h = getD-set-same laid-sizes i m 0 (let s = laid-limits .sizes-length in omega arith)
+
+  -- the next condition begins, of a kind
+  kind-few : (k : Kind) → kindNumber k ≤ mostAt (20 + (n + 1))
+  kind-few K.Inequality = zero-le
+  kind-few K.Equality = rw (kind-most (20 + (n + 1)) (omega arith)) (omega arith)
+
+  pub held-condition : (k : Kind) → n < 8 → Held (withCondition p k) laid-keys laid-coefficients (set laid-sizes (20 + (n + 1)) (kindNumber k)) v noTerms (n + 1)
+  unfolding basisOf termsIn listed
+  held-condition k h =
+      let i = 20 + (n + 1) in
+      let far : 19 ≤ i = omega arith in
+      let few = kind-few k in
       let e = held .count in
+      let here : conditionOf (withCondition p k) (n + 1) ≡ record { kind = k; terms = [] } = rw e at (begun-here p k) in
+      let other : (j : ℕ) → j ≢ n + 1 → conditionOf (withCondition p k) j ≡ conditionOf p j = rw e at (begun-other p k) in
       record {
-        limits = laid-limits;
+        limits = stored-limits i _ far few;
         variables = held .variables;
         variables-low = held .variables-low;
-        count = rw (length-append (p .constraints) ([] ∷ [])) (omega arith);
+        count = rw (length-append (p .conditions) (record { kind = k; terms = [] } ∷ [])) (omega arith);
         count-low = omega arith;
         nine = held .nine;
-        bases = λ i q. o .bases i q (λ e. omega arith) ∙ held .bases i q;
-        objective = o .polynomials 9 (omega arith) (λ e. omega arith) ∙ held .objective;
-        laid = λ i q.
-            ⊎-elim
-            (λ e. rw e laid-here)
-            (λ d. o .polynomials i (omega arith) (λ e. omega arith) ∙ held .laid i d)
-            (eq-or-lt-of-le {n = i} {m = n} (omega arith))
-            ∙ sym (begun-before p i (omega arith));
-        latest = rw e at (sym (begun-here p));
+        bases = stored-bases i _ far few;
+        objective = stored-objective i _ far few;
+        laid = λ j q. stored-laid i _ far few j (omega arith) ∙ same-terms (sym (other j (λ z. omega arith)));
+        latest = same-terms (sym here);
         filled = filled-none 16 32 (2 ^ 15);
-        empty = λ i q l. o .lengths (9 + i) (λ e. omega arith) ∙ held .empty i (omega arith) l;
+        empty = λ j q l. stored-other i _ far few (9 + j) (λ z. omega arith) (λ z. omega arith) ∙ held .empty j (omega arith) l;
+        kinds = λ j q.
+            ⊎-elim
+            (λ z. rw z (stored-here i _ far few (omega arith) ∙ same-kind (sym here)))
+            (λ d. rw (other j d) (stored-other i _ far few (20 + j) (λ z. d (omega arith)) (λ z. omega arith) ∙ held .kinds j q))
+            (same-or-not j (n + 1));
       }
 
   -- the end of the stream
   pub held-end : FlatProblem p laid-keys laid-coefficients (set laid-sizes 19 n)
   unfolding termsIn listed
   held-end =
-      let o = laid-others in
-      let e = held .count in
       let w = held .count-low in
-      let s = limits .sizes-length in
       record {
-        limits = limits-more laid-limits 19 n laid-keys laid-coefficients refl refl (laid-limits .keys-low) (laid-limits .coefficients-low) w;
-        bases = λ j q. rw (getD-set-other laid-sizes 19 j n 0 (λ e. omega arith)) (o .bases j q (λ e. omega arith) ∙ held .bases j q);
-        multipliers = λ j q. rw (getD-set-other laid-sizes 19 (9 + j) n 0 (λ e. omega arith)) (all j q);
-        objective = rw (getD-set-other laid-sizes 19 18 n 0 (λ e. omega arith)) (o .polynomials 9 (omega arith) (λ e. omega arith) ∙ held .objective);
-        constraints = getD-set-same laid-sizes 19 n 0 (rw (length-set sizes (9 + n) (last .count)) (omega arith)) ∙ sym e;
+        limits = stored-limits 19 n (omega arith) w;
+        bases = stored-bases 19 n (omega arith) w;
+        multipliers = λ j q. rw (multiplier-is p j)
+            (⊎-elim
+            (λ d.
+            let z : getD (set laid-sizes 19 n) (9 + j) 0 ≡ 0 = stored-other 19 n (omega arith) w (9 + j) (λ z. omega arith) (λ z. omega arith) ∙ held .empty j (omega arith) q in
+            let e = held .count in
+            rw (z, condition-none p j (omega arith)))
+            (λ d. stored-laid 19 n (omega arith) w j d)
+            (lt-or-le n j));
+        objective = stored-objective 19 n (omega arith) w;
+        conditions = stored-here 19 n (omega arith) w (omega arith) ∙ sym (held .count);
+        kinds = λ j q. rw (kind-is p j) (stored-other 19 n (omega arith) w (20 + j) (λ z. omega arith) (λ z. omega arith) ∙ held .kinds j q);
       }
-    where
-      all : (j : ℕ) → j < 9 → polynomialIn laid-keys laid-coefficients laid-sizes j ≡ multiplier p j
-      all j q =
-          let o = laid-others in
-          let e = held .count in
-          ⊎-elim
-          (λ d. o .polynomials j (omega arith) (λ e. omega arith) ∙ held .laid j d)
-          (λ d.
-          ⊎-elim
-          (λ e. subst (λ (x : ℕ). polynomialIn laid-keys laid-coefficients laid-sizes x ≡ multiplier p x) e laid-here)
-          (λ l. rw (o .lengths (9 + j) (λ e. omega arith) ∙ held .empty j (omega arith) q) (sym (multiplier-none p j (omega arith))))
-          (eq-or-lt-of-le {n = n} {m = j} d))
-          (lt-or-le j n)
 
 -- ---- before the first command
 pub held-start : (keys : List ℕ) (coefficients : List ℤ) (sizes : List ℕ) (one : Polynomial) → FlatZero keys coefficients sizes
     → FilledTerms 16 32 (2 ^ 15) (one .keys) (one .coefficients) (one .count) → terms one ≡ term 0 (pos 1) ∷ [] → Held noProblem keys coefficients sizes 0 one 0
-unfolding basisOf multiplier termsIn listed
+unfolding basisOf conditionOf termsIn listed
 held-start keys coefficients sizes one z f e =
     rw (z .keys-zero, z .coefficients-zero, z .sizes-zero)
     (record {
@@ -322,7 +369,7 @@ held-start keys coefficients sizes one z f e =
         keys-length = length-replicate {A = ℕ} 1120 0;
         coefficients-length = length-replicate {A = ℤ} 544 (pos 0);
         sizes-length = refl;
-        sizes-low = λ i. bounded-zeros (mostAt i) 20 i;
+        sizes-low = λ i. bounded-zeros (mostAt i) 29 i;
         keys-low = λ i. bounded-zeros (degreeAt i * 2 ^ 56) 1120 i;
         coefficients-low = λ i. small-zeros (largestAt i) 544 i;
       };
@@ -337,7 +384,8 @@ held-start keys coefficients sizes one z f e =
       latest = e;
       filled = f;
       empty = λ j _ _. none (9 + j);
+      kinds = λ j _. rw (none (20 + j), nothing-kind noProblem refl j);
     })
   where
-    none : (i : ℕ) → getD (replicate {A = ℕ} 20 0) i 0 ≡ 0
-    none i = let b = bounded-zeros 0 20 i in omega arith
+    none : (i : ℕ) → getD (replicate {A = ℕ} 29 0) i 0 ≡ 0
+    none i = let b = bounded-zeros 0 29 i in omega arith

@@ -2,7 +2,7 @@
 use mathlib.Core.Path.{_≡_, refl, sym, _∙_}
 use mathlib.Core.List.{List, [], _∷_}
 use mathlib.Core.Bool.{Bool, true, false, cond}
-use Prim.Native.Nat.{ℕ, _+_, _-_, _*_, _^_, _≤_, _<_, zero-le}
+use Prim.Native.Nat.{ℕ, _+_, _*_, _^_, _≤_, _<_, zero-le}
 use native.Mathlib.Omega.{arith}
 use lib.Dec.{eqb, leb, ltb}
 use lib.IntN.{ℤ, pos}
@@ -20,21 +20,22 @@ use Rattle.format.specs.declared.problem.Command.{Command}
 use Rattle.format.specs.declared.problem.Command.the-variants as C
 use Rattle.format.specs.declared.problem.Instruction.{Instruction}
 use Rattle.format.specs.declared.problem.Instruction.the-variants as I
+use Rattle.format.specs.declared.problem.Kind.{Kind}
 use Rattle.format.specs.ProblemLayout.{problemCommand, problemDecoded}
-use Rattle.format.specs.ProblemRules.{Problem, lastOf, problemPlaced, fitting, nonzero, problemApplied, problemCommandAt, problemRefusalAt, problemNext, problemLanguage, noProblem, readProblem}
+use Rattle.format.specs.ProblemRules.{Problem, lastCondition, problemPlaced, fitting, nonzero, problemApplied, problemCommandAt, problemRefusalAt, problemNext, problemLanguage, noProblem, readProblem}
 use Rattle.format.specs.ProblemBases.{basisOf}
 use Rattle.flat.specs.TermArrays.{termsIn, FilledTerms}
-use Rattle.flat.specs.Flat.{exponentsAt, coefficientsAt, FlatLimits, FlatZero}
+use Rattle.flat.specs.Flat.{exponentsAt, coefficientsAt, kindAt, kindNumber, FlatLimits, FlatZero}
 use Rattle.flat.proofs.TermArrays.{terms-length, terms-keys}
 use Rattle.flat.proofs.Flat.{basis-long}
 use Rattle.problem_reader.specs.Checks.{early, late, lateIn}
-use Rattle.problem_reader.specs.Storing.{terms, noTerms, storedIf, ReadFlat}
+use Rattle.problem_reader.specs.Storing.{terms, noTerms, beginning, storedIf, ReadFlat}
 use Rattle.problem_reader.specs.declared.Polynomial.{Polynomial}
 use Rattle.problem_reader.specs.declared.Reading.{Reading}
 use Rattle.problem_reader.proofs.Checks.{Passes, passes-size, passes-end, passes-on, space}
-use Rattle.problem_reader.proofs.Problems.{multiplier-at}
+use Rattle.problem_reader.proofs.Problems.{condition-last, same-terms, begins-on, begins-applied, begins-late}
 use Rattle.problem_reader.proofs.Coefficients.{passed-small}
-use Rattle.problem_reader.proofs.Held.{Held, held-variables, held-member, held-objective, held-term, held-constraint, held-end, held-start}
+use Rattle.problem_reader.proofs.Held.{Held, held-variables, held-member, held-objective, held-term, held-condition, held-end, held-start}
 
 abbrev pub reading : ℕ → ℕ → Reading
 reading n at = record { number = n; place = at }
@@ -81,7 +82,7 @@ module _ {s keys : List ℕ} {coefficients : List ℤ} {sizes : List ℕ} {v : �
       refusal s keys coefficients sizes number at (g .held .limits) (omega arith) (rw (u, e) (sym (left-end problemLanguage s _ _ at (g .left) h)))
 
   -- what the first checks say of these numbers, they say of this problem
-  pub first-checks : (r : ℕ) → ((p : Problem) → p .variables ≡ v → length (p .constraints) ≡ n → r ≡ early p s at) → r ≡ early here s at
+  pub first-checks : (r : ℕ) → ((p : Problem) → p .variables ≡ v → length (p .conditions) ≡ n → r ≡ early p s at) → r ≡ early here s at
   first-checks r e = e here (g .held .variables) (g .held .count)
 
   module _ (h : at < length s) where
@@ -146,15 +147,16 @@ starting s keys coefficients sizes one z f e =
     record { problem = noProblem; held = held-start keys coefficients sizes one z f e; undecided = refl; reached = zero-le; left = left-start problemLanguage s noProblem }
 
 -- ---- what the arm of each command leaves
--- a 04 stands after a 03
-term-placed : (p : Problem) (s : List ℕ) (at : ℕ) (w : Command) (k : ℕ) (c : ℤ) → problemPlaced p at w ≡ true → problemDecoded w s at ≡ I.Term k c → 0 < length (p .constraints)
+-- a 04 stands after a 03 or a 07
+term-placed : (p : Problem) (s : List ℕ) (at : ℕ) (w : Command) (k : ℕ) (c : ℤ) → problemPlaced p at w ≡ true → problemDecoded w s at ≡ I.Term k c → 0 < length (p .conditions)
 term-placed p s at C.Variables k c h e = clash (cc)
 term-placed p s at C.Objective k c h e = clash (cc)
-term-placed p s at C.Constraint k c h e = clash (cc)
-term-placed p s at C.Term k c h e = ltb-true 0 (length (p .constraints)) (and-right (ltb 0 at) (ltb 0 (length (p .constraints))) h)
+term-placed p s at C.Inequality k c h e = clash (cc)
+term-placed p s at C.Term k c h e = ltb-true 0 (length (p .conditions)) (and-right (ltb 0 at) (ltb 0 (length (p .conditions))) h)
 term-placed p s at C.Member k c h e = clash (cc)
 term-placed p s at C.End k c h e = clash (cc)
 term-placed p s at C.Unknown k c h e = clash (cc)
+term-placed p s at C.Equality k c h e = clash (cc)
 
 -- a monomial that is allowed has a key that is low enough
 fitting-low : (n d k : ℕ) → n ≤ 8 → fitting n d k ≡ true → k ≤ d * 2 ^ 56
@@ -172,17 +174,20 @@ module _ {p : Problem} {keys : List ℕ} {coefficients : List ℤ} {sizes : List
   low : (d k : ℕ) → fitting (p .variables) d k ≡ true → k ≤ d * 2 ^ 56
   low d k e = let u = held .variables in let w = held .variables-low in fitting-low (p .variables) d k (omega arith) e
 
-  pub stepped-full : 8 ≤ n → Stepped p I.Constraint keys coefficients sizes v last n 6
+  -- a condition of a kind
+  pub stepped-full : (k : Kind) → 8 ≤ n → Stepped p (beginning k) keys coefficients sizes v last n 6
   unfolding firstRefusal
-  stepped-full h = record { decided = rw (held .count, le-leb 8 n h); limits = held .limits; held = λ z. absurd (omega arith); on = λ e. clash (cc) }
+  stepped-full k h =
+      record { decided = rw (begins-late p k, held .count, le-leb 8 n h); limits = held .limits; held = λ z. absurd (omega arith); on = begins-on k }
 
-  pub stepped-begun : n < 8 → (r : ℕ) → r ≡ 0 → (keys′ : List ℕ) (coefficients′ : List ℤ) (last′ : Polynomial)
+  pub stepped-begun : (k : Kind) (w : ℕ) → w ≡ kindNumber k → n < 8 → (r : ℕ) → r ≡ 0 → (keys′ : List ℕ) (coefficients′ : List ℤ) (last′ : Polynomial)
       → keys′ ≡ paste keys (exponentsAt n) (last .keys) (last .count) → coefficients′ ≡ paste coefficients (coefficientsAt n) (last .coefficients) (last .count) → last′ ≡ noTerms
-      → Stepped p I.Constraint keys′ coefficients′ (set sizes (9 + n) (last .count)) v last′ (n + 1) r
+      → Stepped p (beginning k) keys′ coefficients′ (set (set sizes (9 + n) (last .count)) (kindAt (n + 1)) w) v last′ (n + 1) r
   unfolding firstRefusal
-  stepped-begun h r z keys′ coefficients′ last′ x y e =
-      let m = held-constraint held h in
-      rw (x, y, e) (record { decided = rw (held .count, lt-leb 8 n h) z; limits = m .limits; held = λ _. m; on = λ e. clash (cc) })
+  stepped-begun k w u h r z keys′ coefficients′ last′ x y e =
+      let m = held-condition held k h in
+      rw (u, x, y, e)
+      (record { decided = rw (begins-late p k, held .count, lt-leb 8 n h) z; limits = m .limits; held = λ _. rw (begins-applied p k) m; on = begins-on k })
 
   module _ {s : List ℕ} {at after : ℕ} where
     pub stepped-variables : {m : ℕ} → Passes p s at (I.Variables m) after → (r : ℕ) → r ≡ 0 → Stepped p (I.Variables m) keys coefficients sizes m last n r
@@ -214,11 +219,11 @@ module _ {p : Problem} {keys : List ℕ} {coefficients : List ℤ} {sizes : List
       begun : 0 < n
       begun = rw (held .count) at (term-placed p s at (problemCommandAt s at) k c (t .stands) (t .instruction))
 
-      latest : terms last ≡ lastOf (p .constraints)
-      latest = held .latest ∙ rw (held .count) (multiplier-at p n begun)
+      latest : terms last ≡ lastCondition (p .conditions) .terms
+      latest = held .latest ∙ same-terms (condition-last p n (held .count) begun)
 
       term-room : lateIn (last .keys) 0 (last .count) k 32 ≡ late p (I.Term k c)
-      term-room = let f = held .filled in terms-room (last .count) 32 k (last .keys) (last .coefficients) (lastOf (p .constraints)) (omega arith) latest
+      term-room = let f = held .filled in terms-room (last .count) 32 k (last .keys) (last .coefficients) (lastCondition (p .conditions) .terms) (omega arith) latest
 
       pub stepped-refused : (r : ℕ) → (r ≡ 0 → ⊥) → r ≡ lateIn (last .keys) 0 (last .count) k 32 → Stepped p (I.Term k c) keys coefficients sizes v last n r
       stepped-refused r d e = record { decided = e ∙ term-room; limits = held .limits; held = λ z. absurd (d z); on = λ e. clash (cc) }
@@ -235,7 +240,7 @@ module _ {p : Problem} {keys : List ℕ} {coefficients : List ℤ} {sizes : List
       named =
           let e = held .count in
           let u = held .count-low in
-          omega (arith, leb-true j (length (p .constraints)) (and-left (leb j (length (p .constraints))) (fitting (p .variables) 8 k) (t .operands)))
+          omega (arith, leb-true j (length (p .conditions)) (and-left (leb j (length (p .conditions))) (fitting (p .variables) 8 k) (t .operands)))
 
       member-room : lateIn keys (64 * j) (getD sizes j 0) k 64 ≡ late p (I.Member j k)
       unfolding basisOf
@@ -249,6 +254,6 @@ module _ {p : Problem} {keys : List ℕ} {coefficients : List ℤ} {sizes : List
           go : (b : Bool) → eqb r 0 ≡ b → keys′ ≡ cond b (set keys (64 * j + getD sizes j 0) k) keys → sizes′ ≡ cond b (set sizes j (getD sizes j 0 + 1)) sizes → Stepped p (I.Member j k) keys′ coefficients sizes′ v last n r
           go true q x z =
               let f = space keys (64 * j) (getD sizes j 0) k 64 (sym e ∙ eqb-true r 0 q) in
-              let m = held-member held j k named f (low 8 k (and-right (leb j (length (p .constraints))) (fitting (p .variables) 8 k) (t .operands))) in
+              let m = held-member held j k named f (low 8 k (and-right (leb j (length (p .conditions))) (fitting (p .variables) 8 k) (t .operands))) in
               rw (x, z) (record { decided = e ∙ member-room; limits = m .limits; held = λ _. m; on = λ e. clash (cc) })
           go false q x z = rw (x, z) (record { decided = e ∙ member-room; limits = held .limits; held = λ z. absurd (eqb-false r 0 q z); on = λ e. clash (cc) })

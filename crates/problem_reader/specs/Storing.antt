@@ -8,6 +8,10 @@ use lib.IntN.{ℤ, pos}
 use lib.ListN.{set, replicate}
 use Rattle.polynomial.specs.Terms.{Term}
 use Rattle.format.specs.Commands.{refused, given}
+use Rattle.format.specs.declared.problem.Instruction.{Instruction}
+use Rattle.format.specs.declared.problem.Instruction.the-variants as I
+use Rattle.format.specs.declared.problem.Kind.{Kind}
+use Rattle.format.specs.declared.problem.Kind.the-variants as K
 use Rattle.format.specs.ProblemRules.{Problem, readProblem}
 use Rattle.flat.specs.TermArrays.{termsIn}
 use Rattle.flat.specs.Flat.{FlatLimits, FlatProblem}
@@ -21,6 +25,11 @@ terms q = termsIn (q .count) (q .keys) (q .coefficients)
 -- the polynomial without terms
 abbrev pub noTerms : Polynomial
 noTerms = record { keys = replicate 32 0; coefficients = replicate 32 (pos 0); count = 0 }
+
+-- the command that begins a condition of a kind
+abbrev pub beginning : Kind → Instruction
+beginning K.Inequality = I.Inequality
+beginning K.Equality = I.Equality
 
 -- a list with one element stored where no check failed
 abbrev pub storedIf {ℓ} : {A : Type ℓ} → ℕ → List A → ℕ → A → List A

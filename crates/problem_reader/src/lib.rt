@@ -4,6 +4,7 @@ ghost use Prim.Native.Nat.{_+_, _^_, _≤_, _<_};
 ghost use lib.ListN.{length, getD};
 ghost use Rattle.format.specs.Layouts.{ZeroUnknown};
 ghost use Rattle.format.specs.declared.problem.Command.the-variants as C;
+ghost use Rattle.format.specs.declared.problem.Kind.{Kind};
 ghost use mathlib.Core.List.{[], _∷_};
 ghost use lib.IntN.{pos};
 ghost use lib.Seq.{paste};
@@ -11,18 +12,19 @@ ghost use Rattle.format.specs.ProblemLimits.{mostObjectiveTerms};
 ghost use Rattle.format.specs.ProblemLayout.{problemCommand, problemSize, problemDecoded};
 ghost use Rattle.format.specs.ProblemRules.{Problem, problemPlaced, fitting, problemOperandsFit, problemCommandAt};
 ghost use Rattle.problem_reader.specs.Checks.{early, lateIn};
-ghost use Rattle.problem_reader.specs.Storing.{noTerms, terms, storedIf, ReadFlat};
-ghost use Rattle.flat.specs.Flat.{objectiveNumber, exponentsAt, coefficientsAt, countAt, FlatLimits, FlatZero};
+ghost use Rattle.problem_reader.specs.Storing.{noTerms, terms, beginning, storedIf, ReadFlat};
+ghost use Rattle.flat.specs.Flat.{objectiveNumber, exponentsAt, coefficientsAt, countAt, kindNumber, FlatLimits, FlatZero};
 ghost use Rattle.flat.specs.TermArrays.{FilledTerms};
 ghost use Rattle.polynomial.specs.Monomial.{degree, within, among};
 ghost use Rattle.polynomial.specs.Terms.{term};
-use flat::CONSTRAINTS;
+use flat::CONDITIONS;
+use flat::KINDS;
 use flat::OBJECTIVE;
 use flat::TERMS;
 use format::problem::Command;
 use format::problem::Instruction;
 
-// A polynomial of up to 32 terms, as a constraint is: packed exponents (keys) and coefficients, place by place, and the
+// A polynomial of up to 32 terms, as a condition has: packed exponents (keys) and coefficients, place by place, and the
 // number of terms.
 pub struct Polynomial {
     pub keys: [u64; 32],
@@ -108,10 +110,11 @@ fn command_of(byte: u8) -> Command
     match byte {
         1 => Command::Variables,
         2 => Command::Objective,
-        3 => Command::Constraint,
+        3 => Command::Inequality,
         4 => Command::Term,
         5 => Command::Member,
         6 => Command::End,
+        7 => Command::Equality,
         _ => Command::Unknown,
     }
 }
@@ -122,27 +125,28 @@ pub fn length_of(byte: u8) -> usize
     ensures unknown { λ r. ⌜ ZeroUnknown C.Unknown (problemCommand byte) r ⌝ }
 {
     match byte {
-        0x03 | 0x06 => 1,
+        0x03 | 0x06 | 0x07 => 1,
         0x01 => 2,
         0x05 => 10,
         0x04 => 11,
         0x02 => 13,
-        0x00 | 0x07..=0xFF => 0,
+        0x00 | 0x08..=0xFF => 0,
     }
 }
 
-// Whether a command may stand at an offset, after `count` constraints.
+// Whether a command may stand at an offset, after `count` conditions.
 fn is_placed(count: usize, at: usize, command: Command) -> bool
-    ensures { λ r. ⌜ ((p : Problem) → length (p .constraints) ≡ count → r ≡ problemPlaced p at command) ⌝ }
+    ensures { λ r. ⌜ ((p : Problem) → length (p .conditions) ≡ count → r ≡ problemPlaced p at command) ⌝ }
 {
     match command {
         Command::Variables => at == 0,
         Command::Objective => 0 < at,
-        Command::Constraint => 0 < at,
+        Command::Inequality => 0 < at,
         Command::Term => 0 < at && 0 < count,
         Command::Member => 0 < at,
         Command::End => 0 < at,
         Command::Unknown => false,
+        Command::Equality => 0 < at,
     }
 }
 
@@ -160,7 +164,7 @@ fn decode_at(command: Command, s: &[u8], at: usize) -> Instruction
                 operand_reader::signed32(operand_reader::number_at(s, at + 9, 4)),
             )
         }
-        Command::Constraint => Instruction::Constraint,
+        Command::Inequality => Instruction::Inequality,
         Command::Term => {
             Instruction::Term(
                 operand_reader::number_at(s, at + 1, 8),
@@ -175,6 +179,7 @@ fn decode_at(command: Command, s: &[u8], at: usize) -> Instruction
         }
         Command::End => Instruction::End,
         Command::Unknown => Instruction::End,
+        Command::Equality => Instruction::Equality,
     }
 }
 
@@ -184,19 +189,30 @@ fn is_fitting(n: usize, limit: u64, key: u64) -> bool
     degree_of(key) <= limit && is_within(n, key)
 }
 
-// Whether a command's operands keep their rules, with n variables and after `count` constraints.
+// Whether a command's operands keep their rules, with n variables and after `count` conditions.
 fn is_allowed(n: usize, count: usize, i: Instruction) -> bool
     ensures { λ r. ⌜
-        ((p : Problem) → p .variables ≡ n → length (p .constraints) ≡ count → r ≡ problemOperandsFit p i)
+        ((p : Problem) → p .variables ≡ n → length (p .conditions) ≡ count → r ≡ problemOperandsFit p i)
         ⌝ }
 {
     match i {
         Instruction::Variables(m) => 1 <= m && m <= 8,
         Instruction::Objective(key, c) => is_fitting(n, 32, key) && operand_reader::is_nonzero(c),
-        Instruction::Constraint => true,
+        Instruction::Inequality => true,
         Instruction::Term(key, c) => is_fitting(n, 16, key) && operand_reader::is_nonzero(c),
         Instruction::Member(j, key) => j <= count && is_fitting(n, 8, key),
         Instruction::End => true,
+        Instruction::Equality => true,
+    }
+}
+
+// The kind of the condition that a command begins, as a number.
+fn kind_of(i: Instruction) -> usize
+    ensures { λ r. ⌜ ((k : Kind) → i ≡ beginning k → r ≡ kindNumber k) ⌝ }
+{
+    match i {
+        Instruction::Equality => 1,
+        _ => 0,
     }
 }
 
@@ -206,7 +222,7 @@ fn check_at(n: usize, count: usize, command: Command, len: usize, s: &[u8], at: 
         (at < length (now s)) × (command ≡ problemCommandAt (now s) at) × (len ≡ problemSize command)
         ⌝ }
     ensures { λ r. ⌜
-        ((p : Problem) → p .variables ≡ n → length (p .constraints) ≡ count → r ≡ early p (now (s .entry)) at)
+        ((p : Problem) → p .variables ≡ n → length (p .conditions) ≡ count → r ≡ early p (now (s .entry)) at)
         ⌝ }
 {
     if !is_placed(count, at, command) {
@@ -239,13 +255,13 @@ fn check_room(keys: &[u64], from: usize, count: usize, key: u64, limit: usize) -
 // length is sizes[which].
 fn put(
     keys: &mut [u64; 1120],
-    sizes: &mut [usize; 20],
+    sizes: &mut [usize; 29],
     which: usize,
     from: usize,
     key: u64,
     limit: usize,
 ) -> u8
-    requires { ⌜ (which < 20) × (getD (now sizes) which 0 ≤ limit) × (from + limit ≤ 1120) ⌝ }
+    requires { ⌜ (which < 29) × (getD (now sizes) which 0 ≤ limit) × (from + limit ≤ 1120) ⌝ }
     ensures { λ r. let n = getD (now (sizes .entry)) which 0 in ⌜
         (r ≡ lateIn (now (keys .entry)) from n key limit)
         × (now (keys .exit) ≡ storedIf r (now (keys .entry)) (from + n) key)
@@ -266,7 +282,7 @@ fn put(
 fn put_objective(
     keys: &mut [u64; 1120],
     coefficients: &mut [i32; 544],
-    sizes: &mut [usize; 20],
+    sizes: &mut [usize; 29],
     key: u64,
     c: i32,
 ) -> u8
@@ -316,14 +332,14 @@ fn lay_out<'a>(
     }
 }
 
-// Reads a problem stream into arrays that hold zeros. The constraint begun last is a polynomial by itself, until the
+// Reads a problem stream into arrays that hold zeros. The condition begun last is a polynomial by itself, until the
 // next begins or the stream ends: then it is laid out. Before the first, that is g_0, which is 1. number is 2, as of a
 // stream that ends here, until it is decided.
 pub fn read(
     s: &[u8],
     keys: &mut [u64; 1120],
     coefficients: &mut [i32; 544],
-    sizes: &mut [usize; 20],
+    sizes: &mut [usize; 29],
 ) -> Reading
     requires { ⌜ FlatZero (now keys) (now coefficients) (now sizes) ⌝ }
     ensures { λ r. ⌜
@@ -344,14 +360,15 @@ pub fn read(
             break;
         }
         let next = at + len;
-        match decode_at(command, s, at) {
+        let told = decode_at(command, s, at);
+        match told {
             Instruction::Variables(n) => {
                 variables = n;
             }
             Instruction::Objective(key, c) => {
                 number = put_objective(keys, coefficients, sizes, key, c);
             }
-            Instruction::Constraint => {
+            Instruction::Inequality | Instruction::Equality => {
                 if 8 <= count {
                     number = 6;
                 } else {
@@ -360,6 +377,7 @@ pub fn read(
                     sizes[9 + count] = n;
                     last = Polynomial::empty();
                     count += 1;
+                    sizes[KINDS + count] = kind_of(told);
                 }
             }
             Instruction::Term(key, c) => {
@@ -389,7 +407,7 @@ pub fn read(
                         terms,
                     );
                     sizes[9 + count] = terms;
-                    sizes[CONSTRAINTS] = count;
+                    sizes[CONDITIONS] = count;
                 }
                 break;
             }

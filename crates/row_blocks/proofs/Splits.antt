@@ -132,7 +132,7 @@ module _ (s starts labels : List ℕ) (rows : ℕ) where
           let q = walk-sound w r h in
           let z = w .rows-sound .limits in
           let b = q .basis in
-          let m = z .constraints in
+          let m = z .conditions in
           let f = basis-few (w .problem) z (basisAt s from) in
           record {
             stands = w .rows-sound .stand .each r h;
@@ -176,7 +176,7 @@ module _ (p : Problem) (limits : Limits p) where
   unfolding splitBy All
   rows-same [] f = refl
   rows-same (r ∷ rs) f =
-      let c = limits .constraints in
+      let c = limits .conditions in
       let b = f .0 .basis in
       let e : rowSplit (blockAt (blockBytes (closing p .state .labels)) (r .basis)) (r .entries) ≡ rowSplit (blockOf p (r .basis)) (r .entries) =
       row-same _ _ (r .entries) (all-map _ _ (λ (e : Entry) l. block-is (r .basis) (e .index) (omega arith) l) (r .entries) (f .0 .indices)) in

@@ -139,8 +139,19 @@ module _ (s : List ℕ) (bytes : (i : ℕ) → getD s i 0 < 256) where
   stand-small done = tt
   stand-small (more {at} e w) = (fits-abs (signed-fits _ (number-low s bytes (at + 2))), stand-small w)
 
+  -- a weight, with a sign or without
   pub weight-small : (at : ℕ) → natAbs (weightAt s at) ≤ weightMost
-  weight-small at = omega (arith, number-low s bytes (at + 2))
+  weight-small at = go (eqb (getD s at 0) 0x14)
+    where
+      n : ℕ
+      n = number 2 s (at + 2)
+
+      low : n < 256 ^ 2
+      low = number-low s bytes (at + 2)
+
+      go : (b : Bool) → natAbs (cond b (signed 15 n) (pos n)) ≤ weightMost
+      go true = omega (arith, fits-abs (signed-fits n low))
+      go false = omega (arith, low)
 
 -- the entries of a row that keeps its limits, in arrays
 module _ (es : List Entry) (indices : List ℕ) (factors : List ℤ) (count room : ℕ) (q : HoldsEntries es indices factors count)
@@ -198,7 +209,7 @@ module _ {p : Problem} {s starts : List ℕ} {rows : ℕ} (w : SoundRows p s sta
   all = rowsBy s starts rows
 
   pub on-bases : All (λ (r : Row). r .basis < 9) all
-  on-bases = all-map _ _ (λ (r : Row) q. omega (arith, q .basis, w .limits .constraints)) all (w .sound)
+  on-bases = all-map _ _ (λ (r : Row) q. omega (arith, q .basis, w .limits .conditions)) all (w .sound)
 
   -- those on basis j have its indices
   pub on-low : (j : ℕ) → All (Low (length (basisOf p j))) (rowsOn j all)

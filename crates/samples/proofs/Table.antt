@@ -1,4 +1,5 @@
 -- The starred samples, started from their byte streams, as one table: each row's outcome is what the definitions compute.
+-- The last rows have equalities, which are document 02's.
 use mathlib.Core.Path.{_≡_, refl}
 use mathlib.Core.List.{List, [], _∷_, map}
 use mathlib.Core.Bool.{true, false}
@@ -11,7 +12,7 @@ use Rattle.polynomial.specs.Monomial.{degreeOf, degree, within, among}
 use Rattle.polynomial.specs.Terms.{keysOf}
 use Rattle.format.specs.ProblemLayout.{problemCommand}
 use Rattle.format.specs.ProblemRules.{appendAt, fitting, problemApplied, problemRefusalAt, problemNext, readProblem, Problem}
-use Rattle.format.specs.ProblemBases.{basisOf, multiplierOf, multiplier}
+use Rattle.format.specs.ProblemBases.{basisOf, multiplierOf, multiplier, kindOf}
 use Rattle.joining_rule.specs.Sets.{member, different, insert, insertAll}
 use Rattle.joining_rule.specs.Join.{linked, merged, joinPair, join}
 use Rattle.joining_rule.specs.Extend.{addTerms, addPair, extend}
@@ -33,7 +34,7 @@ use Rattle.calls.specs.Check.{refusedCheck, checkOf, checkVerdict}
 use Rattle.calls.specs.Pair.{refusedPair, pairSides, pairOf, pairVerdict}
 use Rattle.calls.specs.declared.CheckVerdict.{CheckVerdict}
 use lib.IntN.{ℤ, pos, negsuc}
-use Rattle.samples.specs.Streams.{problemA, problemC, problemD, problemE, problemF, certificateA, certificateB, certificateD, lowF, highF, certificateI}
+use Rattle.samples.specs.Streams.{problemA, problemC, problemD, problemE, problemF, certificateA, certificateB, certificateD, lowF, highF, certificateI, row, equalityRow, equality, inequality, problemEqual, nineConditions, lowEqual, highEqual, withRow}
 
 -- a verdict, the first three bytes of basis 0 and the first of basis 1
 record Row : Type 0 where
@@ -84,9 +85,9 @@ rounds-E = refl
 
 -- ---- certificates
 
--- a lower bound p/1 that is accepted
-abbrev accepted : ℤ → ℕ → CheckVerdict
-accepted p rounds = record { refusal = noRefusal; side = 0; bound = fraction p 1; rounds = rounds }
+-- a bound p/1 that is accepted
+abbrev accepted : ℕ → ℤ → ℕ → CheckVerdict
+accepted side p rounds = record { refusal = noRefusal; side = side; bound = fraction p 1; rounds = rounds }
 
 -- A: accepted, 2 rounds; B: refusal 9, key 0; D: refusal 8 at the second entry; I: 4; an empty certificate: 2
 pub checks :
@@ -97,14 +98,14 @@ pub checks :
     ∷ checkVerdict false problemA []
     ∷ checkVerdict false [] certificateA
     ∷ []
-    ≡ accepted (pos 2) 2
+    ≡ accepted 0 (pos 2) 2
     ∷ refusedCheck (certificateRefusal 1 9 0 0)
     ∷ refusedCheck (certificateRefusal 1 8 18 0)
     ∷ refusedCheck (certificateRefusal 1 4 0 0)
     ∷ refusedCheck (certificateRefusal 1 2 0 0)
     ∷ refusedCheck (problemRefusal 2 0)
     ∷ []
-unfolding listed fromTo sumTo number signed firstRefusal run readWhole degreeOf degree within among keysOf problemCommand appendAt fitting problemApplied problemRefusalAt problemNext readProblem basisOf multiplier multiplierOf member insert linked merged joinPair join addTerms addPair extend different singles start joinAll extendAll round same sameAll sameState closeFrom blocksIn Rounds.closingOf insertAll startFrom startSet closing tooLarge CertificateLayout.certificateCommand Certificate.certificateRefusalAt Certificate.certificateApplied Certificate.certificateNext readCertificate coefficient square squares claimOf blockOf firstOutside rowSplit splitBy firstDifference comparedKeys differenceKey judgeRead judge checkOf checkVerdict
+unfolding listed fromTo sumTo number signed firstRefusal run readWhole degreeOf degree within among keysOf problemCommand appendAt fitting problemApplied problemRefusalAt problemNext readProblem basisOf multiplier multiplierOf kindOf member insert linked merged joinPair join addTerms addPair extend different singles start joinAll extendAll round same sameAll sameState closeFrom blocksIn Rounds.closingOf insertAll startFrom startSet closing tooLarge CertificateLayout.certificateCommand Certificate.certificateRefusalAt Certificate.certificateApplied Certificate.certificateNext readCertificate coefficient square squares claimOf blockOf firstOutside rowSplit splitBy firstDifference comparedKeys differenceKey judgeRead judge checkOf checkVerdict
 checks = refl
 
 -- F: bounds −1 and 1, gap 2, 2 rounds; two lower ones: 10 in the second stream; the certificates turned: 10 in the first
@@ -121,5 +122,35 @@ pub pairs :
     ∷ refusedPair (certificateRefusal 2 2 0 0)
     ∷ refusedPair (problemRefusal 1 0)
     ∷ []
-unfolding listed fromTo sumTo number signed firstRefusal run readWhole degreeOf degree within among keysOf problemCommand appendAt fitting problemApplied problemRefusalAt problemNext readProblem basisOf multiplier multiplierOf member insert linked merged joinPair join addTerms addPair extend different singles start joinAll extendAll round same sameAll sameState closeFrom blocksIn Rounds.closingOf insertAll startFrom startSet closing tooLarge CertificateLayout.certificateCommand Certificate.certificateRefusalAt Certificate.certificateApplied Certificate.certificateNext readCertificate coefficient square squares claimOf blockOf firstOutside rowSplit splitBy firstDifference comparedKeys differenceKey judgeRead judge pairSides pairOf pairVerdict
+unfolding listed fromTo sumTo number signed firstRefusal run readWhole degreeOf degree within among keysOf problemCommand appendAt fitting problemApplied problemRefusalAt problemNext readProblem basisOf multiplier multiplierOf kindOf member insert linked merged joinPair join addTerms addPair extend different singles start joinAll extendAll round same sameAll sameState closeFrom blocksIn Rounds.closingOf insertAll startFrom startSet closing tooLarge CertificateLayout.certificateCommand Certificate.certificateRefusalAt Certificate.certificateApplied Certificate.certificateNext readCertificate coefficient square squares claimOf blockOf firstOutside rowSplit splitBy firstDifference comparedKeys differenceKey judgeRead judge pairSides pairOf pairVerdict
 pairs = refl
+
+-- ---- equalities
+-- 1 is a lower and an upper bound of x where x − 1 is 0, and the row of the second has weight −1; 11 on the equality;
+-- 14 with w = 0, on basis 0, on a number that was not begun, on an inequality; 07 as the first byte; the ninth
+-- condition, of either kind
+pub equalities :
+    checkVerdict false problemEqual lowEqual
+    ∷ checkVerdict false problemEqual highEqual
+    ∷ checkVerdict false problemEqual (withRow (row 1 1))
+    ∷ checkVerdict false problemEqual (withRow (equalityRow 1 0))
+    ∷ checkVerdict false problemEqual (withRow (equalityRow 0 1))
+    ∷ checkVerdict false problemEqual (withRow (equalityRow 2 1))
+    ∷ checkVerdict false problemF (withRow (equalityRow 1 1))
+    ∷ checkVerdict false equality []
+    ∷ checkVerdict false (nineConditions inequality) []
+    ∷ checkVerdict false (nineConditions equality) []
+    ∷ []
+    ≡ accepted 0 (pos 1) 1
+    ∷ accepted 1 (pos 1) 1
+    ∷ refusedCheck (certificateRefusal 1 4 10 0)
+    ∷ refusedCheck (certificateRefusal 1 4 10 0)
+    ∷ refusedCheck (certificateRefusal 1 4 10 0)
+    ∷ refusedCheck (certificateRefusal 1 4 10 0)
+    ∷ refusedCheck (certificateRefusal 1 4 10 0)
+    ∷ refusedCheck (problemRefusal 3 0)
+    ∷ refusedCheck (problemRefusal 6 10)
+    ∷ refusedCheck (problemRefusal 6 10)
+    ∷ []
+unfolding listed fromTo sumTo number signed firstRefusal run readWhole degreeOf degree within among keysOf problemCommand appendAt fitting problemApplied problemRefusalAt problemNext readProblem basisOf multiplier multiplierOf kindOf member insert linked merged joinPair join addTerms addPair extend different singles start joinAll extendAll round same sameAll sameState closeFrom blocksIn Rounds.closingOf insertAll startFrom startSet closing tooLarge CertificateLayout.certificateCommand Certificate.certificateRefusalAt Certificate.certificateApplied Certificate.certificateNext readCertificate coefficient square squares claimOf blockOf firstOutside rowSplit splitBy firstDifference comparedKeys differenceKey judgeRead judge checkOf checkVerdict
+equalities = refl

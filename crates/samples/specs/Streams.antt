@@ -1,5 +1,5 @@
--- The byte streams of document 01's samples. A monomial is written by the exponents of its first two variables, a
--- number below 0 as its lowest byte.
+-- The byte streams of document 01's samples, and of some with equalities. A monomial is written by the exponents of its
+-- first two variables, a number below 0 as its lowest byte.
 use mathlib.Core.List.{List, [], _∷_, _++_}
 use Prim.Native.Nat.{ℕ}
 use lib.ListN.{replicate}
@@ -17,14 +17,17 @@ objectiveTerm e c = (2 ∷ e) ++ (c ∷ 0 ∷ 0 ∷ 0 ∷ [])
 abbrev pub objectiveMinus : List ℕ → ℕ → List ℕ
 objectiveMinus e c = (2 ∷ e) ++ (c ∷ 255 ∷ 255 ∷ 255 ∷ [])
 
-abbrev pub constraint : List ℕ
-constraint = 3 ∷ []
+abbrev pub inequality : List ℕ
+inequality = 3 ∷ []
 
-abbrev pub constraintTerm : List ℕ → ℕ → List ℕ
-constraintTerm e c = (4 ∷ e) ++ (c ∷ 0 ∷ [])
+abbrev pub equality : List ℕ
+equality = 7 ∷ []
 
-abbrev pub constraintMinus : List ℕ → ℕ → List ℕ
-constraintMinus e c = (4 ∷ e) ++ (c ∷ 255 ∷ [])
+abbrev pub conditionTerm : List ℕ → ℕ → List ℕ
+conditionTerm e c = (4 ∷ e) ++ (c ∷ 0 ∷ [])
+
+abbrev pub conditionMinus : List ℕ → ℕ → List ℕ
+conditionMinus e c = (4 ∷ e) ++ (c ∷ 255 ∷ [])
 
 abbrev pub memberCommand : ℕ → List ℕ → List ℕ
 memberCommand j e = 5 ∷ j ∷ e
@@ -72,8 +75,8 @@ abbrev pub problemE : List ℕ
 problemE =
     variables 1
     ++ objectiveTerm (exponents 6 0) 1
-    ++ constraint
-    ++ constraintTerm (exponents 1 0) 1
+    ++ inequality
+    ++ conditionTerm (exponents 1 0) 1
     ++ memberCommand 0 (exponents 0 0)
     ++ memberCommand 0 (exponents 3 0)
     ++ memberCommand 1 (exponents 1 0)
@@ -84,13 +87,28 @@ abbrev pub problemF : List ℕ
 problemF =
     variables 1
     ++ objectiveTerm (exponents 1 0) 1
-    ++ constraint
-    ++ constraintTerm (exponents 0 0) 1
-    ++ constraintMinus (exponents 2 0) 255
+    ++ inequality
+    ++ conditionTerm (exponents 0 0) 1
+    ++ conditionMinus (exponents 2 0) 255
     ++ memberCommand 0 (exponents 0 0)
     ++ memberCommand 0 (exponents 1 0)
     ++ memberCommand 1 (exponents 0 0)
     ++ end
+
+-- document 02's equalities: objective x, equality x − 1, basis 1: 1
+abbrev pub problemEqual : List ℕ
+problemEqual =
+    variables 1
+    ++ objectiveTerm (exponents 1 0) 1
+    ++ equality
+    ++ conditionTerm (exponents 1 0) 1
+    ++ conditionMinus (exponents 0 0) 255
+    ++ memberCommand 1 (exponents 0 0)
+    ++ end
+
+-- seven inequalities, one equality and a further condition
+abbrev pub nineConditions : List ℕ → List ℕ
+nineConditions ninth = variables 1 ++ replicate 7 3 ++ equality ++ ninth ++ end
 
 -- ---- certificates
 -- side, D, p and q, each below 256; a p of −256 to −1 is written as 256 more than it
@@ -102,6 +120,12 @@ headerMinus side d p q = 16 ∷ side ∷ d ∷ 0 ∷ p ∷ 255 ∷ 255 ∷ 255 �
 
 abbrev pub row : ℕ → ℕ → List ℕ
 row j w = 17 ∷ j ∷ w ∷ 0 ∷ []
+
+abbrev pub equalityRow : ℕ → ℕ → List ℕ
+equalityRow j w = 20 ∷ j ∷ w ∷ 0 ∷ []
+
+abbrev pub equalityRowMinus : ℕ → ℕ → List ℕ
+equalityRowMinus j w = 20 ∷ j ∷ w ∷ 255 ∷ []
 
 abbrev pub entry : ℕ → ℕ → List ℕ
 entry i l = 18 ∷ i ∷ l ∷ 0 ∷ []
@@ -133,3 +157,14 @@ highF = header 1 2 1 1 ++ row 0 1 ++ entry 0 1 ++ entryMinus 1 255 ++ row 1 1 ++
 -- q = 0
 abbrev pub certificateI : List ℕ
 certificateI = header 0 1 2 0 ++ finish
+
+-- x − 1 = 1 × (x − 1) and 1 − x = −1 × (x − 1)
+abbrev pub lowEqual : List ℕ
+lowEqual = header 0 1 1 1 ++ equalityRow 1 1 ++ entry 0 1 ++ finish
+
+abbrev pub highEqual : List ℕ
+highEqual = header 1 1 1 1 ++ equalityRowMinus 1 255 ++ entry 0 1 ++ finish
+
+-- a lower certificate 1/1 with one row, which has no entry
+abbrev pub withRow : List ℕ → List ℕ
+withRow r = header 0 1 1 1 ++ r ++ finish

@@ -62,7 +62,7 @@ fn valid(rng: &mut Rng) -> Vec<u8> {
     }
 }
 
-fn valid_draft(rng: &mut Rng) -> Draft {
+pub fn valid_draft(rng: &mut Rng) -> Draft {
     match rng.below(24) {
         0..=6 => problems::typical(rng),
         7..=15 => problems::crowded(rng),

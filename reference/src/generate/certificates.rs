@@ -92,7 +92,7 @@ pub fn special(kind: u8) -> Vec<Record> {
 }
 
 /// The commands of the three streams.
-fn streams(case: &Case) -> [Vec<Vec<u8>>; 3] {
+pub fn streams(case: &Case) -> [Vec<Vec<u8>>; 3] {
     [
         case.problem.commands(),
         case.lower.commands(),
@@ -107,7 +107,7 @@ pub fn plain(kind: u8, case: &Case) -> Record {
 }
 
 /// A record of these streams; a check takes the certificate in focus.
-fn as_record(kind: u8, focus: usize, [problem, lower, upper]: [Vec<u8>; 3]) -> Record {
+pub fn as_record(kind: u8, focus: usize, [problem, lower, upper]: [Vec<u8>; 3]) -> Record {
     if kind != CHECK {
         Record::pair(problem, lower, upper)
     } else if focus == 0 {

@@ -35,6 +35,10 @@ pub fn problem_end() -> Vec<u8> {
     vec![0x06]
 }
 
+pub fn equality() -> Vec<u8> {
+    vec![0x07]
+}
+
 /// The commands of a certificate, one function for each.
 pub fn bound(side: u8, denominator: u16, p: i32, q: u16) -> Vec<u8> {
     let denominator = denominator.to_le_bytes();
@@ -53,6 +57,10 @@ pub fn row(basis: u8, weight: u16) -> Vec<u8> {
 
 pub fn entry(index: u8, factor: i16) -> Vec<u8> {
     [&[0x12, index], &factor.to_le_bytes()[..]].concat()
+}
+
+pub fn equality_row(basis: u8, weight: i16) -> Vec<u8> {
+    [&[0x14, basis], &weight.to_le_bytes()[..]].concat()
 }
 
 pub fn certificate_end() -> Vec<u8> {

@@ -44,10 +44,7 @@ pub fn generate(kinds: &str, seed: u64, count: usize) -> impl Iterator<Item = Re
     let mut rng = Rng::new(seed);
     (0..count).map(move |_| {
         let kind = *rng.pick(&kinds);
-        match requests::call(kind) {
-            Some(call) => (call.random)(&mut rng),
-            None => record(&mut rng, kind),
-        }
+        requests::record(&mut rng, kind).unwrap_or_else(|| record(&mut rng, kind))
     })
 }
 
@@ -58,8 +55,8 @@ fn record(rng: &mut Rng, kind: u8) -> Record {
     }
 }
 
-/// The fixed corpus of these kinds: the special cases, then records of a fixed seed; those of the
-/// requests' calls come last.
+/// The fixed corpus of these kinds: the special cases, then records of a fixed seed; behind them all
+/// those of the requests.
 pub fn corpus(kinds: &str) -> Vec<Record> {
     let mut all = Vec::new();
     for (kind, count) in CORPUS {
@@ -70,12 +67,7 @@ pub fn corpus(kinds: &str) -> Vec<Record> {
         let mut rng = Rng::new(CORPUS_SEED + u64::from(kind));
         all.extend((0..count).map(|_| record(&mut rng, kind)));
     }
-    let asked = |call: &&requests::Call| kinds.as_bytes().contains(&call.kind);
-    for call in requests::CALLS.iter().filter(asked) {
-        all.extend((call.special)());
-        let mut rng = Rng::new(CORPUS_SEED + u64::from(call.kind));
-        all.extend((0..call.count).map(|_| (call.random)(&mut rng)));
-    }
+    all.extend(requests::corpus(kinds));
     all
 }
 

@@ -4,6 +4,7 @@
 use crate::baseline::Checker;
 use crate::generate::accepted::case;
 use crate::generate::certificates::plain;
+use crate::generate::refusals::equalities::equal_f;
 use crate::generate::rng::Rng;
 use crate::generate::samples;
 use crate::records::{Record, PAIR};
@@ -19,11 +20,13 @@ const TRIES: usize = 400;
 
 /// The records next to the pair of this name.
 ///
-/// `f` is case F, with all values for every byte; `two_decks` is the example, and `made` a pair of
-/// the generator, both with each bit turned and with one more and one less.
+/// `f` is case F and `equal_f` the same with an equality, both with all values for every byte;
+/// `two_decks` is the example, and `made` a pair of the generator, both with each bit turned and with
+/// one more and one less.
 pub fn neighbours(name: &str) -> Option<impl Iterator<Item = Record>> {
     let (runs, values): (Runs, Values) = match name {
         "f" => (case_f(), others),
+        "equal_f" => (equal_f(), others),
         "two_decks" => (two_decks(), near),
         "made" => (made(), near),
         _ => return None,
@@ -104,7 +107,7 @@ mod tests {
 
     #[test]
     fn the_pairs_are_accepted() {
-        for runs in [case_f(), two_decks(), made()] {
+        for runs in [case_f(), equal_f(), two_decks(), made()] {
             let [problem, first, second] = runs;
             assert!(answer(&Record::pair(problem, first, second)).is_ok());
         }

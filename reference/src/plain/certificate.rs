@@ -1,6 +1,6 @@
 //! "Certificate commands": the certificate and its reader.
 
-use super::problem::Problem;
+use super::problem::{Kind, Problem};
 use super::stream::{read, Operands, Reader};
 use crate::refusal::Refusal;
 
@@ -42,6 +42,15 @@ impl Certificate {
         };
         read(nothing, bytes, stream).map(|all| all.certificate)
     }
+
+    /// Begins a row on basis j.
+    fn begin(&mut self, j: u8, weight: i32) {
+        self.rows.push(Row {
+            basis: usize::from(j),
+            weight,
+            entries: Vec::new(),
+        });
+    }
 }
 
 /// What has been read of a certificate for a problem.
@@ -68,6 +77,8 @@ enum Command {
     Entry { i: u8, l: i16 },
     /// 13
     End,
+    /// 14 j(u8) w(i16)
+    EqualityRow { j: u8, w: i16 },
 }
 
 impl Reader for Reading<'_> {
@@ -80,7 +91,7 @@ impl Reader for Reading<'_> {
             0x10 => before.is_none(),
             // ".. and a 12 before any row, is misplaced."
             0x12 => before.is_some() && !self.certificate.rows.is_empty(),
-            0x11 | 0x13 => before.is_some(),
+            0x11 | 0x13 | 0x14 => before.is_some(),
             _ => false,
         }
     }
@@ -90,6 +101,7 @@ impl Reader for Reading<'_> {
             0x10 => 1 + 2 + 4 + 2,
             0x11 => 1 + 2,
             0x12 => 1 + 2,
+            0x14 => 1 + 2,
             _ => 0,
         }
     }
@@ -110,6 +122,10 @@ impl Reader for Reading<'_> {
                 i: operands.u8(),
                 l: operands.i16(),
             },
+            0x14 => Command::EqualityRow {
+                j: operands.u8(),
+                w: operands.i16(),
+            },
             _ => Command::End,
         }
     }
@@ -118,8 +134,16 @@ impl Reader for Reading<'_> {
         match *command {
             // "side 0 lower, 1 upper; D and q at least 1"
             Command::Bound { side, d, q, .. } => side <= UPPER && d >= 1 && q >= 1,
-            // "on basis j, 0 or a constraint of the problem, with weight w at least 1"
-            Command::Row { j, w } => usize::from(j) < self.problem.bases.len() && w >= 1,
+            // "on basis j, 0 or a constraint of the problem, with weight w at least 1"; "11 on an
+            // equality .. breaks an operand rule"
+            Command::Row { j, w } => {
+                (j == 0 || self.problem.has(usize::from(j), Kind::Inequality)) && w >= 1
+            }
+            // "begins a row on an equality, with w negative or positive, never 0"; "14 on another
+            // basis, breaks an operand rule"
+            Command::EqualityRow { j, w } => {
+                self.problem.has(usize::from(j), Kind::Equality) && w != 0
+            }
             // "less than the basis's length"; "Coefficients and factors are never 0."
             Command::Entry { i, l } => {
                 usize::from(i) < self.problem.bases[self.last().basis].len() && l != 0
@@ -139,9 +163,10 @@ impl Reader for Reading<'_> {
         }
     }
 
-    /// "at most 128 rows"
+    /// "at most 128 rows"; "counted among the 128"
     fn one_too_many(&self, command: &Command) -> bool {
-        matches!(command, Command::Row { .. }) && self.certificate.rows.len() == 128
+        let begins = matches!(command, Command::Row { .. } | Command::EqualityRow { .. });
+        begins && self.certificate.rows.len() == 128
     }
 
     fn take(&mut self, command: Command, place: usize) {
@@ -157,11 +182,8 @@ impl Reader for Reading<'_> {
                     rows,
                 };
             }
-            Command::Row { j, w } => certificate.rows.push(Row {
-                basis: usize::from(j),
-                weight: i32::from(w),
-                entries: Vec::new(),
-            }),
+            Command::Row { j, w } => certificate.begin(j, w.into()),
+            Command::EqualityRow { j, w } => certificate.begin(j, w.into()),
             Command::Entry { i, l } => {
                 let last = certificate.rows.last_mut();
                 let last = last.expect("an entry before any row is misplaced");

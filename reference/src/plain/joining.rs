@@ -106,7 +106,8 @@ impl Joined {
 /// basis starts as single blocks."
 fn start(problem: &Problem) -> Joined {
     let objective = monomials(&problem.objective);
-    let constraints = problem.constraints.iter().flat_map(monomials);
+    let conditions = problem.conditions.iter();
+    let constraints = conditions.flat_map(|condition| monomials(&condition.terms));
     let doubled = problem.bases[0].iter().map(|b| b.times(b));
     let single = |basis: &Vec<Monomial>| (0..basis.len()).collect();
     Joined {

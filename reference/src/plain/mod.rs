@@ -1,5 +1,6 @@
-//! The rules of document 01, plainly: from its words alone and in its order, with exponents as they
-//! are sent, sets, graph search and exact whole numbers, and nothing for speed.
+//! The rules of document 01 and of the requests of document 02, plainly: from their words alone and
+//! in their order, with exponents as they are sent, sets, graph search and exact whole numbers, and
+//! nothing for speed.
 //!
 //! The answers of this version are those that the proved calls are held to. It shares no code with
 //! the baseline but monomials and the four fields of a refusal.

@@ -8,15 +8,30 @@ use crate::refusal::{Refusal, PROBLEM};
 /// Monomials with their coefficients, in the order sent.
 pub type Terms = Vec<(Monomial, i32)>;
 
+/// "Command 07 begins an equality, numbered together with the constraints" (Req 04).
+#[derive(Clone, Copy, Debug, PartialEq, Eq)]
+pub enum Kind {
+    /// Begun by 03: at least 0.
+    Inequality,
+    /// Begun by 07: exactly 0.
+    Equality,
+}
+
+/// A condition on points: a constraint or an equality.
+pub struct Condition {
+    pub kind: Kind,
+    pub terms: Terms,
+}
+
 /// A problem.
 #[derive(Default)]
 pub struct Problem {
     /// The number of variables, n.
     pub variables: usize,
     pub objective: Terms,
-    /// Constraint j at place j - 1: "Constraints are numbered from 1."
-    pub constraints: Vec<Terms>,
-    /// Basis 0 and the basis of each constraint.
+    /// Condition j at place j - 1: "Constraints are numbered from 1."
+    pub conditions: Vec<Condition>,
+    /// Basis 0 and the basis of each condition.
     pub bases: Vec<Vec<Monomial>>,
 }
 
@@ -30,11 +45,11 @@ impl Problem {
         read(nothing, bytes, PROBLEM)
     }
 
-    /// "g_0 = 1 and g_j is constraint j."
+    /// "g_0 = 1 and g_j is constraint j"; "the identity treat[s] an equality as a constraint".
     pub fn multiplier(&self, j: usize) -> Polynomial {
         match j {
             0 => Polynomial::constant(1),
-            _ => Polynomial::of(&self.constraints[j - 1]),
+            _ => Polynomial::of(&self.conditions[j - 1].terms),
         }
     }
 
@@ -42,8 +57,25 @@ impl Problem {
     pub fn exponents(&self, j: usize) -> Vec<Monomial> {
         match j {
             0 => vec![Monomial::ONE],
-            _ => monomials(&self.constraints[j - 1]).collect(),
+            _ => monomials(&self.conditions[j - 1].terms).collect(),
         }
+    }
+
+    /// Begins the next condition, with its basis.
+    fn begin(&mut self, kind: Kind) {
+        let terms = Vec::new();
+        self.conditions.push(Condition { kind, terms });
+        self.bases.push(Vec::new());
+    }
+
+    /// The condition begun last.
+    fn last(&self) -> Option<&Condition> {
+        self.conditions.last()
+    }
+
+    /// Whether j is the number of a condition of this kind.
+    pub fn has(&self, j: usize, kind: Kind) -> bool {
+        (1..=self.conditions.len()).contains(&j) && self.conditions[j - 1].kind == kind
     }
 
     /// "Exponents of variables above n are 0", and a total degree of at most `degree`.
@@ -76,6 +108,8 @@ pub enum Command {
     BasisMonomial(u8, Monomial),
     /// 06
     End,
+    /// 07
+    Equality,
 }
 
 use Command::*;
@@ -88,9 +122,9 @@ impl Reader for Problem {
         match command {
             // "First, and only first."
             0x01 => before.is_none(),
-            // "A 04 before any 03 .. is misplaced."
-            0x04 => before.is_some() && !self.constraints.is_empty(),
-            0x02 | 0x03 | 0x05 | 0x06 => before.is_some(),
+            // "04, which from now on needs a 03 or 07 before it"
+            0x04 => before.is_some() && !self.conditions.is_empty(),
+            0x02 | 0x03 | 0x05 | 0x06 | 0x07 => before.is_some(),
             _ => false,
         }
     }
@@ -112,6 +146,7 @@ impl Reader for Problem {
             0x03 => Constraint,
             0x04 => ConstraintTerm(operands.monomial(), operands.i16()),
             0x05 => BasisMonomial(operands.u8(), operands.monomial()),
+            0x07 => Equality,
             _ => End,
         }
     }
@@ -126,9 +161,9 @@ impl Reader for Problem {
             ConstraintTerm(monomial, c) => self.allows(monomial, 16) && *c != 0,
             // "degree at most 8"; "j is 0 or a constraint already begun."
             BasisMonomial(j, monomial) => {
-                usize::from(*j) <= self.constraints.len() && self.allows(monomial, 8)
+                usize::from(*j) <= self.conditions.len() && self.allows(monomial, 8)
             }
-            Constraint | End => true,
+            Constraint | Equality | End => true,
         }
     }
 
@@ -136,11 +171,9 @@ impl Reader for Problem {
     fn repeats(&self, command: &Command) -> bool {
         match command {
             ObjectiveTerm(monomial, _) => has(&self.objective, monomial),
-            ConstraintTerm(monomial, _) => {
-                self.constraints.last().is_some_and(|g| has(g, monomial))
-            }
+            ConstraintTerm(monomial, _) => self.last().is_some_and(|g| has(&g.terms, monomial)),
             BasisMonomial(j, monomial) => self.bases[usize::from(*j)].contains(monomial),
-            Variables(_) | Constraint | End => false,
+            Variables(_) | Constraint | Equality | End => false,
         }
     }
 
@@ -148,10 +181,10 @@ impl Reader for Problem {
         match command {
             // "at most 256"
             ObjectiveTerm(..) => self.objective.len() == 256,
-            // "begins the next constraint, at most 8"
-            Constraint => self.constraints.len() == 8,
+            // "begins the next constraint, at most 8"; "counted among the 8"
+            Constraint | Equality => self.conditions.len() == 8,
             // "at most 32 each"
-            ConstraintTerm(..) => self.constraints.last().is_some_and(|g| g.len() == 32),
+            ConstraintTerm(..) => self.last().is_some_and(|g| g.terms.len() == 32),
             // "at most 64 each"
             BasisMonomial(j, _) => self.bases[usize::from(*j)].len() == 64,
             Variables(_) | End => false,
@@ -162,14 +195,12 @@ impl Reader for Problem {
         match command {
             Variables(n) => self.variables = usize::from(n),
             ObjectiveTerm(monomial, c) => self.objective.push((monomial, c)),
-            Constraint => {
-                self.constraints.push(Vec::new());
-                self.bases.push(Vec::new());
-            }
+            Constraint => self.begin(Kind::Inequality),
+            Equality => self.begin(Kind::Equality),
             ConstraintTerm(monomial, c) => {
-                let last = self.constraints.last_mut();
-                let last = last.expect("a 04 before any 03 is misplaced");
-                last.push((monomial, i32::from(c)));
+                let last = self.conditions.last_mut();
+                let last = last.expect("a 04 before any 03 or 07 is misplaced");
+                last.terms.push((monomial, i32::from(c)));
             }
             BasisMonomial(j, monomial) => self.bases[usize::from(j)].push(monomial),
             End => {}

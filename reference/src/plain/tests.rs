@@ -8,14 +8,29 @@ use super::problem::Problem;
 use crate::baseline::Checker;
 use crate::generate::corpus;
 use crate::records::Record;
-use crate::refusal::IDENTITY;
+use crate::refusal::{Refusal, IDENTITY, MISPLACED, PROBLEM};
 
+/// The baseline knows document 01 alone: it refuses by 3 a command that came with a request.
 #[test]
 fn the_baseline_answers_alike() {
     let checker = &mut Checker::default();
     for record in corpus("bcp") {
-        assert_eq!(checker.answer(&record), answer(&record));
+        let other = checker.answer(&record);
+        let unknown = matches!(other, Err(refusal) if is_of_a_request(&record, refusal));
+        assert!(unknown || other == answer(&record), "{other:?}");
     }
+}
+
+/// Whether it is refusal 3 at a 07 of the problem or at a 14 of a certificate, behind the first
+/// command.
+fn is_of_a_request(record: &Record, refusal: Refusal) -> bool {
+    let command = if refusal.stream == PROBLEM {
+        0x07
+    } else {
+        0x14
+    };
+    let stream = &record.runs[usize::from(refusal.stream)];
+    refusal.number == MISPLACED && refusal.place > 0 && stream[refusal.place] == command
 }
 
 /// The problems of the blocks calls that can be read.

@@ -95,6 +95,27 @@ enum-told-4 c = search needs
 enum-told-5 : tie.Need-enum-told-5
 enum-told-5 c = search needs
 
+enum-told-6 : tie.Need-enum-told-6
+enum-told-6 c = search needs
+
+add-number-at-9 : tie.Need-add-number-at-9
+add-number-at-9 c = search needs
+
+number-at-requires-9 : tie.Need-number-at-requires-9
+number-at-requires-9 c κs = let e = ap certificateSize (c .enum-told6 .given .1) in omega arith
+
+cast-t31 : tie.Need-cast-t31
+cast-t31 c = search needs
+
+add-number-at-10 : tie.Need-add-number-at-10
+add-number-at-10 c = search needs
+
+number-at-requires-10 : tie.Need-number-at-requires-10
+number-at-requires-10 c κs = let e = ap certificateSize (c .before .enum-told6 .given .1) in omega arith
+
+signed16-requires-2 : tie.Need-signed16-requires-2
+signed16-requires-2 c κs = search needs
+
 returns : tie.Need-returns
 returns c =
     rw (
@@ -125,6 +146,16 @@ returns-4 c = search needs
 
 returns-5 : tie.Need-returns-5
 returns-5 c = search needs
+
+returns-6 : tie.Need-returns-6
+returns-6 c =
+    rw (
+      c .before .before .before .enum-told6 .given .1,
+      toZ-ofZ {w = w32} (sfits-of (c .signed162 .ok)),
+      c .before .before .number-at9 .ensures .0,
+      c .signed162 .ensures,
+      c .before .number-at10 .ensures .0,
+    )
 
 pub decode-at-spec : {M : Type 1} → statement M
 decode-at-spec =
@@ -159,8 +190,16 @@ decode-at-spec =
     signed16-requires
     enum-told-4
     enum-told-5
+    enum-told-6
+    add-number-at-9
+    number-at-requires-9
+    cast-t31
+    add-number-at-10
+    number-at-requires-10
+    signed16-requires-2
     returns
     returns-2
     returns-3
     returns-4
-    returns-5)
+    returns-5
+    returns-6)

@@ -21,6 +21,9 @@ enum-told-2 c = search needs
 enum-told-3 : tie.Need-enum-told-3
 enum-told-3 c = search needs
 
+enum-told-4 : tie.Need-enum-told-4
+enum-told-4 c = search needs
+
 returns : tie.Need-returns
 returns c = let g = c .before .i .given in let e : toZ w32 (ofZ w32 (g .0 .1 .1 .0)) ≡ g .0 .1 .1 .0 = search needs in rw (g .1, e)
 
@@ -33,6 +36,9 @@ returns-3 c = search needs
 returns-4 : tie.Need-returns-4
 returns-4 c = search needs
 
+returns-5 : tie.Need-returns-5
+returns-5 c = search needs
+
 pub header-after-spec : {M : Type 1} → statement M
 header-after-spec =
     tie.close
@@ -42,7 +48,9 @@ header-after-spec =
     enum-told
     enum-told-2
     enum-told-3
+    enum-told-4
     returns
     returns-2
     returns-3
-    returns-4)
+    returns-4
+    returns-5)

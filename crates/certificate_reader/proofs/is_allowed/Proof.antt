@@ -1,10 +1,11 @@
 -- `is_allowed`: a test for each command.
 use mathlib.Core.Path.{_≡_}
+use native.Mathlib.Omega.{arith}
 use mir.Syntax.{w32}
 use mir.Val.{toZ, ofZ}
-use borrow.Author.Tests.{le-leb, lt-leb, lt-ltb, le-ltb}
+use borrow.Author.Tests.{le-leb, lt-leb, lt-ltb, le-ltb, not-true, not-false}
 use borrow.Author.Needs.{needs}
-use Rattle.certificate_reader.proofs.Shapes.{size-is}
+use Rattle.certificate_reader.proofs.Shapes.{conditions-few, kind-is, size-is}
 use Rattle.certificate_reader.proofs.is_allowed.Statement.{statement}
 use Rattle.certificate_reader.proofs.is_allowed.Tie as tie
 
@@ -14,29 +15,55 @@ enum-known-i c = search needs
 enum-known-i-2 : tie.Need-enum-known-i-2
 enum-known-i-2 c = search needs
 
-cast-if3 : tie.Need-cast-if3
-cast-if3 c = search needs
+cast-j : tie.Need-cast-j
+cast-j c = search needs
 
 shared-slice-read-if3 : tie.Need-shared-slice-read-if3
 shared-slice-read-if3 c = search needs
 
+is-equality-requires : tie.Need-is-equality-requires
+is-equality-requires c κs =
+    let k = c .before .before .before .before .before .before .pre .1 in
+    let n = conditions-few k in
+    let l = k .sized .sizes-length in
+    omega arith
+
 enum-known-i-3 : tie.Need-enum-known-i-3
 enum-known-i-3 c = search needs
 
-cast-if4 : tie.Need-cast-if4
-cast-if4 c = search needs
+cast-if5 : tie.Need-cast-if5
+cast-if5 c = search needs
 
-mul-if4 : tie.Need-mul-if4
-mul-if4 c = search needs
+mul-if5 : tie.Need-mul-if5
+mul-if5 c = search needs
 
-shared-slice-read-if4 : tie.Need-shared-slice-read-if4
-shared-slice-read-if4 c = search needs
+shared-slice-read-if5 : tie.Need-shared-slice-read-if5
+shared-slice-read-if5 c = search needs
 
 is-nonzero-requires : tie.Need-is-nonzero-requires
 is-nonzero-requires c κs = search needs
 
 enum-told : tie.Need-enum-told
 enum-told c = search needs
+
+enum-known-i-4 : tie.Need-enum-known-i-4
+enum-known-i-4 c = search needs
+
+cast-j-2 : tie.Need-cast-j-2
+cast-j-2 c = search needs
+
+shared-slice-read-if6 : tie.Need-shared-slice-read-if6
+shared-slice-read-if6 c = search needs
+
+is-equality-requires-2 : tie.Need-is-equality-requires-2
+is-equality-requires-2 c κs =
+    let k = c .before .before .before .before .before .before .pre .1 in
+    let n = conditions-few k in
+    let l = k .sized .sizes-length in
+    omega arith
+
+is-nonzero-requires-2 : tie.Need-is-nonzero-requires-2
+is-nonzero-requires-2 c κs = search needs
 
 returns : tie.Need-returns
 returns c = λ p k e f. let g = c .before .before .before .i .given in rw (g .1, le-leb (g .0 .0) 1 (c .before .if1 .taken), le-leb 1 (g .0 .1 .0) (c .if2 .taken))
@@ -48,26 +75,69 @@ returns-3 : tie.Need-returns-3
 returns-3 c = λ p k e f. let g = c .before .before .i .given in rw (g .1, lt-leb (g .0 .0) 1 (c .if1 .left))
 
 returns-4 : tie.Need-returns-4
-returns-4 c = λ p k e f. let g = c .before .before .before .i2 .given in let n = e .constraints in rw (g .1, ← n, le-leb (g .0 .0) _ (c .if3 .taken))
+returns-4 c = λ p k e f.
+    let i = c .before in
+    let g = i .before .before .before .before .i2 .given in
+    let n = e .conditions in
+    let b = i .before .if3 .taken in
+    let s = i .before .before .before .before .before .before .before in
+    rw (g .1, ← n, le-leb (g .0 .0) _ b, kind-is (s .pre .1) e (g .0 .0) b (i .is-equality .ensures) (not-true _ (c .if4 .taken)))
 
 returns-5 : tie.Need-returns-5
-returns-5 c = λ p k e f. let g = c .before .before .before .i2 .given in let n = e .constraints in rw (g .1, ← n, lt-leb (g .0 .0) _ (c .if3 .left))
+returns-5 c = λ p k e f.
+    let i = c .before in
+    let g = i .before .before .before .before .i2 .given in
+    let n = e .conditions in
+    let b = i .before .if3 .taken in
+    let s = i .before .before .before .before .before .before .before in
+    rw (g .1, ← n, le-leb (g .0 .0) _ b, kind-is (s .pre .1) e (g .0 .0) b (i .is-equality .ensures) (not-false _ (c .if4 .left))) (c .if4 .left)
 
 returns-6 : tie.Need-returns-6
 returns-6 c = λ p k e f.
-    let g = c .before .before .before .before .i3 .given in
-    let n = size-is k _ f p _ e (c .before .before .before .before .before .before .before .pre .0 .basis) in
-    let l : toZ w32 (ofZ w32 (g .0 .1 .0)) ≡ g .0 .1 .0 = search needs in
-    rw (g .1, ← n, lt-ltb (g .0 .0) _ (c .before .if4 .taken), c .is-nonzero .ensures, l)
+    let g = c .before .before .before .i2 .given in
+    let n = e .conditions in
+    rw (g .1, ← n, lt-leb (g .0 .0) _ (c .if3 .left))
 
 returns-7 : tie.Need-returns-7
 returns-7 c = λ p k e f.
-    let g = c .before .before .before .i3 .given in
-    let n = size-is k _ f p _ e (c .before .before .before .before .before .before .pre .0 .basis) in
-    rw (g .1, ← n, le-ltb (g .0 .0) _ (c .if4 .left))
+    let g = c .before .before .before .before .i3 .given in
+    let n = size-is k _ f p _ e (c .before .before .before .before .before .before .before .pre .0 .basis) in
+    let l : toZ w32 (ofZ w32 (g .0 .1 .0)) ≡ g .0 .1 .0 = search needs in
+    rw (g .1, ← n, lt-ltb (g .0 .0) _ (c .before .if5 .taken), c .is-nonzero .ensures, l)
 
 returns-8 : tie.Need-returns-8
-returns-8 c = λ p k e f. search needs
+returns-8 c = λ p k e f.
+    let g = c .before .before .before .i3 .given in
+    let n = size-is k _ f p _ e (c .before .before .before .before .before .before .pre .0 .basis) in
+    rw (g .1, ← n, le-ltb (g .0 .0) _ (c .if5 .left))
+
+returns-9 : tie.Need-returns-9
+returns-9 c = λ p k e f. search needs
+
+returns-10 : tie.Need-returns-10
+returns-10 c = λ p k e f.
+    let i = c .before .before in
+    let g = i .before .before .before .before .i4 .given in
+    let n = e .conditions in
+    let b = i .before .if6 .taken in
+    let s = i .before .before .before .before .before .before .before in
+    let l : toZ w32 (ofZ w32 (g .0 .1 .0)) ≡ g .0 .1 .0 = search needs in
+    rw (g .1, ← n, le-leb (g .0 .0) _ b, kind-is (s .pre .1) e (g .0 .0) b (i .is-equality2 .ensures) (c .before .if7 .taken), c .is-nonzero2 .ensures, l)
+
+returns-11 : tie.Need-returns-11
+returns-11 c = λ p k e f.
+    let i = c .before in
+    let g = i .before .before .before .before .i4 .given in
+    let n = e .conditions in
+    let b = i .before .if6 .taken in
+    let s = i .before .before .before .before .before .before .before in
+    rw (g .1, ← n, le-leb (g .0 .0) _ b, kind-is (s .pre .1) e (g .0 .0) b (i .is-equality2 .ensures) (c .if7 .left)) (c .if7 .left)
+
+returns-12 : tie.Need-returns-12
+returns-12 c = λ p k e f.
+    let g = c .before .before .before .i4 .given in
+    let n = e .conditions in
+    rw (g .1, ← n, lt-leb (g .0 .0) _ (c .if6 .left))
 
 pub is-allowed-spec : {M : Type 1} → statement M
 is-allowed-spec =
@@ -75,14 +145,20 @@ is-allowed-spec =
     (tie.spec
     enum-known-i
     enum-known-i-2
-    cast-if3
+    cast-j
     shared-slice-read-if3
+    is-equality-requires
     enum-known-i-3
-    cast-if4
-    mul-if4
-    shared-slice-read-if4
+    cast-if5
+    mul-if5
+    shared-slice-read-if5
     is-nonzero-requires
     enum-told
+    enum-known-i-4
+    cast-j-2
+    shared-slice-read-if6
+    is-equality-requires-2
+    is-nonzero-requires-2
     returns
     returns-2
     returns-3
@@ -90,4 +166,8 @@ is-allowed-spec =
     returns-5
     returns-6
     returns-7
-    returns-8)
+    returns-8
+    returns-9
+    returns-10
+    returns-11
+    returns-12)

@@ -20,6 +20,9 @@ enum-told-4 c = search needs
 enum-told-5 : tie.Need-enum-told-5
 enum-told-5 c = search needs
 
+enum-told-6 : tie.Need-enum-told-6
+enum-told-6 c = search needs
+
 returns : tie.Need-returns
 returns c = λ k e. cc
 
@@ -38,6 +41,9 @@ returns-5 c = λ k e. cc
 returns-6 : tie.Need-returns-6
 returns-6 c = λ k e. search needs
 
+returns-7 : tie.Need-returns-7
+returns-7 c = λ k e. cc
+
 pub is-placed-spec : {M : Type 1} → statement M
 is-placed-spec =
     tie.close
@@ -47,9 +53,11 @@ is-placed-spec =
     enum-told-3
     enum-told-4
     enum-told-5
+    enum-told-6
     returns
     returns-2
     returns-3
     returns-4
     returns-5
-    returns-6)
+    returns-6
+    returns-7)

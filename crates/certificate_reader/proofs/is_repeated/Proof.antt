@@ -19,6 +19,9 @@ cast-result c = search needs
 enum-told-3 : tie.Need-enum-told-3
 enum-told-3 c = search needs
 
+enum-told-4 : tie.Need-enum-told-4
+enum-told-4 c = search needs
+
 returns : tie.Need-returns
 returns c = λ k e. search needs
 
@@ -31,6 +34,9 @@ returns-3 c = λ k e. rw (c .before .before .i .given .1) (index-repeated k _ e 
 returns-4 : tie.Need-returns-4
 returns-4 c = λ k e. search needs
 
+returns-5 : tie.Need-returns-5
+returns-5 c = λ k e. search needs
+
 pub is-repeated-spec : {M : Type 1} → statement M
 is-repeated-spec =
     tie.close
@@ -40,7 +46,9 @@ is-repeated-spec =
     enum-known-i
     cast-result
     enum-told-3
+    enum-told-4
     returns
     returns-2
     returns-3
-    returns-4)
+    returns-4
+    returns-5)

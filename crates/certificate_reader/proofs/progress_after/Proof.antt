@@ -9,29 +9,32 @@ enum-told c = search needs
 enum-known-i : tie.Need-enum-known-i
 enum-known-i c = search needs
 
-add-t6 : tie.Need-add-t6
-add-t6 c = search needs
-
-cast-t7 : tie.Need-cast-t7
-cast-t7 c = search needs
+row-begun-requires : tie.Need-row-begun-requires
+row-begun-requires c κs = search needs
 
 enum-known-i-2 : tie.Need-enum-known-i-2
 enum-known-i-2 c = search needs
 
-cast-t8 : tie.Need-cast-t8
-cast-t8 c = search needs
+cast-t7 : tie.Need-cast-t7
+cast-t7 c = search needs
 
-add-t9 : tie.Need-add-t9
-add-t9 c = search needs
+add-t8 : tie.Need-add-t8
+add-t8 c = search needs
 
 enum-told-2 : tie.Need-enum-told-2
 enum-told-2 c = search needs
+
+enum-known-i-3 : tie.Need-enum-known-i-3
+enum-known-i-3 c = search needs
+
+row-begun-requires-2 : tie.Need-row-begun-requires-2
+row-begun-requires-2 c κs = search needs
 
 returns : tie.Need-returns
 returns c = search needs
 
 returns-2 : tie.Need-returns-2
-returns-2 c = rw (c .before .before .i .given .1)
+returns-2 c = rw (c .before .before .i .given .1) (c .row-begun .ensures)
 
 returns-3 : tie.Need-returns-3
 returns-3 c = rw (c .before .i2 .given .1)
@@ -39,19 +42,24 @@ returns-3 c = rw (c .before .i2 .given .1)
 returns-4 : tie.Need-returns-4
 returns-4 c = search needs
 
+returns-5 : tie.Need-returns-5
+returns-5 c = rw (c .before .before .i3 .given .1) (c .row-begun2 .ensures)
+
 pub progress-after-spec : {M : Type 1} → statement M
 progress-after-spec =
     tie.close
     (tie.spec
     enum-told
     enum-known-i
-    add-t6
-    cast-t7
+    row-begun-requires
     enum-known-i-2
-    cast-t8
-    add-t9
+    cast-t7
+    add-t8
     enum-told-2
+    enum-known-i-3
+    row-begun-requires-2
     returns
     returns-2
     returns-3
-    returns-4)
+    returns-4
+    returns-5)

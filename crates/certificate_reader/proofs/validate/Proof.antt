@@ -48,7 +48,7 @@ loop-holds c = λ p limits e.
     rw (c .before .no-header .ensures, c .no-progress .ensures) (held-start p (s .args .s .now) (s .args .starts .now) (s .pre .1))
 
 verdict-at-requires : tie.Need-verdict-at-requires Inv-loop μ-loop
-verdict-at-requires c κs = (held (c .before) .bounded, start (c .before) .pre .0 .sized .sizes-length, omega arith)
+verdict-at-requires c κs = (held (c .before) .bounded, start (c .before) .pre .0, omega arith)
 
 returns : tie.Need-returns Inv-loop μ-loop
 returns c = λ p limits e.

@@ -33,19 +33,19 @@ module _ (s : tie.Start) where
   abbrev first : List ℕ
   first = insertAll (exponentsIn keys sizes 9) []
 
-  abbrev constraints : List ℕ → List ℕ
-  constraints = fromTo 1 9 (λ j. insertAll (exponentsIn keys sizes j))
+  abbrev conditions : List ℕ → List ℕ
+  conditions = fromTo 1 9 (λ j. insertAll (exponentsIn keys sizes j))
 
   abbrev doubled : List ℕ → List ℕ
   doubled = insertAll (multiples 2 (basisIn keys sizes 0))
 
-  more-constraints : (S : List ℕ) → Extends S (constraints S)
-  more-constraints S = fromTo-extends (λ j. insertAll (exponentsIn keys sizes j)) (λ j X. insertAll-extends _ X) 1 9 S
+  more-conditions : (S : List ℕ) → Extends S (conditions S)
+  more-conditions S = fromTo-extends (λ j. insertAll (exponentsIn keys sizes j)) (λ j X. insertAll-extends _ X) 1 9 S
 
   more-doubled : (S : List ℕ) → Extends S (doubled S)
   more-doubled S = insertAll-extends (multiples 2 (basisIn keys sizes 0)) S
 
-  whole : doubled (constraints first) ≡ startIn keys sizes
+  whole : doubled (conditions first) ≡ startIn keys sizes
   unfolding startFrom
   whole = refl
 
@@ -53,10 +53,10 @@ module _ (s : tie.Start) where
 one : (c : tie.After-put-polynomial) → let s = c .before .before .before .before .before .before .before in Stored 0 (first s) (s .args .table .now) (c .put-polynomial .result) (c .put-polynomial .last .0) (c .put-polynomial .last .1 .0)
 one c = rw (keys-none (c .before .before .before .before .before .before .before .args .table .now)) at (c .put-polynomial .ensures)
 
-two : (c : tie.After-put-constraints) → let s = c .before .before .before .before .before .before .before .before .before .before .before .before .before .before .before in Stored 0 (constraints s (first s)) (s .args .table .now) (c .put-constraints .result) (c .put-constraints .last .0) (c .put-constraints .last .1 .0)
+two : (c : tie.After-put-conditions) → let s = c .before .before .before .before .before .before .before .before .before .before .before .before .before .before .before in Stored 0 (conditions s (first s)) (s .args .table .now) (c .put-conditions .result) (c .put-conditions .last .0) (c .put-conditions .last .1 .0)
 two c =
     let s = c .before .before .before .before .before .before .before .before .before .before .before .before .before .before .before in
-    stored-then _ _ _ _ _ (one (c .before .before .before .before .before .before .before .before)) (c .before .before .before .if1 .left) (constraints s) _ _ _ (c .put-constraints .ensures)
+    stored-then _ _ _ _ _ (one (c .before .before .before .before .before .before .before .before)) (c .before .before .before .if1 .left) (conditions s) _ _ _ (c .put-conditions .ensures)
 
 put-polynomial-requires : tie.Need-put-polynomial-requires
 put-polynomial-requires c κs = let s = c .before .before .before .before .before .before in ((record { few = omega arith; room = s .pre .0; apart = ap length (keys-none _) }, s .pre .1), s .pre .2, omega arith)
@@ -70,10 +70,10 @@ same-length-2 c = search needs
 returns : tie.Need-returns
 returns c =
     let s = c .before .before .before .before .before .before .before .before .before .before .before .before in
-    rw (← whole s) (stored-over _ _ _ _ _ (one (c .before .before .before .before .before)) (c .if1 .taken) _ (le-trans (more-constraints s (first s) .more) (more-doubled s (constraints s (first s)) .more)))
+    rw (← whole s) (stored-over _ _ _ _ _ (one (c .before .before .before .before .before)) (c .if1 .taken) _ (le-trans (more-conditions s (first s) .more) (more-doubled s (conditions s (first s)) .more)))
 
-put-constraints-requires : tie.Need-put-constraints-requires
-put-constraints-requires c κs =
+put-conditions-requires : tie.Need-put-conditions-requires
+put-conditions-requires c κs =
     let o = one (c .before .before .before .before .before .before .before) in
     let s = c .before .before .before .before .before .before .before .before .before .before .before .before .before .before in
     let few = c .before .before .if1 .left in
@@ -88,7 +88,7 @@ same-length-4 c = search needs
 returns-2 : tie.Need-returns-2
 returns-2 c =
     let s = c .before .before .before .before .before .before .before .before .before .before .before .before .before .before .before .before .before .before .before .before in
-    rw (← whole s) (stored-over _ _ _ _ _ (two (c .before .before .before .before .before)) (c .if2 .taken) _ (more-doubled s (constraints s (first s)) .more))
+    rw (← whole s) (stored-over _ _ _ _ _ (two (c .before .before .before .before .before)) (c .if2 .taken) _ (more-doubled s (conditions s (first s)) .more))
 
 basis-requires : tie.Need-basis-requires
 basis-requires c κs = let s = c .before .before .before .before .before .before .before .before .before .before .before .before .before .before .before .before .before .before .before .before in (omega (arith, s .pre .2 .limits .sizes-length), basis-fits (s .pre .2 .limits) 0 (omega arith))
@@ -119,7 +119,7 @@ seed-spec =
     same-length
     same-length-2
     returns
-    put-constraints-requires
+    put-conditions-requires
     same-length-3
     same-length-4
     returns-2

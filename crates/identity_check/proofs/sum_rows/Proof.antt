@@ -4,7 +4,7 @@ use Prim.Native.Nat.{_+_, _-_, _≤_}
 use native.Mathlib.Omega.{arith}
 use borrow.Author.Needs.{needs}
 use lib.ListN.{length, getD}
-use Rattle.flat.specs.Flat.{constraintsAt}
+use Rattle.flat.specs.Flat.{conditionsAt}
 use Rattle.certificate_reader.specs.Rows.{rowsBy}
 use Rattle.row_products.specs.Gram.{byBasis}
 use Rattle.identity_check.specs.Walk.{RoomFor, Summed}
@@ -15,7 +15,7 @@ use Rattle.identity_check.proofs.sum_rows.Tie as tie
 
 abbrev Inv-loop : tie.InvT-loop
 Inv-loop g₀ s starts rows keys coefficients sizes table n places hi₀ lo₀ last j₀ g hi lo j =
-    (last ≡ getD sizes constraintsAt 0)
+    (last ≡ getD sizes conditionsAt 0)
     × (j ≤ last + 1)
     × (length g ≡ length g₀)
     × RoomFor sizes g
@@ -27,9 +27,9 @@ abbrev μ-loop : tie.MeasureT-loop
 abbrev at-start : tie.At-loop Inv-loop μ-loop → tie.Start Inv-loop μ-loop
 at-start l = l .before .before .before .before .before .before
 
--- at most eight constraints
-few : (l : tie.At-loop Inv-loop μ-loop) → getD (at-start l .args .sizes .now) constraintsAt 0 ≤ 8
-few l = at-start l .pre .1 .0 .flat .limits .sizes-low constraintsAt
+-- at most eight conditions
+few : (l : tie.At-loop Inv-loop μ-loop) → getD (at-start l .args .sizes .now) conditionsAt 0 ≤ 8
+few l = at-start l .pre .1 .0 .flat .limits .sizes-low conditionsAt
 
 shared-slice-read-last : tie.Need-shared-slice-read-last Inv-loop μ-loop
 shared-slice-read-last c = let s = c .before .before .before .before .before in omega (arith, s .pre .1 .0 .flat .limits .sizes-length)

@@ -15,7 +15,7 @@ is-placed-requires : tie.Need-is-placed-requires
 is-placed-requires c κs = search needs
 
 -- past the first check
-stands : (c : tie.Else1) (p : Problem) → length (p .constraints) ≡ c .before .before .before .args .count
+stands : (c : tie.Else1) (p : Problem) → length (p .conditions) ≡ c .before .before .before .args .count
     → problemPlaced p (c .before .before .before .args .at) (problemCommandAt (c .before .before .before .args .s .now) (c .before .before .before .args .at)) ≡ true
 stands c p h = rw (c .before .before .before .pre .1) at (sym (c .before .is-placed .ensures p h) ∙ not-false _ (c .if1 .left))
 

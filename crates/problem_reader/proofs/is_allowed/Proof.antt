@@ -40,6 +40,9 @@ is-fitting-requires-3 c κs = search needs
 enum-told-2 : tie.Need-enum-told-2
 enum-told-2 c = search needs
 
+enum-told-3 : tie.Need-enum-told-3
+enum-told-3 c = search needs
+
 returns : tie.Need-returns
 returns c = λ p e h. rw (c .before .before .i .given .1, le-leb 1 (c .before .before .i .given .0 .0) (c .if1 .taken))
 
@@ -84,6 +87,9 @@ returns-9 c =
 returns-10 : tie.Need-returns-10
 returns-10 c = λ p e h. cc
 
+returns-11 : tie.Need-returns-11
+returns-11 c = λ p e h. cc
+
 pub is-allowed-spec : {M : Type 1} → statement M
 is-allowed-spec =
     tie.close
@@ -99,6 +105,7 @@ is-allowed-spec =
     enum-known-i-4
     is-fitting-requires-3
     enum-told-2
+    enum-told-3
     returns
     returns-2
     returns-3
@@ -108,4 +115,5 @@ is-allowed-spec =
     returns-7
     returns-8
     returns-9
-    returns-10)
+    returns-10
+    returns-11)

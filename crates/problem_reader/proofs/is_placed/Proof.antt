@@ -25,6 +25,9 @@ enum-told-6 c = search needs
 enum-told-7 : tie.Need-enum-told-7
 enum-told-7 c = search needs
 
+enum-told-8 : tie.Need-enum-told-8
+enum-told-8 c = search needs
+
 returns : tie.Need-returns
 returns c = λ p h. cc
 
@@ -49,6 +52,9 @@ returns-7 c = λ p h. cc
 returns-8 : tie.Need-returns-8
 returns-8 c = λ p h. cc
 
+returns-9 : tie.Need-returns-9
+returns-9 c = λ p h. cc
+
 pub is-placed-spec : {M : Type 1} → statement M
 is-placed-spec =
     tie.close
@@ -60,6 +66,7 @@ is-placed-spec =
     enum-told-5
     enum-told-6
     enum-told-7
+    enum-told-8
     returns
     returns-2
     returns-3
@@ -67,4 +74,5 @@ is-placed-spec =
     returns-5
     returns-6
     returns-7
-    returns-8)
+    returns-8
+    returns-9)

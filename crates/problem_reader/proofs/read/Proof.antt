@@ -17,6 +17,7 @@ use Rattle.format.specs.ProblemLayout.{problemSize, problemDecoded}
 use Rattle.flat.proofs.Flat.{basis-size}
 use Rattle.problem_reader.specs.Checks.{early}
 use Rattle.problem_reader.proofs.Checks.{Passes, passes, early-refusal, passes-longer, space}
+use Rattle.problem_reader.proofs.Problems.{begins}
 use Rattle.problem_reader.proofs.Held.{Held}
 use Rattle.problem_reader.proofs.Steps.{Going, Stepped, stepped-as, starting, ended, first-checks, early-refusing, late-refusing, going-on, extra, complete, stepped-variables, stepped-objective, stepped-full, stepped-begun, stepped-refused, stepped-term, named, stepped-member}
 use Rattle.problem_reader.proofs.read.Statement.{statement}
@@ -102,20 +103,17 @@ decode-at-requires c κs =
     let w = passes _ _ _ _ _ (none c) refl refl .whole in
     omega arith
 
-enum-known-n : tie.Need-enum-known-n Inv-loop μ-loop
-enum-known-n c = search needs
+enum-known-told : tie.Need-enum-known-told Inv-loop μ-loop
+enum-known-told c = search needs
 
-enum-known-key : tie.Need-enum-known-key Inv-loop μ-loop
-enum-known-key c = search needs
+enum-known-told-2 : tie.Need-enum-known-told-2 Inv-loop μ-loop
+enum-known-told-2 c = search needs
 
 put-objective-requires : tie.Need-put-objective-requires Inv-loop μ-loop
 put-objective-requires c κs = kept (head (c .before .before .before .before .before .before)) .limits
 
-enum-told : tie.Need-enum-told Inv-loop μ-loop
-enum-told c = search needs
-
 lay-out-requires : tie.Need-lay-out-requires Inv-loop μ-loop
-lay-out-requires c κs = let k = kept (head (c .before .before .before .before .before .before .before .before)) in (k .limits .keys-length, k .limits .coefficients-length, omega arith, k .filled)
+lay-out-requires c κs = let k = kept (head (c .before .before .before .before .before .before .before)) in (k .limits .keys-length, k .limits .coefficients-length, omega arith, k .filled)
 
 add-sizes : tie.Need-add-sizes Inv-loop μ-loop
 add-sizes c = search needs
@@ -132,17 +130,29 @@ empty-requires c κs = search needs
 add-count : tie.Need-add-count Inv-loop μ-loop
 add-count c = search needs
 
-enum-known-key-2 : tie.Need-enum-known-key-2 Inv-loop μ-loop
-enum-known-key-2 c = search needs
+kind-of-requires : tie.Need-kind-of-requires Inv-loop μ-loop
+kind-of-requires c κs = search needs
+
+add-sizes-2 : tie.Need-add-sizes-2 Inv-loop μ-loop
+add-sizes-2 c = search needs
+
+mul-sizes-2 : tie.Need-mul-sizes-2 Inv-loop μ-loop
+mul-sizes-2 c = search needs
+
+element-write-sizes-2 : tie.Need-element-write-sizes-2 Inv-loop μ-loop
+element-write-sizes-2 c = search needs
+
+enum-known-told-3 : tie.Need-enum-known-told-3 Inv-loop μ-loop
+enum-known-told-3 c = search needs
 
 check-room-requires : tie.Need-check-room-requires Inv-loop μ-loop
 check-room-requires c κs = let f = kept (head (c .before .before .before .before .before .before)) .filled in omega arith
 
--- ---- a term of the constraint begun last
+-- ---- a term of the condition begun last
 term-space : (c : tie.Then3 Inv-loop μ-loop) → head (c .before .before .before .before .before .before .before .before) .loop .last .count < 32
 term-space c =
     let q = head (c .before .before .before .before .before .before .before .before) .loop .last in
-    space (q .keys) 0 (q .count) (c .before .before .before .before .before .before .key2 .given .0 .0) 32 (sym (c .before .check-room .ensures) ∙ c .if3 .taken)
+    space (q .keys) 0 (q .count) (c .before .before .before .before .before .before .told3 .given .0 .0) 32 (sym (c .before .check-room .ensures) ∙ c .if3 .taken)
 
 mul-last : tie.Need-mul-last Inv-loop μ-loop
 mul-last c = let h = term-space c in omega arith
@@ -159,14 +169,14 @@ element-set-from-c c = let h = term-space c in omega arith
 add-last : tie.Need-add-last Inv-loop μ-loop
 add-last c = let h = term-space c in omega arith
 
-enum-known-j : tie.Need-enum-known-j Inv-loop μ-loop
-enum-known-j c = search needs
+enum-known-told-4 : tie.Need-enum-known-told-4 Inv-loop μ-loop
+enum-known-told-4 c = search needs
 
 -- ---- a monomial of a basis
-member-passed : (c : tie.After-known-told4 Inv-loop μ-loop) → At (c .before .before .before) (I.Member (c .before .j .given .0 .0) (c .before .j .given .0 .1 .0))
-member-passed c = passed (c .before .before .before) _ (c .before .j .given .1)
+member-passed : (c : tie.After-known-told4 Inv-loop μ-loop) → At (c .before .before .before) (I.Member (c .before .told4 .given .0 .0) (c .before .told4 .given .0 .1 .0))
+member-passed c = passed (c .before .before .before) _ (c .before .told4 .given .1)
 
-basis-named : (c : tie.After-known-told4 Inv-loop μ-loop) → c .before .j .given .0 .0 < 9
+basis-named : (c : tie.After-known-told4 Inv-loop μ-loop) → c .before .told4 .given .0 .0 < 9
 basis-named c = named (kept (head (c .before .before .before))) (member-passed c)
 
 mul-put : tie.Need-mul-put Inv-loop μ-loop
@@ -178,35 +188,35 @@ put-requires c κs =
     let h = basis-named (c .before .before) in
     (omega arith, omega (arith, basis-size (kept l .limits) _ h), omega arith)
 
-enum-told-2 : tie.Need-enum-told-2 Inv-loop μ-loop
-enum-told-2 c = search needs
+enum-told : tie.Need-enum-told Inv-loop μ-loop
+enum-told c = search needs
 
 lay-out-requires-2 : tie.Need-lay-out-requires-2 Inv-loop μ-loop
 lay-out-requires-2 c κs = let k = kept (head (c .before .before .before .before .before .before .before .before)) in let w = k .count-low in (k .limits .keys-length, k .limits .coefficients-length, omega arith, k .filled)
 
-add-sizes-2 : tie.Need-add-sizes-2 Inv-loop μ-loop
-add-sizes-2 c = search needs
+add-sizes-3 : tie.Need-add-sizes-3 Inv-loop μ-loop
+add-sizes-3 c = search needs
 
-mul-sizes-2 : tie.Need-mul-sizes-2 Inv-loop μ-loop
-mul-sizes-2 c = search needs
-
-element-write-sizes-2 : tie.Need-element-write-sizes-2 Inv-loop μ-loop
-element-write-sizes-2 c = search needs
+mul-sizes-3 : tie.Need-mul-sizes-3 Inv-loop μ-loop
+mul-sizes-3 c = search needs
 
 element-write-sizes-3 : tie.Need-element-write-sizes-3 Inv-loop μ-loop
 element-write-sizes-3 c = search needs
 
+element-write-sizes-4 : tie.Need-element-write-sizes-4 Inv-loop μ-loop
+element-write-sizes-4 c = search needs
+
 -- ---- what the arms leave, where they meet
 -- a coefficient is what its bits stand for
-objective-told : (c : tie.After-known-told2 Inv-loop μ-loop) → c .before .before .before .decode-at .result ≡ I.Objective (c .before .key .given .0 .0) (toZ w32 (ofZ w32 (c .before .key .given .0 .1 .0)))
+objective-told : (c : tie.After-known-told2 Inv-loop μ-loop) → c .before .before .before .decode-at .result ≡ I.Objective (c .before .told2 .given .0 .0) (toZ w32 (ofZ w32 (c .before .told2 .given .0 .1 .0)))
 objective-told c =
-    let g = c .before .key .given in
+    let g = c .before .told2 .given in
     let z : toZ w32 (ofZ w32 (g .0 .1 .0)) ≡ g .0 .1 .0 = search needs in
     g .1 ∙ ap (I.Objective (g .0 .0)) (sym z)
 
-term-told : (c : tie.After-known-told3 Inv-loop μ-loop) → c .before .before .before .decode-at .result ≡ I.Term (c .before .key2 .given .0 .0) (toZ w32 (ofZ w32 (c .before .key2 .given .0 .1 .0)))
+term-told : (c : tie.After-known-told3 Inv-loop μ-loop) → c .before .before .before .decode-at .result ≡ I.Term (c .before .told3 .given .0 .0) (toZ w32 (ofZ w32 (c .before .told3 .given .0 .1 .0)))
 term-told c =
-    let g = c .before .key2 .given in
+    let g = c .before .told3 .given in
     let z : toZ w32 (ofZ w32 (g .0 .1 .0)) ≡ g .0 .1 .0 = search needs in
     g .1 ∙ ap (I.Term (g .0 .0)) (sym z)
 
@@ -220,18 +230,22 @@ stepped c =
     (λ x.
     ⊎-elim
     (λ w.
-    let e = objective-told (record { before = record { before = record { before = d; match = w .0 }; key = w .1 }; known-told2 = w .2 }) in
+    let e = objective-told (record { before = record { before = record { before = d; match = w .0 }; told2 = w .1 }; known-told2 = w .2 }) in
     stepped-as e (w .7) (w .8) (w .9) (w .10) (w .11) (w .12) (w .13) (stepped-objective (kept (head d)) (passed d _ e) (all-bytes (head d)) _ (w .6 .last .0) (w .6 .last .1 .0) (w .6 .last .1 .1 .0) (w .6 .ensures .0) (w .6 .ensures .1) (w .6 .ensures .2) (w .6 .ensures .3)))
     (λ x.
     ⊎-elim
-    (λ w. stepped-as (w .1 .given .1) (w .3) (w .4) (w .5) (w .6) (w .7) (w .8) (w .9) (stepped-full (kept (head d)) (omega arith)))
-    (λ x.
-    ⊎-elim
-    (λ w. stepped-as (w .1 .given .1) (w .10) (w .11) (w .12) (w .13) (w .14) (w .15) (w .16) (stepped-begun (kept (head d)) (omega arith) _ z (w .8 .last .0) (w .8 .last .1 .0) (w .9 .result) (w .8 .ensures .0) (w .8 .ensures .1) (w .9 .ensures)))
+    (λ w.
+    let b = begins (d .decode-at .result) (w .0 .keys3) in
+    stepped-as (b .1) (w .2) (w .3) (w .4) (w .5) (w .6) (w .7) (w .8) (stepped-full (kept (head d)) (b .0) (omega arith)))
     (λ x.
     ⊎-elim
     (λ w.
-    let e = term-told (record { before = record { before = record { before = d; match = w .0 }; key2 = w .1 }; known-told3 = w .2 }) in
+    let b = begins (d .decode-at .result) (w .0 .keys3) in
+    stepped-as (b .1) (w .10) (w .11) (w .12) (w .13) (w .14) (w .15) (w .16) (stepped-begun (kept (head d)) (b .0) _ (w .9 .ensures (b .0) (b .1)) (omega arith) _ z (w .7 .last .0) (w .7 .last .1 .0) (w .8 .result) (w .7 .ensures .0) (w .7 .ensures .1) (w .8 .ensures)))
+    (λ x.
+    ⊎-elim
+    (λ w.
+    let e = term-told (record { before = record { before = record { before = d; match = w .0 }; told3 = w .1 }; known-told3 = w .2 }) in
     stepped-as e (w .8) (w .9) (w .10) (w .11) (w .12) (w .13) (w .14) (stepped-term (kept (head d)) (passed d _ e) (all-bytes (head d)) _ (w .7 .taken) (w .6 .ensures)))
     (λ x.
     ⊎-elim
@@ -262,12 +276,12 @@ returns-2 c =
     early-refusing (l .loop .inv) (omega arith) _ (omega arith) (early-refusal _ _ _ (omega arith) ∙ sym r)
 
 returns-3 : tie.Need-returns-3 Inv-loop μ-loop
-returns-3 c = extra (head (c .before .before .before) .loop .inv) (omega arith) (passed (c .before .before .before) _ (c .before .enum-told2 .given .1)) (omega arith)
+returns-3 c = extra (head (c .before .before .before) .loop .inv) (omega arith) (passed (c .before .before .before) _ (c .before .enum-told .given .1)) (omega arith)
 
 returns-4 : tie.Need-returns-4 Inv-loop μ-loop
 returns-4 c =
     let d = c .before .before .before .before .before .before .before .before .before in
-    complete (head d .loop .inv) (omega arith) (passed d _ (c .before .before .before .before .before .before .before .enum-told2 .given .1)) (omega arith) _ (zero-found (d .before))
+    complete (head d .loop .inv) (omega arith) (passed d _ (c .before .before .before .before .before .before .before .enum-told .given .1)) (omega arith) _ (zero-found (d .before))
     (c .lay-out2 .last .0) (c .lay-out2 .last .1 .0) (c .lay-out2 .ensures .0) (c .lay-out2 .ensures .1)
 
 returns-5 : tie.Need-returns-5 Inv-loop μ-loop
@@ -289,32 +303,35 @@ read-spec =
     check-at-requires
     add-next
     decode-at-requires
-    enum-known-n
-    enum-known-key
+    enum-known-told
+    enum-known-told-2
     put-objective-requires
-    enum-told
     lay-out-requires
     add-sizes
     mul-sizes
     element-write-sizes
     empty-requires
     add-count
-    enum-known-key-2
+    kind-of-requires
+    add-sizes-2
+    mul-sizes-2
+    element-write-sizes-2
+    enum-known-told-3
     check-room-requires
     mul-last
     element-write-last
     mul-c
     element-set-from-c
     add-last
-    enum-known-j
+    enum-known-told-4
     mul-put
     put-requires
-    enum-told-2
+    enum-told
     lay-out-requires-2
-    add-sizes-2
-    mul-sizes-2
-    element-write-sizes-2
+    add-sizes-3
+    mul-sizes-3
     element-write-sizes-3
+    element-write-sizes-4
     loop-less
     loop-again
     returns

@@ -36,7 +36,7 @@ add-outer-requires c κs =
     let w = c .before .before .before in
     let r = w .before in
     let k = r .before .before .before in
-    (low-entries (bytes k) (k .before .pre .1) (r .read-row .ensures), k .before .pre .0, rw (weight-is w) (weight-small _ (bytes k) (k .before .args .from)))
+    (low-entries (bytes k) (k .before .pre .1) (r .read-row .ensures), k .before .pre .0, rw (weight-is w) (weight-small (k .before .args .s .now) (bytes k) (k .before .args .from)))
 
 same-length : tie.Need-same-length
 same-length c = c .before .add-outer .ensures .long

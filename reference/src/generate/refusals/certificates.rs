@@ -26,7 +26,7 @@ const LINES: &[Line] = &[
     (2, 0, "2 before 4, 10", "a cut 10 with side 2", ORDER, "10 02"),
     (2, 10, "2 before 4, 11", "a cut row on basis 9", ORDER, "10 00 02 00 FF FF FF FF 01 00 | 11 09"),
     (2, 18, "2 before 5", "a cut entry whose index does not rise", ORDER, "10 00 02 00 FF FF FF FF 01 00 | 11 00 01 00 | 12 01 01 00 | 12 00 01"),
-    (3, 0, "unknown", "14, which is no command", THREE, "14"),
+    (3, 0, "14 first", "14, which may not stand first", ONLY, "14"),
     (3, 10, "unknown later", "00, which is no command, after 10", THREE, "10 00 02 00 FF FF FF FF 01 00 | 00 | 13"),
     (3, 0, "of a problem", "01, a command of problems", THREE, "01 01 | 13"),
     (3, 10, "end of a problem", "06, the end of problems", THREE, "10 00 02 00 FF FF FF FF 01 00 | 06"),

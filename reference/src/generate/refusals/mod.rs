@@ -1,10 +1,11 @@
-//! Every way to be refused, each with the answer that document 01 gives, or request 11 for an arrival,
+//! Every way to be refused, each with the answer that document 01 gives or a request of document 02,
 //! found by hand.
 //!
 //! The answers stand in the lists and not in the program: the test below holds the reference to
 //! them, and the stored corpus holds the proved calls to them.
 
 mod certificates;
+pub mod equalities;
 mod order;
 mod problems;
 mod sums;
@@ -20,7 +21,7 @@ pub use table::print;
 const TWO: &str = "stream ends in a command or without its end, or goes on after it";
 const THREE: &str = "command unknown in this stream or misplaced";
 const ONLY: &str = "First, and only first.";
-const BEFORE: &str = "A 04 before any 03, and a 12 before any row, is misplaced.";
+const BEFORE: &str = "a 12 before any row, is misplaced.";
 const NEVER: &str = "Coefficients and factors are never 0.";
 
 /// One way to be refused.
@@ -29,7 +30,7 @@ pub struct Case {
     pub name: &'static str,
     /// What the refused stream has.
     pub what: &'static str,
-    /// The words of document 01 that it comes from.
+    /// The words of document 01 that it comes from, or those of a request with its number.
     pub words: &'static str,
     /// The refused stream as document 01 writes bytes, when it is short.
     pub text: Option<&'static str>,
@@ -37,7 +38,7 @@ pub struct Case {
     pub runs: Vec<Vec<u8>>,
     /// The kinds of the calls that meet it.
     pub calls: &'static [u8],
-    /// The answer by document 01.
+    /// The answer by those words.
     pub expected: Refusal,
 }
 
@@ -68,8 +69,13 @@ type Line = (
     &'static str,
 );
 
-/// All cases, by the order of the lists.
+/// All cases, by the order of the lists: those of document 01, then those of the requests.
 pub fn cases() -> Vec<Case> {
+    [scope(), equalities::cases()].concat()
+}
+
+/// The cases of document 01.
+fn scope() -> Vec<Case> {
     [
         problems::cases(),
         certificates::cases(),
@@ -79,10 +85,14 @@ pub fn cases() -> Vec<Case> {
     .concat()
 }
 
-/// The records of one kind of call.
+/// The records of one kind of call for the cases of document 01.
 pub fn records(call: u8) -> Vec<Record> {
-    let cases = cases().into_iter();
-    let met = cases.filter(|case| case.calls.contains(&call));
+    met(scope(), call)
+}
+
+/// The records of one kind of call for these cases.
+pub fn met(cases: Vec<Case>, call: u8) -> Vec<Record> {
+    let met = cases.iter().filter(|case| case.calls.contains(&call));
     met.map(|case| case.record(call)).collect()
 }
 

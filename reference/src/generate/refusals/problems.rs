@@ -1,6 +1,6 @@
 //! Refusals of the problem: 2 to 7.
 
-use super::{case, case_f, written, Case, Line, BEFORE, NEVER, ONLY, THREE, TWO};
+use super::{case, case_f, written, Case, Line, NEVER, ONLY, THREE, TWO};
 use crate::generate::draft::*;
 use crate::generate::rng::Rng;
 use crate::generate::samples;
@@ -8,6 +8,7 @@ use crate::generate::support::like_h;
 use crate::refusal::{Refusal, PROBLEM};
 
 const ORDER: &str = "each checked 3, 2, 4, 5, 6";
+const TERM_BEFORE: &str = "Req 04: 04, which from now on needs a 03 or 07 before it";
 const VARIABLES: &str = "number of variables, 1 to 8";
 const OBJECTIVE: &str = "objective term, total degree at most 32, at most 256";
 const CONSTRAINT: &str = "begins the next constraint, at most 8";
@@ -29,10 +30,10 @@ const LINES: &[Line] = &[
     (2, 3, "no end after 03", "a constraint begun, and no end", TWO, "01 01 | 03"),
     (2, 3, "on after 06", "a second 06", TWO, "01 01 | 06 | 06"),
     (2, 3, "on after 06, 01", "a whole 01 after 06, which is no command there", TWO, "01 01 | 06 | 01 01"),
-    (2, 3, "on after 06, 07", "a byte after 06 that begins no command", TWO, "01 01 | 06 | 07"),
+    (2, 3, "on after 06, 07", "07 after 06, which is no command there", TWO, "01 01 | 06 | 07"),
     (2, 2, "2 before 4", "a cut 05 with a j that is not begun", ORDER, "01 01 | 05 09"),
     (2, 15, "2 before 5", "a cut objective term whose monomial is there", ORDER, "01 01 | 02 0⁸ 01 00 00 00 | 02 0⁸ 01 00 00"),
-    (3, 0, "unknown", "07, which is no command", THREE, "07"),
+    (3, 0, "07 first", "07, which may not stand first", ONLY, "07"),
     (3, 2, "unknown later", "00, which is no command, after 01", THREE, "01 01 | 00 | 06"),
     (3, 2, "unknown, 255", "FF as the last byte", THREE, "01 01 | FF"),
     (3, 2, "of a certificate", "10, a command of certificates", THREE, "01 01 | 10 00 01 00 00 00 00 00 01 00 | 06"),
@@ -42,7 +43,7 @@ const LINES: &[Line] = &[
     (3, 0, "05 first", "05 as the first command", ONLY, "05 00 0⁸ | 06"),
     (3, 0, "06 first", "06 as the first command", ONLY, "06"),
     (3, 2, "second 01", "01 again", ONLY, "01 01 | 01 01 | 06"),
-    (3, 2, "04 before 03", "a constraint term before any constraint", BEFORE, "01 01 | 04 0⁸ 01 00 | 06"),
+    (3, 2, "04 before 03", "a constraint term before any condition", TERM_BEFORE, "01 01 | 04 0⁸ 01 00 | 06"),
     (3, 2, "3 before 2, 01", "a second 01 that is cut", ORDER, "01 01 | 01"),
     (3, 2, "3 before 2, 04", "a cut 04 before any 03", ORDER, "01 01 | 04"),
     (3, 2, "3 before 4", "a second 01 with 0 variables", ORDER, "01 01 | 01 00"),

@@ -1,5 +1,6 @@
 //! The table of refusals as a page of markdown.
 
+use super::equalities::{Accepted, ACCEPTED};
 use super::windows::{Arrivals, CASES};
 use super::{cases, Case};
 use crate::generate::corpus;
@@ -51,6 +52,16 @@ and key are 0. The other outcomes are the widest gap held and its age.
 |---|---|---|---|---|---|
 ";
 
+const BESIDE: &str = "
+## Beside the refusals: equalities and rows on them that are accepted
+
+Request 04 lets in what was refused before. These cases stand next to the refusals above, and their answers were found by \
+hand in the same way. The bytes of a blocks call are shown to the last that is not 255.
+
+| case | what it has | problem | certificates | words | answer | record |
+|---|---|---|---|---|---|---|
+";
+
 /// The words of document 01's table for each number from 2 on.
 const TITLES: [&str; 9] = [
     "stream ends in a command or without its end, or goes on after it",
@@ -87,7 +98,7 @@ pub fn print() {
         }
         if (number, case.expected.stream) != section {
             println!("\n### {}", STREAMS[usize::from(case.expected.stream)]);
-            println!("\n| case | what the stream has | stream | document 01 | answer | records |");
+            println!("\n| case | what the stream has | stream | words | answer | records |");
             println!("|---|---|---|---|---|---|");
         }
         section = (number, case.expected.stream);
@@ -97,13 +108,17 @@ pub fn print() {
     for case in CASES {
         println!("{}", window_line(case, &corpus));
     }
+    print!("{BESIDE}");
+    for case in ACCEPTED {
+        println!("{}", accepted_line(case, &corpus));
+    }
 }
 
 fn line(case: &Case, corpus: &[Record]) -> String {
     let text = case.text.filter(|text| text.len() <= SHORT);
     let text = match text {
         Some("") => "none".to_string(),
-        Some(text) => format!("`{}`", text.replace('|', "\\|")),
+        Some(text) => code(text),
         None => String::new(),
     };
     let call = *case.calls.last().expect("some call meets it");
@@ -142,6 +157,28 @@ fn window_line(case: &Arrivals, corpus: &[Record]) -> String {
         &place(&record, corpus),
     ];
     format!("| {} |", cells.join(" | "))
+}
+
+/// The line of something accepted.
+fn accepted_line(case: &Accepted, corpus: &[Record]) -> String {
+    let [problem, certificates @ ..] = case.streams;
+    let certificates = certificates.into_iter().filter(|text| !text.is_empty());
+    let certificates: Vec<String> = certificates.map(code).collect();
+    let cells = [
+        case.name,
+        case.what,
+        &code(problem),
+        &certificates.join(", "),
+        &quoted(case.words),
+        &format!("`{}`", case.line),
+        &place(&case.record(), corpus),
+    ];
+    format!("| {} |", cells.join(" | "))
+}
+
+/// A stream as it stands in a cell.
+fn code(text: &str) -> String {
+    format!("`{}`", text.replace('|', "\\|"))
 }
 
 fn quoted(words: &str) -> String {

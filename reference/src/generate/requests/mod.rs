@@ -1,9 +1,15 @@
 //! Records for the requests of document 02.
 
+mod equalities;
 mod windows;
 
+use crate::generate::accepted::case;
+use crate::generate::blocks::valid_draft;
+use crate::generate::certificates::{as_record, streams};
+use crate::generate::changes::{change_case, CHANGES};
+use crate::generate::damage::{self, damaged};
 use crate::generate::rng::Rng;
-use crate::records::{Record, WINDOW};
+use crate::records::{Record, BLOCKS, CHECK, PAIR, WINDOW};
 
 /// A call that a request added.
 pub struct Call {
@@ -16,15 +22,132 @@ pub struct Call {
     pub count: usize,
 }
 
-/// The calls of the requests, in the order of the corpus.
-pub const CALLS: &[Call] = &[Call {
-    kind: WINDOW,
-    special: windows::special,
-    random: windows::random,
-    count: 250,
-}];
+/// The commands of a problem and of its two certificates.
+pub type Streams = [Vec<Vec<u8>>; 3];
 
-/// The call of this kind, when a request added it.
-pub fn call(kind: u8) -> Option<&'static Call> {
-    CALLS.iter().find(|call| call.kind == kind)
+/// What a request does to the calls of document 01.
+pub struct Change {
+    /// The records of the corpus of this kind that are made for it.
+    pub special: fn(u8) -> Vec<Record>,
+    /// Puts its commands in, at random.
+    pub put: fn(&mut Rng, &mut Streams),
+    /// How many random records of each kind the corpus has of it.
+    pub count: usize,
+}
+
+/// A request that has landed, as a call of its own or as a change of the others.
+pub enum Landed {
+    Call(Call),
+    Change(Change),
+}
+
+/// The requests in the order in which they landed. The corpus has them in the same order, so that the
+/// records of one stand behind all that were there before it.
+const LANDED: &[Landed] = &[
+    Landed::Call(Call {
+        kind: WINDOW,
+        special: windows::special,
+        random: windows::random,
+        count: 250,
+    }),
+    Landed::Change(Change {
+        special: equalities::special,
+        put: equalities::put,
+        count: 200,
+    }),
+];
+
+/// The seed of the corpus.
+const SEED: u64 = 20_481;
+
+/// The records of the corpus for these kinds.
+pub fn corpus(kinds: &str) -> Vec<Record> {
+    let asked = |kind: &u8| kinds.as_bytes().contains(kind);
+    let mut all = Vec::new();
+    for (number, landed) in LANDED.iter().enumerate() {
+        let seeded = |kind| Rng::new(SEED + 256 * number as u64 + u64::from(kind));
+        match landed {
+            Landed::Call(call) if asked(&call.kind) => {
+                let rng = &mut seeded(call.kind);
+                all.extend((call.special)());
+                all.extend((0..call.count).map(|_| (call.random)(rng)));
+            }
+            Landed::Call(_) => {}
+            Landed::Change(change) => {
+                for kind in [BLOCKS, CHECK, PAIR].into_iter().filter(asked) {
+                    let rng = &mut seeded(kind);
+                    all.extend((change.special)(kind));
+                    all.extend((0..change.count).map(|_| changed(rng, kind, &[change])));
+                }
+            }
+        }
+    }
+    all
+}
+
+/// A fresh record: of the call of this kind, when a request added it; otherwise, of a call of
+/// document 01, with commands of some of the requests.
+pub fn record(rng: &mut Rng, kind: u8) -> Option<Record> {
+    let call = |landed: &Landed| match landed {
+        Landed::Call(call) if call.kind == kind => Some(call.random),
+        _ => None,
+    };
+    if let Some(random) = LANDED.iter().find_map(call) {
+        return Some(random(rng));
+    }
+    if !rng.once_in(2) {
+        return None;
+    }
+    let change = |landed: &'static Landed| match landed {
+        Landed::Change(change) => Some(change),
+        Landed::Call(_) => None,
+    };
+    let mut changes: Vec<&Change> = LANDED.iter().filter_map(change).collect();
+    rng.shuffle(&mut changes);
+    changes.truncate(rng.between(1, 3));
+    Some(changed(rng, kind, &changes))
+}
+
+/// A record with these requests in it, now and then with a damaged stream.
+fn changed(rng: &mut Rng, kind: u8, changes: &[&Change]) -> Record {
+    let (mut streams, focus) = drawn(rng, kind);
+    for change in changes {
+        (change.put)(rng, &mut streams);
+    }
+    let mut bytes = streams.each_ref().map(|commands| commands.concat());
+    if rng.once_in(6) {
+        let stream = if kind == BLOCKS { 0 } else { rng.below(3) };
+        let way = rng.below(damage::WAYS);
+        let stream_kind = [damage::PROBLEM, damage::CERTIFICATE][stream.min(1)];
+        bytes[stream] = damaged(rng, stream_kind, &streams[stream], way);
+    }
+    match kind {
+        BLOCKS => Record::blocks(bytes[0].clone()),
+        _ => as_record(kind, focus, bytes),
+    }
+}
+
+/// The streams of a problem with certificates that hold, or nearly do; and which one a check takes.
+fn drawn(rng: &mut Rng, kind: u8) -> (Streams, usize) {
+    if kind == BLOCKS && rng.once_in(2) {
+        let problem = valid_draft(rng).mixed_commands(rng);
+        return ([problem, Vec::new(), Vec::new()], 0);
+    }
+    let mut case = case(rng);
+    if rng.once_in(3) {
+        let change = rng.below(CHANGES);
+        change_case(rng, &mut case, change);
+    }
+    let mut streams = streams(&case);
+    if rng.once_in(2) {
+        streams[0] = case.problem.mixed_commands(rng);
+    }
+    (streams, case.focus)
+}
+
+/// The places of the commands with this first byte.
+fn places(commands: &[Vec<u8>], byte: u8) -> Vec<usize> {
+    let all = commands.iter().enumerate();
+    let found = all.filter(|(_, command)| command[0] == byte);
+    found.map(|(place, _)| place).collect()
 }

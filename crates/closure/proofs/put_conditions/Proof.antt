@@ -1,4 +1,4 @@
--- `put_constraints`: what is left of the constraints, put into the support so far, gives the whole set.
+-- `put_conditions`: what is left of the conditions, put into the support so far, gives the whole set.
 use borrow.Author.Needs.{needs}
 use native.Mathlib.Omega.{arith}
 use mathlib.Core.Path.{sym, _∙_}
@@ -12,8 +12,8 @@ use Rattle.half_rounds.proofs.Growth.{Growing, growing-start, growing-step, gro
 use Rattle.joining_rule.proofs.Extending.{fromTo-extends}
 use Rattle.joining_rule.proofs.Start.{insertAll-extends}
 use Rattle.closure.specs.Tables.{exponentsIn}
-use Rattle.closure.proofs.put_constraints.Statement.{statement}
-use Rattle.closure.proofs.put_constraints.Tie as tie
+use Rattle.closure.proofs.put_conditions.Statement.{statement}
+use Rattle.closure.proofs.put_conditions.Tie as tie
 
 -- the exponents of polynomial j put in
 abbrev step : List ℕ → List ℕ → ℕ → List ℕ → List ℕ
@@ -66,8 +66,8 @@ same-length-4 c = let l = c .before in l .loop .inv .1 .index .long ∙ sym (l .
 returns-2 : tie.Need-returns-2 Inv-loop μ-loop
 returns-2 c = growing-end _ _ _ _ _ _ _ (c .before .loop .inv .1) (fromTo-done _ _ _ _ (omega arith))
 
-pub put-constraints-spec : {M : Type 1} → statement M
-put-constraints-spec =
+pub put-conditions-spec : {M : Type 1} → statement M
+put-conditions-spec =
     tie.close
     (tie.spec
     Inv-loop
