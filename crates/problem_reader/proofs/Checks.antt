@@ -4,6 +4,7 @@ use mathlib.Core.List.{List}
 use mathlib.Core.Bool.{Bool, true, false}
 use Prim.Native.Nat.{ℕ, _+_, _-_, _^_, _≤_, _<_}
 use native.Mathlib.Omega.{arith}
+use lib.Dec.{leb}
 use lib.ListN.{length, getD}
 use borrow.Author.Tests.{le-leb, lt-leb, leb-true, leb-false}
 use Rattle.format.specs.Commands.{firstRefusal}
@@ -14,7 +15,7 @@ use Rattle.format.specs.ProblemRules.{Problem, problemPlaced, problemOperandsFi
 use Rattle.problem_reader.specs.Checks.{early, late, lateIn}
 use Rattle.format.proofs.ProblemChecks.{placed-size, end-command, end-byte}
 
--- ---- the first three checks, one by one
+-- ---- the first two checks, one by one
 module _ (p : Problem) (s : List ℕ) (at : ℕ) where
   pub early-3 : problemPlaced p at (problemCommandAt s at) ≡ false → early p s at ≡ 3
   unfolding early firstRefusal
@@ -25,37 +26,30 @@ module _ (p : Problem) (s : List ℕ) (at : ℕ) where
     unfolding early firstRefusal
     early-2 k = rw (h, lt-leb (at + problemSize (problemCommandAt s at)) (length s) k)
 
-    module _ (k : at + problemSize (problemCommandAt s at) ≤ length s) where
-      pub early-4 : problemOperandsFit p (problemInstructionAt s at) ≡ false → early p s at ≡ 4
-      unfolding early firstRefusal
-      early-4 l = rw (h, le-leb (at + problemSize (problemCommandAt s at)) (length s) k, l)
-
-      pub early-0 : problemOperandsFit p (problemInstructionAt s at) ≡ true → early p s at ≡ 0
-      unfolding early firstRefusal
-      early-0 l = rw (h, le-leb (at + problemSize (problemCommandAt s at)) (length s) k, l)
+    pub early-0 : at + problemSize (problemCommandAt s at) ≤ length s → early p s at ≡ 0
+    unfolding early firstRefusal
+    early-0 k = rw (h, le-leb (at + problemSize (problemCommandAt s at)) (length s) k)
 
 -- ---- what follows from them
-module _ (a b c : Bool) where
+module _ (a b : Bool) where
   -- where one of them fails, it decides
-  early-decides : (r f : Bool) → 0 < firstRefusal a b c false false → firstRefusal a b c r f ≡ firstRefusal a b c false false
+  early-decides : (c r f : Bool) → 0 < firstRefusal a b true false false → firstRefusal a b c r f ≡ firstRefusal a b true false false
   unfolding firstRefusal
-  early-decides r f = go a b c
+  early-decides c r f = go a b
     where
-      go : (a b c : Bool) → 0 < firstRefusal a b c false false → firstRefusal a b c r f ≡ firstRefusal a b c false false
-      go false b c h = refl
-      go true false c h = refl
-      go true true false h = refl
-      go true true true h = absurd (omega arith)
+      go : (a b : Bool) → 0 < firstRefusal a b true false false → firstRefusal a b c r f ≡ firstRefusal a b true false false
+      go false b h = refl
+      go true false h = refl
+      go true true h = absurd (omega arith)
 
-  early-passes : firstRefusal a b c false false ≡ 0 → (a ≡ true) × (b ≡ true) × (c ≡ true)
+  early-passes : firstRefusal a b true false false ≡ 0 → (a ≡ true) × (b ≡ true)
   unfolding firstRefusal
-  early-passes = go a b c
+  early-passes = go a b
     where
-      go : (a b c : Bool) → firstRefusal a b c false false ≡ 0 → (a ≡ true) × (b ≡ true) × (c ≡ true)
-      go false b c h = absurd (omega arith)
-      go true false c h = absurd (omega arith)
-      go true true false h = absurd (omega arith)
-      go true true true h = (refl, refl, refl)
+      go : (a b : Bool) → firstRefusal a b true false false ≡ 0 → (a ≡ true) × (b ≡ true)
+      go false b h = absurd (omega arith)
+      go true false h = absurd (omega arith)
+      go true true h = (refl, refl)
 
 -- no check fails, so the list is not full
 not-full : (a f : Bool) → firstRefusal true true true a f ≡ 0 → f ≡ false
@@ -81,19 +75,24 @@ module _ (p : Problem) (s : List ℕ) (at : ℕ) where
   unfolding early problemRefusalAt
   early-refusal h = early-decides _ _ _ _ _ h
 
-  pub passes : (i : Instruction) (next : ℕ) → early p s at ≡ 0 → problemInstructionAt s at ≡ i → next ≡ at + problemSize (problemCommandAt s at) → Passes p s at i next
-  unfolding early problemRefusalAt
-  passes i next h e k =
-      let t = early-passes _ _ _ h in
-      let w = leb-true (at + problemSize (problemCommandAt s at)) (length s) (t .1) in
-      record {
-        instruction = e;
-        stands = t .0;
-        step = k;
-        whole = omega arith;
-        operands = rw e at (t .2);
-        decides = rw (t .0, t .1, t .2, e);
-      }
+  module _ (h : early p s at ≡ 0) where
+    tests : (problemPlaced p at (problemCommandAt s at) ≡ true) × (leb (at + problemSize (problemCommandAt s at)) (length s) ≡ true)
+    unfolding early
+    tests = early-passes _ _ h
+
+    pub early-whole : at + problemSize (problemCommandAt s at) ≤ length s
+    early-whole = leb-true (at + problemSize (problemCommandAt s at)) (length s) (tests .1)
+
+    -- then the third
+    pub operands-refusal : problemOperandsFit p (problemInstructionAt s at) ≡ false → problemRefusalAt p s at ≡ 4
+    unfolding problemRefusalAt firstRefusal
+    operands-refusal l = rw (tests .0, tests .1, l)
+
+    pub passes : (i : Instruction) (next : ℕ) → problemOperandsFit p i ≡ true → problemInstructionAt s at ≡ i → next ≡ at + problemSize (problemCommandAt s at) → Passes p s at i next
+    unfolding problemRefusalAt
+    passes i next l e k =
+        let w = early-whole in
+        record { instruction = e; stands = tests .0; step = k; whole = omega arith; operands = l; decides = rw (tests .0, tests .1, e, l) }
 
 module _ (p : Problem) (s : List ℕ) (at : ℕ) (i : Instruction) (next : ℕ) (t : Passes p s at i next) where
   pub passes-size : 1 ≤ problemSize (problemCommandAt s at)

@@ -28,7 +28,7 @@ use Rattle.flat.specs.TermArrays.{termsIn, FilledTerms}
 use Rattle.flat.specs.Flat.{exponentsAt, coefficientsAt, kindAt, kindNumber, FlatLimits, FlatZero}
 use Rattle.flat.proofs.TermArrays.{terms-length, terms-keys}
 use Rattle.flat.proofs.Flat.{basis-long}
-use Rattle.problem_reader.specs.Checks.{early, late, lateIn}
+use Rattle.problem_reader.specs.Checks.{late, lateIn}
 use Rattle.problem_reader.specs.Storing.{terms, noTerms, beginning, storedIf, ReadFlat}
 use Rattle.problem_reader.specs.declared.Polynomial.{Polynomial}
 use Rattle.problem_reader.specs.declared.Reading.{Reading}
@@ -81,18 +81,14 @@ module _ {s keys : List ℕ} {coefficients : List ℤ} {sizes : List ℕ} {v : �
       let u = g .undecided in
       refusal s keys coefficients sizes number at (g .held .limits) (omega arith) (rw (u, e) (sym (left-end problemLanguage s _ _ at (g .left) h)))
 
-  -- what the first checks say of these numbers, they say of this problem
-  pub first-checks : (r : ℕ) → ((p : Problem) → p .variables ≡ v → length (p .conditions) ≡ n → r ≡ early p s at) → r ≡ early here s at
-  first-checks r e = e here (g .held .variables) (g .held .count)
-
   module _ (h : at < length s) where
     refusing : (keys′ : List ℕ) (coefficients′ : List ℤ) (sizes′ : List ℕ) → FlatLimits keys′ coefficients′ sizes′ → (m : ℕ) → 0 < m → problemRefusalAt here s at ≡ m
         → ReadFlat s (reading m at) keys′ coefficients′ sizes′
     refusing keys′ coefficients′ sizes′ f m l e =
         refusal s keys′ coefficients′ sizes′ m at f l (rw e at (sym (left-refused problemLanguage s _ _ at (g .left) h (omega arith))))
 
-    pub early-refusing : (m : ℕ) → 0 < m → problemRefusalAt here s at ≡ m → ReadFlat s (reading m at) keys coefficients sizes
-    early-refusing = refusing keys coefficients sizes (g .held .limits)
+    pub first-refusing : (m : ℕ) → 0 < m → problemRefusalAt here s at ≡ m → ReadFlat s (reading m at) keys coefficients sizes
+    first-refusing = refusing keys coefficients sizes (g .held .limits)
 
     -- past the arm of a command
     module _ {i : Instruction} {after : ℕ} (t : Passes here s at i after) {keys′ : List ℕ} {coefficients′ : List ℤ} {sizes′ : List ℕ} {v′ : ℕ} {last′ : Polynomial} {n′ m : ℕ}

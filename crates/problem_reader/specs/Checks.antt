@@ -1,5 +1,5 @@
--- The five checks of a command in two groups. The first three, 3, 2 and 4, need two numbers of what was read before it;
--- the last two, 5 and 6, need the one list that grows.
+-- The five checks of a command. The first two, 3 and 2, need one number of what was read before it; 4 is the rule of
+-- its operands; the last two, 5 and 6, need the one list that grows.
 use mathlib.Core.Bool.{true, false}
 use mathlib.Core.List.{List}
 use Prim.Native.Nat.{ℕ, _+_}
@@ -9,14 +9,13 @@ use Rattle.format.specs.Commands.{firstRefusal}
 use Rattle.polynomial.specs.Monomial.{among}
 use Rattle.format.specs.declared.problem.Instruction.{Instruction}
 use Rattle.format.specs.ProblemLayout.{problemSize}
-use Rattle.format.specs.ProblemRules.{Problem, problemPlaced, problemOperandsFit, problemRepeated, problemFull, problemCommandAt, problemInstructionAt}
+use Rattle.format.specs.ProblemRules.{Problem, problemPlaced, problemRepeated, problemFull, problemCommandAt}
 
--- the number of the first of 3, 2 and 4 that fails, or 0
+-- the number of the first of 3 and 2 that fails, or 0
 unfoldable pub early : Problem → List ℕ → ℕ → ℕ
 early p s at =
     firstRefusal (problemPlaced p at (problemCommandAt s at))
-    (leb (at + problemSize (problemCommandAt s at)) (length s)) (problemOperandsFit p (problemInstructionAt s at))
-    false false
+    (leb (at + problemSize (problemCommandAt s at)) (length s)) true false false
 
 -- the number of the first of 5 and 6 that fails, or 0
 abbrev pub late : Problem → Instruction → ℕ

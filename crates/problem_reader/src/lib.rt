@@ -216,23 +216,18 @@ fn kind_of(i: Instruction) -> usize
     }
 }
 
-// The checks 3, 2 and 4 of the command at an offset: they need two numbers of what was read before it.
-fn check_at(n: usize, count: usize, command: Command, len: usize, s: &[u8], at: usize) -> u8
+// The checks 3 and 2 of the command at an offset: they need one number of what was read before it.
+fn check_at(count: usize, command: Command, len: usize, s: &[u8], at: usize) -> u8
     requires { ⌜
         (at < length (now s)) × (command ≡ problemCommandAt (now s) at) × (len ≡ problemSize command)
         ⌝ }
-    ensures { λ r. ⌜
-        ((p : Problem) → p .variables ≡ n → length (p .conditions) ≡ count → r ≡ early p (now (s .entry)) at)
-        ⌝ }
+    ensures { λ r. ⌜ ((p : Problem) → length (p .conditions) ≡ count → r ≡ early p (now (s .entry)) at) ⌝ }
 {
     if !is_placed(count, at, command) {
         return 3;
     }
     if s.len() - at < len {
         return 2;
-    }
-    if !is_allowed(n, count, decode_at(command, s, at)) {
-        return 4;
     }
     0
 }
@@ -355,12 +350,16 @@ pub fn read(
         let byte = s[at];
         let command = command_of(byte);
         let len = length_of(byte);
-        number = check_at(variables, count, command, len, s, at);
+        number = check_at(count, command, len, s, at);
         if 0 < number {
             break;
         }
         let next = at + len;
         let told = decode_at(command, s, at);
+        if !is_allowed(variables, count, told) {
+            number = 4;
+            break;
+        }
         match told {
             Instruction::Variables(n) => {
                 variables = n;
