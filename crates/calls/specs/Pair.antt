@@ -20,8 +20,8 @@ use Rattle.calls.specs.Check.{boundOf}
 abbrev pub refusedPair : Refusal → PairVerdict
 refusedPair r = record { refusal = r; lower = none; upper = none; gap = none; empty = false; rounds = 0 }
 
--- "Pair: both bounds, gap, rounds"; "The pair now marks a negative gap as "empty", with 0 in both gap fields in place of
--- document 01's gap"
+-- "Pair: both bounds, gap, rounds"; "The pair now marks a negative gap as "empty", with 0 in both gap fields in place
+-- of document 01's gap"
 abbrev pub acceptedPair : Header → Header → ℕ → PairVerdict
 acceptedPair t u rounds =
     let gap = gapOf (boundOf t) (boundOf u) in

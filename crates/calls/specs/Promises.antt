@@ -142,8 +142,8 @@ pub record BothHold (p : Problem) (low high : List ℕ) (c d : Certificate) : Ty
   pub lower : c .header .side ≡ 0
   pub upper : d .header .side ≡ 1
 
--- "the bounds reported are the p/q and P/Q that the certificates state, and the gap is document 01's", or "a negative gap
--- as "empty", with 0 in both gap fields in place of document 01's gap"
+-- "the bounds reported are the p/q and P/Q that the certificates state, and the gap is document 01's"; "The pair now
+-- marks a negative gap as "empty", with 0 in both gap fields in place of document 01's gap"
 pub record Stated (s low high : List ℕ) (v : PairVerdict) : Type 0 where
   pub problem : Problem
   pub read : readProblem s ≡ given problem

@@ -1,5 +1,5 @@
--- The byte streams of document 01's samples, of some with equalities and of one with no points. A monomial is written by the exponents of its
--- first two variables, a number below 0 as its lowest byte.
+-- The byte streams of document 01's samples, of some with equalities and of one whose limits contradict each other. A
+-- monomial is written by the exponents of its first two variables, a number below 0 as its lowest byte.
 use mathlib.Core.List.{List, [], _∷_, _++_}
 use Prim.Native.Nat.{ℕ}
 use lib.ListN.{replicate}
