@@ -15,7 +15,7 @@ fn cross(n: i64, d: u64) -> i64
     n * (d as i64)
 }
 
-// 0 over 1.
+// 0 over 1. A gap below it is no distance.
 pub const ZERO: Fraction = Fraction { num: 0, den: 1 };
 
 // 0 over 0, which stands in the place of a fraction with a refusal, and of a gap that is below 0.
@@ -108,7 +108,7 @@ pub fn gap(lower: Fraction, upper: Fraction) -> Fraction
 pub fn is_negative(f: Fraction) -> bool
     ensures { λ r. ⌜ r ≡ isNegative f ⌝ }
 {
-    f.num < 0
+    f.num < ZERO.num
 }
 
 // A gap as it is, or 0 over 0 where it is below 0.

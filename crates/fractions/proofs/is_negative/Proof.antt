@@ -1,5 +1,5 @@
--- `is_negative`: the numerator is a number of 64 bits. The prover would find this by itself; written out, a test of
--- another number than 0 is refused as a false equation.
+-- `is_negative`: the numerator is a number of 64 bits. The prover would find this by itself; written out, another test
+-- is refused as a false equation.
 use borrow.Author.Needs.{needs}
 use mathlib.Core.Path.{_≡_, refl}
 use mir.Syntax.{w64}
@@ -11,7 +11,7 @@ numerator : (c : tie.After-struct-told) → let n = c .before .before .args .f .
 numerator c = search needs
 
 returns : tie.Need-returns
-returns c = rw (numerator c) refl
+returns c = rw (numerator (c .before .before)) refl
 
 pub is-negative-spec : {M : Type 1} → statement M
 is-negative-spec = tie.close (tie.spec returns)
