@@ -14,7 +14,7 @@ from . import blocks as blocks_module
 from . import exact, programs
 from .commands import Kind, kind_of
 from .decimals import decimal, fraction, is_exact
-from .explain import explain
+from .explain import explain, explain_empty
 from .reading import Problem, Refusal, Refused, read_problem
 from .text import DEFAULT_NAMES, NAME, TextError, decode, encode, refusal_of
 
@@ -127,7 +127,7 @@ def run_check(arguments: argparse.Namespace) -> int:
         if verdict.gap is not None:
             print(bound_line("gap", verdict.gap, True))
         if verdict.empty:
-            print("gap    below 0: no rational point meets all conditions")
+            print("gap    empty: the bounds cross, so no rational point meets all the conditions")
     if arguments.second:
         print(second_opinion(problem, low, high, verdict))
     return DONE if verdict.accepted else REFUSED
@@ -148,18 +148,20 @@ def second_opinion(problem: bytes, low: bytes, high: Optional[bytes], verdict: p
 
 
 def _comparable(lines: list[str]) -> list[str]:
-    """Lines without what depends on the requests that landed: the rule, and how a gap below 0 is said."""
-    return ["gap empty" if line.startswith("gap -") else line.split(" rule ")[0] for line in lines]
+    """Lines without what depends on the requests that landed: the rule."""
+    return [line.split(" rule ")[0] for line in lines]
 
 
 def run_explain(arguments: argparse.Namespace) -> int:
     problem, low, high = streams_of(arguments.paths)
     verdict = programs.check_one(problem, low) if high is None else programs.gapcheck(problem, low, high)
+    names = names_of(arguments.names)
     if verdict.refusal is None:
         print("\n".join(verdict.lines))
-        print("accepted: nothing to explain")
+        print("\n".join(explain_empty(verdict, problem, low, high or b"", names)) if verdict.empty
+              else "accepted: nothing to explain")
         return DONE
-    print("\n".join(explain(verdict.refusal, problem, low, high or b"", names_of(arguments.names))))
+    print("\n".join(explain(verdict.refusal, problem, low, high or b"", names)))
     return REFUSED
 
 

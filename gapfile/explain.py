@@ -1,11 +1,13 @@
-"""What a refusal means: the line of text at its place, the rule it breaks, and what can be seen there."""
+"""What a refusal means: the line of text at its place, the rule it breaks, and what can be seen there. And what an empty
+gap means."""
 from __future__ import annotations
 
 from typing import Optional
 
-from .commands import TABLE, Kind, Monomial, key, monomial_of_key, monomial_text
+from .commands import TABLE, Kind, Monomial, key, monomial_of_key, monomial_text, polynomial_text
+from .decimals import fraction
 from .exact import closure, differences, products
-from .programs import blocks_call
+from .programs import Verdict, blocks_call
 from .reading import KEYS, Certificate, Problem, Refusal, Refused, read_certificate, read_problem
 from .text import DEFAULT_NAMES, decode, refusal_of
 
@@ -42,6 +44,22 @@ def explain(refusal: Refusal, problem_stream: bytes, low: bytes, high: bytes,
     if refusal.number == 8:
         return lines + _row(refusal, problem, problem_stream, certificate, stream, names)
     return lines + identity(problem, certificate, names)
+
+
+def explain_empty(verdict: Verdict, problem_stream: bytes, low: bytes, high: bytes,
+                  names: Optional[list[str]] = None) -> list[str]:
+    """Lines on an empty gap: each bound holds wherever the conditions do that its rows are on, so these contradict each
+    other."""
+    assert verdict.lower is not None and verdict.upper is not None
+    problem = read_problem(problem_stream)
+    rows = [row for number, stream in ((1, low), (2, high)) for row in read_certificate(stream, problem, number).rows]
+    lines = [f"accepted, and the bounds cross: at least {fraction(verdict.lower)} and at most {fraction(verdict.upper)}, "
+             "so no rational point meets all the conditions", "those with rows contradict each other:"]
+    for j in sorted({row.basis for row in rows if row.basis > 0}):
+        condition = problem.conditions[j - 1]
+        lines.append(f"  condition {j}: {polynomial_text(condition.terms, names or DEFAULT_NAMES)} "
+                     f"{'=' if condition.equality else '>='} 0")
+    return lines
 
 
 def _place(refusal: Refusal, stream: bytes, problem_stream: bytes, names: list[str]) -> list[str]:

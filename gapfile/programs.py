@@ -86,8 +86,8 @@ def pair_verdict(lines: list[str]) -> Verdict:
     said = dict(line.split(" ", 1) for line in lines if " " in line)
     if not {"lower", "upper", "gap", "rounds"} <= said.keys():
         raise ProgramError(f"gapcheck answered {lines!r}")
-    empty = said["gap"] == "empty" or said["gap"].startswith("-")
-    return Verdict(lines, None, Fraction(said["lower"]), Fraction(said["upper"]), empty, int(said["rounds"]))
+    lower, upper, empty = Fraction(said["lower"]), Fraction(said["upper"]), said["gap"] == "empty"
+    return Verdict(lines, None, lower, upper, empty, int(said["rounds"]))
 
 
 def _refusal(lines: list[str]) -> Optional[Refusal]:

@@ -70,7 +70,9 @@ def _figure(sheet: Sheet) -> str:
     lower, upper = sheet.verdict.lower, sheet.verdict.upper
     assert lower is not None and upper is not None
     if sheet.verdict.empty:
-        return '<p class="figure">No rational point meets all conditions: the region is empty.</p>'
+        return ('<p class="figure">No rational point meets all the conditions: the region is empty.</p>'
+                "<p>The lower bound is above the upper one, and both hold at every point of the region. "
+                "So there is no figure to quote.</p>")
     low, high, gap = lower / sheet.factor, upper / sheet.factor, (upper - lower) / sheet.factor
     rounded = not all(is_exact(x, sheet.digits) for x in (low, high, gap))
     return ('<p class="figure">At every rational point of the region the value is at least '
@@ -122,7 +124,9 @@ def _exact(sheet: Sheet) -> str:
 
 
 def _points(sheet: Sheet) -> str:
-    """Attained values, computed here from the bytes; relaxation and rows beside them."""
+    """Attained values, computed here from the bytes; relaxation and rows beside them. An empty region attains none."""
+    if sheet.verdict.empty:
+        return ""
     rows = []
     for side, word in enumerate(("lower", "upper")):
         certificate, point = sheet.certificates[side], sheet.points[side]

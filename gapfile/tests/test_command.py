@@ -85,6 +85,21 @@ class Check(unittest.TestCase):
                                       "gap    7300259/50000 = 146.00518"])
         self.assertTrue(lines[7].endswith("agrees"))
 
+    def test_empty(self) -> None:
+        status, out, _ = run("check", "--second", EXAMPLES / "contradictory")
+        self.assertEqual(status, 0)
+        lines = out.splitlines()
+        self.assertEqual(lines[:4], ["lower 2/1", "upper -2/1", "gap empty", "rounds 2"])
+        self.assertEqual(lines[4:7], ["lower  2 = 2", "upper  -2 = -2",
+                                      "gap    empty: the bounds cross, so no rational point meets all the conditions"])
+        self.assertTrue(lines[7].endswith("agrees"))
+
+    def test_a_gap_of_0_is_a_gap(self) -> None:
+        problem = encode("variables x\nequality\nterm 1 x\nbasis 1 1\nend")[0]
+        low, high = [encode(f"{word} 0/1 scale 1\ndone")[0] for word in ("lower", "upper")]
+        verdict = programs.gapcheck(problem, low, high)
+        self.assertEqual((verdict.lines[2], verdict.empty, verdict.gap), ("gap 0/1", False, 0))
+
     def test_one_certificate(self) -> None:
         status, out, _ = run("check", "--second", EXAMPLES / "ex5_5/problem.bin", EXAMPLES / "ex5_5/high.bin")
         self.assertEqual(status, 0)
@@ -111,7 +126,29 @@ class Explain(unittest.TestCase):
         return [(F / f"{name}.bin").read_bytes() for name in ("problem", "low", "high")]
 
     def test_nothing(self) -> None:
-        self.assertEqual(run("explain", F)[0], 0)
+        status, out, _ = run("explain", F)
+        self.assertEqual((status, out.splitlines()[-1]), (0, "accepted: nothing to explain"))
+
+    def test_empty(self) -> None:
+        """The conditions that have rows, and no others."""
+        status, out, _ = run("explain", EXAMPLES / "contradictory", "--names", "a,b")
+        self.assertEqual(status, 0)
+        self.assertEqual(out.splitlines()[4:], [
+            "accepted, and the bounds cross: at least 2 and at most -2, so no rational point meets all the conditions",
+            "those with rows contradict each other:", "  condition 1: 1 - a^2 - b^2 >= 0", "  condition 2: a + b - 2 >= 0"])
+
+    def test_empty_with_equalities(self) -> None:
+        """-1 = -(x) + (x - 1), beside a condition that no row is on."""
+        problem = encode("variables x\nequality\nterm 1 x\nconstraint\nterm 5 1\nequality\nterm 1 x\nterm -1 1\n"
+                         "basis 1 1\nbasis 3 1\nend")[0]
+        low, high = [encode(f"{bound} scale 1\nsigned 1 weight -1\nentry 0 1\nsigned 3 weight 1\nentry 0 1\ndone")[0]
+                     for bound in ("lower 1/1", "upper -1/1")]
+        with tempfile.TemporaryDirectory() as folder:
+            for name, stream in (("problem", problem), ("low", low), ("high", high)):
+                (Path(folder) / f"{name}.bin").write_bytes(stream)
+            status, out, _ = run("explain", folder)
+        self.assertEqual((status, out.splitlines()[2]), (0, "gap empty"))
+        self.assertEqual(out.splitlines()[-2:], ["  condition 1: x1 = 0", "  condition 3: x1 - 1 = 0"])
 
     def test_single_factor(self) -> None:
         """l = 3 in place of 1 on x: (1 + 3x)^2 + (1 - x^2) has 6x and 8x^2 where 2x and nothing are due."""

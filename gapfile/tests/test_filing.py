@@ -130,6 +130,22 @@ class Filing(unittest.TestCase):
             for name in ("sheet.html", "SUMS", "verdict.txt"):
                 self.assertFalse((folder / name).exists())
 
+    def test_empty_region(self) -> None:
+        """The sheet says that there are no points, and has no figure."""
+        with tempfile.TemporaryDirectory() as kept:
+            folder = Path(kept) / "contradictory"
+            shutil.copytree(EXAMPLES / "contradictory", folder)
+            variables = [{"name": x, "in the stream": x, "middle": "0", "half": "1"} for x in ("x1", "x2")]
+            sides = [{"relaxation": bound} for bound in ("2", "-2")]
+            (folder / "manifest.json").write_text(json.dumps({"title": "", "factor": 1, "variables": variables,
+                                                              "solver": "none", "sides": sides}))
+            (folder / "model.gap").write_text("")
+            self.assertTrue(file_folder(folder).empty)
+            page = (folder / "sheet.html").read_text()
+            self.assertIn("No rational point meets all the conditions: the region is empty.", page)
+            self.assertEqual(re.findall(r"<b>(.*?)</b>", page), [])
+            self.assertIn("gap empty\n", (folder / "verdict.txt").read_text())
+
     def test_statuses(self) -> None:
         with tempfile.TemporaryDirectory() as folder:
             model = Path(folder) / "m.gap"

@@ -79,7 +79,10 @@ fn gapcheck(problem: &[u8], low: &[u8], high: &[u8]) -> String {
     match plain::pair(problem, low, high) {
         Ok(pair) => format!(
             "lower {}\nupper {}\ngap {}\nrounds {}\n",
-            pair.lower, pair.upper, pair.gap, pair.rounds
+            pair.lower,
+            pair.upper,
+            pair.gap_text(),
+            pair.rounds
         ),
         Err(refusal) => format!("{refusal}\n"),
     }

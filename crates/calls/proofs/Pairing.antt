@@ -6,7 +6,11 @@ use mathlib.Core.Logic.{_⊎_, inl, inr}
 use Prim.Native.Nat.{ℕ, _≤_}
 use native.Mathlib.Omega.{arith}
 use lib.Dec.{eqb}
-use borrow.Author.Tests.{eqb-true, eq-eqb}
+use lib.IntN.{ℤ, pos, negsuc}
+use lib.Signed.{ltZ}
+use borrow.Author.Tests.{eqb-true, eq-eqb, ltb-true}
+use Rattle.counting.proofs.Cases.{clash}
+use Rattle.polynomial.specs.Point.{Point}
 use Rattle.format.specs.Commands.{given}
 use Rattle.format.specs.ProblemRules.{Problem, readProblem}
 use Rattle.format.proofs.ProblemLimits.{read-limits}
@@ -16,13 +20,22 @@ use Rattle.accepting.specs.Judgement.{Judgement, judge}
 use Rattle.accepting.specs.Judgement as J
 use Rattle.accepting.proofs.Accepted.{judge-accepted, accepted-judge, judge-differs, accepted-below, accepted-above}
 use Rattle.accepting.proofs.Bounds.{bounds-gap}
+use Rattle.accepting.proofs.Empty.{below-zero-empty}
+use Rattle.accepting.specs.Bounds.{Allowed, WithinGap}
 use Rattle.calls.specs.declared.PairVerdict.{PairVerdict}
+use Rattle.calls.specs.Fractions.{gapOf}
+use Rattle.calls.specs.Check.{boundOf}
 use Rattle.calls.specs.Refusals.{problemRefusal, certificateRefusal}
 use Rattle.calls.specs.Pair.{refusedPair, acceptedPair, pairSides, pairSecond, pairFirst, pairOf, pairRead, pairVerdict}
-use Rattle.calls.specs.Promises.{NumberedTo, RoundsTaken, FewRounds, Reads, DiffersAt, Within, BothHold, Stated, PairExactly, SecondDiffers, PairDiffers, HoldsBelow, HoldsAbove, HoldsGap}
+use Rattle.calls.specs.Promises.{NumberedTo, RoundsTaken, FewRounds, Reads, DiffersAt, Within, BothHold, Stated, PairExactly, SecondDiffers, PairDiffers, HoldsBelow, HoldsAbove, HoldsGap, NoPoints}
 use Rattle.calls.proofs.Promised.{promise-rounds, promise-few}
 use Rattle.calls.proofs.Judged.{Between, judge-number, judge-nine}
 use Rattle.calls.proofs.Ends.{reads-at, Ends, before, within, ends, opened}
+
+-- a gap below 0 is the distance of no two points
+no-point : (p : Problem) (z : ℤ) (y : ℕ) → ltZ z (pos 0) ≡ true → WithinGap p z y → (a : Point) → Allowed p a → ⊥
+no-point p (pos x) y e h a g = absurd (omega (arith, ltb-true x 0 e))
+no-point p (negsuc n) y e h a g = below-zero-empty p n y h a g
 
 -- two certificates that hold, and the verdict that says so
 record Paired (p : Problem) (low high : List ℕ) (v : PairVerdict) : Type 0 where
@@ -78,6 +91,9 @@ module _ (short : Bool) (s low high : List ℕ) (v : PairVerdict) (is : v ≡ pa
   stream-is : (w : PairVerdict) → v ≡ w → v .refusal .stream ≡ w .refusal .stream
   stream-is w e = ap (λ (x : PairVerdict). x .refusal .stream) e
 
+  empty-is : (w : PairVerdict) → v ≡ w → v .empty ≡ w .empty
+  empty-is w e = ap (λ (x : PairVerdict). x .empty) e
+
   pair-numbered : NumberedTo 10 (v .refusal .number)
   pair-numbered = go ended
     where
@@ -117,6 +133,7 @@ module _ (short : Bool) (s low high : List ℕ) (v : PairVerdict) (is : v ≡ pa
           lower = ap (λ (x : PairVerdict). x .lower) (k .verdict);
           upper = ap (λ (x : PairVerdict). x .upper) (k .verdict);
           gap = ap (λ (x : PairVerdict). x .gap) (k .verdict);
+          empty = empty-is _ (k .verdict);
         };
     always = λ p c d w b.
         number-is _ (is-judged p w)
@@ -133,10 +150,42 @@ module _ (short : Bool) (s low high : List ℕ) (v : PairVerdict) (is : v ≡ pa
       let k = found-at p read h in
       rw (k .verdict) (accepted-above p (read-limits s p read) high (k .second) (k .hold .second) (k .hold .upper))
 
-  gap : HoldsGap s (v .refusal .number) (v .gap)
-  gap p read h =
+  -- document 01's gap, whether it is below 0 or not
+  within-gap : (p : Problem) → readProblem s ≡ given p → v .refusal .number ≡ 0 → (k : Paired p low high v)
+      → let g = gapOf (boundOf (k .first .header)) (boundOf (k .second .header)) in WithinGap p (g .num) (g .den)
+  within-gap p read h k =
+      bounds-gap p _ _ _ _ (rw (k .verdict) at (below p read h)) (rw (k .verdict) at (above p read h))
+
+  gap : HoldsGap s (v .refusal .number) (v .empty) (v .gap)
+  gap p read h e =
       let k = found-at p read h in
-      rw (k .verdict) (bounds-gap p _ _ _ _ (rw (k .verdict) at (below p read h)) (rw (k .verdict) at (above p read h)))
+      let z = sym (empty-is _ (k .verdict)) ∙ e in
+      rw (k .verdict, z) (within-gap p read h k)
+
+  -- ---- where the gap is marked as empty
+  empty-accepted : v .empty ≡ true → v .refusal .number ≡ 0
+  empty-accepted t = go ended
+    where
+      go : Ended s low high v → v .refusal .number ≡ 0
+      go (unjudged n place b e) = let f = empty-is _ e in clash (cc)
+      go (first-refused p r n place key g e) = let f = empty-is _ e in clash (cc)
+      go (second-refused p r c a n place key g e) = let f = empty-is _ e in clash (cc)
+      go (wrong-side i e) = let f = empty-is _ e in clash (cc)
+      go (accepted r) = number-is _ (r .holds .verdict)
+
+  empty : NoPoints s v
+  empty = record {
+    accepted = empty-accepted;
+    points = λ t.
+        let h = empty-accepted t in
+        let r = pair-found h in
+        let k = r .holds in
+        record {
+          problem = r .problem;
+          read = r .read;
+          holds = no-point (r .problem) _ _ (sym (empty-is _ (k .verdict)) ∙ t) (within-gap (r .problem) (r .read) h k);
+        };
+  }
 
   pair-rounds : RoundsTaken s (v .refusal .number) (v .rounds)
   pair-rounds p read h = rw (found-at p read h .verdict) (promise-rounds s p read)
@@ -171,5 +220,5 @@ module _ (short : Bool) (s low high : List ℕ) (v : PairVerdict) (is : v ≡ pa
       go h (accepted r) = absurd (omega (arith, number-is _ (r .holds .verdict)))
 
   -- all of them
-  pub pair-clauses : NumberedTo 10 (v .refusal .number) × (PairExactly short s low high v × (PairDiffers short s low high (v .refusal) × (HoldsBelow s (v .refusal .number) (v .lower) × (HoldsAbove s (v .refusal .number) (v .upper) × (HoldsGap s (v .refusal .number) (v .gap) × (RoundsTaken s (v .refusal .number) (v .rounds) × FewRounds s (v .refusal .number) (v .rounds)))))))
-  pair-clauses = (pair-numbered, (pair-exactly, (pair-differs, (below, (above, (gap, (pair-rounds, pair-few)))))))
+  pub pair-clauses : NumberedTo 10 (v .refusal .number) × (PairExactly short s low high v × (PairDiffers short s low high (v .refusal) × (HoldsBelow s (v .refusal .number) (v .lower) × (HoldsAbove s (v .refusal .number) (v .upper) × (HoldsGap s (v .refusal .number) (v .empty) (v .gap) × (NoPoints s v × (RoundsTaken s (v .refusal .number) (v .rounds) × FewRounds s (v .refusal .number) (v .rounds))))))))
+  pair-clauses = (pair-numbered, (pair-exactly, (pair-differs, (below, (above, (gap, (empty, (pair-rounds, pair-few))))))))

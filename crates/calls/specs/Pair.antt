@@ -1,12 +1,12 @@
 -- What the pair returns, for all inputs.
-use mathlib.Core.Bool.{Bool, cond}
+use mathlib.Core.Bool.{Bool, false, cond}
 use mathlib.Core.List.{List}
 use Prim.Native.Nat.{ℕ}
 use lib.Dec.{eqb}
 use Rattle.format.specs.Commands.{Outcome, refused, given}
 use Rattle.format.specs.ProblemRules.{Problem, readProblem}
 use Rattle.joining_rule.specs.Joining.{closing, tooLarge}
-use Rattle.calls.specs.Fractions.{none, gapOf}
+use Rattle.calls.specs.Fractions.{none, gapOf, isNegative, unlessNegative}
 use Rattle.format.specs.CertificateRules.{Certificate}
 use Rattle.format.specs.declared.certificate.Header.{Header}
 use Rattle.accepting.specs.Judgement.{Judgement, judge}
@@ -16,18 +16,23 @@ use Rattle.calls.specs.declared.PairVerdict.{PairVerdict}
 use Rattle.calls.specs.Refusals.{noRefusal, problemRefusal, certificateRefusal}
 use Rattle.calls.specs.Check.{boundOf}
 
+-- "all other fields are 0": there is no mark
 abbrev pub refusedPair : Refusal → PairVerdict
-refusedPair r = record { refusal = r; lower = none; upper = none; gap = none; rounds = 0 }
+refusedPair r = record { refusal = r; lower = none; upper = none; gap = none; empty = false; rounds = 0 }
 
--- "Pair: both bounds, gap, rounds"
+-- "Pair: both bounds, gap, rounds"; "The pair now marks a negative gap as "empty", with 0 in both gap fields in place
+-- of document 01's gap"
 abbrev pub acceptedPair : Header → Header → ℕ → PairVerdict
-acceptedPair t u rounds = record {
-  refusal = noRefusal;
-  lower = boundOf t;
-  upper = boundOf u;
-  gap = gapOf (boundOf t) (boundOf u);
-  rounds = rounds;
-}
+acceptedPair t u rounds =
+    let gap = gapOf (boundOf t) (boundOf u) in
+    record {
+      refusal = noRefusal;
+      lower = boundOf t;
+      upper = boundOf u;
+      gap = unlessNegative gap;
+      empty = isNegative gap;
+      rounds = rounds;
+    }
 
 -- refusal 10: "first side not 0 or second not 1"; "the first wrong stream"
 unfoldable pub pairSides : Header → Header → ℕ → PairVerdict

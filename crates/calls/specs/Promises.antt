@@ -2,7 +2,7 @@
 -- number, blocks and rounds are what the call returns, and bytes the 576 bytes at exit; short is true where something
 -- lent is too short.
 use mathlib.Core.Path.{_≡_}
-use mathlib.Core.Bool.{Bool, false}
+use mathlib.Core.Bool.{Bool, true, false}
 use mathlib.Core.List.{List}
 use mathlib.Core.Logic.{_⊎_}
 use Prim.Native.Nat.{ℕ, _+_, _≤_, _<_}
@@ -16,12 +16,13 @@ use Rattle.joining_rule.specs.Sets.{different}
 use Rattle.joining_rule.specs.Bytes.{blockAt}
 use Rattle.joining_rule.specs.Meaning.{Closed, Least, Lowest, TakesRounds}
 use Rattle.joining_rule.specs.Joining.{basesOf, startSet, closing, closedSupport, mostKeys, tooLarge}
-use Rattle.calls.specs.Fractions.{gapOf}
+use Rattle.calls.specs.Fractions.{gapOf, isNegative, unlessNegative}
 use Rattle.calls.specs.declared.Fraction.{Fraction}
 use Rattle.format.specs.CertificateRules.{Certificate, readCertificate}
 use Rattle.accepting.specs.Identity.{KeepsBlocks, Identity, claim, squares}
 use Rattle.accepting.specs.Judgement as J
-use Rattle.accepting.specs.Bounds.{BoundedBelow, BoundedAbove, WithinGap}
+use Rattle.polynomial.specs.Point.{Point}
+use Rattle.accepting.specs.Bounds.{Allowed, BoundedBelow, BoundedAbove, WithinGap}
 use Rattle.calls.specs.Check.{boundOf}
 use Rattle.calls.specs.declared.Refusal.{Refusal}
 use Rattle.calls.specs.declared.CheckVerdict.{CheckVerdict}
@@ -83,9 +84,10 @@ HoldsBelow s number f = WhereAccepted s number (λ p. BoundedBelow p (f .num) (f
 abbrev pub HoldsAbove : List ℕ → ℕ → Fraction → Type 0
 HoldsAbove s number f = WhereAccepted s number (λ p. BoundedAbove p (f .num) (f .den))
 
--- "any two such points have values no further apart than the gap"
-abbrev pub HoldsGap : List ℕ → ℕ → Fraction → Type 0
-HoldsGap s number f = WhereAccepted s number (λ p. WithinGap p (f .num) (f .den))
+-- "any two such points have values no further apart than the gap", unless it is marked as empty: "the third demand then
+-- has no allowed points to compare"
+abbrev pub HoldsGap : List ℕ → ℕ → Bool → Fraction → Type 0
+HoldsGap s number empty f = WhereAccepted s number (λ p. empty ≡ false → WithinGap p (f .num) (f .den))
 
 -- ---- refusal 9: "identity false", where the stream gives a certificate whose rows keep to the blocks
 pub record IdentityFalse (p : Problem) (t : List ℕ) (c : Certificate) : Type 0 where
@@ -140,7 +142,8 @@ pub record BothHold (p : Problem) (low high : List ℕ) (c d : Certificate) : Ty
   pub lower : c .header .side ≡ 0
   pub upper : d .header .side ≡ 1
 
--- "the bounds reported are the p/q and P/Q that the certificates state, and the gap is document 01's"
+-- "the bounds reported are the p/q and P/Q that the certificates state, and the gap is document 01's"; "The pair now
+-- marks a negative gap as "empty", with 0 in both gap fields in place of document 01's gap"
 pub record Stated (s low high : List ℕ) (v : PairVerdict) : Type 0 where
   pub problem : Problem
   pub read : readProblem s ≡ given problem
@@ -149,7 +152,8 @@ pub record Stated (s low high : List ℕ) (v : PairVerdict) : Type 0 where
   pub hold : BothHold problem low high first second
   pub lower : v .lower ≡ boundOf (first .header)
   pub upper : v .upper ≡ boundOf (second .header)
-  pub gap : v .gap ≡ gapOf (boundOf (first .header)) (boundOf (second .header))
+  pub gap : v .gap ≡ unlessNegative (gapOf (boundOf (first .header)) (boundOf (second .header)))
+  pub empty : v .empty ≡ isNegative (gapOf (boundOf (first .header)) (boundOf (second .header)))
 
 -- the pair accepts only what states its bounds, and "for a problem within its limits and full-length work tables it
 -- accepts exactly when both certificates are accepted, the first with side 0 and the second with side 1"
@@ -157,6 +161,12 @@ pub record PairExactly (short : Bool) (s low high : List ℕ) (v : PairVerdict) 
   pub only : v .refusal .number ≡ 0 → Stated s low high v
   pub always : (p : Problem) (c d : Certificate) → Within short s p → BothHold p low high c d
       → v .refusal .number ≡ 0
+
+-- where the gap is marked as empty, nothing is refused, and "no rational point meets all the conditions" of the problem
+-- that the stream gives, inequalities or equalities
+pub record NoPoints (s : List ℕ) (v : PairVerdict) : Type 0 where
+  pub accepted : v .empty ≡ true → v .refusal .number ≡ 0
+  pub points : v .empty ≡ true → Reads s (λ p. (a : Point) → Allowed p a → ⊥)
 
 -- the second certificate differs, after the first was accepted
 pub record SecondDiffers (p : Problem) (low high : List ℕ) (key : ℕ) : Type 0 where

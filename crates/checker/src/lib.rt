@@ -22,7 +22,7 @@ ghost use Rattle.calls.specs.Pair.{refusedPair, pairSides, pairFirst, pairOf, p
 ghost use Rattle.calls.specs.Promises.{NumberedTo, BlocksClosed, BlocksLeast, BlocksLowest, BlocksCounted};
 ghost use Rattle.calls.specs.Promises.{RoundsTaken, FewRounds, SevenExactly};
 ghost use Rattle.calls.specs.Promises.{AcceptedExactly, CheckDiffers, HoldsBySide};
-ghost use Rattle.calls.specs.Promises.{PairExactly, PairDiffers, HoldsBelow, HoldsAbove, HoldsGap};
+ghost use Rattle.calls.specs.Promises.{PairExactly, PairDiffers, HoldsBelow, HoldsAbove, HoldsGap, NoPoints};
 ghost use Rattle.flat.specs.Flat.{FlatProblem};
 ghost use Rattle.fractions.specs.Ranges.{Bound};
 ghost use Rattle.certificate_judge.specs.Steps.{JoinedProblem, Judgeable, LongSums, SumsRest};
@@ -329,6 +329,7 @@ fn refuse_pair(refusal: Refusal) -> PairVerdict
         lower: fractions::no_fraction(),
         upper: fractions::no_fraction(),
         gap: fractions::no_fraction(),
+        empty: false,
         rounds: 0,
     }
 }
@@ -356,11 +357,13 @@ fn pair_sides(lower: Header, upper: Header, rounds: usize) -> PairVerdict
     }
     let a = bound(lower.p, lower.q);
     let b = bound(upper.p, upper.q);
+    let gap = fractions::gap(a, b);
     PairVerdict {
         refusal: certificate_judge::problem_refusal(0, 0),
         lower: a,
         upper: b,
-        gap: fractions::gap(a, b),
+        gap: fractions::unless_negative(gap),
+        empty: fractions::is_negative(gap),
         rounds,
     }
 }
@@ -541,7 +544,8 @@ pub fn pair(
         (r .refusal) ⌝ }
     ensures below { λ r. ⌜ HoldsBelow (now (problem .entry)) (r .refusal .number) (r .lower) ⌝ }
     ensures above { λ r. ⌜ HoldsAbove (now (problem .entry)) (r .refusal .number) (r .upper) ⌝ }
-    ensures gap { λ r. ⌜ HoldsGap (now (problem .entry)) (r .refusal .number) (r .gap) ⌝ }
+    ensures gap { λ r. ⌜ HoldsGap (now (problem .entry)) (r .refusal .number) (r .empty) (r .gap) ⌝ }
+    ensures empty { λ r. ⌜ NoPoints (now (problem .entry)) r ⌝ }
     ensures rounds { λ r. ⌜ RoundsTaken (now (problem .entry)) (r .refusal .number) (r .rounds) ⌝ }
     ensures few_rounds { λ r. ⌜ FewRounds (now (problem .entry)) (r .refusal .number) (r .rounds) ⌝ }
 {

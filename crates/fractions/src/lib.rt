@@ -1,10 +1,10 @@
-// Fractions: two are compared by cross products, and the gap of two bounds.
+// Fractions: two are compared by cross products, the gap of two bounds, and what stands for one that is below 0.
 ghost use mathlib.Core.Path.{_≡_};
 ghost use Prim.Native.Nat.{_+_, _*_, _^_, _<_, _≤_};
 ghost use lib.Dec.{ltb};
 ghost use lib.IntN.{pos, natAbs, _*ℤ_};
 ghost use Rattle.fractions.specs.Ranges.{Bound};
-ghost use Rattle.calls.specs.Fractions.{isLess, gapOf, zero, none};
+ghost use Rattle.calls.specs.Fractions.{isLess, gapOf, isNegative, unlessNegative, none};
 use calls::Fraction;
 
 // A numerator times another fraction's denominator, for two bounds: below 2^47.
@@ -15,10 +15,10 @@ fn cross(n: i64, d: u64) -> i64
     n * (d as i64)
 }
 
-// 0 over 1.
+// 0 over 1. A gap below it is no distance.
 pub const ZERO: Fraction = Fraction { num: 0, den: 1 };
 
-// 0 over 0, which a refusal returns in the place of a fraction.
+// 0 over 0, which stands in the place of a fraction with a refusal, and of a gap that is below 0.
 pub const NONE: Fraction = Fraction { num: 0, den: 0 };
 
 // The absolute value. The least number has no opposite in 64 bits, so what is turned is the number and 1.
@@ -104,11 +104,21 @@ pub fn gap(lower: Fraction, upper: Fraction) -> Fraction
     }
 }
 
-// Whether a fraction is below zero.
+// Whether a gap is below 0. One of 0 is not.
 pub fn is_negative(f: Fraction) -> bool
-    ensures { λ r. ⌜ r ≡ isLess f zero ⌝ }
+    ensures { λ r. ⌜ r ≡ isNegative f ⌝ }
 {
-    f.num < 0
+    f.num < ZERO.num
+}
+
+// A gap as it is, or 0 over 0 where it is below 0.
+pub fn unless_negative(f: Fraction) -> Fraction
+    ensures { λ r. ⌜ r ≡ unlessNegative f ⌝ }
+{
+    if is_negative(f) {
+        return NONE;
+    }
+    f
 }
 
 // What a refusal returns in the place of a fraction.

@@ -31,6 +31,7 @@ every equality is 0.
   lower p/q   at every allowed point the polynomial is at least p/q
   upper P/Q   at every allowed point it is at most P/Q
   gap n/d     its values at two allowed points differ by at most n/d
+  gap empty   in place of that: the bounds cross, so that no point is allowed
   rounds r    the rounds that the joining rule took to find the blocks
 
 Otherwise one line is written:

@@ -1,11 +1,12 @@
--- What document 01 shows of gapcheck's output, and the ends of the range of numbers.
+-- What documents 01 and 02 show of gapcheck's output, and the ends of the range of numbers.
 use mathlib.Core.Path.{_≡_, refl}
+use mathlib.Core.Bool.{true, false}
 use lib.IntN.{pos, negsuc}
-use Rattle.calls.specs.Fractions.{fraction}
+use Rattle.calls.specs.Fractions.{fraction, none}
 use Rattle.calls.specs.Refusals.{noRefusal, certificateRefusal}
 use Rattle.calls.specs.declared.PairVerdict.{PairVerdict}
 use Rattle.calls.specs.Pair.{refusedPair}
-use Rattle.lines.specs.Lines.{ascii, decimal, signedDecimal, ratio, refusalLine, pairWords, pairLines}
+use Rattle.lines.specs.Lines.{ascii, decimal, signedDecimal, ratio, refusalLine, gapWord, pairWords, pairLines, pairLine}
 
 abbrev pub caseF : PairVerdict
 caseF = record {
@@ -13,12 +14,32 @@ caseF = record {
   lower = fraction (negsuc 0) 1;
   upper = fraction (pos 1) 1;
   gap = fraction (pos 2) 1;
+  empty = false;
   rounds = 2;
 }
 
 pub lines-of-F : pairLines caseF ≡ ascii "lower -1/1\nupper 1/1\ngap 2/1\nrounds 2\n"
-unfolding pairWords ratio signedDecimal decimal refusalLine
+unfolding pairWords gapWord ratio signedDecimal decimal refusalLine
 lines-of-F = refl
+
+-- two bounds that cross
+abbrev pub crossed : PairVerdict
+crossed = record {
+  refusal = noRefusal;
+  lower = fraction (pos 1) 1;
+  upper = fraction (negsuc 0) 1;
+  gap = none;
+  empty = true;
+  rounds = 1;
+}
+
+pub lines-of-crossed : pairLines crossed ≡ ascii "lower 1/1\nupper -1/1\ngap empty\nrounds 1\n"
+unfolding pairWords gapWord ratio signedDecimal decimal refusalLine
+lines-of-crossed = refl
+
+pub line-of-crossed : pairLine crossed ≡ ascii "pair 1/1 -1/1 gap empty rounds 1\n"
+unfolding pairWords gapWord ratio signedDecimal decimal refusalLine
+line-of-crossed = refl
 
 pub lines-of-B : pairLines (refusedPair (certificateRefusal 1 9 0 0)) ≡ ascii "refused 9 1 0 0\n"
 unfolding pairWords ratio signedDecimal decimal refusalLine

@@ -1,5 +1,5 @@
 -- The lines that the programs write, byte by byte, in document 01's words.
-use mathlib.Core.Bool.{cond}
+use mathlib.Core.Bool.{Bool, cond}
 use mathlib.Core.List.{List, [], _∷_, _++_}
 use Prim.Native.Nat.{ℕ, zero, suc, _/_, _%_}
 use Prim.Native.Char.{code}
@@ -63,13 +63,17 @@ refusalLine r =
 abbrev pub unlessRefused : Refusal → List ℕ → List ℕ
 unlessRefused r lines = cond (ltb 0 (r .number)) (refusalLine r) lines
 
+-- the gap, or `empty` where it is marked so: "the program prints the line `gap empty` there"
+unfoldable pub gapWord : Bool → Fraction → List ℕ
+gapWord empty gap = cond empty (ascii "empty") (ratio gap)
+
 -- the bounds, the gap and the rounds of the pair, with the words that stand before each
 unfoldable pub pairWords : List ℕ → List ℕ → List ℕ → List ℕ → PairVerdict → List ℕ
 pairWords lower upper gap rounds v =
     unlessRefused (v .refusal)
     ((lower ++ ratio (v .lower))
     ++ (upper ++ ratio (v .upper))
-    ++ (gap ++ ratio (v .gap))
+    ++ (gap ++ gapWord (v .empty) (v .gap))
     ++ (rounds ++ decimal (v .rounds))
     ++ ascii "\n")
 

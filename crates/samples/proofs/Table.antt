@@ -1,5 +1,5 @@
 -- The starred samples, started from their byte streams, as one table: each row's outcome is what the definitions compute.
--- The last rows have equalities, which are document 02's.
+-- The last rows have equalities and gaps of 0 and below, which are document 02's.
 use mathlib.Core.Path.{_≡_, refl}
 use mathlib.Core.List.{List, [], _∷_, map}
 use mathlib.Core.Bool.{true, false}
@@ -29,12 +29,12 @@ use Rattle.format.specs.CertificateLayout as CertificateLayout
 use Rattle.polynomial.specs.Algebra.{coefficient}
 use Rattle.accepting.specs.Identity.{square, squares, claimOf, blockOf}
 use Rattle.accepting.specs.Judgement.{firstOutside, rowSplit, splitBy, firstDifference, comparedKeys, differenceKey, judgeRead, judge}
-use Rattle.calls.specs.Fractions.{fraction}
+use Rattle.calls.specs.Fractions.{fraction, none}
 use Rattle.calls.specs.Check.{refusedCheck, checkOf, checkVerdict}
 use Rattle.calls.specs.Pair.{refusedPair, pairSides, pairOf, pairVerdict}
 use Rattle.calls.specs.declared.CheckVerdict.{CheckVerdict}
 use lib.IntN.{ℤ, pos, negsuc}
-use Rattle.samples.specs.Streams.{problemA, problemC, problemD, problemE, problemF, certificateA, certificateB, certificateD, lowF, highF, certificateI, row, equalityRow, equality, inequality, problemEqual, nineConditions, lowEqual, highEqual, withRow}
+use Rattle.samples.specs.Streams.{problemA, problemC, problemD, problemE, problemF, certificateA, certificateB, certificateD, lowF, highF, certificateI, row, equalityRow, equality, inequality, problemEqual, nineConditions, lowEqual, highEqual, withRow, problemCrossed, lowCrossed, highCrossed}
 
 -- a verdict, the first three bytes of basis 0 and the first of basis 1
 record Row : Type 0 where
@@ -116,7 +116,7 @@ pub pairs :
     ∷ pairVerdict false problemF lowF []
     ∷ pairVerdict true problemF lowF highF
     ∷ []
-    ≡ record { refusal = noRefusal; lower = fraction (negsuc 0) 1; upper = fraction (pos 1) 1; gap = fraction (pos 2) 1; rounds = 2 }
+    ≡ record { refusal = noRefusal; lower = fraction (negsuc 0) 1; upper = fraction (pos 1) 1; gap = fraction (pos 2) 1; empty = false; rounds = 2 }
     ∷ refusedPair (certificateRefusal 2 10 0 0)
     ∷ refusedPair (certificateRefusal 1 10 0 0)
     ∷ refusedPair (certificateRefusal 2 2 0 0)
@@ -154,3 +154,16 @@ pub equalities :
     ∷ []
 unfolding listed fromTo sumTo number signed firstRefusal run readWhole degreeOf degree within among keysOf problemCommand appendAt fitting problemApplied problemRefusalAt problemNext readProblem basisOf multiplier multiplierOf kindOf member insert linked merged joinPair join addTerms addPair extend different singles start joinAll extendAll round same sameAll sameState closeFrom blocksIn Rounds.closingOf insertAll startFrom startSet closing tooLarge CertificateLayout.certificateCommand Certificate.certificateRefusalAt Certificate.certificateApplied Certificate.certificateNext readCertificate coefficient square squares claimOf blockOf firstOutside rowSplit splitBy firstDifference comparedKeys differenceKey judgeRead judge checkOf checkVerdict
 equalities = refl
+
+-- ---- gaps that are no distance
+-- contradictory limits give the bounds 1 and −1: marked as empty, with 0 in both fields; the bounds 1 and 1: a gap of 0
+-- is a gap
+pub gaps :
+    pairVerdict false problemCrossed lowCrossed highCrossed
+    ∷ pairVerdict false problemEqual lowEqual highEqual
+    ∷ []
+    ≡ record { refusal = noRefusal; lower = fraction (pos 1) 1; upper = fraction (negsuc 0) 1; gap = none; empty = true; rounds = 1 }
+    ∷ record { refusal = noRefusal; lower = fraction (pos 1) 1; upper = fraction (pos 1) 1; gap = fraction (pos 0) 1; empty = false; rounds = 1 }
+    ∷ []
+unfolding listed fromTo sumTo number signed firstRefusal run readWhole degreeOf degree within among keysOf problemCommand appendAt fitting problemApplied problemRefusalAt problemNext readProblem basisOf multiplier multiplierOf kindOf member insert linked merged joinPair join addTerms addPair extend different singles start joinAll extendAll round same sameAll sameState closeFrom blocksIn Rounds.closingOf insertAll startFrom startSet closing tooLarge CertificateLayout.certificateCommand Certificate.certificateRefusalAt Certificate.certificateApplied Certificate.certificateNext readCertificate coefficient square squares claimOf blockOf firstOutside rowSplit splitBy firstDifference comparedKeys differenceKey judgeRead judge pairSides pairOf pairVerdict
+gaps = refl

@@ -1,5 +1,5 @@
--- The byte streams of document 01's samples, and of some with equalities. A monomial is written by the exponents of its
--- first two variables, a number below 0 as its lowest byte.
+-- The byte streams of document 01's samples, of some with equalities and of one whose limits contradict each other. A
+-- monomial is written by the exponents of its first two variables, a number below 0 as its lowest byte.
 use mathlib.Core.List.{List, [], _∷_, _++_}
 use Prim.Native.Nat.{ℕ}
 use lib.ListN.{replicate}
@@ -106,6 +106,19 @@ problemEqual =
     ++ memberCommand 1 (exponents 0 0)
     ++ end
 
+-- contradictory limits: x and −x − 1, no objective, bases 1 and 2: 1
+abbrev pub problemCrossed : List ℕ
+problemCrossed =
+    variables 1
+    ++ inequality
+    ++ conditionTerm (exponents 1 0) 1
+    ++ inequality
+    ++ conditionMinus (exponents 1 0) 255
+    ++ conditionMinus (exponents 0 0) 255
+    ++ memberCommand 1 (exponents 0 0)
+    ++ memberCommand 2 (exponents 0 0)
+    ++ end
+
 -- seven inequalities, one equality and a further condition
 abbrev pub nineConditions : List ℕ → List ℕ
 nineConditions ninth = variables 1 ++ replicate 7 3 ++ equality ++ ninth ++ end
@@ -164,6 +177,16 @@ lowEqual = header 0 1 1 1 ++ equalityRow 1 1 ++ entry 0 1 ++ finish
 
 abbrev pub highEqual : List ℕ
 highEqual = header 1 1 1 1 ++ equalityRowMinus 1 255 ++ entry 0 1 ++ finish
+
+-- −1 = x + (−x − 1): 0 is at least 1, and at most −1
+abbrev pub crossing : List ℕ → List ℕ
+crossing h = h ++ row 1 1 ++ entry 0 1 ++ row 2 1 ++ entry 0 1 ++ finish
+
+abbrev pub lowCrossed : List ℕ
+lowCrossed = crossing (header 0 1 1 1)
+
+abbrev pub highCrossed : List ℕ
+highCrossed = crossing (headerMinus 1 1 255 1)
 
 -- a lower certificate 1/1 with one row, which has no entry
 abbrev pub withRow : List ℕ → List ℕ

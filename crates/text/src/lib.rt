@@ -4,7 +4,7 @@ ghost use mathlib.Core.List.{_++_};
 ghost use Prim.Native.Nat.{_+_, _*_, _≤_, _<_};
 ghost use lib.ListN.{length, take};
 ghost use Rattle.io.specs.Digits.{glyph};
-ghost use Rattle.lines.specs.Lines.{decimal, signedDecimal, ratio, hexadecimal, refusalLine, pairWords};
+ghost use Rattle.lines.specs.Lines.{decimal, signedDecimal, ratio, hexadecimal, refusalLine, gapWord, pairWords};
 ghost use Rattle.lines.specs.Lines.{pairLines, blocksLine, checkLine, pairLine, arrivalWord};
 ghost use Rattle.lines.specs.Texts.{textOf};
 ghost use Rattle.text.specs.Appending.{Appended};
@@ -126,6 +126,21 @@ fn refusal_line(r: Refusal) -> Text
     Text { bytes: out, len }
 }
 
+// A word and a gap after it, or that it is empty.
+fn append_with_gap(out: &mut [u8], at: usize, word: &[u8], empty: bool, gap: Fraction) -> usize
+    requires { ⌜ at + length (now word) + 42 ≤ length (now out) ⌝ }
+    ensures { λ r. ⌜
+        Appended (now (out .entry)) at (now (word .entry) ++ gapWord empty gap) (now (out .exit)) r
+        × (r ≤ at + length (now (word .entry)) + 42)
+        ⌝ }
+{
+    if empty {
+        let a = append(out, at, word);
+        return append(out, a, b"empty");
+    }
+    append_with_ratio(out, at, word, gap)
+}
+
 // A verdict of the pair: the bounds, the gap and the rounds, with the word that stands before each; or the line of the
 // refusal.
 fn pair_words(v: PairVerdict, lower: &[u8], upper: &[u8], gap: &[u8], rounds: &[u8]) -> Text
@@ -141,7 +156,7 @@ fn pair_words(v: PairVerdict, lower: &[u8], upper: &[u8], gap: &[u8], rounds: &[
     let mut out = [0u8; 1280];
     let a = append_with_ratio(&mut out, 0, lower, v.lower);
     let b = append_with_ratio(&mut out, a, upper, v.upper);
-    let c = append_with_ratio(&mut out, b, gap, v.gap);
+    let c = append_with_gap(&mut out, b, gap, v.empty, v.gap);
     let d = append_with_number(&mut out, c, rounds, v.rounds as u64);
     let len = append(&mut out, d, b"\n");
     Text { bytes: out, len }

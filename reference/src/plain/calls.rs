@@ -44,7 +44,8 @@ pub struct Check {
 pub struct Pair {
     pub lower: Fraction,
     pub upper: Fraction,
-    pub gap: Fraction,
+    /// None where it is marked as empty: "The pair now marks a negative gap as 'empty'" (Req 06).
+    pub gap: Option<Fraction>,
     pub rounds: usize,
 }
 
@@ -112,10 +113,11 @@ pub fn pair(problem: &[u8], first: &[u8], second: &[u8]) -> Result<Pair, Refusal
     if second.side != UPPER {
         return Err(Refusal::new(SIDES, SECOND, 0));
     }
+    let gap = Fraction::gap(first.bound, second.bound);
     Ok(Pair {
         lower: first.bound,
         upper: second.bound,
-        gap: Fraction::gap(first.bound, second.bound),
+        gap: (gap.numerator >= 0).then_some(gap),
         rounds: closed.joined.rounds,
     })
 }

@@ -29,7 +29,14 @@ impl Display for Check {
 impl Display for Pair {
     fn fmt(&self, out: &mut Formatter) -> Result {
         let Pair { lower, upper, .. } = self;
-        let (gap, rounds) = (self.gap, self.rounds);
+        let (gap, rounds) = (self.gap_text(), self.rounds);
         write!(out, "pair {lower} {upper} gap {gap} rounds {rounds}")
+    }
+}
+
+impl Pair {
+    /// The gap, or `empty`.
+    pub fn gap_text(&self) -> String {
+        self.gap.map_or("empty".to_string(), |gap| gap.to_string())
     }
 }

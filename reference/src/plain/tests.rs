@@ -10,15 +10,29 @@ use crate::generate::corpus;
 use crate::records::Record;
 use crate::refusal::{Refusal, IDENTITY, MISPLACED, PROBLEM};
 
-/// The baseline knows document 01 alone: it refuses by 3 a command that came with a request.
+/// The baseline knows document 01 alone: it refuses by 3 a command that came with a request, and says
+/// a gap below 0.
 #[test]
 fn the_baseline_answers_alike() {
     let checker = &mut Checker::default();
     for record in corpus("bcp") {
-        let other = checker.answer(&record);
+        let other = checker.answer(&record).map(with_mark);
         let unknown = matches!(other, Err(refusal) if is_of_a_request(&record, refusal));
         assert!(unknown || other == answer(&record), "{other:?}");
     }
+}
+
+/// The line of document 01 with `empty` for a gap below 0, as request 06 has it.
+fn with_mark(line: String) -> String {
+    match line.split_once(" gap -") {
+        Some((bounds, rest)) => format!("{bounds} gap empty rounds {}", rounds(rest)),
+        None => line,
+    }
+}
+
+/// The number of rounds at the end of a line.
+fn rounds(line: &str) -> &str {
+    line.rsplit(' ').next().unwrap_or_default()
 }
 
 /// Whether it is refusal 3 at a 07 of the problem or at a 14 of a certificate, behind the first

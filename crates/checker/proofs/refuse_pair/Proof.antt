@@ -1,6 +1,7 @@
 -- `refuse_pair`: all other fields are 0.
 use borrow.Author.Needs.{needs}
 use mathlib.Core.Path.{_≡_, refl}
+use mathlib.Core.Bool.{false}
 use Rattle.calls.specs.declared.Fraction.{Fraction}
 use Rattle.calls.specs.Fractions.{none}
 use Rattle.calls.specs.declared.Refusal.{Refusal}
@@ -8,7 +9,8 @@ use Rattle.calls.specs.Pair.{refusedPair}
 use Rattle.checker.proofs.refuse_pair.Statement.{statement}
 use Rattle.checker.proofs.refuse_pair.Tie as tie
 
-all-none : (r : Refusal) (a b g : Fraction) → a ≡ none → b ≡ none → g ≡ none → record { refusal = r; lower = a; upper = b; gap = g; rounds = 0 } ≡ refusedPair r
+all-none : (r : Refusal) (a b g : Fraction) → a ≡ none → b ≡ none → g ≡ none
+    → record { refusal = r; lower = a; upper = b; gap = g; empty = false; rounds = 0 } ≡ refusedPair r
 all-none r a b g x y z = rw (x, y, z) refl
 
 no-fraction-requires : tie.Need-no-fraction-requires

@@ -28,11 +28,11 @@ slice-aggregate-append-with-ratio-2 c = search needs
 append-with-ratio-requires-2 : tie.Need-append-with-ratio-requires-2
 append-with-ratio-requires-2 c κs = search needs
 
-slice-aggregate-append-with-ratio-3 : tie.Need-slice-aggregate-append-with-ratio-3
-slice-aggregate-append-with-ratio-3 c = search needs
+slice-aggregate-append-with-gap : tie.Need-slice-aggregate-append-with-gap
+slice-aggregate-append-with-gap c = search needs
 
-append-with-ratio-requires-3 : tie.Need-append-with-ratio-requires-3
-append-with-ratio-requires-3 c κs = search needs
+append-with-gap-requires : tie.Need-append-with-gap-requires
+append-with-gap-requires c κs = search needs
 
 slice-aggregate-append-with-number : tie.Need-slice-aggregate-append-with-number
 slice-aggregate-append-with-number c = search needs
@@ -60,7 +60,7 @@ returns-2 c =
     let t = p5 .before .before in
     let s = t .before .before .before .before .before .before .before in
     let two = appended-text (p5 .append-with-ratio .ensures .0) (p4 .append-with-ratio2 .ensures .0) in
-    let three = appended-text two (p3 .append-with-ratio3 .ensures .0) in
+    let three = appended-text two (p3 .append-with-gap .ensures .0) in
     let four = appended-text three (p2 .append-with-number .ensures .0) in
     rw (le-ltb 0 (s .args .v .refusal .number) (t .if1 .left)) (appended-text four (p1 .append .ensures) .bytes)
 
@@ -74,8 +74,8 @@ pair-words-spec =
     append-with-ratio-requires
     slice-aggregate-append-with-ratio-2
     append-with-ratio-requires-2
-    slice-aggregate-append-with-ratio-3
-    append-with-ratio-requires-3
+    slice-aggregate-append-with-gap
+    append-with-gap-requires
     slice-aggregate-append-with-number
     append-with-number-requires
     slice-aggregate-append

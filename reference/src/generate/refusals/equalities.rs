@@ -1,10 +1,10 @@
 //! Request 04: refusals of equalities and of rows on them, and what stands just beside them and is
 //! accepted.
 
-use super::{bytes, case, case_f, written, Case, Line, ONLY, THREE};
+use super::{bytes, case, case_f, written, Accepted, Case, Line, ONLY, THREE};
 use crate::generate::draft::*;
 use crate::generate::samples;
-use crate::records::{Record, BLOCKS, CHECK, PAIR};
+use crate::records::{BLOCKS, CHECK, PAIR};
 use crate::refusal::{Refusal, FIRST, PROBLEM, SECOND};
 
 const AMONG_8: &str = "Req 04: numbered together with the constraints and counted among the 8";
@@ -180,28 +180,6 @@ fn full_rows(stream: u8, runs: [Vec<u8>; 3]) -> Vec<Case> {
     ]
 }
 
-/// Something accepted: its name, what it has, the words, the kind of the call, its streams, and the
-/// line; the bytes of a blocks call end there with the last that is not 255.
-pub struct Accepted {
-    pub name: &'static str,
-    pub what: &'static str,
-    pub words: &'static str,
-    pub kind: u8,
-    pub streams: [&'static str; 3],
-    pub line: &'static str,
-}
-
-impl Accepted {
-    pub fn record(&self) -> Record {
-        let [problem, first, second] = self.streams.map(bytes);
-        match self.kind {
-            BLOCKS => Record::blocks(problem),
-            CHECK => Record::check(problem, first),
-            _ => Record::pair(problem, first, second),
-        }
-    }
-}
-
 /// 32,768 x² where x² is 1; basis 0 is empty, and basis 1 is 1.
 const LARGE: &str =
     "01 01 | 02 02 0⁷ 00 80 00 00 | 07 | 04 0⁸ 01 00 | 04 02 0⁷ FF FF | 05 01 0⁸ | 06";
@@ -284,28 +262,3 @@ pub const ACCEPTED: &[Accepted] = &[
         line: "pair 32768/1 32768/1 gap 0/1 rounds 1",
     },
 ];
-
-#[cfg(test)]
-mod tests {
-    use super::*;
-    use crate::plain::line;
-    use std::collections::BTreeSet;
-
-    #[test]
-    fn the_reference_gives_what_is_written_down() {
-        for accepted in ACCEPTED {
-            let line = line(&accepted.record());
-            let shown = match accepted.kind {
-                BLOCKS => line.trim_end_matches("ff"),
-                _ => &line,
-            };
-            assert_eq!(shown, accepted.line, "{}", accepted.name);
-        }
-    }
-
-    #[test]
-    fn names_tell_what_is_accepted_apart() {
-        let names: BTreeSet<&str> = ACCEPTED.iter().map(|accepted| accepted.name).collect();
-        assert_eq!(names.len(), ACCEPTED.len());
-    }
-}

@@ -6,6 +6,7 @@
 
 mod certificates;
 pub mod equalities;
+pub mod gaps;
 mod order;
 mod problems;
 mod sums;
@@ -54,6 +55,30 @@ impl Case {
                 kind,
                 runs: self.runs.clone(),
             },
+        }
+    }
+}
+
+/// Something accepted that stands beside the refusals: its name, what it has, the words, the kind of
+/// the call, its streams, and the line; the bytes of a blocks call end there with the last that is
+/// not 255.
+pub struct Accepted {
+    pub name: &'static str,
+    pub what: &'static str,
+    pub words: &'static str,
+    pub kind: u8,
+    pub streams: [&'static str; 3],
+    pub line: &'static str,
+}
+
+impl Accepted {
+    /// Its record.
+    pub fn record(&self) -> Record {
+        let [problem, first, second] = self.streams.map(bytes);
+        match self.kind {
+            BLOCKS => Record::blocks(problem),
+            CHECK => Record::check(problem, first),
+            _ => Record::pair(problem, first, second),
         }
     }
 }
@@ -156,7 +181,7 @@ fn calls(stream: u8) -> &'static [u8] {
 #[cfg(test)]
 mod tests {
     use super::*;
-    use crate::plain::answer;
+    use crate::plain::{answer, line};
     use std::collections::BTreeSet;
 
     #[test]
@@ -168,6 +193,29 @@ mod tests {
                 assert_eq!(refusal, Some(case.expected), "{number}: {name}");
             }
         }
+    }
+
+    /// What is accepted beside the refusals, of all requests.
+    fn accepted() -> impl Iterator<Item = &'static Accepted> {
+        equalities::ACCEPTED.iter().chain(gaps::ACCEPTED)
+    }
+
+    #[test]
+    fn the_reference_accepts_what_is_written_down() {
+        for accepted in accepted() {
+            let line = line(&accepted.record());
+            let shown = match accepted.kind {
+                BLOCKS => line.trim_end_matches("ff"),
+                _ => &line,
+            };
+            assert_eq!(shown, accepted.line, "{}", accepted.name);
+        }
+    }
+
+    #[test]
+    fn names_tell_what_is_accepted_apart() {
+        let names: BTreeSet<&str> = accepted().map(|accepted| accepted.name).collect();
+        assert_eq!(names.len(), accepted().count());
     }
 
     #[test]

@@ -1,8 +1,7 @@
 //! The table of refusals as a page of markdown.
 
-use super::equalities::{Accepted, ACCEPTED};
 use super::windows::{Arrivals, CASES};
-use super::{cases, Case};
+use super::{cases, equalities, gaps, Accepted, Case};
 use crate::generate::corpus;
 use crate::plain;
 use crate::records::Record;
@@ -52,11 +51,21 @@ and key are 0. The other outcomes are the widest gap held and its age.
 |---|---|---|---|---|---|
 ";
 
-const BESIDE: &str = "
+const EQUALITIES: &str = "
 ## Beside the refusals: equalities and rows on them that are accepted
 
 Request 04 lets in what was refused before. These cases stand next to the refusals above, and their answers were found by \
 hand in the same way. The bytes of a blocks call are shown to the last that is not 255.
+
+| case | what it has | problem | certificates | words | answer | record |
+|---|---|---|---|---|---|---|
+";
+
+const GAPS: &str = "
+## Beside the refusals: regions with no points
+
+Request 06 refuses nothing: both bounds hold, and a gap below 0 is said to be empty. In all these problems the conditions \
+contradict each other. The gap tells so where the bounds cross, and only there. The answers were found by hand.
 
 | case | what it has | problem | certificates | words | answer | record |
 |---|---|---|---|---|---|---|
@@ -108,9 +117,11 @@ pub fn print() {
     for case in CASES {
         println!("{}", window_line(case, &corpus));
     }
-    print!("{BESIDE}");
-    for case in ACCEPTED {
-        println!("{}", accepted_line(case, &corpus));
+    for (head, cases) in [(EQUALITIES, equalities::ACCEPTED), (GAPS, gaps::ACCEPTED)] {
+        print!("{head}");
+        for case in cases {
+            println!("{}", accepted_line(case, &corpus));
+        }
     }
 }
 

@@ -1,5 +1,6 @@
 //! Records for the requests of document 02.
 
+mod empty_region;
 mod equalities;
 mod windows;
 
@@ -27,6 +28,8 @@ pub type Streams = [Vec<Vec<u8>>; 3];
 
 /// What a request does to the calls of document 01.
 pub struct Change {
+    /// The kinds of these calls, in the order of the corpus.
+    pub kinds: &'static [u8],
     /// The records of the corpus of this kind that are made for it.
     pub special: fn(u8) -> Vec<Record>,
     /// Puts its commands in, at random.
@@ -51,9 +54,16 @@ const LANDED: &[Landed] = &[
         count: 250,
     }),
     Landed::Change(Change {
+        kinds: &[BLOCKS, CHECK, PAIR],
         special: equalities::special,
         put: equalities::put,
         count: 200,
+    }),
+    Landed::Change(Change {
+        kinds: &[PAIR],
+        special: empty_region::special,
+        put: empty_region::put,
+        count: 300,
     }),
 ];
 
@@ -74,7 +84,7 @@ pub fn corpus(kinds: &str) -> Vec<Record> {
             }
             Landed::Call(_) => {}
             Landed::Change(change) => {
-                for kind in [BLOCKS, CHECK, PAIR].into_iter().filter(asked) {
+                for &kind in change.kinds.iter().filter(|kind| asked(kind)) {
                     let rng = &mut seeded(kind);
                     all.extend((change.special)(kind));
                     all.extend((0..change.count).map(|_| changed(rng, kind, &[change])));
@@ -99,8 +109,8 @@ pub fn record(rng: &mut Rng, kind: u8) -> Option<Record> {
         return None;
     }
     let change = |landed: &'static Landed| match landed {
-        Landed::Change(change) => Some(change),
-        Landed::Call(_) => None,
+        Landed::Change(change) if change.kinds.contains(&kind) => Some(change),
+        _ => None,
     };
     let mut changes: Vec<&Change> = LANDED.iter().filter_map(change).collect();
     rng.shuffle(&mut changes);
