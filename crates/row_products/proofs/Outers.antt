@@ -114,10 +114,10 @@ module _ (E : List ℕ) (C : List ℤ) (count room : ℕ) (e : Entries E C count
       (λ i k a b. e .rising i k a (omega arith)) (λ k b. e .factors-small k (omega arith))
 
   pub inner-bound : (a : ℤ) → natAbs a ≤ weightMost * factorMost → (x i n : ℕ) → n ≤ count → natAbs (a *ℤ inRow (termsIn n E C) x i) ≤ rowUnit
-  inner-bound a h x i n l = abs-mul-le a (inRow (termsIn n E C) x i) (weightMost * factorMost) (factorMost * 2) h (inner-small x i n l)
+  inner-bound a h x i n l = omega (arith, abs-mul-le a (inRow (termsIn n E C) x i) (weightMost * factorMost) (factorMost * 2) h (inner-small x i n l))
 
   pub outer-bound : (w : ℤ) → natAbs w ≤ weightMost → (x n : ℕ) → n ≤ count → natAbs (w *ℤ sum (inRow F x) (termsIn n E C)) ≤ rowUnit
-  outer-bound w h x n l = abs-mul-le w (sum (inRow F x) (termsIn n E C)) weightMost (factorMost * (factorMost * 2)) h (outer-small x n l)
+  outer-bound w h x n l = omega (arith, abs-mul-le w (sum (inRow F x) (termsIn n E C)) weightMost (factorMost * (factorMost * 2)) h (outer-small x n l))
 
 -- ---- the turns of the loops: x times the sum over the first t entries
 pub record Raising (g₀ : List ℤ) (m : ℕ → ℕ → ℤ) (x : ℤ) (E : List ℕ) (C : List ℤ) (t : ℕ) (g₁ : List ℤ) : Type 0 where

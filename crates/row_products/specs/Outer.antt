@@ -18,9 +18,10 @@ weightMost = 2 ^ 16
 abbrev pub factorMost : ℕ
 factorMost = 2 ^ 15
 
--- what one row at most adds to an entry: its indices rise, so each place gets one product, which counts at most twice
+-- what one row at most adds to an entry: its indices rise, so each place gets at most two products, those of one index's
+-- low digit with the other's high one and the other way round, and each counts at most twice
 abbrev pub rowUnit : ℕ
-rowUnit = weightMost * factorMost * factorMost * 2
+rowUnit = weightMost * factorMost * factorMost * 4
 
 -- and all rows
 abbrev pub gatheredMost : ℕ
