@@ -32,8 +32,9 @@ use Rattle.certificate_reader.specs.Rows.{rowsBy}
 use Rattle.identity_check.specs.declared.Difference.the-variants.{Same, Differs}
 use Rattle.identity_check.specs.Tables.{unit, Ready, SumsGrown}
 use Rattle.identity_check.specs.Walk.{Summed}
-use Rattle.identity_check.specs.Compare.{differenceOf, Zeroed, SmallestSum, Given, Untouched}
+use Rattle.identity_check.specs.Compare.{differenceOf, Nonzero, Zeroed, Smallest, Given, Untouched}
 use Rattle.identity_check.proofs.Growth.{grown-same}
+use Rattle.identity_check.proofs.Carries.{Least, reached-start, reached-end}
 
 -- ---- one comparison
 same-not : (a b : ℤ) → (a ≡ b → ⊥) → sameNumber a b ≡ false
@@ -73,12 +74,12 @@ equal-zero : (a b : ℤ) → a ≡ b → negℤ a +ℤ b ≡ pos 0
 equal-zero a b e = rw (e, view b .eq) (simp diffs (⊖-eq _ _ _ _ (omega arith)))
 
 -- the places of a table and the elements of its set
-module _ (P Q : List Term) {table : List ℕ} {n : ℕ} (h : Holds table n) (hi lo : List ℤ)
-    (v : (q : ℕ) → q < n → valueAt hi lo q ≡ negℤ (coefficient (getD table q 0) P) +ℤ coefficient (getD table q 0) Q) (r : ℕ) (f : SmallestSum table hi lo n n r) where
-  equal : (q : ℕ) → q < n → valueAt hi lo q ≡ pos 0 → Equal P Q (getD table q 0)
+module _ (P Q : List Term) {table : List ℕ} {n : ℕ} (h : Holds table n) (D : ℕ → ℤ)
+    (v : (q : ℕ) → q < n → D q ≡ negℤ (coefficient (getD table q 0) P) +ℤ coefficient (getD table q 0) Q) (r : ℕ) (f : Least D table n r) where
+  equal : (q : ℕ) → q < n → D q ≡ pos 0 → Equal P Q (getD table q 0)
   equal q b e = zero-equal _ _ (sym (v q b) ∙ e)
 
-  unequal : (q : ℕ) → q < n → (Equal P Q (getD table q 0) → ⊥) → valueAt hi lo q ≡ pos 0 → ⊥
+  unequal : (q : ℕ) → q < n → (Equal P Q (getD table q 0) → ⊥) → D q ≡ pos 0 → ⊥
   unequal q b g e = g (equal q b e)
 
   pub tables-same : n ≤ r → firstDifference P Q (keysIn n table) ≡ none
@@ -125,7 +126,7 @@ module _ {p : Problem} {c : Certificate} {s starts : List ℕ} {rows : ℕ} {hea
     -- the objective's exponents and coefficients, as they are lent
     {E : List ℕ} {C : List ℤ} (lent : E ≡ take (getD sizes 18 0) (drop 864 keys)) (with : C ≡ take (getD sizes 18 0) (drop 288 coefficients)) where
   module _ {hi₀ hi₁ hi₂ lo₀ lo₁ lo₂ : List ℤ} {a r : ℕ} (z : Zeroed table n hi₀ lo₀) (g : SumsGrown table n hi₀ lo₀ (λ k. negℤ (coefficient k (claimOf (termsIn (length E) E C) header))) a hi₁ lo₁)
-      (m : Summed (λ p. squares p (rowsBy s starts rows)) keys coefficients sizes table n 9 hi₁ lo₁ hi₂ lo₂) (f : SmallestSum table hi₂ lo₂ n n r) where
+      (m : Summed (λ p. squares p (rowsBy s starts rows)) keys coefficients sizes table n 9 hi₁ lo₁ hi₂ lo₂) (f : Smallest (Nonzero hi₂ lo₂) table n n n r) where
     claim-is : (k : ℕ) → coefficient k (claimOf (termsIn (length E) E C) header) ≡ coefficient k (claim p (c .header))
     claim-is k = rw (lent, with, objective-terms (given .flat), given .header-is)
 
@@ -142,12 +143,15 @@ module _ {p : Problem} {c : Certificate} {s starts : List ℕ} {rows : ℕ} {hea
         ∙ ap (λ (v : ℤ). negℤ v +ℤ m .sums k) (claim-is k)
         ∙ ap (λ (v : ℤ). negℤ (coefficient k (claim p (c .header))) +ℤ v) (squares-are k)
 
+    least : Least (valueAt hi₂ lo₂) table n r
+    least = reached-end hi₂ lo₂ (reached-start (λ q b. refl)) f
+
     key-is : firstDifference (claim p (c .header)) (squares p (c .rows)) (keysIn n table) ≡ differenceKey p c
     unfolding differenceKey
     key-is = rw (given .compared)
 
     pub found-same : n ≤ r → Same ≡ differenceOf (differenceKey p c)
-    found-same h = ap differenceOf (sym (tables-same _ _ (z .support) hi₂ lo₂ sum-is r f h) ∙ key-is)
+    found-same h = ap differenceOf (sym (tables-same _ _ (z .support) (valueAt hi₂ lo₂) sum-is r least h) ∙ key-is)
 
     pub found-differs : r < n → Differs (getD table r 0) ≡ differenceOf (differenceKey p c)
-    found-differs h = ap differenceOf (sym (tables-differ _ _ (z .support) hi₂ lo₂ sum-is r f h) ∙ key-is)
+    found-differs h = ap differenceOf (sym (tables-differ _ _ (z .support) (valueAt hi₂ lo₂) sum-is r least h) ∙ key-is)

@@ -5,3 +5,4 @@ pub mod Spreading
 pub mod Walks
 pub mod Differences
 pub mod Least
+pub mod Carries

@@ -28,7 +28,7 @@ abbrev before : List ℕ → List Term → List ℤ → ℕ → ℕ → ℤ
 before B G g x k = sum (share B G k) (listed x (λ y. term y (getD g y (pos 0))))
 
 -- ---- how many places before x are on or above the diagonal
-unfoldable uppers : ℕ → ℕ
+unfoldable pub uppers : ℕ → ℕ
 uppers zero = 0
 uppers (suc x) = uppers x + cond (leb (x / 64) (x % 64)) 1 0
 
@@ -38,11 +38,11 @@ uppers-at x h = rw (add-one x, le-leb (x / 64) (x % 64) h)
 
 uppers-more : (x d : ℕ) → uppers x ≤ uppers (x + d)
 unfolding uppers
-uppers-more x zero = let e : uppers (x + zero) ≡ uppers x = ap uppers (omega arith) in omega arith
-uppers-more x (suc d) = let e : uppers (x + suc d) ≡ uppers (suc (x + d)) = ap uppers (omega arith) in omega (arith, uppers-more x d)
+uppers-more x zero = let z : x + zero ≡ x = omega arith in let e = ap uppers z in omega arith
+uppers-more x (suc d) = let z : x + suc d ≡ suc (x + d) = omega arith in let e = ap uppers z in omega (arith, uppers-more x d)
 
 uppers-later : {x y : ℕ} → x ≤ y → uppers x ≤ uppers y
-uppers-later {x} {y} h = let e : uppers (x + (y - x)) ≡ uppers y = ap uppers (omega arith) in omega (arith, uppers-more x (y - x))
+uppers-later {x} {y} h = let z : x + (y - x) ≡ y = omega arith in let e = ap uppers z in omega (arith, uppers-more x (y - x))
 
 uppers-all : uppers 4096 ≡ 2080
 unfolding uppers
@@ -78,7 +78,7 @@ module _ {keys : List ℕ} {n : ℕ} {B : List ℕ} {G : List Term} {g₀ hi₀ 
     -- there is another place on or above the diagonal
     module _ (b : x < 64 * length B) (w : length B ≤ 64) (u : x / 64 ≤ x % 64) where
       pub spreading-room : h .spent + 1 ≤ 2080
-      spreading-room = omega (arith, h .few, uppers-at x u, uppers-later {x + 1} {4096} (omega arith), uppers-all)
+      spreading-room = omega (arith, h .few, uppers-at x u, uppers-later {x = x + 1} {y = 4096} (omega arith), uppers-all)
 
       pub spreading-more : {hi₂ lo₂ : List ℤ} → SumsGrown keys n hi₁ lo₁ (λ k. getD g₁ x (pos 0) *ℤ share B G k x) entryUnit hi₂ lo₂
           → Spreading keys n B G g₀ hi₀ lo₀ (x + 1) (set g₁ x (pos 0)) hi₂ lo₂

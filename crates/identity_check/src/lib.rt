@@ -15,7 +15,7 @@ ghost use Rattle.format.specs.ProblemLimits.{mostBases};
 ghost use Rattle.accepting.specs.Identity.{squares, claimOf};
 ghost use Rattle.key_set.specs.Table.{divisor, Holds};
 ghost use Rattle.key_set.specs.Table as Support;
-ghost use Rattle.wide_sums.specs.Sums.{valueOf};
+ghost use Rattle.wide_sums.specs.Sums.{valueOf, HasRoom};
 ghost use Rattle.flat.specs.TermArrays.{termsIn};
 ghost use Rattle.certificate_reader.specs.Rows.{rowsBy};
 ghost use Rattle.row_products.specs.Gram.{rowsOn};
@@ -27,7 +27,7 @@ ghost use Rattle.identity_check.specs.Tables.{unit, claimMost, Sought, R
 ghost use Rattle.identity_check.specs.Tables.{Slots, Addable, Negates};
 ghost use Rattle.identity_check.specs.Spread.{entryUnit, tableUnit, Spreadable, Spread};
 ghost use Rattle.identity_check.specs.Walk.{Comparable, RoomFor, Summed};
-ghost use Rattle.identity_check.specs.Compare.{Zeroed, Smaller, SmallestSum, Answered};
+ghost use Rattle.identity_check.specs.Compare.{Zeroed, Smaller, Smallest, Nonzero, DividedSums, Answered};
 
 // The place of a key among the first n; n where it has none. `at` is its place in the index.
 fn place_of(table: &[u64], n: usize, index: &[u16; 6144], key: u64, at: usize) -> usize
@@ -433,20 +433,42 @@ fn smaller(table: &[u64], n: usize, a: usize, b: usize) -> usize
     b
 }
 
-// The place of the smallest of the first n keys whose sum is not 0; n where there is none.
-fn smallest(table: &[u64], n: usize, hi: &[i64], lo: &[i64]) -> usize
-    requires { ⌜ (n ≤ length (now table)) × (n ≤ length (now hi)) × (n ≤ length (now lo)) ⌝ }
-    ensures { λ r. ⌜ SmallestSum (now (table .entry)) (now (hi .entry)) (now (lo .entry)) n n r ⌝ }
+// Divides the first n sums by 2^16, rounding down. A sum that is no multiple of 2^16 cannot become 0 by what is added
+// to it 2^16 times: the place with the smallest key of those and of `found`, which may be n.
+fn divide_sums(table: &[u64], n: usize, hi: &mut [i64], lo: &mut [i64], found: usize) -> usize
+    requires { ⌜ (n ≤ length (now table)) × HasRoom n (2 ^ 36) (now hi) × (n ≤ length (now lo)) ⌝ }
+    ensures { λ r. ⌜
+        DividedSums (now (table .entry)) n n found (now (hi .entry)) (now (lo .entry)) (now (hi .exit))
+        (now (lo .exit)) r
+        ⌝ }
 {
-    let mut found = n;
+    let mut r = found;
     let mut i = 0;
     while i < n {
-        if !wide_sums::is_zero(hi, lo, i) {
-            found = smaller(table, n, found, i);
+        if !wide_sums::divide(hi, lo, i) {
+            r = smaller(table, n, r, i);
         }
         i += 1;
     }
-    found
+    r
+}
+
+// The place with the smallest key of those among the first n whose sum is not 0 and of `found`, which may be n.
+fn smallest(table: &[u64], n: usize, hi: &[i64], lo: &[i64], found: usize) -> usize
+    requires { ⌜ (n ≤ length (now table)) × (n ≤ length (now hi)) × (n ≤ length (now lo)) ⌝ }
+    ensures { λ r. ⌜
+        Smallest (Nonzero (now (hi .entry)) (now (lo .entry))) (now (table .entry)) n n found r
+        ⌝ }
+{
+    let mut r = found;
+    let mut i = 0;
+    while i < n {
+        if !wide_sums::is_zero(hi, lo, i) {
+            r = smaller(table, n, r, i);
+        }
+        i += 1;
+    }
+    r
 }
 
 // Whether the identity holds; if not, the smallest key at which its sides differ.
@@ -501,7 +523,7 @@ fn compare_with(
         hi,
         lo,
     );
-    let found = smallest(table, n, hi, lo);
+    let found = smallest(table, n, hi, lo, n);
     if found < n {
         return Difference::Differs(table[found]);
     }
