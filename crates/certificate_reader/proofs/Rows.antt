@@ -251,13 +251,10 @@ module _ (p : Problem) (s starts : List ℕ) (at : ℕ) (c : Certificate) (g : P
             stand = rw (add-one m) at (stand-set s starts m x (omega arith) (omega arith) (λ r d. w r (omega arith)) (row-longer s (getD starts m 0) at here e (leb-true _ _ whole)));
           }
 
-  noted-entry : certificateCommandAt s at ≡ C.Entry → Passed p c s at C.Entry → After C.Entry
+  noted-entry : {i : Command} → GivesEntry i → certificateCommandAt s at ≡ i → Passed p c s at i → After i
   unfolding certificateApplied entryAt
-  noted-entry e h = rw e at (noted-entered (rw e by-entry) (h .placed) (rw e (h .whole)))
-
-  noted-wide : certificateCommandAt s at ≡ C.WideEntry → Passed p c s at C.WideEntry → After C.WideEntry
-  unfolding certificateApplied entryAt
-  noted-wide e h = rw e at (noted-entered (rw e by-wide) (h .placed) (rw e (h .whole)))
+  noted-entry by-entry e h = rw e at (noted-entered (rw e by-entry) (h .placed) (rw e (h .whole)))
+  noted-entry by-wide e h = rw e at (noted-entered (rw e by-wide) (h .placed) (rw e (h .whole)))
 
   pub noted-next : certificateRefusalAt p c s at ≡ 0 → (getD s at 0 ≡ 0x13 → ⊥)
       → let n = advanced g (certificateInstructionAt s at) .rows in Noted s (set starts n (at + sizeAt s at)) (at + sizeAt s at) n (certificateNext c s at .rows)
@@ -267,8 +264,8 @@ module _ (p : Problem) (s starts : List ℕ) (at : ℕ) (c : Certificate) (g : P
       go : (i : Command) → certificateCommandAt s at ≡ i → Passed p c s at i → After i
       go C.Header e h = noted-header h
       go C.Row e h = noted-row e h
-      go C.Entry e h = noted-entry e h
+      go C.Entry e h = noted-entry by-entry e h
       go C.End e h = absurd (d (eqb-true _ 0x13 (certificate-byte C.End _ e (λ u. clash (cc)))))
       go C.Unknown e h = clash (let y = h .placed in cc)
       go C.EqualityRow e h = noted-equality e h
-      go C.WideEntry e h = noted-wide e h
+      go C.WideEntry e h = noted-entry by-wide e h
