@@ -33,7 +33,7 @@ use Rattle.format.specs.ProblemBases.{basisOf, multiplier}
 use Rattle.format.specs.CertificateRules.{Entry, Row, noRow, mostRows}
 use Rattle.format.proofs.All.{all-map}
 use Rattle.format.proofs.CertificateLimits.{IndicesRise, all-within}
-use Rattle.certificate_reader.specs.Rows.{entryAt, basisAt, weightAt, rowAt, rowsBy, EntriesStand, done, more, SoundRows}
+use Rattle.certificate_reader.specs.Rows.{sizeAt, entryAt, basisAt, weightAt, rowAt, rowsBy, EntriesStand, done, more, SoundRows}
 use Rattle.certificate_reader.proofs.Shapes.{basis-few}
 use Rattle.certificate_reader.proofs.Walk.{Step, step-of, step-none, walk-sound}
 use Rattle.accepting.specs.Identity.{squares}
@@ -397,7 +397,7 @@ module _ {s : List ℕ} {to : ℕ} {es : List Entry} {indices : List ℕ} {facto
           let d = k .held .count-is in
           omega arith
 
-      pub filling-more : length es ≤ 64 → Filling s to es (set indices n (entryAt s x .index)) (set factors n (entryAt s x .factor)) (n + 1) (x + 4)
+      pub filling-more : length es ≤ 64 → Filling s to es (set indices n (entryAt s x .index)) (set factors n (entryAt s x .factor)) (n + 1) (x + sizeAt s x)
       filling-more f =
           let l = filling-few f in
           let i = k .held .indices-length in
