@@ -443,12 +443,12 @@ fn divide_sums(table: &[u64], n: usize, hi: &mut [i64], lo: &mut [i64], found: u
         ⌝ }
 {
     let mut r = found;
-    let mut i = 0;
-    while i < n {
-        if !wide_sums::divide(hi, lo, i) {
-            r = smaller(table, n, r, i);
+    let mut k = 0;
+    while k < n {
+        if !wide_sums::divide(hi, lo, k) {
+            r = smaller(table, n, r, k);
         }
-        i += 1;
+        k += 1;
     }
     r
 }

@@ -1,4 +1,4 @@
--- `divide_sums`: after i turns the first i sums are divided.
+-- `divide_sums`: after k turns the first k sums are divided.
 use native.Mathlib.Omega.{arith}
 use borrow.Author.Needs.{needs}
 use borrow.Author.Tests.{not-true, not-false}
@@ -11,10 +11,10 @@ use Rattle.identity_check.proofs.divide_sums.Statement.{statement}
 use Rattle.identity_check.proofs.divide_sums.Tie as tie
 
 abbrev Inv-loop : tie.InvT-loop
-Inv-loop table n hi₀ lo₀ found r₀ i₀ hi lo r i = (i ≤ n) × DividedSums table n i found hi₀ lo₀ hi lo r
+Inv-loop table n hi₀ lo₀ found r₀ k₀ hi lo r k = (k ≤ n) × DividedSums table n k found hi₀ lo₀ hi lo r
 
 abbrev μ-loop : tie.MeasureT-loop
-μ-loop table n hi₀ lo₀ found r₀ i₀ hi lo r i = n - i
+μ-loop table n hi₀ lo₀ found r₀ k₀ hi lo r k = n - k
 
 -- the turn of a division
 abbrev turn : tie.After-divide Inv-loop μ-loop → tie.In-loop Inv-loop μ-loop
@@ -34,8 +34,8 @@ divide-requires c κs =
 smaller-requires : tie.Need-smaller-requires Inv-loop μ-loop
 smaller-requires c κs = let i = turn (c .before .before .before) in (i .before .before .before .pre .0, i .loop-test .taken)
 
-add-i : tie.Need-add-i Inv-loop μ-loop
-add-i c = search needs
+add-k : tie.Need-add-k Inv-loop μ-loop
+add-k c = search needs
 
 loop-less : tie.Need-loop-less Inv-loop μ-loop
 loop-less c = let i = turn (c .before .before .before) in omega (arith, i .loop-test .taken)
@@ -59,7 +59,7 @@ same-length-2 : tie.Need-same-length-2 Inv-loop μ-loop
 same-length-2 c = c .before .loop .inv .1 .low .long
 
 returns : tie.Need-returns Inv-loop μ-loop
-returns c = let l = c .before in let e : l .loop .i ≡ l .before .before .args .n = omega (arith, l .loop .inv .0, c .loop-test .left) in rw e at (l .loop .inv .1)
+returns c = let l = c .before in let e : l .loop .k ≡ l .before .before .args .n = omega (arith, l .loop .inv .0, c .loop-test .left) in rw e at (l .loop .inv .1)
 
 pub divide-sums-spec : {M : Type 1} → statement M
 divide-sums-spec =
@@ -70,7 +70,7 @@ divide-sums-spec =
     loop-holds
     divide-requires
     smaller-requires
-    add-i
+    add-k
     loop-less
     loop-again
     same-length
