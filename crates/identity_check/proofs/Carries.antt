@@ -98,6 +98,15 @@ module _ {D : ℕ → ℤ} {table : List ℕ} {n : ℕ} where
         each = λ q b. ⊎-elim (λ w. inl w) (λ m. inr (m ∙ ap (λ (v : ℤ). pos (h .factor) *ℤ v) (e q b))) (h .each q b);
       }
 
+  pub reached-of : {D′ W : ℕ → ℤ} {r : ℕ} → Reached D′ W table n r → ((q : ℕ) → q < n → D q ≡ D′ q) → Reached D W table n r
+  reached-of h e =
+      record {
+        factor = h .factor;
+        positive = h .positive;
+        there = λ b z. h .there b (sym (e _ b) ∙ z);
+        each = λ q b. ⊎-elim (λ w. inl (λ z. w .0 (sym (e q b) ∙ z), w .1, w .2)) (λ m. inr (e q b ∙ m)) (h .each q b);
+      }
+
   -- a division before what is added 2^16 times
   module _ {hi₀ lo₀ hi₁ lo₁ : List ℤ} {found r : ℕ} (d : DividedSums table n n found hi₀ lo₀ hi₁ lo₁ r) (E : ℕ → ℤ)
       (h : Reached D (λ q. valueAt hi₀ lo₀ q +ℤ pos step *ℤ E q) table n found) where

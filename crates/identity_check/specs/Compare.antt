@@ -4,7 +4,7 @@ use mathlib.Core.Logic.{_⊎_}
 use mathlib.Core.List.{List}
 use mathlib.Core.Option.{Option, none, some}
 use Prim.Native.Nat.{ℕ, _^_, _≤_, _<_}
-use lib.IntN.{ℤ, pos, _*ℤ_}
+use lib.IntN.{ℤ, pos, _+ℤ_, _*ℤ_}
 use lib.ListN.{length, getD, drop}
 use Rattle.format.specs.ProblemRules.{Problem}
 use Rattle.format.specs.CertificateRules.{Certificate}
@@ -78,6 +78,15 @@ pub record Given (p : Problem) (c : Certificate) (s starts : List ℕ) (rows : �
 pub record Untouched (t₀ t₁ : List ℤ) : Type 0 where
   pub long : length t₁ ≡ length t₀
   pub rest : drop 2048 t₁ ≡ drop 2048 t₀
+
+-- the sums grew by f of the problem that the arrays hold, part after part, and were divided between the parts: what is
+-- known of the whole sums then
+pub record Carried (f : Problem → ℕ → ℤ) (keys : List ℕ) (coefficients : List ℤ) (sizes table : List ℕ) (n : ℕ)
+    (hi₀ lo₀ hi₁ lo₁ : List ℤ) (r : ℕ) : Type 0 where
+  pub reached : (p : Problem) → FlatProblem p keys coefficients sizes
+      → Reached (λ q. valueAt hi₀ lo₀ q +ℤ f p (getD table q 0)) (valueAt hi₁ lo₁) table n r
+  pub high : Untouched hi₀ hi₁
+  pub low : Untouched lo₀ lo₁
 
 -- the answer for the problem and the certificate, and what is left of the sums
 pub record Answered (s starts : List ℕ) (rows : ℕ) (header : Header) (keys : List ℕ) (coefficients : List ℤ)
