@@ -3,16 +3,22 @@
 use mathlib.Core.Path.{_≡_, refl, sym, ap, ap₂, _∙_}
 use mathlib.Core.Bool.{Bool, true, false, cond}
 use mathlib.Core.List.{List, [], _∷_, _++_}
+use mathlib.Core.Logic.{⊎-elim}
 use Prim.Native.Nat.{ℕ, zero, suc, _+_, _-_, _*_, _^_, _≤_, _<_}
+use native.Mathlib.Nat.{eq-or-lt-of-le}
 use native.Mathlib.Omega.{arith}
 use borrow.Author.Tests.{ltb-true, ltb-false}
 use lib.Dec.{ltb}
 use lib.IntN.{ℤ, pos, negsuc, negℤ, natAbs, _+ℤ_, _-ℤ_, _*ℤ_, +ℤ-idr, *ℤ-zero}
-use lib.ListN.{getD}
+use lib.ListN.{length, getD, set}
+use lib.Seq.{getD-set-same, getD-set-other}
 use lib.Signed.{shrZ}
-use Rattle.integers.proofs.Ranges.{abs-mul, abs-neg, abs-sum, modZ, floor-lt, floor-rest}
+use mir.Syntax.{w32, w64}
+use mir.Val.{SFits}
+use Rattle.integers.proofs.Ranges.{abs-fits, fits-abs, abs-mul, abs-neg, abs-sum, modZ, floor-lt, floor-rest}
 use Rattle.integers.proofs.Ring.{view, diffs, ⊖-eq}
 use Rattle.counting.specs.Counting.{listed}
+use Rattle.counting.proofs.Cases.{clash}
 use Rattle.counting.proofs.Listed.{listed-same}
 use Rattle.polynomial.specs.Terms.{Term, term}
 use Rattle.polynomial.specs.Algebra.{sum}
@@ -72,6 +78,29 @@ module _ (l : ℤ) where
   pub low-same : highDigit l ≡ pos 0 → lowDigit l ≡ l
   unfolding lowDigit
   low-same e = rw e (+ℤ-idr l)
+
+-- the steps from a factor of 32 bits to its digits fit 64 bits, and the digits 32
+module _ {l : ℤ} (f : SFits w32 l) where
+  high-most : natAbs (highDigit l) ≤ digitMost
+  high-most = high-small l (fits-abs f)
+
+  pub moved-fits : SFits w64 (l +ℤ pos (2 ^ 15))
+  moved-fits = abs-fits (omega (arith, fits-abs f, abs-sum l (pos (2 ^ 15))))
+
+  pub high-fits : SFits w64 (highDigit l)
+  high-fits = abs-fits (omega (arith, high-most))
+
+  pub high-narrow : SFits w32 (highDigit l)
+  high-narrow = abs-fits (omega (arith, high-most))
+
+  pub multiple-fits : SFits w64 (highDigit l *ℤ pos digitBase)
+  multiple-fits = abs-fits (omega (arith, high-most, abs-mul (highDigit l) (pos digitBase)))
+
+  pub low-fits : SFits w64 (lowDigit l)
+  low-fits = abs-fits (omega (arith, low-small l))
+
+  pub low-narrow : SFits w32 (lowDigit l)
+  low-narrow = abs-fits (omega (arith, low-small l))
 
 -- ---- the sums of the digits
 module _ (m : ℕ → ℤ) where
@@ -186,3 +215,41 @@ module _ {d : ℤ → ℤ} {factors : List ℤ} {count : ℕ} {held : List ℤ} 
   pub held-narrow : wide ≡ false → Narrow (termsIn count indices factors)
   unfolding termsIn
   held-narrow e = narrow-listed (at indices factors) count (q .narrow e)
+
+-- the loops: one digit more, where the places before it are as they were
+pub digits-start : {d : ℤ → ℤ} {factors held : List ℤ} → HoldsDigits d factors 0 held false
+digits-start = record { there = λ k b. absurd (omega arith); narrow = λ e k b. absurd (omega arith) }
+
+module _ {d : ℤ → ℤ} {factors : List ℤ} {t : ℕ} {held : List ℤ} {wide : Bool} (q : HoldsDigits d factors t held wide) where
+  abbrev l : ℤ
+  l = getD factors t (pos 0)
+
+  digits-more : {held′ : List ℤ} {now : Bool} → ((k : ℕ) → k < t → getD held′ k (pos 0) ≡ getD held k (pos 0)) → getD held′ t (pos 0) ≡ d l
+      → (now ≡ false → (wide ≡ false) × (highDigit l ≡ pos 0)) → HoldsDigits d factors (t + 1) held′ now
+  digits-more {held′} before here n =
+      record {
+        there = λ k b.
+            ⊎-elim
+            (λ e. rw e here)
+            (λ b. before k b ∙ q .there k b)
+            (eq-or-lt-of-le {n = k} {m = t} (omega arith));
+        narrow = λ e k b.
+            ⊎-elim
+            (λ i. rw i (n e .1))
+            (q .narrow (n e .0) k)
+            (eq-or-lt-of-le {n = k} {m = t} (omega arith));
+      }
+
+  set-more : {now : Bool} → t < length held → (now ≡ false → (wide ≡ false) × (highDigit l ≡ pos 0)) → HoldsDigits d factors (t + 1) (set held t (d l)) now
+  set-more b n = digits-more (λ k h. getD-set-other held t k (d l) (pos 0) (λ e. omega arith)) (getD-set-same held t (d l) (pos 0) b) n
+
+  -- of a wide factor, and of one that is not
+  pub digits-wide : t < length held → HoldsDigits d factors (t + 1) (set held t (d l)) true
+  digits-wide b = set-more b (λ e. clash (cc))
+
+  pub digits-narrow : t < length held → highDigit l ≡ pos 0 → HoldsDigits d factors (t + 1) (set held t (d l)) wide
+  digits-narrow b z = set-more b (λ e. (e, z))
+
+  -- in place
+  pub digits-kept : getD held t (pos 0) ≡ d l → highDigit l ≡ pos 0 → HoldsDigits d factors (t + 1) held wide
+  digits-kept e z = digits-more (λ k b. refl) e (λ n. (n, z))

@@ -368,8 +368,20 @@ module _ {s : List ℕ} {from to room : ℕ} (bytes : Bounded 255 s) (k : LowRow
   pub low-few : length (row .entries) ≤ 64
   low-few = rising-few (row .entries) (k .rising) (rows-low room (row .entries) (k .inside))
 
-  pub low-entries-of : {indices : List ℕ} {factors : List ℤ} {count : ℕ} → HoldsEntries (row .entries) indices factors count → Entries factorMost indices factors count room
-  low-entries-of {indices} {factors} {count} q = row-entries (row .entries) indices factors count room q (k .rising) (k .inside) (stand-small s bytes (k .stands .entries))
+  pub row-held : {indices : List ℕ} {factors : List ℤ} {count : ℕ} {g : List ℤ} → HoldsEntries (row .entries) indices factors count → length g ≡ room → Below gatheredMost g
+      → RowHeld indices factors count (row .weight) g
+  row-held {indices} {factors} {count} q e b =
+      record {
+        entries = rw e (row-entries (row .entries) indices factors count room q (k .rising) (k .inside) (stand-small s bytes (k .stands .entries)));
+        factors-length = q .factors-length;
+        weight-small = weight-small s bytes from;
+        below = b;
+      }
+
+-- what is added for the arrays is added for the row that they hold
+pub added-same : {part part′ : Part} {w w′ : ℤ} {F F′ : List Term} {g₀ g₁ : List ℤ} {wide : Bool} → PartAdded part w F g₀ g₁ wide → part′ ≡ part → w ≡ w′ → F ≡ F′
+    → PartAdded part′ w′ F′ g₀ g₁ wide
+added-same a p q r = rw (p, ← q, ← r) a
 
 -- a row on basis j that is walked
 pub walked-low : {s starts : List ℕ} {rows j room : ℕ} → RowsFor s starts rows j room → (t : ℕ) → t < rows → basisAt s (getD starts t 0) ≡ j
