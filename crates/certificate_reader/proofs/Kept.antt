@@ -11,7 +11,6 @@ use lib.ListN.{length, getD, set, length-append, length-set}
 use borrow.Author.Tests.{leb-true, leb-false, ltb-true}
 use Rattle.counting.proofs.Cases.{and-left, and-right}
 use Rattle.format.specs.Commands.{refused}
-use Rattle.format.specs.Operands.{number}
 use Rattle.format.proofs.Run.{Left, left-start, left-end, left-refused, left-extra, left-given, left-next}
 use Rattle.format.specs.ProblemRules.{Problem}
 use Rattle.format.proofs.WithinLimits.{Limits}
@@ -19,11 +18,11 @@ use Rattle.format.specs.declared.certificate.Command.{Command}
 use Rattle.format.specs.declared.certificate.Command.the-variants as C
 use Rattle.format.specs.declared.certificate.Header.{Header}
 use Rattle.format.specs.CertificateLayout.{certificateDecoded}
-use Rattle.format.specs.CertificateRules.{Certificate, noHeader, noCertificate, lastRow, mostRows, rowsFull, withRow, certificatePlaced, certificateApplied, certificateCommandAt, certificateInstructionAt, certificateRefusalAt, certificateNext, certificateLanguage, readCertificate}
+use Rattle.format.specs.CertificateRules.{Certificate, noHeader, noCertificate, lastRow, mostRows, entryPlaced, rowsFull, withRow, entered, certificatePlaced, certificateApplied, certificateCommandAt, certificateInstructionAt, certificateRefusalAt, certificateNext, certificateLanguage, readCertificate}
 use Rattle.format.proofs.CertificateChecks.{last-append, last-set, Passed, passed, taken-size, taken-whole}
 use Rattle.certificate_reader.specs.declared.Progress.{Progress}
 use Rattle.certificate_reader.specs.declared.Reading.{Reading}
-use Rattle.certificate_reader.specs.Kept.{Sized, progressOf, noProgress, headed, begun, advanced, ProgressWithin}
+use Rattle.certificate_reader.specs.Kept.{Sized, progressOf, noProgress, headed, begun, risen, advanced, ProgressWithin}
 use Rattle.certificate_reader.specs.Rows.{sizeAt, GivenRows, Validated}
 use Rattle.certificate_reader.proofs.Shapes.{rows-are, floor-more}
 use Rattle.certificate_reader.proofs.Rows.{Noted, noted-start, noted-next}
@@ -45,17 +44,23 @@ module _ (c : Certificate) (s : List ℕ) (at : ℕ) where
       go C.End = refl
       go C.Unknown = refl
       go C.EqualityRow = refl
+      go C.WideEntry = refl
+
+  entered-progress : (i : ℕ) (l : ℤ) → entryPlaced c at ≡ true → progressOf (entered c i l at) ≡ risen (progressOf c) i
+  unfolding progressOf
+  entered-progress i l p =
+      let n = ltb-true 0 (length (c .rows)) (and-right (ltb 0 at) _ p) in
+      rw (last-set (c .rows) _ n, length-set (c .rows), floor-more (lastRow (c .rows) .entries), ← add-one i)
 
   applied-progress : (k : Command) → certificatePlaced c at k ≡ true → progressOf (certificateApplied c (certificateDecoded k s at) at) ≡ advanced (progressOf c) (certificateDecoded k s at)
   unfolding certificateApplied progressOf
   applied-progress C.Header p = refl
   applied-progress C.Row p = with-row-progress c _ _
-  applied-progress C.Entry p =
-      let n = ltb-true 0 (length (c .rows)) (and-right (ltb 0 at) _ p) in
-      rw (last-set (c .rows) _ n, length-set (c .rows), floor-more (lastRow (c .rows) .entries), ← add-one (number 1 s (at + 1)))
+  applied-progress C.Entry p = entered-progress _ _ p
   applied-progress C.End p = refl
   applied-progress C.Unknown p = refl
   applied-progress C.EqualityRow p = with-row-progress c _ _
+  applied-progress C.WideEntry p = entered-progress _ _ p
 
   next-progress : certificatePlaced c at (certificateCommandAt s at) ≡ true → progressOf (certificateNext c s at) ≡ advanced (progressOf c) (certificateInstructionAt s at)
   unfolding certificateNext
@@ -137,6 +142,7 @@ module _ (p : Problem) (s : List ℕ) where
             go C.End h = k .bounded
             go C.Unknown h = k .bounded
             go C.EqualityRow h = begun-within l _ (and-left _ _ (h .allowed)) (h .full)
+            go C.WideEntry h = record { rows = k .bounded .rows; basis = k .bounded .basis }
 
         pub held-next : Limits p → (getD s at 0 ≡ 0x13 → ⊥)
             → let h = advanced g (certificateInstructionAt s at) in let x = at + sizeAt s at in

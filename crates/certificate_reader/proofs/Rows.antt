@@ -1,13 +1,13 @@
 -- Laws of the rows by their offsets: a row begun, one entry more, and what the reader's loop notes.
 use mathlib.Core.Path.{_≡_, refl, ap, ap₂, sym, _∙_}
 use mathlib.Core.List.{List, [], _∷_, _++_}
-use mathlib.Core.Bool.{false}
+use mathlib.Core.Bool.{true, false}
 use mathlib.Core.Logic.{⊎-elim}
 use Prim.Native.Nat.{ℕ, zero, suc, _+_, _-_, _≤_, _<_}
 use native.Mathlib.Nat.{eq-or-lt-of-le}
 use native.Mathlib.Numerals.{add-one}
 use native.Mathlib.Omega.{arith}
-use lib.Dec.{ltb}
+use lib.Dec.{leb, ltb}
 use lib.IntN.{pos}
 use lib.ListN.{length, getD, set, length-set}
 use lib.Seq.{getD-set-same, getD-set-other}
@@ -19,14 +19,32 @@ use Rattle.format.specs.declared.certificate.Command.{Command}
 use Rattle.format.specs.declared.certificate.Command.the-variants as C
 use Rattle.format.specs.ProblemRules.{Problem}
 use Rattle.format.specs.Operands.{number, signed}
-use Rattle.format.specs.CertificateLayout.{certificateSize, certificateDecoded}
-use Rattle.format.specs.CertificateRules.{Entry, Row, Certificate, noRow, lastRow, mostRows, rowsFull, withRow, withEntry, certificateApplied, certificateCommandAt, certificateInstructionAt, certificateRefusalAt, certificateNext}
+use Rattle.format.specs.CertificateLayout.{certificateCommand, certificateSize, certificateUnsigned, certificateDecoded}
+use Rattle.format.specs.CertificateRules.{Entry, Row, Certificate, noRow, lastRow, mostRows, entryPlaced, rowsFull, withRow, withEntry, entered, certificateApplied, certificateCommandAt, certificateInstructionAt, certificateRefusalAt, certificateNext}
 use Rattle.format.proofs.Lengths.{certificate-byte}
 use Rattle.format.proofs.CertificateChecks.{Passed, passed}
 use Rattle.certificate_reader.specs.declared.Progress.{Progress}
 use Rattle.certificate_reader.specs.Kept.{progressOf, advanced}
-use Rattle.certificate_reader.specs.Rows.{sizeAt, entryAt, basisAt, weightAt, entriesFrom, rowAt, rowsBy, EntriesStand, done, more, BeginsRow, by-row, by-equality, RowStands, RowsStand}
+use Rattle.certificate_reader.specs.Rows.{sizeAt, entryAt, basisAt, weightAt, entriesFrom, rowAt, rowsBy, GivesEntry, by-entry, by-wide, EntriesStand, done, more, BeginsRow, by-row, by-equality, RowStands, RowsStand}
 use Rattle.certificate_reader.proofs.Shapes.{rows-are}
+
+-- ---- a command of an entry: both have their index at the same place, and at least four bytes
+pub entry-long : {k : Command} → GivesEntry k → 4 ≤ certificateSize k
+entry-long by-entry = omega arith
+entry-long by-wide = omega arith
+
+pub entry-index : {k : Command} → GivesEntry k → (s : List ℕ) (at : ℕ) → certificateUnsigned k 0 s at ≡ number 1 s (at + 1)
+entry-index by-entry s at = refl
+entry-index by-wide s at = refl
+
+-- which of the two it is, by its byte
+pub wide-byte : (b : ℕ) → b ≡ 0x15 → certificateCommand b ≡ C.WideEntry
+unfolding certificateCommand
+wide-byte b e = rw e
+
+pub other-byte : {k : Command} → GivesEntry k → (b : ℕ) → certificateCommand b ≡ k → (b ≡ 0x15 → ⊥) → k ≡ C.Entry
+other-byte by-entry b e f = refl
+other-byte by-wide b e f = absurd (f (eqb-true b 0x15 (certificate-byte C.WideEntry b e (λ u. clash (cc)))))
 
 -- ---- the walk over the entries
 none-left : (s : List ℕ) (n to : ℕ) → entriesFrom n s to to ≡ []
@@ -37,19 +55,21 @@ none-left s (suc n) to = rw (le-ltb to to (omega arith))
 module _ {s : List ℕ} where
   pub stand-low : {to at : ℕ} {es : List Entry} → EntriesStand s to at es → at + length es ≤ to
   stand-low done = omega arith
-  stand-low (more e w) = let k = stand-low w in omega arith
+  stand-low (more e w) = omega (arith, stand-low w, entry-long e)
 
   -- the entries that stand there are those that are defined
   pub stand-is : {to at : ℕ} {es : List Entry} → EntriesStand s to at es → (n : ℕ) → to ≤ at + n → entriesFrom n s to at ≡ es
   unfolding entriesFrom
   stand-is {to} done n h = none-left s n to
-  stand-is (more e w) zero h = absurd (omega (arith, stand-low w))
+  stand-is (more e w) zero h = absurd (omega (arith, stand-low w, entry-long e))
   stand-is {to} (more {at} {es} e w) (suc n) h =
       let b = stand-low w in
+      let m = entry-long e in
       let l : at < to = omega arith in
-      rw (lt-ltb at to l, e) (ap (λ (l : List Entry). entryAt s at ∷ l) (stand-is w n (omega arith)))
+      rw (lt-ltb at to l) (ap (λ (l : List Entry). entryAt s at ∷ l) (stand-is w n (omega arith)))
 
-  stand-more : {to at : ℕ} {es : List Entry} → EntriesStand s to at es → certificateCommandAt s to ≡ C.Entry → EntriesStand s (to + 4) at (es ++ (entryAt s to ∷ []))
+  stand-more : {to at : ℕ} {es : List Entry} → EntriesStand s to at es → GivesEntry (certificateCommandAt s to)
+      → EntriesStand s (to + sizeAt s to) at (es ++ (entryAt s to ∷ []))
   stand-more done e = more e done
   stand-more (more f w) e = more f (stand-more w e)
 
@@ -73,22 +93,25 @@ module _ (s : List ℕ) where
     row-begun : at + 4 ≤ length s → RowStands s at (at + 4)
     row-begun h = record { command = e; entries = rw begun-none done; inside = h }
 
-  module _ (from at : ℕ) (k : RowStands s from at) (e : certificateCommandAt s at ≡ C.Entry) where
+  module _ (from at : ℕ) (k : RowStands s from at) (e : GivesEntry (certificateCommandAt s at)) where
     abbrev longer : List Entry
     longer = rowAt s from at .entries ++ (entryAt s at ∷ [])
 
-    stand-longer : EntriesStand s (at + 4) (from + 4) longer
+    abbrev after : ℕ
+    after = at + sizeAt s at
+
+    stand-longer : EntriesStand s after (from + 4) longer
     stand-longer = stand-more (k .entries) e
 
-    entries-longer : rowAt s from (at + 4) .entries ≡ longer
+    entries-longer : rowAt s from after .entries ≡ longer
     entries-longer =
-        ap (λ (n : ℕ). entriesFrom (at + 4 - from) s (at + 4) (from + n)) (begins-size (k .command))
-        ∙ stand-is stand-longer (at + 4 - from) (omega arith)
+        ap (λ (n : ℕ). entriesFrom (after - from) s after (from + n)) (begins-size (k .command))
+        ∙ stand-is stand-longer (after - from) (omega arith)
 
-    row-longer : at + 4 ≤ length s → RowStands s from (at + 4)
+    row-longer : after ≤ length s → RowStands s from after
     row-longer h = record { command = k .command; entries = rw entries-longer stand-longer; inside = h }
 
-    row-entry : rowAt s from (at + 4) ≡ withEntry (rowAt s from at) (entryAt s at)
+    row-entry : rowAt s from after ≡ withEntry (rowAt s from at) (entryAt s at)
     row-entry = rw entries-longer
 
 -- ---- all rows: the last offset stored anew
@@ -196,15 +219,20 @@ module _ (p : Problem) (s starts : List ℕ) (at : ℕ) (c : Certificate) (g : P
   noted-equality e h =
       rw (weight-equality s at e) at (noted-begun (rw e by-equality) (ltb-true 0 at (h .placed)) (h .full) (leb-true _ _ (h .whole)))
 
-  noted-entry : certificateCommandAt s at ≡ C.Entry → Passed p c s at C.Entry → After C.Entry
-  unfolding certificateApplied entryAt
-  noted-entry e h = go (g .rows) (k .stand .few) (k .last z) (k .are) (k .stand .each) (omega (arith, ltb-true 0 (length (c .rows)) (and-right (ltb 0 at) _ (h .placed)), rows-are c g is))
+  -- an entry, by either command
+  noted-entered : GivesEntry (certificateCommandAt s at) → entryPlaced c at ≡ true → leb (at + sizeAt s at) (length s) ≡ true
+      → Noted s (set starts (g .rows) (at + sizeAt s at)) (at + sizeAt s at) (g .rows) (entered c (entryAt s at .index) (entryAt s at .factor) at .rows)
+  unfolding entryAt
+  noted-entered e placed whole = go (g .rows) (k .stand .few) (k .last z) (k .are) (k .stand .each) (omega (arith, ltb-true 0 (length (c .rows)) (and-right (ltb 0 at) _ placed), rows-are c g is))
     where
       z : 0 < at
-      z = ltb-true 0 at (and-left _ _ (h .placed))
+      z = ltb-true 0 at (and-left _ _ placed)
+
+      x : ℕ
+      x = at + sizeAt s at
 
       go : (n : ℕ) → n ≤ mostRows → getD starts n 0 ≡ at → c .rows ≡ rowsBy s starts n → ((r : ℕ) → r < n → RowStands s (getD starts r 0) (getD starts (r + 1) 0)) → 0 < n
-          → Noted s (set starts n (at + 4)) (at + 4) n (certificateApplied c (certificateDecoded C.Entry s at) at .rows)
+          → Noted s (set starts n x) x n (entered c (entryAt s at .index) (entryAt s at .factor) at .rows)
       go zero f y q w b = absurd (omega arith)
       go (suc m) f y q w b =
           let l = k .starts-length in
@@ -213,15 +241,20 @@ module _ (p : Problem) (s starts : List ℕ) (at : ℕ) (c : Certificate) (g : P
           let last : lastRow (rowsBy s starts (suc m)) ≡ rowAt s (getD starts m 0) at = rw (rows-length s starts (suc m), u, row-by s starts (suc m) m noRow (omega arith), add-one m, y) in
           record {
             starts-length = length-set starts _ _ ∙ l;
-            first = λ q. absurd (omega arith);
+            first = λ q. absurd (omega (arith, z));
             last = λ q. getD-set-same starts (suc m) _ 0 (omega arith);
             are =
                 ap (λ (rs : List Row). set rs (length rs - 1) (withEntry (lastRow rs) (entryAt s at))) q
                 ∙ ap₂ (set (rowsBy s starts (suc m))) (ap (λ (n : ℕ). n - 1) (rows-length s starts (suc m)) ∙ u)
                 (ap (λ (r : Row). withEntry r (entryAt s at)) last ∙ sym (row-entry s (getD starts m 0) at here e))
-                ∙ sym (rw (add-one m) at (rows-longer s starts m (at + 4) (omega arith)));
-            stand = rw (add-one m) at (stand-set s starts m (at + 4) (omega arith) (omega arith) (λ r d. w r (omega arith)) (row-longer s (getD starts m 0) at here e (leb-true _ _ (h .whole))));
+                ∙ sym (rw (add-one m) at (rows-longer s starts m x (omega arith)));
+            stand = rw (add-one m) at (stand-set s starts m x (omega arith) (omega arith) (λ r d. w r (omega arith)) (row-longer s (getD starts m 0) at here e (leb-true _ _ whole)));
           }
+
+  noted-entry : {i : Command} → GivesEntry i → certificateCommandAt s at ≡ i → Passed p c s at i → After i
+  unfolding certificateApplied entryAt
+  noted-entry by-entry e h = rw e at (noted-entered (rw e by-entry) (h .placed) (rw e (h .whole)))
+  noted-entry by-wide e h = rw e at (noted-entered (rw e by-wide) (h .placed) (rw e (h .whole)))
 
   pub noted-next : certificateRefusalAt p c s at ≡ 0 → (getD s at 0 ≡ 0x13 → ⊥)
       → let n = advanced g (certificateInstructionAt s at) .rows in Noted s (set starts n (at + sizeAt s at)) (at + sizeAt s at) n (certificateNext c s at .rows)
@@ -231,7 +264,8 @@ module _ (p : Problem) (s starts : List ℕ) (at : ℕ) (c : Certificate) (g : P
       go : (i : Command) → certificateCommandAt s at ≡ i → Passed p c s at i → After i
       go C.Header e h = noted-header h
       go C.Row e h = noted-row e h
-      go C.Entry e h = noted-entry e h
+      go C.Entry e h = noted-entry by-entry e h
       go C.End e h = absurd (d (eqb-true _ 0x13 (certificate-byte C.End _ e (λ u. clash (cc)))))
       go C.Unknown e h = clash (let y = h .placed in cc)
       go C.EqualityRow e h = noted-equality e h
+      go C.WideEntry e h = noted-entry by-wide e h

@@ -11,9 +11,9 @@ use borrow.Author.Tests.{le-leb, leb-true, leb-false, lt-ltb, le-ltb}
 use Rattle.format.specs.ProblemRules.{Problem}
 use Rattle.format.specs.ProblemLimits.{mostConditions}
 use Rattle.format.specs.ProblemBases.{basisOf, isEquality, kindOf}
-use Rattle.format.proofs.WithinLimits.{Monomials, Limits as ProblemLimits, Limits}
+use Rattle.format.proofs.WithinLimits.{Monomials, Limits}
 use Rattle.format.proofs.ProblemLimits.{all-at, monomials-none}
-use Rattle.format.specs.CertificateRules.{Entry, Certificate, lastRow, rises}
+use Rattle.format.specs.CertificateRules.{Entry, Certificate, lastRow, rises, indexRepeated}
 use Rattle.flat.specs.Flat.{conditionsAt, equalityIn, FlatProblem}
 use Rattle.flat.proofs.Flat.{basis-long, kind-part}
 use Rattle.certificate_reader.specs.declared.Progress.{Progress}
@@ -75,8 +75,8 @@ module _ (c : Certificate) (g : Progress) (e : g ≡ progressOf c) where
   unfolding progressOf
   floor-is = ap (λ (x : Progress). x .floor) e
 
-  pub index-repeated : (i : ℕ) → ltb i (g .floor) ≡ not (rises (lastRow (c .rows) .entries) i)
-  index-repeated i = ap (ltb i) floor-is ∙ not-rising (lastRow (c .rows) .entries) i
+  pub below-floor : (i : ℕ) → ltb i (g .floor) ≡ indexRepeated c i
+  below-floor i = ap (ltb i) floor-is ∙ not-rising (lastRow (c .rows) .entries) i
 
   pub size-is : (p : Problem) (sizes : List ℕ) → Sized p sizes → g .basis ≤ 8 → getD sizes (g .basis) 0 ≡ length (basisOf p (lastRow (c .rows) .basis))
   size-is p sizes f l = f .bases (g .basis) (omega arith) ∙ ap (λ (j : ℕ). length (basisOf p j)) basis-is

@@ -57,14 +57,20 @@ headed t (I.Row j w) = t
 headed t (I.Entry i l) = t
 headed t I.End = t
 headed t (I.EqualityRow j w) = t
+headed t (I.WideEntry i l) = t
 
 -- a row begun on basis j
 abbrev pub begun : Progress → ℕ → Progress
 begun g j = record { rows = g .rows + 1; basis = j; floor = 0 }
 
+-- an entry with index i, by either command
+abbrev pub risen : Progress → ℕ → Progress
+risen g i = record { rows = g .rows; basis = g .basis; floor = i + 1 }
+
 abbrev pub advanced : Progress → Instruction → Progress
 advanced g (I.Header side d p q) = g
 advanced g (I.Row j w) = begun g j
-advanced g (I.Entry i l) = record { rows = g .rows; basis = g .basis; floor = i + 1 }
+advanced g (I.Entry i l) = risen g i
 advanced g I.End = g
 advanced g (I.EqualityRow j w) = begun g j
+advanced g (I.WideEntry i l) = risen g i

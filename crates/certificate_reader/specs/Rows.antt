@@ -15,7 +15,7 @@ use Rattle.format.specs.declared.certificate.Command.{Command}
 use Rattle.format.specs.declared.certificate.Command.the-variants as C
 use Rattle.format.specs.declared.certificate.Header.{Header}
 use Rattle.format.specs.ProblemRules.{Problem}
-use Rattle.format.specs.CertificateLayout.{certificateSize}
+use Rattle.format.specs.CertificateLayout.{certificateSize, certificateUnsigned, certificateSigned}
 use Rattle.format.specs.CertificateRules.{Entry, Row, Certificate, mostRows, certificateCommandAt, readCertificate}
 use Rattle.format.proofs.WithinLimits.{Limits}
 use Rattle.format.proofs.CertificateLimits.{SoundRow}
@@ -26,9 +26,11 @@ use Rattle.certificate_reader.specs.declared.Reading.{Reading}
 abbrev pub sizeAt : List ℕ → ℕ → ℕ
 sizeAt s at = certificateSize (certificateCommandAt s at)
 
--- the entry whose command stands there
+-- the entry whose command stands there, by the layout of the command
 unfoldable pub entryAt : List ℕ → ℕ → Entry
-entryAt s at = record { index = number 1 s (at + 1); factor = signed 15 (number 2 s (at + 2)); place = at }
+entryAt s at =
+    let k = certificateCommandAt s at in
+    record { index = certificateUnsigned k 0 s at; factor = certificateSigned k 1 s at; place = at }
 
 -- the basis and the weight of the row whose command stands there: the weight of 14 has a sign
 abbrev pub basisAt : List ℕ → ℕ → ℕ
@@ -54,11 +56,22 @@ rowAt s from to = record {
 unfoldable pub rowsBy : List ℕ → List ℕ → ℕ → List Row
 rowsBy s starts rows = listed rows (λ r. rowAt s (getD starts r 0) (getD starts (r + 1) 0))
 
--- ---- the commands stand there: entries es one after another, from an offset up to another
+-- ---- the commands stand there
+-- the commands of an entry, 12 and 15
+pub data GivesEntry : Command → Type 0 where
+  by-entry : GivesEntry C.Entry
+  by-wide : GivesEntry C.WideEntry
+
+-- one entry
+pub record EntryStands (s : List ℕ) (at : ℕ) : Type 0 where
+  pub command : GivesEntry (certificateCommandAt s at)
+  pub inside : at + sizeAt s at ≤ length s
+
+-- entries es one after another, from an offset up to another
 pub data EntriesStand (s : List ℕ) (to : ℕ) : ℕ → List Entry → Type 0 where
   done : EntriesStand s to to []
-  more : {at : ℕ} {es : List Entry} → certificateCommandAt s at ≡ C.Entry
-      → EntriesStand s to (at + certificateSize C.Entry) es → EntriesStand s to at (entryAt s at ∷ es)
+  more : {at : ℕ} {es : List Entry} → GivesEntry (certificateCommandAt s at)
+      → EntriesStand s to (at + sizeAt s at) es → EntriesStand s to at (entryAt s at ∷ es)
 
 -- the commands that begin a row, 11 and 14: they have the same length
 pub data BeginsRow : Command → Type 0 where

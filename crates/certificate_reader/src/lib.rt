@@ -7,9 +7,9 @@ ghost use Rattle.format.proofs.WithinLimits.{Limits};
 ghost use Rattle.format.specs.Layouts.{ZeroUnknown};
 ghost use Rattle.format.specs.declared.certificate.Command.the-variants as C;
 ghost use Rattle.format.specs.CertificateLayout.{certificateCommand, certificateSize, certificateDecoded};
-ghost use Rattle.format.specs.CertificateRules.{Certificate, noHeader, certificatePlaced, certificateOperandsFit, certificateRepeated, rowsFull, certificateFull, certificateCommandAt, certificateRefusalAt};
-ghost use Rattle.certificate_reader.specs.Kept.{Sized, ProblemSizes, progressOf, ProgressWithin, noProgress, headed, begun, advanced};
-ghost use Rattle.certificate_reader.specs.Rows.{sizeAt, entryAt, basisAt, weightAt, Validated};
+ghost use Rattle.format.specs.CertificateRules.{Certificate, noHeader, entryPlaced, certificatePlaced, entryFits, certificateOperandsFit, indexRepeated, certificateRepeated, rowsFull, certificateFull, certificateRefusalAt};
+ghost use Rattle.certificate_reader.specs.Kept.{Sized, ProblemSizes, progressOf, ProgressWithin, noProgress, headed, begun, risen, advanced};
+ghost use Rattle.certificate_reader.specs.Rows.{sizeAt, entryAt, basisAt, weightAt, EntryStands, Validated};
 use format::certificate::Command;
 use format::certificate::Header;
 use format::certificate::Instruction;
@@ -61,6 +61,7 @@ fn command_of(byte: u8) -> Command
         0x12 => Command::Entry,
         0x13 => Command::End,
         0x14 => Command::EqualityRow,
+        0x15 => Command::WideEntry,
         _ => Command::Unknown,
     }
 }
@@ -73,9 +74,17 @@ pub fn length_of(byte: u8) -> usize
     match byte {
         0x13 => 1,
         0x11 | 0x12 | 0x14 => 4,
+        0x15 => 6,
         0x10 => 10,
-        0x00..=0x0F | 0x15..=0xFF => 0,
+        0x00..=0x0F | 0x16..=0xFF => 0,
     }
+}
+
+// Whether an entry may stand at an offset, by either command.
+fn entry_placed(g: Progress, at: usize) -> bool
+    ensures { λ r. ⌜ ((c : Certificate) → g ≡ progressOf c → r ≡ entryPlaced c at) ⌝ }
+{
+    0 < at && 0 < g.rows
 }
 
 // Whether a command may stand at an offset.
@@ -85,10 +94,11 @@ fn is_placed(g: Progress, at: usize, command: Command) -> bool
     match command {
         Command::Header => at == 0,
         Command::Row => 0 < at,
-        Command::Entry => 0 < at && 0 < g.rows,
+        Command::Entry => entry_placed(g, at),
         Command::End => 0 < at,
         Command::Unknown => false,
         Command::EqualityRow => 0 < at,
+        Command::WideEntry => entry_placed(g, at),
     }
 }
 
@@ -126,7 +136,25 @@ fn decode_at(command: Command, s: &[u8], at: usize) -> Instruction
                 operand_reader::signed16(operand_reader::number_at(s, at + 2, 2)),
             )
         }
+        Command::WideEntry => {
+            Instruction::WideEntry(
+                operand_reader::number_at(s, at + 1, 1) as u8,
+                operand_reader::signed32(operand_reader::number_at(s, at + 2, 4)),
+            )
+        }
     }
+}
+
+// Whether an entry's operands keep their rules, by either command.
+fn entry_fits(sizes: &[usize], g: Progress, i: u8, l: i32) -> bool
+    requires { ⌜ ProgressWithin g × ProblemSizes (now sizes) ⌝ }
+    ensures { λ r. ⌜
+        ((p : Problem) (c : Certificate) → Sized p (now (sizes .entry)) → g ≡ progressOf c
+        → r ≡ entryFits p c i l)
+        ⌝ }
+{
+    let j = g.basis;
+    (i as usize) < sizes[j] && operand_reader::is_nonzero(l)
 }
 
 // Whether a command's operands keep their rules.
@@ -143,17 +171,22 @@ fn is_allowed(sizes: &[usize], g: Progress, i: Instruction) -> bool
             let j = j as usize;
             j <= sizes[flat::CONDITIONS] && (!flat::is_equality(sizes, j) && 1 <= w)
         }
-        Instruction::Entry(k, l) => {
-            let j = g.basis;
-            (k as usize) < sizes[j] && operand_reader::is_nonzero(l)
-        }
+        Instruction::Entry(k, l) => entry_fits(sizes, g, k, l),
         Instruction::End => true,
         Instruction::EqualityRow(j, w) => {
             let j = j as usize;
             j <= sizes[flat::CONDITIONS]
                 && (flat::is_equality(sizes, j) && operand_reader::is_nonzero(w))
         }
+        Instruction::WideEntry(k, l) => entry_fits(sizes, g, k, l),
     }
+}
+
+// Whether an index does not rise, whichever kind of entry was before it.
+fn index_repeated(g: Progress, i: u8) -> bool
+    ensures { λ r. ⌜ ((c : Certificate) → g ≡ progressOf c → r ≡ indexRepeated c i) ⌝ }
+{
+    (i as usize) < g.floor
 }
 
 // Whether an entry's index does not rise.
@@ -163,9 +196,10 @@ fn is_repeated(g: Progress, i: Instruction) -> bool
     match i {
         Instruction::Header(_, _, _, _) => false,
         Instruction::Row(_, _) => false,
-        Instruction::Entry(k, _) => (k as usize) < g.floor,
+        Instruction::Entry(k, _) => index_repeated(g, k),
         Instruction::End => false,
         Instruction::EqualityRow(_, _) => false,
+        Instruction::WideEntry(k, _) => index_repeated(g, k),
     }
 }
 
@@ -186,6 +220,7 @@ fn is_full(g: Progress, i: Instruction) -> bool
         Instruction::Entry(_, _) => false,
         Instruction::End => false,
         Instruction::EqualityRow(_, _) => rows_full(g),
+        Instruction::WideEntry(_, _) => false,
     }
 }
 
@@ -235,6 +270,7 @@ fn header_after(t: Header, i: Instruction) -> Header
         Instruction::Entry(_, _) => t,
         Instruction::End => t,
         Instruction::EqualityRow(_, _) => t,
+        Instruction::WideEntry(_, _) => t,
     }
 }
 
@@ -250,6 +286,17 @@ fn row_begun(g: Progress, j: u8) -> Progress
     }
 }
 
+// The progress after an entry with index i: the next index is above it.
+fn floor_risen(g: Progress, i: u8) -> Progress
+    ensures { λ r. ⌜ r ≡ risen g i ⌝ }
+{
+    Progress {
+        rows: g.rows,
+        basis: g.basis,
+        floor: (i as usize) + 1,
+    }
+}
+
 // The progress after a command that is not refused.
 fn progress_after(g: Progress, i: Instruction) -> Progress
     requires { ⌜ ProgressWithin g ⌝ }
@@ -258,15 +305,10 @@ fn progress_after(g: Progress, i: Instruction) -> Progress
     match i {
         Instruction::Header(_, _, _, _) => g,
         Instruction::Row(j, _) => row_begun(g, j),
-        Instruction::Entry(k, _) => {
-            Progress {
-                rows: g.rows,
-                basis: g.basis,
-                floor: (k as usize) + 1,
-            }
-        }
+        Instruction::Entry(k, _) => floor_risen(g, k),
         Instruction::End => g,
         Instruction::EqualityRow(j, _) => row_begun(g, j),
+        Instruction::WideEntry(k, _) => floor_risen(g, k),
     }
 }
 
@@ -343,26 +385,30 @@ pub fn weight_at(s: &[u8], at: usize) -> i64
 
 // The index of the entry whose command stands at an offset.
 pub fn index_at(s: &[u8], at: usize) -> u8
-    requires { ⌜ at + certificateSize C.Entry ≤ length (now s) ⌝ }
+    requires { ⌜ EntryStands (now s) at ⌝ }
     ensures { λ r. ⌜ r ≡ entryAt (now (s .entry)) at .index ⌝ }
 {
     operand_reader::number_at(s, at + 1, 1) as u8
 }
 
-// Its factor.
+// Its factor, which has 32 bits where the command is 15.
 pub fn factor_at(s: &[u8], at: usize) -> i32
-    requires { ⌜ at + certificateSize C.Entry ≤ length (now s) ⌝ }
+    requires { ⌜ EntryStands (now s) at ⌝ }
     ensures { λ r. ⌜ r ≡ entryAt (now (s .entry)) at .factor ⌝ }
 {
-    operand_reader::signed16(operand_reader::number_at(s, at + 2, 2))
+    if s[at] == 0x15 {
+        let l = operand_reader::number_at(s, at + 2, 4);
+        operand_reader::signed32(l)
+    } else {
+        let l = operand_reader::number_at(s, at + 2, 2);
+        operand_reader::signed16(l)
+    }
 }
 
 // The offset after it: the step of every walk over the entries of a row.
 pub fn after_entry(s: &[u8], at: usize) -> usize
-    requires { ⌜
-        (certificateCommandAt (now s) at ≡ C.Entry) × (at + certificateSize C.Entry ≤ length (now s))
-        ⌝ }
+    requires { ⌜ EntryStands (now s) at ⌝ }
     ensures { λ r. ⌜ r ≡ at + sizeAt (now (s .entry)) at ⌝ }
 {
-    at + 4
+    if s[at] == 0x15 { at + 6 } else { at + 4 }
 }

@@ -45,6 +45,7 @@ placed-size c at C.Entry h = omega arith
 placed-size c at C.End h = omega arith
 placed-size c at C.Unknown h = clash (cc)
 placed-size c at C.EqualityRow h = omega arith
+placed-size c at C.WideEntry h = omega arith
 
 module _ (p : Problem) (c : Certificate) (s : List ℕ) (at : ℕ) (v : certificateRefusalAt p c s at ≡ 0) where
   pub taken-size : 1 ≤ certificateSize (certificateCommandAt s at)

@@ -2,7 +2,7 @@
 use mathlib.Core.Path.{_≡_, refl, subst}
 use mathlib.Core.List.{List, [], _∷_, _++_}
 use mathlib.Core.Bool.{true, false, not, _&&_}
-use Prim.Native.Nat.{ℕ, zero, suc, _+_, _≤_, _<_}
+use Prim.Native.Nat.{ℕ, zero, suc, _+_, _-_, _≤_, _<_}
 use native.Mathlib.Omega.{arith}
 use lib.Dec.{leb, ltb, le→leb}
 use lib.IntN.{ℤ, pos}
@@ -22,7 +22,7 @@ use Rattle.format.proofs.ProblemLimits.{all-more, all-set, nonzero-not}
 use Rattle.format.specs.declared.certificate.Command.{Command}
 use Rattle.format.specs.declared.certificate.Command.the-variants as C
 use Rattle.format.specs.CertificateLayout.{certificateCommand, certificateSize, certificateDecoded}
-use Rattle.format.specs.CertificateRules.{Entry, Row, Certificate, noCertificate, noRow, lastRow, rises, mostRows, rowsFull, withRow, withEntry, certificateApplied, certificateCommandAt, certificateRefusalAt, certificateNext, certificateLanguage, readCertificate}
+use Rattle.format.specs.CertificateRules.{Entry, Row, Certificate, noCertificate, noRow, lastRow, rises, mostRows, entryPlaced, entryFits, indexRepeated, rowsFull, withRow, withEntry, entered, certificateApplied, certificateCommandAt, certificateRefusalAt, certificateNext, certificateLanguage, readCertificate}
 use Rattle.format.proofs.CertificateChecks.{Passed, passed, taken-size}
 
 -- ---- the limits
@@ -123,6 +123,21 @@ kept-start : (p : Problem) → Kept p noCertificate 0
 kept-start p = record { first = λ _. refl; later = λ z. absurd (omega arith) }
 
 module _ (p : Problem) (c : Certificate) (s : List ℕ) (at : ℕ) (kept : Kept p c at) where
+  -- an entry, by either command
+  entered-sound : (i : ℕ) (l : ℤ) → entryPlaced c at ≡ true → entryFits p c i l ≡ true → indexRepeated c i ≡ false
+      → Sound p (entered c i l at)
+  entered-sound i l placed fits rising =
+      let q = kept .later (ltb-true 0 at (and-left _ _ placed)) in
+      let n = ltb-true 0 (length (c .rows)) (and-right (ltb 0 at) _ placed) in
+      let last = all-within (SoundRow p) (c .rows) (length (c .rows) - 1) noRow (omega arith) (q .rows) in
+      record {
+        side = q .side;
+        scale = q .scale;
+        q = q .q;
+        count = rw (length-set (c .rows)) (q .count);
+        rows = all-set _ (c .rows) _ _ (q .rows) (row-more p (lastRow (c .rows)) _ last fits rising);
+      }
+
   applied-sound : (k : Command) → Passed p c s at k → Sound p (certificateApplied c (certificateDecoded k s at) at)
   unfolding certificateApplied All
   applied-sound C.Header h =
@@ -138,20 +153,12 @@ module _ (p : Problem) (c : Certificate) (s : List ℕ) (at : ℕ) (kept : Kept 
       })
   applied-sound C.Row h =
       with-row-sound p c _ _ (kept .later (ltb-true 0 at (h .placed))) (h .full) (row-begun p _ _ (h .allowed))
-  applied-sound C.Entry h =
-      let q = kept .later (ltb-true 0 at (and-left _ _ (h .placed))) in
-      let n = ltb-true 0 (length (c .rows)) (and-right (ltb 0 at) _ (h .placed)) in
-      record {
-        side = q .side;
-        scale = q .scale;
-        q = q .q;
-        count = rw (length-set (c .rows)) (q .count);
-        rows = all-set _ (c .rows) _ _ (q .rows) (row-more p (lastRow (c .rows)) _ (all-within (SoundRow p) (c .rows) _ noRow (omega arith) (q .rows)) (h .allowed) (h .repeated));
-      }
+  applied-sound C.Entry h = entered-sound _ _ (h .placed) (h .allowed) (h .repeated)
   applied-sound C.End h = kept .later (ltb-true 0 at (h .placed))
   applied-sound C.Unknown h = absurd (let z : _≡_ {A = ℕ} 0 1 = let e = h .placed in cc in omega arith)
   applied-sound C.EqualityRow h =
       with-row-sound p c _ _ (kept .later (ltb-true 0 at (h .placed))) (h .full) (equality-begun p _ _ (h .allowed))
+  applied-sound C.WideEntry h = entered-sound _ _ (h .placed) (h .allowed) (h .repeated)
 
   next-sound : certificateRefusalAt p c s at ≡ 0 → Sound p (certificateNext c s at)
   unfolding certificateNext

@@ -20,10 +20,12 @@ certificateLayout C.Entry = line 0x12 (u8 ∷ i16 ∷ [])
 certificateLayout C.End = line 0x13 []
 -- "Certificate command 14 j(u8) w(i16) begins a row on an equality"
 certificateLayout C.EqualityRow = line 0x14 (u8 ∷ i16 ∷ [])
+-- "Certificate command 15 i(u8) l(i32) is an entry with a wider factor"
+certificateLayout C.WideEntry = line 0x15 (u8 ∷ i32 ∷ [])
 certificateLayout C.Unknown = none
 
 abbrev pub certificateCommands : List Command
-certificateCommands = C.Header ∷ C.Row ∷ C.Entry ∷ C.End ∷ C.EqualityRow ∷ []
+certificateCommands = C.Header ∷ C.Row ∷ C.Entry ∷ C.End ∷ C.EqualityRow ∷ C.WideEntry ∷ []
 
 -- the command that a byte names
 unfoldable pub certificateCommand : ℕ → Command
@@ -50,4 +52,6 @@ certificateDecoded C.Entry s at = I.Entry (certificateUnsigned C.Entry 0 s at) (
 certificateDecoded C.End s at = I.End
 certificateDecoded C.EqualityRow s at =
     I.EqualityRow (certificateUnsigned C.EqualityRow 0 s at) (certificateSigned C.EqualityRow 1 s at)
+certificateDecoded C.WideEntry s at =
+    I.WideEntry (certificateUnsigned C.WideEntry 0 s at) (certificateSigned C.WideEntry 1 s at)
 certificateDecoded C.Unknown s at = I.End

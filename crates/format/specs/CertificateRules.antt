@@ -15,7 +15,8 @@ use Rattle.format.specs.declared.certificate.Instruction.the-variants as
 use Rattle.format.specs.declared.certificate.Header.{Header}
 use Rattle.format.specs.CertificateLayout.{certificateCommand, certificateSize, certificateDecoded}
 
--- an entry: factor l on basis index i, and the offset of its command
+-- an entry: factor l on basis index i, and the offset of its command. 12 and 15 are two layouts of it, with one rule for
+-- each check
 pub record Entry : Type 0 where
   pub index : ℕ
   pub factor : ℤ
@@ -45,26 +46,36 @@ noRow = record { basis = 0; weight = pos 0; entries = [] }
 abbrev pub lastRow : List Row → Row
 lastRow rs = getD rs (length rs - 1) noRow
 
--- ---- refusal 3: 10 stands "first, and only first", and "a 12 before any row, is misplaced"
+-- ---- refusal 3: 10 stands "first, and only first"
+-- an entry: "a 12 before any row, is misplaced", and "a 15 before any row is misplaced"
+abbrev pub entryPlaced : Certificate → ℕ → Bool
+entryPlaced c at = ltb 0 at && ltb 0 (length (c .rows))
+
 abbrev pub certificatePlaced : Certificate → ℕ → Command → Bool
 certificatePlaced c at C.Header = eqb at 0
 certificatePlaced c at C.Row = ltb 0 at
-certificatePlaced c at C.Entry = ltb 0 at && ltb 0 (length (c .rows))
+certificatePlaced c at C.Entry = entryPlaced c at
 certificatePlaced c at C.End = ltb 0 at
 certificatePlaced c at C.EqualityRow = ltb 0 at
+certificatePlaced c at C.WideEntry = entryPlaced c at
 certificatePlaced c at C.Unknown = false
 
 -- ---- refusal 4: "side 0 lower, 1 upper; D and q at least 1"; 11 is "on basis j, 0 or a constraint of the problem,
--- with weight w at least 1"; an index "less than the basis's length"; "factors are never 0"; 14 is "on an equality,
--- with w negative or positive, never 0"; "Command 11 on an equality, or 14 on another basis, breaks an operand rule"
+-- with weight w at least 1"; 14 is "on an equality, with w negative or positive, never 0"; "Command 11 on an equality,
+-- or 14 on another basis, breaks an operand rule"
+-- an entry: its index is "less than the basis's length"; "factors are never 0"
+abbrev pub entryFits : Problem → Certificate → ℕ → ℤ → Bool
+entryFits p c i l = ltb i (length (basisOf p (lastRow (c .rows) .basis))) && nonzero l
+
 abbrev pub certificateOperandsFit : Problem → Certificate → Instruction → Bool
 certificateOperandsFit p c (I.Header side d x q) = leb side 1 && (leb 1 d && leb 1 q)
 certificateOperandsFit p c (I.Row j w) =
     leb j (length (p .conditions)) && (not (isEquality (kindOf p j)) && leb 1 w)
-certificateOperandsFit p c (I.Entry i l) = ltb i (length (basisOf p (lastRow (c .rows) .basis))) && nonzero l
+certificateOperandsFit p c (I.Entry i l) = entryFits p c i l
 certificateOperandsFit p c I.End = true
 certificateOperandsFit p c (I.EqualityRow j w) =
     leb j (length (p .conditions)) && (isEquality (kindOf p j) && nonzero w)
+certificateOperandsFit p c (I.WideEntry i l) = entryFits p c i l
 
 -- ---- refusal 5: "index not rising"
 -- "Indices rise within a row": an index is above that of the row's last entry
@@ -73,12 +84,17 @@ rises [] i = true
 rises (e ∷ []) i = ltb (e .index) i
 rises (e ∷ f ∷ es) i = rises (f ∷ es) i
 
+-- an entry: "both kinds may stand in one row and share the rising indices"
+abbrev pub indexRepeated : Certificate → ℕ → Bool
+indexRepeated c i = not (rises (lastRow (c .rows) .entries) i)
+
 abbrev pub certificateRepeated : Certificate → Instruction → Bool
 certificateRepeated c (I.Header side d x q) = false
 certificateRepeated c (I.Row j w) = false
-certificateRepeated c (I.Entry i l) = not (rises (lastRow (c .rows) .entries) i)
+certificateRepeated c (I.Entry i l) = indexRepeated c i
 certificateRepeated c I.End = false
 certificateRepeated c (I.EqualityRow j w) = false
+certificateRepeated c (I.WideEntry i l) = indexRepeated c i
 
 -- ---- refusal 6: "one more than a count allows"
 -- "at most 128 rows", and a row on an equality is "counted among the 128"
@@ -94,6 +110,7 @@ certificateFull c (I.Row j w) = rowsFull c
 certificateFull c (I.Entry i l) = false
 certificateFull c I.End = false
 certificateFull c (I.EqualityRow j w) = rowsFull c
+certificateFull c (I.WideEntry i l) = false
 
 -- ---- what a command that is not refused does; an entry belongs to the row begun last
 -- a row begun on basis j with weight w
@@ -106,20 +123,25 @@ withRow c j w = record {
 abbrev pub withEntry : Row → Entry → Row
 withEntry r e = record { basis = r .basis; weight = r .weight; entries = r .entries ++ (e ∷ []) }
 
+-- one more entry of the row begun last, by a command at an offset
+abbrev pub entered : Certificate → ℕ → ℤ → ℕ → Certificate
+entered c i l at = record {
+  header = c .header;
+  rows =
+      let e : Entry = record { index = i; factor = l; place = at } in
+      set (c .rows) (length (c .rows) - 1) (withEntry (lastRow (c .rows)) e);
+}
+
 unfoldable pub certificateApplied : Certificate → Instruction → ℕ → Certificate
 certificateApplied c (I.Header side d p q) at = record {
   header = record { side = side; scale = d; p = p; q = q };
   rows = c .rows;
 }
 certificateApplied c (I.Row j w) at = withRow c j (pos w)
-certificateApplied c (I.Entry i l) at = record {
-  header = c .header;
-  rows =
-      let e : Entry = record { index = i; factor = l; place = at } in
-      set (c .rows) (length (c .rows) - 1) (withEntry (lastRow (c .rows)) e);
-}
+certificateApplied c (I.Entry i l) at = entered c i l at
 certificateApplied c I.End at = c
 certificateApplied c (I.EqualityRow j w) at = withRow c j w
+certificateApplied c (I.WideEntry i l) at = entered c i l at
 
 -- ---- the command at an offset
 abbrev pub certificateCommandAt : List ℕ → ℕ → Command

@@ -7,6 +7,7 @@ pub enum Command {
     End,
     Unknown,
     EqualityRow,
+    WideEntry,
 }
 
 // A command with its operands.
@@ -16,6 +17,7 @@ pub enum Instruction {
     Entry(u8, i32),
     End,
     EqualityRow(u8, i32),
+    WideEntry(u8, i32),
 }
 
 // What the first command states: the side (0 lower, 1 upper), D, and the bound p/q.

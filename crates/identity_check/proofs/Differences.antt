@@ -1,15 +1,14 @@
 -- The smallest key whose sum is not 0 is the first at which the claim and the squares differ.
-use mathlib.Core.Path.{_≡_, refl, sym, ap, _∙_}
+use mathlib.Core.Path.{_≡_, refl, sym, ap, ap₂, _∙_}
 use mathlib.Core.Logic.{⊎-elim}
 use mathlib.Core.Bool.{Bool, true, false, cond}
 use mathlib.Core.List.{List, [], _∷_}
 use mathlib.Core.Option.{none, some}
-use Prim.Native.Nat.{ℕ, _+_, _-_, _*_, _^_, _≤_, _<_}
+use Prim.Native.Nat.{ℕ, _+_, _*_, _^_, _≤_, _<_}
 use native.Mathlib.Omega.{arith}
 use borrow.Author.Tests.{ne-eqb}
 use lib.IntN.{ℤ, pos, negsuc, negℤ, natAbs, _+ℤ_, +ℤ-idl}
-use lib.ListN.{length, getD, take, drop, length-drop}
-use lib.Seq.{getD-drop, ext-getD}
+use lib.ListN.{length, getD, take, drop}
 use Rattle.integers.proofs.Ring.{view, diffs, ⊖-eq, ⊖-eq⁻¹}
 use Rattle.counting.proofs.Cases.{clash}
 use Rattle.polynomial.specs.Terms.{Term}
@@ -27,13 +26,13 @@ use Rattle.flat.specs.TermArrays.{termsIn}
 use Rattle.flat.proofs.Flat.{objective-terms}
 use Rattle.key_set.specs.Table.{keysIn, Holds, Indexed}
 use Rattle.key_set.proofs.Keys.{keys-rising, keys-at, at-keys}
-use Rattle.wide_sums.specs.Sums.{valueAt, Near}
+use Rattle.wide_sums.specs.Sums.{valueAt}
 use Rattle.certificate_reader.specs.Rows.{rowsBy}
 use Rattle.identity_check.specs.declared.Difference.the-variants.{Same, Differs}
 use Rattle.identity_check.specs.Tables.{unit, Ready, SumsGrown}
-use Rattle.identity_check.specs.Walk.{Summed}
-use Rattle.identity_check.specs.Compare.{differenceOf, Zeroed, SmallestSum, Given, Untouched}
+use Rattle.identity_check.specs.Compare.{differenceOf, Nonzero, Zeroed, Smallest, Carried, Given}
 use Rattle.identity_check.proofs.Growth.{grown-same}
+use Rattle.identity_check.proofs.Carries.{Least, reached-end}
 
 -- ---- one comparison
 same-not : (a b : ℤ) → (a ≡ b → ⊥) → sameNumber a b ≡ false
@@ -73,12 +72,12 @@ equal-zero : (a b : ℤ) → a ≡ b → negℤ a +ℤ b ≡ pos 0
 equal-zero a b e = rw (e, view b .eq) (simp diffs (⊖-eq _ _ _ _ (omega arith)))
 
 -- the places of a table and the elements of its set
-module _ (P Q : List Term) {table : List ℕ} {n : ℕ} (h : Holds table n) (hi lo : List ℤ)
-    (v : (q : ℕ) → q < n → valueAt hi lo q ≡ negℤ (coefficient (getD table q 0) P) +ℤ coefficient (getD table q 0) Q) (r : ℕ) (f : SmallestSum table hi lo n n r) where
-  equal : (q : ℕ) → q < n → valueAt hi lo q ≡ pos 0 → Equal P Q (getD table q 0)
+module _ (P Q : List Term) {table : List ℕ} {n : ℕ} (h : Holds table n) (D : ℕ → ℤ)
+    (v : (q : ℕ) → q < n → D q ≡ negℤ (coefficient (getD table q 0) P) +ℤ coefficient (getD table q 0) Q) (r : ℕ) (f : Least D table n r) where
+  equal : (q : ℕ) → q < n → D q ≡ pos 0 → Equal P Q (getD table q 0)
   equal q b e = zero-equal _ _ (sym (v q b) ∙ e)
 
-  unequal : (q : ℕ) → q < n → (Equal P Q (getD table q 0) → ⊥) → valueAt hi lo q ≡ pos 0 → ⊥
+  unequal : (q : ℕ) → q < n → (Equal P Q (getD table q 0) → ⊥) → D q ≡ pos 0 → ⊥
   unequal q b g e = g (equal q b e)
 
   pub tables-same : n ≤ r → firstDifference P Q (keysIn n table) ≡ none
@@ -104,17 +103,6 @@ zeroed-ready z x c h =
 pub zeroed-value : {table : List ℕ} {n : ℕ} {hi lo : List ℤ} → Zeroed table n hi lo → (q : ℕ) → q < n → valueAt hi lo q ≡ pos 0
 zeroed-value z q b = rw (z .hi-zero q b, z .lo-zero q b)
 
-pub near-untouched : {n c : ℕ} {t₀ t₁ : List ℤ} → n ≤ 2048 → Near n c t₀ t₁ → Untouched t₀ t₁
-near-untouched {t₀ = t₀} {t₁ = t₁} few h =
-    record {
-      long = h .long;
-      rest = ext-getD (pos 0) _ _ (length-drop 2048 t₁ ∙ ap (λ (n : ℕ). n - 2048) (h .long) ∙ sym (length-drop 2048 t₀))
-          (λ q b. getD-drop 2048 t₁ q (pos 0) ∙ h .rest (2048 + q) (omega arith) ∙ sym (getD-drop 2048 t₀ q (pos 0)));
-    }
-
-pub untouched-then : {t₀ t₁ t₂ : List ℤ} → Untouched t₀ t₁ → Untouched t₁ t₂ → Untouched t₀ t₂
-untouched-then x y = record { long = y .long ∙ x .long; rest = y .rest ∙ x .rest }
-
 -- what the claim at most adds: its objective has at most 256 terms
 pub claim-most : {table : List ℕ} {n : ℕ} {f : ℕ → ℤ} {hi₀ hi₁ lo₀ lo₁ : List ℤ} (m : ℕ) → m ≤ 256 → SumsGrown table n hi₀ lo₀ f ((m + 1) * unit) hi₁ lo₁ → SumsGrown table n hi₀ lo₀ f (257 * unit) hi₁ lo₁
 claim-most m h g = grown-same g (λ k. refl) (omega arith)
@@ -124,30 +112,32 @@ module _ {p : Problem} {c : Certificate} {s starts : List ℕ} {rows : ℕ} {hea
     (given : Given p c s starts rows header keys coefficients sizes table n)
     -- the objective's exponents and coefficients, as they are lent
     {E : List ℕ} {C : List ℤ} (lent : E ≡ take (getD sizes 18 0) (drop 864 keys)) (with : C ≡ take (getD sizes 18 0) (drop 288 coefficients)) where
-  module _ {hi₀ hi₁ hi₂ lo₀ lo₁ lo₂ : List ℤ} {a r : ℕ} (z : Zeroed table n hi₀ lo₀) (g : SumsGrown table n hi₀ lo₀ (λ k. negℤ (coefficient k (claimOf (termsIn (length E) E C) header))) a hi₁ lo₁)
-      (m : Summed (λ p. squares p (rowsBy s starts rows)) keys coefficients sizes table n 9 hi₁ lo₁ hi₂ lo₂) (f : SmallestSum table hi₂ lo₂ n n r) where
+  module _ {hi₀ hi₁ hi₂ lo₀ lo₁ lo₂ : List ℤ} {a known r : ℕ} (z : Zeroed table n hi₀ lo₀) (g : SumsGrown table n hi₀ lo₀ (λ k. negℤ (coefficient k (claimOf (termsIn (length E) E C) header))) a hi₁ lo₁)
+      (m : Carried (λ p k. coefficient k (squares p (rowsBy s starts rows))) keys coefficients sizes table n hi₁ lo₁ hi₂ lo₂ known) (f : Smallest (Nonzero hi₂ lo₂) table n n known r) where
+    -- the whole sum at a place
+    abbrev total : ℕ → ℤ
+    total q = valueAt hi₁ lo₁ q +ℤ coefficient (getD table q 0) (squares p (rowsBy s starts rows))
+
     claim-is : (k : ℕ) → coefficient k (claimOf (termsIn (length E) E C) header) ≡ coefficient k (claim p (c .header))
     claim-is k = rw (lent, with, objective-terms (given .flat), given .header-is)
 
-    squares-are : (k : ℕ) → m .sums k ≡ coefficient k (squares p (c .rows))
-    squares-are k = m .are p (given .flat) k ∙ sym (ap (λ (rs : List Row). coefficient k (squares p rs)) (given .rows-are))
-
-    sum-is : (q : ℕ) → q < n → valueAt hi₂ lo₂ q ≡ negℤ (coefficient (getD table q 0) (claim p (c .header))) +ℤ coefficient (getD table q 0) (squares p (c .rows))
-    sum-is q b =
+    total-is : (q : ℕ) → q < n → total q ≡ negℤ (coefficient (getD table q 0) (claim p (c .header))) +ℤ coefficient (getD table q 0) (squares p (c .rows))
+    total-is q b =
         let k = getD table q 0 in
         let x = negℤ (coefficient k (claimOf (termsIn (length E) E C) header)) in
-        let e : valueAt hi₁ lo₁ q ≡ x = g .there q b ∙ ap (λ (v : ℤ). v +ℤ x) (zeroed-value z q b) ∙ +ℤ-idl x in
-        m .grown .there q b
-        ∙ ap (λ (v : ℤ). v +ℤ m .sums k) e
-        ∙ ap (λ (v : ℤ). negℤ v +ℤ m .sums k) (claim-is k)
-        ∙ ap (λ (v : ℤ). negℤ (coefficient k (claim p (c .header))) +ℤ v) (squares-are k)
+        ap₂ _+ℤ_
+        (g .there q b ∙ ap (λ (v : ℤ). v +ℤ x) (zeroed-value z q b) ∙ +ℤ-idl x ∙ ap negℤ (claim-is k))
+        (sym (ap (λ (rs : List Row). coefficient k (squares p rs)) (given .rows-are)))
+
+    least : Least total table n r
+    least = reached-end hi₂ lo₂ (m .reached p (given .flat)) f
 
     key-is : firstDifference (claim p (c .header)) (squares p (c .rows)) (keysIn n table) ≡ differenceKey p c
     unfolding differenceKey
     key-is = rw (given .compared)
 
     pub found-same : n ≤ r → Same ≡ differenceOf (differenceKey p c)
-    found-same h = ap differenceOf (sym (tables-same _ _ (z .support) hi₂ lo₂ sum-is r f h) ∙ key-is)
+    found-same h = ap differenceOf (sym (tables-same _ _ (z .support) total total-is r least h) ∙ key-is)
 
     pub found-differs : r < n → Differs (getD table r 0) ≡ differenceOf (differenceKey p c)
-    found-differs h = ap differenceOf (sym (tables-differ _ _ (z .support) hi₂ lo₂ sum-is r f h) ∙ key-is)
+    found-differs h = ap differenceOf (sym (tables-differ _ _ (z .support) total total-is r least h) ∙ key-is)

@@ -1,44 +1,46 @@
--- The smallest key whose sum is not 0, one place after another.
-use mathlib.Core.Path.{_≡_}
-use mathlib.Core.Logic.{_⊎_, ⊎-elim}
+-- The place with the smallest key of those that a predicate holds of, one place after another.
+use mathlib.Core.Path.{_≡_, refl}
+use mathlib.Core.Logic.{_⊎_, inl, inr, ⊎-elim}
 use mathlib.Core.List.{List}
 use Prim.Native.Nat.{ℕ, _+_, _≤_, _<_}
 use native.Mathlib.Nat.{eq-or-lt-of-le}
 use native.Mathlib.Omega.{arith}
-use lib.IntN.{ℤ, pos}
 use lib.ListN.{getD}
-use Rattle.wide_sums.specs.Sums.{valueAt}
-use Rattle.identity_check.specs.Compare.{Smaller, SmallestSum}
+use Rattle.identity_check.specs.Compare.{Smaller, Smallest}
 
-module _ {table : List ℕ} {hi lo : List ℤ} {n : ℕ} where
-  pub smallest-start : SmallestSum table hi lo n 0 n
-  smallest-start = record { none = λ _ k b. absurd (omega arith); there = λ b. absurd (omega arith); least = λ b. absurd (omega arith) }
+module _ {P : ℕ → Type 0} {table : List ℕ} {n found : ℕ} where
+  pub smallest-start : Smallest P table n 0 found found
+  smallest-start = record { one = inl refl; first = λ b. (b, omega arith); each = λ q b. absurd (omega arith) }
 
-  module _ {m r : ℕ} (s : SmallestSum table hi lo n m r) where
-    -- a place with 0
-    pub smallest-zero : valueAt hi lo m ≡ pos 0 → SmallestSum table hi lo n (m + 1) r
-    smallest-zero z =
+  module _ {m r : ℕ} (s : Smallest P table n m found r) where
+    -- a place of which it does not hold
+    pub smallest-not : (P m → ⊥) → Smallest P table n (m + 1) found r
+    smallest-not f =
         record {
-          none = λ l k b. ⊎-elim (λ (e : k ≡ m). rw e z) (λ d. s .none l k d) (eq-or-lt-of-le {n = k} {m = m} (omega arith));
-          there = s .there;
-          least = λ l k b f. ⊎-elim (λ (e : k ≡ m). absurd (f (rw e z))) (λ d. s .least l k d f) (eq-or-lt-of-le {n = k} {m = m} (omega arith));
+          one = s .one;
+          first = s .first;
+          each = λ q b p. ⊎-elim (λ (e : q ≡ m). absurd (f (rw e at p))) (λ d. s .each q d p) (eq-or-lt-of-le {n = q} {m = m} (omega arith));
         }
 
-    -- one without
-    pub smallest-more : r ≤ n → m < n → (valueAt hi lo m ≡ pos 0 → ⊥) → {r′ : ℕ} → Smaller table n r m r′ → (r′ ≤ n) × SmallestSum table hi lo n (m + 1) r′
-    smallest-more u l z {r′} w =
-        let b : r′ < n = ⊎-elim (λ (e : (r′ ≡ r) × (r < n)). omega (arith, e .0, e .1)) (λ (e : r′ ≡ m). omega arith) (w .one) in (
-          omega arith,
+    -- one of which it does
+    module _ (l : m < n) (p : P m) {r′ : ℕ} (w : Smaller table n r m r′) where
+      inside : r′ < n
+      inside = ⊎-elim (λ (e : (r′ ≡ r) × (r < n)). omega (arith, e .0, e .1)) (λ (e : r′ ≡ m). omega arith) (w .one)
+
+      after : {k : ℕ} → (r < n) × (getD table r 0 ≤ k) → (r′ < n) × (getD table r′ 0 ≤ k)
+      after h = (inside, omega (arith, w .first (h .0), h .1))
+
+      pub smallest-more : Smallest P table n (m + 1) found r′
+      smallest-more =
           record {
-            none = λ h. absurd (omega arith);
-            there = λ _. ⊎-elim (λ (e : (r′ ≡ r) × (r < n)). rw (e .0) (s .there (e .1))) (λ (e : r′ ≡ m). rw e z) (w .one);
-            least = λ _ k c f.
+            one = ⊎-elim
+                (λ (e : (r′ ≡ r) × (r < n)). ⊎-elim (λ (i : r ≡ found). inl (omega (arith, e .0))) (λ (h : (r < n) × P r). inr (inside, rw (e .0) (h .1))) (s .one))
+                (λ (e : r′ ≡ m). inr (inside, rw e p))
+                (w .one);
+            first = λ b. after (s .first b);
+            each = λ q b h.
                 ⊎-elim
-                (λ (e : k ≡ m). rw e (w .second))
-                (λ d. before k d f)
-                (eq-or-lt-of-le {n = k} {m = m} (omega arith));
-          },
-        )
-      where
-        before : (k : ℕ) → k < m → (valueAt hi lo k ≡ pos 0 → ⊥) → getD table r′ 0 ≤ getD table k 0
-        before k d f = ⊎-elim (λ (e : r ≡ n). absurd (f (s .none (omega arith) k d))) (λ (e : r < n). omega (arith, w .first e, s .least e k d f)) (eq-or-lt-of-le {n = r} {m = n} u)
+                (λ (e : q ≡ m). (inside, rw e (w .second)))
+                (λ d. after (s .each q d h))
+                (eq-or-lt-of-le {n = q} {m = m} (omega arith));
+          }

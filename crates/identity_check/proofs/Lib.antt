@@ -3,5 +3,8 @@ pub mod Products
 pub mod Claims
 pub mod Spreading
 pub mod Walks
-pub mod Differences
+pub mod Untouched
 pub mod Least
+pub mod Carries
+pub mod Squares
+pub mod Differences

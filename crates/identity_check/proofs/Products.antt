@@ -29,7 +29,7 @@ module _ (x c : ℤ) where
 
   -- an entry of the table of sums, and a coefficient of 16 bits
   pub scaled-entry : natAbs x ≤ foldedMost → natAbs c ≤ 2 ^ 15 → Scaled (halvesOf x) c
-  scaled-entry h k = scaled (3 * 2 ^ 26) (2 ^ 15) (omega arith) k (omega arith) (omega arith)
+  scaled-entry h k = scaled (5 * 2 ^ 26) (2 ^ 15) (omega arith) k (omega arith) (omega arith)
 
 -- any number of 64 bits, once
 pub scaled-once : (y : ℤ) → SFits w64 y → Scaled (halvesOf y) (pos 1)

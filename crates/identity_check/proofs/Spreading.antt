@@ -1,10 +1,14 @@
 -- The table of sums, spread over the compared keys entry by entry.
 use mathlib.Core.Path.{_≡_, refl, sym, ap, _∙_}
+use mathlib.Core.Bool.{cond}
 use mathlib.Core.List.{List}
 use mathlib.Core.Logic.{⊎-elim}
-use Prim.Native.Nat.{ℕ, _+_, _-_, _*_, _≤_, _<_}
+use Prim.Native.Nat.{ℕ, zero, suc, _+_, _-_, _*_, _/_, _%_, _≤_, _<_}
 use native.Mathlib.Nat.{eq-or-lt-of-le}
+use native.Mathlib.Numerals.{add-one}
 use native.Mathlib.Omega.{arith}
+use borrow.Author.Tests.{le-leb}
+use lib.Dec.{leb}
 use lib.IntN.{ℤ, pos, _*ℤ_}
 use lib.ListN.{length, getD, set, length-set}
 use lib.Seq.{getD-set-same, getD-set-other}
@@ -23,11 +27,32 @@ use Rattle.identity_check.proofs.Growth.{grown-none, grown-same, grown-
 abbrev before : List ℕ → List Term → List ℤ → ℕ → ℕ → ℤ
 before B G g x k = sum (share B G k) (listed x (λ y. term y (getD g y (pos 0))))
 
--- ---- the places before x are spread and 0; `spent` of them had a place in the basis
+-- ---- how many places before x are on or above the diagonal
+unfoldable pub uppers : ℕ → ℕ
+uppers zero = 0
+uppers (suc x) = uppers x + cond (leb (x / 64) (x % 64)) 1 0
+
+uppers-at : (x : ℕ) → x / 64 ≤ x % 64 → uppers (x + 1) ≡ uppers x + 1
+unfolding uppers
+uppers-at x h = rw (add-one x, le-leb (x / 64) (x % 64) h)
+
+uppers-more : (x d : ℕ) → uppers x ≤ uppers (x + d)
+unfolding uppers
+uppers-more x zero = let z : x + zero ≡ x = omega arith in let e = ap uppers z in omega arith
+uppers-more x (suc d) = let z : x + suc d ≡ suc (x + d) = omega arith in let e = ap uppers z in omega (arith, uppers-more x d)
+
+uppers-later : {x y : ℕ} → x ≤ y → uppers x ≤ uppers y
+uppers-later {x} {y} h = let z : x + (y - x) ≡ y = omega arith in let e = ap uppers z in omega (arith, uppers-more x (y - x))
+
+uppers-all : uppers 4096 ≡ 2080
+unfolding uppers
+uppers-all = refl
+
+-- ---- the places before x are spread and 0; `spent` of them are on or above the diagonal
 pub record Spreading (keys : List ℕ) (n : ℕ) (B : List ℕ) (G : List Term) (g₀ hi₀ lo₀ : List ℤ) (x : ℕ) (g₁ hi₁ lo₁ : List ℤ) : Type 0 where
   pub spent : ℕ
-  pub few : spent ≤ x
-  pub most : spent ≤ 64 * length B
+  pub few : spent ≤ uppers x
+  pub most : spent ≤ 2080
   pub grown : SumsGrown keys n hi₀ lo₀ (before B G g₀ x) (spent * entryUnit) hi₁ lo₁
   pub behind : (y : ℕ) → y < x → getD g₁ y (pos 0) ≡ pos 0
   pub ahead : (y : ℕ) → x ≤ y → getD g₁ y (pos 0) ≡ getD g₀ y (pos 0)
@@ -50,20 +75,24 @@ module _ {keys : List ℕ} {n : ℕ} {B : List ℕ} {G : List Term} {g₀ hi₀ 
     pub spreading-entered : Entered c B x (getD g₁ x (pos 0))
     spreading-entered = rw (h .ahead x (omega arith)) (framed-entered f x)
 
-    pub spreading-more : {hi₂ lo₂ : List ℤ} → x < 64 * length B → SumsGrown keys n hi₁ lo₁ (λ k. getD g₁ x (pos 0) *ℤ share B G k x) entryUnit hi₂ lo₂
-        → Spreading keys n B G g₀ hi₀ lo₀ (x + 1) (set g₁ x (pos 0)) hi₂ lo₂
-    spreading-more b k =
-        let i : x < length g₁ = omega (arith, f .long, h .long) in
-        let w = h .few in
-        record {
-          spent = h .spent + 1;
-          few = omega arith;
-          most = omega arith;
-          grown = grown-then (h .grown) (rw (h .ahead x (omega arith)) at k) (λ k. sum-more (share B G k) (λ y. term y (getD g₀ y (pos 0))) x) (omega arith);
-          behind = λ y l. ⊎-elim (λ e. rw e (getD-set-same g₁ x (pos 0) (pos 0) i)) (λ d. getD-set-other g₁ x y (pos 0) (pos 0) (λ e. omega arith) ∙ h .behind y d) (eq-or-lt-of-le {n = y} {m = x} (omega arith));
-          ahead = λ y l. getD-set-other g₁ x y (pos 0) (pos 0) (λ e. omega arith) ∙ h .ahead y (omega arith);
-          long = length-set g₁ x (pos 0) ∙ h .long;
-        }
+    -- there is another place on or above the diagonal
+    module _ (b : x < 64 * length B) (w : length B ≤ 64) (u : x / 64 ≤ x % 64) where
+      pub spreading-room : h .spent + 1 ≤ 2080
+      spreading-room = omega (arith, h .few, uppers-at x u, uppers-later {x = x + 1} {y = 4096} (omega arith), uppers-all)
+
+      pub spreading-more : {hi₂ lo₂ : List ℤ} → SumsGrown keys n hi₁ lo₁ (λ k. getD g₁ x (pos 0) *ℤ share B G k x) entryUnit hi₂ lo₂
+          → Spreading keys n B G g₀ hi₀ lo₀ (x + 1) (set g₁ x (pos 0)) hi₂ lo₂
+      spreading-more k =
+          let i : x < length g₁ = omega (arith, f .long, h .long) in
+          record {
+            spent = h .spent + 1;
+            few = omega (arith, h .few, uppers-at x u);
+            most = spreading-room;
+            grown = grown-then (h .grown) (rw (h .ahead x (omega arith)) at k) (λ k. sum-more (share B G k) (λ y. term y (getD g₀ y (pos 0))) x) (omega arith);
+            behind = λ y l. ⊎-elim (λ e. rw e (getD-set-same g₁ x (pos 0) (pos 0) i)) (λ d. getD-set-other g₁ x y (pos 0) (pos 0) (λ e. omega arith) ∙ h .behind y d) (eq-or-lt-of-le {n = y} {m = x} (omega arith));
+            ahead = λ y l. getD-set-other g₁ x y (pos 0) (pos 0) (λ e. omega arith) ∙ h .ahead y (omega arith);
+            long = length-set g₁ x (pos 0) ∙ h .long;
+          }
 
     -- past places that are 0
     module _ (y : ℕ) (a : x ≤ y) (o : (z : ℕ) → x ≤ z → z < y → getD g₀ z (pos 0) ≡ pos 0) where
@@ -76,7 +105,7 @@ module _ {keys : List ℕ} {n : ℕ} {B : List ℕ} {G : List Term} {g₀ hi₀ 
       skip =
           record {
             spent = h .spent;
-            few = omega (arith, h .few);
+            few = omega (arith, h .few, uppers-later a);
             most = h .most;
             grown = grown-same (h .grown) before-same (omega arith);
             behind = λ z l. ⊎-elim (h .behind z) (λ q. h .ahead z q ∙ o z q l) (lt-or-le z x);

@@ -13,9 +13,9 @@ use Rattle.identity_check.specs.Tables.{unit, SumsGrown}
 abbrev pub entryUnit : ℕ
 entryUnit = 32 * unit
 
--- what a table of 64 × 64 entries at most adds
+-- what a table of 64 × 64 entries at most adds: 64 × 65 / 2 of them are on or above the diagonal
 abbrev pub tableUnit : ℕ
-tableUnit = 4096 * entryUnit
+tableUnit = 2080 * entryUnit
 
 -- a basis, and its multiplier in two arrays
 pub record Spreadable (basis exponents : List ℕ) (coefficients : List ℤ) : Type 0 where

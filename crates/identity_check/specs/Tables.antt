@@ -14,11 +14,11 @@ use Rattle.accepting.specs.Identity.{turned}
 use Rattle.row_products.specs.Fold.{foldedMost}
 use Rattle.identity_check.specs.declared.Negated.{Negated}
 
--- what one product at most adds to either half of a sum: the halves of a number of at most 3 × 2^53 are at most
--- 3 × 2^26, and a coefficient is at most 2^15. At most 257 + 9 × 4,096 × 32 products are added at a key, and so many
--- stay below 2^63
+-- what one product at most adds to either half of a sum: the halves of a number of at most 5 × 2^53 are at most
+-- 5 × 2^26, and a coefficient is at most 2^15. At most 257 + 9 × 2,080 × 32 products are added at a key before a sum is
+-- divided or tested, and so many stay below 2^63
 abbrev pub unit : ℕ
-unit = 3 * 2 ^ 41
+unit = 5 * 2 ^ 41
 
 -- the factor D × q of the claim
 abbrev pub claimMost : ℕ

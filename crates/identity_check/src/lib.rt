@@ -8,17 +8,16 @@
 ghost use mathlib.Core.Path.{_≡_};
 ghost use mathlib.Core.Bool.{false};
 ghost use Prim.Native.Nat.{ℕ, _+_, _*_, _%_, _^_, _≤_, _<_};
-ghost use lib.IntN.{natAbs, negℤ, _*ℤ_};
+ghost use lib.IntN.{pos, natAbs, negℤ, _*ℤ_};
 ghost use lib.ListN.{length, getD};
 ghost use Rattle.polynomial.specs.Algebra.{sum, match, coefficient};
 ghost use Rattle.format.specs.ProblemLimits.{mostBases};
 ghost use Rattle.accepting.specs.Identity.{squares, claimOf};
 ghost use Rattle.key_set.specs.Table.{divisor, Holds};
 ghost use Rattle.key_set.specs.Table as Support;
-ghost use Rattle.wide_sums.specs.Sums.{valueOf};
+ghost use Rattle.wide_sums.specs.Sums.{step, valueOf, HasRoom};
 ghost use Rattle.flat.specs.TermArrays.{termsIn};
 ghost use Rattle.certificate_reader.specs.Rows.{rowsBy};
-ghost use Rattle.row_products.specs.Gram.{rowsOn};
 ghost use Rattle.row_products.specs.Frame.{share, spreadAt, Framed, Entered};
 ghost use Rattle.row_products.specs.Outer.{gatheredMost};
 ghost use Rattle.row_products.specs.Fold.{foldedMost, FoldedTable};
@@ -26,8 +25,10 @@ ghost use Rattle.counting.specs.Counting.{Bounded};
 ghost use Rattle.identity_check.specs.Tables.{unit, claimMost, Sought, Ready, SumsGrown, Scaled};
 ghost use Rattle.identity_check.specs.Tables.{Slots, Addable, Negates};
 ghost use Rattle.identity_check.specs.Spread.{entryUnit, tableUnit, Spreadable, Spread};
-ghost use Rattle.identity_check.specs.Walk.{Comparable, RoomFor, Summed};
-ghost use Rattle.identity_check.specs.Compare.{Zeroed, Smaller, SmallestSum, Answered};
+ghost use Rattle.identity_check.specs.Walk.{Comparable, RoomFor, onBasis, onBases, basesIn, beyond};
+ghost use Rattle.identity_check.specs.Walk.{Alone, Summed};
+ghost use Rattle.identity_check.specs.Compare.{Zeroed, Smaller, Smallest, Nonzero, DividedSums};
+ghost use Rattle.identity_check.specs.Compare.{Carried, Answered};
 
 // The place of a key among the first n; n where it has none. `at` is its place in the index.
 fn place_of(table: &[u64], n: usize, index: &[u16; 6144], key: u64, at: usize) -> usize
@@ -334,15 +335,16 @@ fn fold_large(g: &mut [i64], basis: &[u64])
     }
 }
 
-// Adds the weighted squares of the rows on basis j times its multiplier: their products are summed by their indices
-// first, so that a product with the multiplier is made once for all of them. The table of sums is empty before and
-// after.
+// Adds one part of the weighted squares of the rows on basis j times its multiplier: their products are summed by their
+// indices first, so that a product with the multiplier is made once for all of them. The table of sums is empty before
+// and after. Whether a row has a wide factor.
 fn add_basis(
     g: &mut [i64],
     s: &[u8],
     starts: &[usize; 129],
     rows: usize,
     j: usize,
+    part: row_products::Part,
     keys: &[u64],
     coefficients: &[i32],
     sizes: &[usize],
@@ -351,34 +353,40 @@ fn add_basis(
     index: &[u16; 6144],
     hi: &mut [i64],
     lo: &mut [i64],
-)
+) -> bool
     requires { ⌜ Ready (now table) (now index) n (now hi) (now lo) tableUnit × RoomFor (now sizes) (now g) ⌝ }
     requires { ⌜
         Comparable (now s) (now starts) rows (now keys) (now coefficients) (now sizes) × (j < mostBases)
         ⌝ }
-    ensures { λ _. ⌜
-        Summed (λ p. squares p (rowsOn j (rowsBy (now (s .entry)) (now (starts .entry)) rows))) (now (keys .entry))
+    ensures { λ r. ⌜
+        Summed (onBasis (rowsBy (now (s .entry)) (now (starts .entry)) rows) j part) (now (keys .entry))
         (now (coefficients .entry)) (now (sizes .entry)) (now (table .entry)) n 1 (now (hi .entry))
         (now (lo .entry)) (now (hi .exit)) (now (lo .exit))
         × RoomFor (now (sizes .entry)) (now (g .exit))
+        × (r ≡ false → Alone (onBasis (rowsBy (now (s .entry)) (now (starts .entry)) rows) j))
         ⌝ }
 {
-    if !row_products::add_basis_rows(g, s, starts, rows, j) {
-        return;
+    let found = row_products::add_basis_rows(g, s, starts, rows, j, part);
+    let wide = found.wide;
+    if !found.any {
+        return wide;
     }
     let basis = flat::basis(keys, sizes, j);
     let es = flat::exponents(keys, sizes, j);
     let cs = flat::coefficients(coefficients, sizes, j);
     fold_large(g, basis);
     spread(g, basis, es, cs, table, n, index, hi, lo);
+    wide
 }
 
-// Adds the weighted square of every row times its multiplier, basis by basis.
+// Adds one part of the weighted square of every row times its multiplier, basis by basis; whether a row has a wide
+// factor.
 fn sum_rows(
     g: &mut [i64],
     s: &[u8],
     starts: &[usize; 129],
     rows: usize,
+    part: row_products::Part,
     keys: &[u64],
     coefficients: &[i32],
     sizes: &[usize],
@@ -387,26 +395,31 @@ fn sum_rows(
     index: &[u16; 6144],
     hi: &mut [i64],
     lo: &mut [i64],
-)
+) -> bool
     requires { ⌜ Ready (now table) (now index) n (now hi) (now lo) (9 * tableUnit) ⌝ }
     requires { ⌜
         Comparable (now s) (now starts) rows (now keys) (now coefficients) (now sizes) × RoomFor (now sizes) (now g)
         ⌝ }
-    ensures { λ _. ⌜
-        Summed (λ p. squares p (rowsBy (now (s .entry)) (now (starts .entry)) rows)) (now (keys .entry))
-        (now (coefficients .entry)) (now (sizes .entry)) (now (table .entry)) n 9 (now (hi .entry))
-        (now (lo .entry)) (now (hi .exit)) (now (lo .exit))
+    ensures { λ r. ⌜
+        Summed (onBases (rowsBy (now (s .entry)) (now (starts .entry)) rows) (basesIn (now (sizes .entry))) part)
+        (now (keys .entry)) (now (coefficients .entry)) (now (sizes .entry)) (now (table .entry)) n 9
+        (now (hi .entry)) (now (lo .entry)) (now (hi .exit)) (now (lo .exit))
+        × RoomFor (now (sizes .entry)) (now (g .exit))
+        × (r ≡ false
+        → Alone (onBases (rowsBy (now (s .entry)) (now (starts .entry)) rows) (basesIn (now (sizes .entry)))))
         ⌝ }
 {
     let last = sizes[flat::CONDITIONS];
+    let mut wide = false;
     let mut j: usize = 0;
     while j <= last {
-        add_basis(
+        if add_basis(
             g,
             s,
             starts,
             rows,
             j,
+            part,
             keys,
             coefficients,
             sizes,
@@ -415,9 +428,12 @@ fn sum_rows(
             index,
             hi,
             lo,
-        );
+        ) {
+            wide = true;
+        }
         j += 1;
     }
+    wide
 }
 
 // Of two places the one with the smaller key. The first may be n, which is no place.
@@ -433,20 +449,164 @@ fn smaller(table: &[u64], n: usize, a: usize, b: usize) -> usize
     b
 }
 
-// The place of the smallest of the first n keys whose sum is not 0; n where there is none.
-fn smallest(table: &[u64], n: usize, hi: &[i64], lo: &[i64]) -> usize
-    requires { ⌜ (n ≤ length (now table)) × (n ≤ length (now hi)) × (n ≤ length (now lo)) ⌝ }
-    ensures { λ r. ⌜ SmallestSum (now (table .entry)) (now (hi .entry)) (now (lo .entry)) n n r ⌝ }
+// Divides the first n sums by 2^16, rounding down. A sum that is no multiple of 2^16 cannot become 0 by what is added
+// to it 2^16 times: the place with the smallest key of those and of `found`, which may be n.
+fn divide_sums(table: &[u64], n: usize, hi: &mut [i64], lo: &mut [i64], found: usize) -> usize
+    requires { ⌜ (n ≤ length (now table)) × HasRoom n (2 ^ 36) (now hi) × (n ≤ length (now lo)) ⌝ }
+    ensures { λ r. ⌜
+        DividedSums (now (table .entry)) n n found (now (hi .entry)) (now (lo .entry)) (now (hi .exit))
+        (now (lo .exit)) r
+        ⌝ }
 {
-    let mut found = n;
+    let mut r = found;
+    let mut k = 0;
+    while k < n {
+        if !wide_sums::divide(hi, lo, k) {
+            r = smaller(table, n, r, k);
+        }
+        k += 1;
+    }
+    r
+}
+
+// The place with the smallest key of those among the first n whose sum is not 0 and of `found`, which may be n.
+fn smallest(table: &[u64], n: usize, hi: &[i64], lo: &[i64], found: usize) -> usize
+    requires { ⌜ (n ≤ length (now table)) × (n ≤ length (now hi)) × (n ≤ length (now lo)) ⌝ }
+    ensures { λ r. ⌜
+        Smallest (Nonzero (now (hi .entry)) (now (lo .entry))) (now (table .entry)) n n found r
+        ⌝ }
+{
+    let mut r = found;
     let mut i = 0;
     while i < n {
         if !wide_sums::is_zero(hi, lo, i) {
-            found = smaller(table, n, found, i);
+            r = smaller(table, n, r, i);
         }
         i += 1;
     }
-    found
+    r
+}
+
+// Adds the parts of the squares that only wide factors have, 2^16 and 2^32 times. The sums are divided by 2^16 before
+// each, so that they stay as small as a part: the place with the smallest key of those whose sum is known not to become
+// 0, or n.
+fn add_wide_parts(
+    g: &mut [i64],
+    s: &[u8],
+    starts: &[usize; 129],
+    rows: usize,
+    keys: &[u64],
+    coefficients: &[i32],
+    sizes: &[usize],
+    table: &[u64],
+    n: usize,
+    index: &[u16; 6144],
+    hi: &mut [i64],
+    lo: &mut [i64],
+) -> usize
+    requires { ⌜ Ready (now table) (now index) n (now hi) (now lo) (2 ^ 36) ⌝ }
+    requires { ⌜
+        Comparable (now s) (now starts) rows (now keys) (now coefficients) (now sizes) × RoomFor (now sizes) (now g)
+        ⌝ }
+    ensures { λ r. ⌜
+        Carried
+        (λ p k. pos step *ℤ beyond (rowsBy (now (s .entry)) (now (starts .entry)) rows)
+        (basesIn (now (sizes .entry))) p k) (now (keys .entry)) (now (coefficients .entry)) (now (sizes .entry))
+        (now (table .entry)) n (now (hi .entry)) (now (lo .entry)) (now (hi .exit)) (now (lo .exit)) r
+        ⌝ }
+{
+    let first = divide_sums(table, n, hi, lo, n);
+    sum_rows(
+        g,
+        s,
+        starts,
+        rows,
+        row_products::Part::Cross,
+        keys,
+        coefficients,
+        sizes,
+        table,
+        n,
+        index,
+        hi,
+        lo,
+    );
+    let second = divide_sums(table, n, hi, lo, first);
+    sum_rows(
+        g,
+        s,
+        starts,
+        rows,
+        row_products::Part::High,
+        keys,
+        coefficients,
+        sizes,
+        table,
+        n,
+        index,
+        hi,
+        lo,
+    );
+    second
+}
+
+// Adds the weighted square of every row: the first part of the products, and where a row has a wide factor the others.
+// The place with the smallest key of those whose sum is known not to be 0, or n.
+fn add_squares(
+    g: &mut [i64],
+    s: &[u8],
+    starts: &[usize; 129],
+    rows: usize,
+    keys: &[u64],
+    coefficients: &[i32],
+    sizes: &[usize],
+    table: &[u64],
+    n: usize,
+    index: &[u16; 6144],
+    hi: &mut [i64],
+    lo: &mut [i64],
+) -> usize
+    requires { ⌜ Ready (now table) (now index) n (now hi) (now lo) (9 * tableUnit + 2 ^ 36) ⌝ }
+    requires { ⌜
+        Comparable (now s) (now starts) rows (now keys) (now coefficients) (now sizes) × RoomFor (now sizes) (now g)
+        ⌝ }
+    ensures { λ r. ⌜
+        Carried (λ p k. coefficient k (squares p (rowsBy (now (s .entry)) (now (starts .entry)) rows)))
+        (now (keys .entry)) (now (coefficients .entry)) (now (sizes .entry)) (now (table .entry)) n
+        (now (hi .entry)) (now (lo .entry)) (now (hi .exit)) (now (lo .exit)) r
+        ⌝ }
+{
+    if sum_rows(
+        g,
+        s,
+        starts,
+        rows,
+        row_products::Part::Low,
+        keys,
+        coefficients,
+        sizes,
+        table,
+        n,
+        index,
+        hi,
+        lo,
+    ) {
+        return add_wide_parts(
+            g,
+            s,
+            starts,
+            rows,
+            keys,
+            coefficients,
+            sizes,
+            table,
+            n,
+            index,
+            hi,
+            lo,
+        );
+    }
+    n
 }
 
 // Whether the identity holds; if not, the smallest key at which its sides differ.
@@ -487,7 +647,7 @@ fn compare_with(
     let es = flat::exponents(keys, sizes, flat::OBJECTIVE);
     let cs = flat::coefficients(coefficients, sizes, flat::OBJECTIVE);
     add_claim(table, n, index, hi, lo, es, cs, header);
-    sum_rows(
+    let known = add_squares(
         g,
         s,
         starts,
@@ -501,7 +661,7 @@ fn compare_with(
         hi,
         lo,
     );
-    let found = smallest(table, n, hi, lo);
+    let found = smallest(table, n, hi, lo, known);
     if found < n {
         return Difference::Differs(table[found]);
     }

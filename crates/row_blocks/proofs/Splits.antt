@@ -19,7 +19,7 @@ use Rattle.joining_rule.proofs.Bytes.{byte-at}
 use Rattle.joining_rule.proofs.Closing.{closing-shaped}
 use Rattle.joining_rule.specs.Joining.{basesOf, startSet, closing}
 use Rattle.format.specs.CertificateRules.{Entry, Row, Certificate, noRow, readCertificate}
-use Rattle.certificate_reader.specs.Rows.{basisAt, entryAt, rowAt, rowsBy, EntriesStand, Walkable}
+use Rattle.certificate_reader.specs.Rows.{sizeAt, basisAt, entryAt, rowAt, rowsBy, EntriesStand, Walkable}
 use Rattle.certificate_reader.proofs.Shapes.{basis-few}
 use Rattle.certificate_reader.proofs.Rows.{rows-length, row-by}
 use Rattle.certificate_reader.proofs.Walk.{Step, step-of, step-none, walk-sound}
@@ -82,7 +82,7 @@ module _ (s labels : List ℕ) (from to : ℕ) where
       unfolding firstOutside entryAt
       searching-found f = sym (k .same) ∙ rw (t .is, firstOutside, ne-eqb (block (entryAt s x .index)) first f)
 
-      pub searching-more : block (entryAt s x .index) ≡ first → Searching first (x + 4)
+      pub searching-more : block (entryAt s x .index) ≡ first → Searching first (x + sizeAt s x)
       unfolding firstOutside
       searching-more e = record {
         rest = t .others;

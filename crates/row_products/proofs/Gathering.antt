@@ -1,67 +1,47 @@
--- The walk over the rows for one basis: the table of sums holds half of the products of the rows on the basis so far, doubled.
+-- The walk over the rows for one basis: the table of sums holds one part of the products of the rows on the basis so far.
 use mathlib.Core.Path.{_≡_, refl, sym, ap, _∙_}
 use mathlib.Core.Bool.{Bool, true, false, cond}
 use mathlib.Core.List.{List, [], _∷_, _++_, append-assoc, append-nil}
 use mathlib.Core.Logic.{⊎-elim}
-use Prim.Native.Nat.{ℕ, zero, suc, _+_, _*_, _/_, _%_, _^_, _≤_, _<_}
+use Prim.Native.Nat.{ℕ, zero, suc, _+_, _*_, _^_, _≤_, _<_}
 use native.Mathlib.Nat.{eq-or-lt-of-le}
 use native.Mathlib.Numerals.{add-one}
 use native.Mathlib.Omega.{arith}
-use borrow.Author.Tests.{eq-eqb, ne-eqb, lt-ltb, ltb-true, ltb-false}
-use lib.Dec.{eqb, ltb}
-use lib.IntN.{ℤ, pos, natAbs, _+ℤ_, _-ℤ_, _*ℤ_, *ℤ-zero, zero-*ℤ}
+use borrow.Author.Tests.{eq-eqb, ne-eqb}
+use lib.Dec.{eqb}
+use lib.IntN.{ℤ, pos, natAbs, _+ℤ_, +ℤ-comm, +ℤ-assoc}
 use lib.ListN.{length, getD, set, take, length-append, length-set}
 use lib.Seq.{take-suc, take-all}
-use mir.Syntax.{w16}
-use mir.Val.{SFits}
-use Rattle.integers.proofs.Ranges.{abs-sum, fits-abs}
-use Rattle.integers.proofs.Ring.{*ℤ-+ℤ, *ℤ-left-comm}
-use Rattle.counting.specs.Counting.{listed}
+use Rattle.integers.proofs.Ranges.{abs-sum}
+use Rattle.counting.specs.Counting.{listed, Bounded}
 use Rattle.counting.proofs.Cases.{clash}
-use Rattle.counting.proofs.Listed.{listed-at, same-or-not}
-use Rattle.format.specs.Operands.{number, signed}
+use Rattle.counting.proofs.Listed.{listed-at}
 use Rattle.polynomial.specs.Terms.{Term, term}
 use Rattle.flat.specs.TermArrays.{termsIn}
 use Rattle.flat.proofs.TermArrays.{terms-more}
-use Rattle.polynomial.specs.Algebra.{sum, match, coefficient, _⊗_}
-use Rattle.polynomial.proofs.Keys.{Keys}
-use Rattle.polynomial.proofs.Sums.{coefficient-none}
-use Rattle.polynomial.proofs.Products.{keys-append, keys-scale, keys-⊗, keys-map}
+use Rattle.format.specs.Operands.{number, signed}
 use Rattle.format.specs.All.{All}
 use Rattle.format.specs.ProblemRules.{Problem}
-use Rattle.format.specs.ProblemBases.{basisOf, multiplier}
+use Rattle.format.specs.ProblemBases.{basisOf}
 use Rattle.format.specs.CertificateRules.{Entry, Row, noRow, mostRows}
 use Rattle.format.proofs.All.{all-map}
+use Rattle.format.proofs.Numbers.{number-low, signed-small}
 use Rattle.format.proofs.CertificateLimits.{IndicesRise, all-within}
-use Rattle.certificate_reader.specs.Rows.{entryAt, basisAt, weightAt, rowAt, rowsBy, EntriesStand, done, more, SoundRows}
+use Rattle.certificate_reader.specs.Rows.{sizeAt, entryAt, basisAt, weightAt, rowAt, rowsBy, EntriesStand, done, more, SoundRows}
 use Rattle.certificate_reader.proofs.Shapes.{basis-few}
-use Rattle.certificate_reader.proofs.Walk.{Step, step-of, step-none, walk-sound}
-use Rattle.accepting.specs.Identity.{squares}
+use Rattle.certificate_reader.proofs.Walk.{Step, step-of, step-none, factor-small, width-most, walk-sound}
 use Rattle.accepting.proofs.Reach.{all-both}
-use Rattle.row_products.specs.Gram.{factorTerms, rekeyed, outer, gram, timesAt, doubled, rowsOn}
-use Rattle.row_products.specs.Frame.{spreadAt, Empty, Below, Framed}
-use Rattle.row_products.specs.Outer.{weightMost, factorMost, rowUnit, gatheredMost, HasRow, Entries, HoldsEntries, Raised, above, inRow, outerAt}
-use Rattle.row_products.specs.Gather.{RowsFor, LowRow, RowAdded, Gathered}
-use Rattle.row_products.proofs.Gram.{sum-same, keys-rekeyed, factors-small, gram-more, outer-coefficient, rows-on, rows-all}
-use Rattle.row_products.proofs.Halves.{sum-alike, sum-times, gram-table}
-use Rattle.row_products.proofs.Outers.{match-other, lower-never, above-other, outer-bound, raised-same}
-
--- ---- the half that is kept
-module _ (x : ℕ) where
-  above-is : (i k : ℕ) → k < 64 → above x i k ≡ doubled x (match x (64 * i + k))
-  above-is i k h =
-      ⊎-elim
-      (λ e.
-      let q : x / 64 ≡ i = omega arith in
-      let r : x % 64 ≡ k = omega arith in
-      rw (q, r))
-      (λ f. above-other x i k f ∙ sym (ap (doubled x) (match-other x (64 * i + k) f) ∙ *ℤ-zero (timesAt x)))
-      (same-or-not (64 * i + k) x)
-
-  outer-doubled : (F : List Term) → Keys (λ i. i < 64) F → sum (inRow F x) F ≡ doubled x (sum (λ i. sum (λ i′. match x (64 * i + i′)) F) F)
-  outer-doubled F low =
-      sum-alike _ _ (λ i. sum-same (λ i. i < 64) _ _ (λ k b. above-is i k b) F low ∙ sum-times (timesAt x) (λ i′. match x (64 * i + i′)) F) F
-      ∙ sum-times (timesAt x) (λ i. sum (λ i′. match x (64 * i + i′)) F) F
+use Rattle.row_products.specs.declared.Part.{Part}
+use Rattle.row_products.specs.declared.Part.the-variants as P
+use Rattle.row_products.specs.declared.Found.{Found}
+use Rattle.row_products.specs.Gram.{factorTerms, rowsOn}
+use Rattle.row_products.specs.Frame.{Empty, Below, Framed}
+use Rattle.row_products.specs.Outer.{weightMost, factorMost, digitMost, outerUnit, rowUnit, gatheredMost, HasRow, Entries, HoldsEntries, Raised, above, outerAt}
+use Rattle.row_products.specs.Digits.{highDigit, lowDigit, Narrow, NarrowRow, partOf, partAt, parts, HoldsDigits}
+use Rattle.row_products.specs.Gather.{RowsFor, LowRow, RowHeld, PartAdded, RowAdded, Gathered}
+use Rattle.row_products.proofs.Gram.{factors-low, rows-on, rows-all}
+use Rattle.row_products.proofs.Outers.{above-other, above-never, outer-at-bound, raised-none, raised-then, raised-below}
+use Rattle.row_products.proofs.Digits.{low-small, high-small, cross-none, high-none, part-none, held-digits, held-narrow}
 
 -- ---- a row in arrays, as the table of sums takes it
 abbrev noEntry : Entry
@@ -76,17 +56,6 @@ factors-at : (es : List Entry) (k : ℕ) (d : Entry) (t : Term) → k < length e
 factors-at [] k d t h = absurd (omega arith)
 factors-at (e ∷ es) zero d t h = refl
 factors-at (e ∷ es) (suc k) d t h = factors-at es k d t (omega arith)
-
--- half of the products, doubled
-outer-is : (r : Row) (indices : List ℕ) (factors : List ℤ) (count : ℕ) → HoldsEntries (r .entries) indices factors count → All (λ (e : Entry). e .index < 64) (r .entries)
-    → (x : ℕ) → outerAt (r .weight) (termsIn count indices factors) x ≡ doubled x (coefficient x (outer r))
-unfolding outerAt
-outer-is r indices factors count k low x =
-    let F = factorTerms (r .entries) in
-    ap (λ (P : List Term). r .weight *ℤ sum (inRow P x) P) (k .terms)
-    ∙ ap (λ (z : ℤ). r .weight *ℤ z) (outer-doubled x F (factors-small (r .entries) low))
-    ∙ *ℤ-left-comm (r .weight) (timesAt x) (sum (λ i. sum (λ i′. match x (64 * i + i′)) F) F)
-    ∙ ap (doubled x) (sym (outer-coefficient x r))
 
 rising-next : (es : List Entry) (d : Entry) → IndicesRise es → (k : ℕ) → suc k < length es → getD es k d .index < getD es (suc k) d .index
 unfolding IndicesRise
@@ -117,27 +86,12 @@ rising-few es r low = go (length es) refl
     go (suc k) h =
         omega (arith, rising-above es noEntry r k (omega arith), all-within (λ (e : Entry). e .index < 64) es k noEntry (omega arith) low)
 
--- ---- factors of 16 bits
-number-low : (s : List ℕ) → ((i : ℕ) → getD s i 0 < 256) → (at : ℕ) → number 2 s at < 256 ^ 2
-unfolding number
-number-low s b at = omega (arith, b at, b (at + 1))
-
-signed-fits : (x : ℕ) → x < 256 ^ 2 → SFits w16 (signed 15 x)
-unfolding signed
-signed-fits x h = go (ltb x (2 ^ 15)) refl
-  where
-    go : (b : Bool) → ltb x (2 ^ 15) ≡ b → SFits w16 (cond b (pos x) (pos x -ℤ pos (2 ^ 16)))
-    go true e = let k = ltb-true x (2 ^ 15) e in record { sfits = omega arith }
-    go false e =
-        let k = ltb-false x (2 ^ 15) e in
-        let l : x < 2 ^ 16 = omega arith in
-        rw (lt-ltb x (2 ^ 16) l) (record { sfits = omega arith })
-
-module _ (s : List ℕ) (bytes : (i : ℕ) → getD s i 0 < 256) where
+-- ---- how large the factors and the weight of a row are
+module _ (s : List ℕ) (bytes : Bounded 255 s) where
   stand-small : {to at : ℕ} {es : List Entry} → EntriesStand s to at es → All (λ (e : Entry). natAbs (e .factor) ≤ factorMost) es
-  unfolding All entryAt
+  unfolding All
   stand-small done = tt
-  stand-small (more {at} e w) = (fits-abs (signed-fits _ (number-low s bytes (at + 2))), stand-small w)
+  stand-small (more {at} e w) = (omega (arith, factor-small s bytes at, width-most e), stand-small w)
 
   -- a weight, with a sign or without
   pub weight-small : (at : ℕ) → natAbs (weightAt s at) ≤ weightMost
@@ -147,10 +101,10 @@ module _ (s : List ℕ) (bytes : (i : ℕ) → getD s i 0 < 256) where
       n = number 2 s (at + 2)
 
       low : n < 256 ^ 2
-      low = number-low s bytes (at + 2)
+      low = number-low s bytes 2 (at + 2)
 
       go : (b : Bool) → natAbs (cond b (signed 15 n) (pos n)) ≤ weightMost
-      go true = omega (arith, fits-abs (signed-fits n low))
+      go true = omega (arith, signed-small 15 n low)
       go false = omega (arith, low)
 
 -- the entries of a row that keeps its limits, in arrays
@@ -166,7 +120,7 @@ module _ (es : List Entry) (indices : List ℕ) (factors : List ℤ) (count room
   index-held : (k : ℕ) → k < count → getD indices k 0 ≡ getD es k noEntry .index
   index-held k b = ap (λ (t : Term). t .key) (entry-held k b)
 
-  pub row-entries : Entries indices factors count room
+  row-entries : Entries factorMost indices factors count room
   row-entries =
       let n = q .count-is in
       record {
@@ -177,31 +131,88 @@ module _ (es : List Entry) (indices : List ℕ) (factors : List ℤ) (count room
             rw (ap (λ (t : Term). t .coefficient) (entry-held k b)) (all-within (λ (e : Entry). natAbs (e .factor) ≤ factorMost) es k noEntry (omega arith) small);
       }
 
--- ---- the products of rows with low indices are at low indices
-module _ (m : ℕ) where
-  abbrev Low : Row → Type 0
-  Low r = All (λ (e : Entry). e .index < m) (r .entries)
+-- ---- a row's entries with a digit of each, and what is added for them
+digit-entries : {indices : List ℕ} {factors held : List ℤ} {count room : ℕ} {wide : Bool} {d : ℤ → ℤ} → Entries factorMost indices factors count room
+    → HoldsDigits d factors count held wide → ((l : ℤ) → natAbs l ≤ factorMost → natAbs (d l) ≤ digitMost) → Entries digitMost indices held count room
+digit-entries e q small =
+    record { few = e .few; inside = e .inside; rising = e .rising; factors-small = λ k b. rw (q .there k b) (small _ (e .factors-small k b)) }
 
-  abbrev pub Framing : ℕ → Type 0
-  Framing x = (x / 64 < m) × (x % 64 < m)
+module _ {indices : List ℕ} {factors : List ℤ} {count : ℕ} {w : ℤ} {g : List ℤ} (h : RowHeld indices factors count w g) where
+  abbrev F : List Term
+  F = termsIn count indices factors
 
-  factors-low : (es : List Entry) → All (λ (e : Entry). e .index < m) es → Keys (λ i. i < m) (factorTerms es)
-  unfolding All
-  factors-low [] h = tt
-  factors-low (e ∷ es) h = (h .0, factors-low es (h .1))
+  abbrev room : ℕ
+  room = length g
 
-  module _ (few : m ≤ 64) where
-    outer-framed : (r : Row) → Low r → Keys Framing (outer r)
-    outer-framed r h =
-        let F = factorTerms (r .entries) in
-        let b = factors-low (r .entries) h in
-        keys-scale _ (r .weight) (rekeyed (λ i. 64 * i) F ⊗ F)
-        (keys-⊗ _ (rekeyed (λ i. 64 * i) F) F (keys-rekeyed _ (λ i. 64 * i) F (keys-map _ _ (λ i l. keys-map _ _ (λ i′ l′. (omega arith, omega arith)) F b) F b)))
+  pub low-entries : {lows : List ℤ} {wide : Bool} → HoldsDigits lowDigit factors count lows wide → Entries digitMost indices lows count room
+  low-entries q = digit-entries (h .entries) q (λ l b. low-small l)
 
-    pub gram-framed : (rs : List Row) → All Low rs → Keys Framing (gram rs)
-    unfolding gram All
-    gram-framed [] h = tt
-    gram-framed (r ∷ rs) h = keys-append _ (outer r) (gram rs) (outer-framed r (h .0)) (gram-framed rs (h .1))
+  pub high-entries : {highs : List ℤ} {wide : Bool} → HoldsDigits highDigit factors count highs wide → Entries digitMost indices highs count room
+  high-entries q = digit-entries (h .entries) q high-small
+
+  -- without a wide factor there is nothing to add
+  module _ (n : Narrow F) where
+    none-added : (part : Part) → ((x : ℕ) → partOf part w F x ≡ pos 0) → PartAdded part w F g g false
+    none-added part z = record { raised = raised-none z; small = λ x. rw (z x) (omega arith); narrow = λ e. n }
+
+    pub cross-not-added : PartAdded P.Cross w F g g false
+    cross-not-added = none-added P.Cross (λ x. cross-none w x F n)
+
+    pub high-not-added : PartAdded P.High w F g g false
+    high-not-added = none-added P.High (λ x. high-none w x F n)
+
+  module _ {lows : List ℤ} {a : Bool} (l : HoldsDigits lowDigit factors count lows a) where
+    pub low-added : {g₁ : List ℤ} → Raised g (outerAt w (termsIn count indices lows) (termsIn count indices lows)) g₁ → PartAdded P.Low w F g g₁ a
+    unfolding partOf
+    low-added r =
+        record {
+          raised = rw (held-digits l indices) at r;
+          small = λ x. rw (← held-digits l indices) (omega (arith, outer-at-bound (low-entries l) (low-entries l) w (h .weight-small) x));
+          narrow = held-narrow l indices;
+        }
+
+    module _ {highs : List ℤ} {b : Bool} (u : HoldsDigits highDigit factors count highs b) where
+      -- there is room for the second half of them
+      pub cross-below : {g₁ : List ℤ} → Raised g (outerAt w (termsIn count indices lows) (termsIn count indices highs)) g₁ → Below (gatheredMost + outerUnit) g₁
+      cross-below r = raised-below gatheredMost outerUnit r (h .below) (outer-at-bound (low-entries l) (high-entries u) w (h .weight-small))
+
+      pub cross-added : {g₁ g₂ : List ℤ} → Raised g (outerAt w (termsIn count indices lows) (termsIn count indices highs)) g₁
+          → Raised g₁ (outerAt w (termsIn count indices highs) (termsIn count indices lows)) g₂ → PartAdded P.Cross w F g g₂ true
+      unfolding partOf
+      cross-added r k =
+          record {
+            raised = rw (held-digits l indices, held-digits u indices) at (raised-then r k);
+            small = λ x.
+                rw (← held-digits l indices, ← held-digits u indices)
+                (omega (
+                  arith,
+                  abs-sum (outerAt w (termsIn count indices lows) (termsIn count indices highs) x) (outerAt w (termsIn count indices highs) (termsIn count indices lows) x),
+                  outer-at-bound (low-entries l) (high-entries u) w (h .weight-small) x,
+                  outer-at-bound (high-entries u) (low-entries l) w (h .weight-small) x,
+                ));
+            narrow = λ e. clash (cc);
+          }
+
+  pub high-added : {highs : List ℤ} {b : Bool} → HoldsDigits highDigit factors count highs b → {g₁ : List ℤ}
+      → Raised g (outerAt w (termsIn count indices highs) (termsIn count indices highs)) g₁ → PartAdded P.High w F g g₁ true
+  unfolding partOf
+  high-added u r =
+      record {
+        raised = rw (held-digits u indices) at r;
+        small = λ x. rw (← held-digits u indices) (omega (arith, outer-at-bound (high-entries u) (high-entries u) w (h .weight-small) x));
+        narrow = λ e. clash (cc);
+      }
+
+-- ---- rows with low indices
+abbrev Low : ℕ → Row → Type 0
+Low m r = All (λ (e : Entry). e .index < m) (r .entries)
+
+-- where no two indices below m have the place, no part of their products is there
+parts-none : (part : Part) (m x : ℕ) → ((i k : ℕ) → i < m → k < m → above x i k ≡ pos 0) → (rs : List Row) → All (Low m) rs → parts part rs x ≡ pos 0
+unfolding parts All
+parts-none part m x z [] h = refl
+parts-none part m x z (r ∷ rs) h =
+    rw (part-none (r .weight) x (λ i. i < m) z part (factorTerms (r .entries)) (factors-low m (r .entries) (h .0)), parts-none part m x z rs (h .1))
 
 -- ---- the rows of a stream keep the limits
 module _ {p : Problem} {s starts : List ℕ} {rows : ℕ} (w : SoundRows p s starts rows) where
@@ -230,36 +241,52 @@ unfolding rowsOn
 on-other j [] r f = rw (ne-eqb (r .basis) j f)
 on-other j (x ∷ rs) r f = rw (on-other j rs r f)
 
--- ---- the walk for basis j: the table of sums holds the products of the first t rows, and `any` says whether one is on it
-pub record Gathering (rs : List Row) (j t : ℕ) (g₀ g₁ : List ℤ) (any : Bool) : Type 0 where
+-- one row more at the end
+parts-more : (part : Part) (rs : List Row) (r : Row) (x : ℕ) → parts part (rs ++ (r ∷ [])) x ≡ parts part rs x +ℤ partAt part r x
+unfolding parts
+parts-more part [] r x = +ℤ-comm (partAt part r x) (pos 0)
+parts-more part (q ∷ rs) r x = rw (parts-more part rs r x) (sym (+ℤ-assoc (partAt part q x) (parts part rs x) (partAt part r x)))
+
+narrow-more : (rs : List Row) (r : Row) → All NarrowRow rs → NarrowRow r → All NarrowRow (rs ++ (r ∷ []))
+unfolding All
+narrow-more [] r h n = (n, tt)
+narrow-more (q ∷ rs) r h n = (h .0, narrow-more rs r (h .1) n)
+
+-- ---- the walk for basis j: the table of sums holds one part of the products of the first t rows; `any` says whether one is on it, and
+-- `wide` whether one of those has a wide factor
+pub record Gathering (part : Part) (rs : List Row) (j t : ℕ) (g₀ g₁ : List ℤ) (any wide : Bool) : Type 0 where
   pub within : t ≤ length rs
-  pub holds : (x : ℕ) → getD g₁ x (pos 0) ≡ doubled x (coefficient x (gram (rowsOn j (take t rs))))
+  pub holds : (x : ℕ) → getD g₁ x (pos 0) ≡ parts part (rowsOn j (take t rs)) x
   pub below : Below (t * rowUnit) g₁
   pub long : length g₁ ≡ length g₀
   pub none : any ≡ false → rowsOn j (take t rs) ≡ []
+  pub narrow : wide ≡ false → All NarrowRow (rowsOn j (take t rs))
 
-pub gathering-start : {rs : List Row} {j : ℕ} {g : List ℤ} → Empty g → Gathering rs j 0 g g false
-unfolding gram coefficient rowsOn
+pub gathering-start : {part : Part} {rs : List Row} {j : ℕ} {g : List ℤ} → Empty g → Gathering part rs j 0 g g false false
+unfolding parts rowsOn All
 gathering-start {g = g} z =
     record {
       within = omega arith;
-      holds = λ x. z x ∙ sym (*ℤ-zero (timesAt x));
+      holds = z;
       below = λ x. omega (arith, ap natAbs (z x));
       long = refl;
       none = λ e. refl;
+      narrow = λ e. tt;
     }
 
-module _ {rs : List Row} {j t : ℕ} {g₀ g : List ℤ} {any : Bool} (w : Gathering rs j t g₀ g any) where
+module _ {part : Part} {rs : List Row} {j t : ℕ} {g₀ g : List ℤ} {any wide : Bool} (w : Gathering part rs j t g₀ g any wide) where
   pub gathering-small : length rs ≤ mostRows → Below gatheredMost g
   gathering-small n x = omega (arith, w .below x, w .within)
 
-  pub gathering-end : length rs ≤ mostRows → length rs ≤ t → Gathered rs j g₀ g any
+  pub gathering-end : length rs ≤ mostRows → length rs ≤ t → Gathered part rs j g₀ g record { any = any; wide = wide }
   gathering-end n f =
+      let e : rowsOn j (take t rs) ≡ rowsOn j rs = ap (rowsOn j) (take-all t rs f) in
       record {
-        holds = λ x. w .holds x ∙ ap (λ (l : List Row). doubled x (coefficient x (gram (rowsOn j l)))) (take-all t rs f);
+        holds = λ x. w .holds x ∙ ap (λ (l : List Row). parts part l x) e;
         small = gathering-small n;
         long = w .long;
-        none = λ e. ap (rowsOn j) (sym (take-all t rs f)) ∙ w .none e;
+        none = λ q. sym e ∙ w .none q;
+        narrow = λ q. rw e at (w .narrow q);
       }
 
   -- one row more
@@ -267,91 +294,94 @@ module _ {rs : List Row} {j t : ℕ} {g₀ g : List ℤ} {any : Bool} (w : Gathe
     taken : take (t + 1) rs ≡ take t rs ++ (r ∷ [])
     taken = rw (add-one t, take-suc rs t noRow h, is)
 
-    pub gathering-other : (r .basis ≡ j → ⊥) → Gathering rs j (t + 1) g₀ g any
+    pub gathering-other : (r .basis ≡ j → ⊥) → Gathering part rs j (t + 1) g₀ g any wide
     gathering-other f =
         let e : rowsOn j (take (t + 1) rs) ≡ rowsOn j (take t rs) = ap (rowsOn j) taken ∙ on-other j (take t rs) r f in
         record {
           within = omega arith;
-          holds = λ x. w .holds x ∙ ap (λ (l : List Row). doubled x (coefficient x (gram l))) (sym e);
+          holds = λ x. w .holds x ∙ ap (λ (l : List Row). parts part l x) (sym e);
           below = λ x. omega (arith, w .below x);
           long = w .long;
           none = λ n. e ∙ w .none n;
+          narrow = λ n. rw e (w .narrow n);
         }
 
-    pub gathering-row : {g₂ : List ℤ} → r .basis ≡ j → RowAdded r g g₂ → Gathering rs j (t + 1) g₀ g₂ true
-    gathering-row {g₂} e a =
-        let on = rowsOn j (take t rs) in
-        let d = a .raised in
-        record {
-          within = omega arith;
-          holds = λ x.
-              d .there x
-              ∙ ap (λ (z : ℤ). z +ℤ doubled x (coefficient x (outer r))) (w .holds x)
-              ∙ sym (*ℤ-+ℤ (timesAt x) (coefficient x (gram on)) (coefficient x (outer r)))
-              ∙ ap (doubled x) (sym (gram-more x on r))
-              ∙ ap (λ (l : List Row). doubled x (coefficient x (gram l))) (sym (ap (rowsOn j) taken ∙ on-more j (take t rs) r e));
-          below = λ x.
-              let v = ap natAbs (d .there x) in
-              omega (arith, abs-sum (getD g x (pos 0)) (doubled x (coefficient x (outer r))), w .below x, a .small x);
-          long = d .long ∙ w .long;
-          none = λ n. clash (cc);
-        }
+    module _ {g₂ : List ℤ} (on : r .basis ≡ j) {b : Bool} (a : RowAdded part r g g₂ b) where
+      one-more : rowsOn j (take (t + 1) rs) ≡ rowsOn j (take t rs) ++ (r ∷ [])
+      one-more = ap (rowsOn j) taken ∙ on-more j (take t rs) r on
 
--- ---- what the walk gives: the table is within the frame of the basis, and gives the squares
-module _ {s starts : List ℕ} {rows j : ℕ} {g₀ g : List ℤ} {any : Bool} (w : RowsFor s starts rows j (length g₀)) (k : Gathered (rowsBy s starts rows) j g₀ g any) where
-  abbrev on : List Row
-  on = rowsOn j (rowsBy s starts rows)
+      row-more : (now : Bool) → (now ≡ false → (wide ≡ false) × (b ≡ false)) → Gathering part rs j (t + 1) g₀ g₂ true now
+      row-more now f =
+          let d = a .raised in
+          record {
+            within = omega arith;
+            holds = λ x.
+                d .there x
+                ∙ ap (λ (z : ℤ). z +ℤ partAt part r x) (w .holds x)
+                ∙ sym (parts-more part (rowsOn j (take t rs)) r x)
+                ∙ ap (λ (l : List Row). parts part l x) (sym one-more);
+            below = λ x.
+                let v = ap natAbs (d .there x) in
+                omega (arith, abs-sum (getD g x (pos 0)) (partAt part r x), w .below x, a .small x);
+            long = d .long ∙ w .long;
+            none = λ n. clash (cc);
+            narrow = λ n. rw one-more (narrow-more (rowsOn j (take t rs)) r (w .narrow (f n .0)) (a .narrow (f n .1)));
+          }
 
+      pub gathering-wide : Gathering part rs j (t + 1) g₀ g₂ true true
+      gathering-wide = row-more true (λ e. clash (cc))
+
+      pub gathering-row : b ≡ false → Gathering part rs j (t + 1) g₀ g₂ true wide
+      gathering-row e = row-more wide (λ n. (n, e))
+
+-- ---- what the walk gives: the table is within the frame of the basis
+module _ {part : Part} {s starts : List ℕ} {rows j : ℕ} {g₀ g : List ℤ} {found : Found} (w : RowsFor s starts rows j (length g₀))
+    (k : Gathered part (rowsBy s starts rows) j g₀ g found) where
   abbrev size : ℕ
   size = length (basisOf (w .problem) j)
 
   few : size ≤ 64
   few = basis-few (w .problem) (w .rows-sound .limits) j
 
-  low : All (Low size) on
-  low = on-low (w .rows-sound) j
+  elsewhere : (x : ℕ) → ((i i′ : ℕ) → i < size → i′ < size → above x i i′ ≡ pos 0) → getD g x (pos 0) ≡ pos 0
+  elsewhere x z = k .holds x ∙ parts-none part size x z (rowsOn j (rowsBy s starts rows)) (on-low (w .rows-sound) j)
 
   pub gathered-framed : Framed size gatheredMost g
   gathered-framed =
       record {
         long = omega (arith, w .fits, k .long);
-        columns = λ x h. k .holds x ∙ ap (doubled x) (coefficient-none _ x (gram on) (gram-framed size few on low) (λ f. omega (arith, f .1))) ∙ *ℤ-zero (timesAt x);
-        lower = λ x h. k .holds x ∙ ap (λ (z : ℤ). z *ℤ coefficient x (gram on)) (lower-never (x / 64) (x % 64) h) ∙ zero-*ℤ (coefficient x (gram on));
+        columns = λ x h. elsewhere x (λ i i′ a b. above-other x i i′ (λ e. omega (arith, few)));
+        lower = λ x h. elsewhere x (λ i i′ a b. above-never x i i′ (omega (arith, few)) h);
         small = k .small;
       }
 
-  -- it gives the squares of the rows, of whatever problem the basis and its multiplier are
-  pub gathered-squares : (p : Problem) (m : ℕ) → coefficient m (squares p on) ≡ spreadAt (basisOf p j) (multiplier p j) g m
-  gathered-squares p =
-      gram-table p j on (rows-on j (rowsBy s starts rows))
-      (all-map _ _ (λ (r : Row) a. all-map _ _ (λ (e : Entry) b. omega (arith, few)) (r .entries) a) on low) g (k .holds)
-
 -- without a row on basis j it stays empty
-pub gathered-none : {rs : List Row} {j : ℕ} {g₀ g : List ℤ} → Gathered rs j g₀ g false → Empty g
-unfolding gram coefficient
-gathered-none k x = k .holds x ∙ ap (λ (l : List Row). doubled x (coefficient x (gram l))) (k .none refl) ∙ *ℤ-zero (timesAt x)
+pub gathered-none : {part : Part} {rs : List Row} {j : ℕ} {g₀ g : List ℤ} {found : Found} → Gathered part rs j g₀ g found → found .any ≡ false → Empty g
+unfolding parts
+gathered-none {part} k e x = k .holds x ∙ ap (λ (l : List Row). parts part l x) (k .none e)
 
--- ---- a row that keeps its limits, in arrays: what is added for it
-module _ {s : List ℕ} {from to room : ℕ} (bytes : (i : ℕ) → getD s i 0 < 256) (k : LowRow s from to room) where
+-- ---- a row that keeps its limits, in arrays
+module _ {s : List ℕ} {from to room : ℕ} (bytes : Bounded 255 s) (k : LowRow s from to room) where
   abbrev row : Row
   row = rowAt s from to
 
   pub low-few : length (row .entries) ≤ 64
   low-few = rising-few (row .entries) (k .rising) (rows-low room (row .entries) (k .inside))
 
-  module _ {indices : List ℕ} {factors : List ℤ} {count : ℕ} (q : HoldsEntries (row .entries) indices factors count) where
-    pub low-entries : Entries indices factors count room
-    low-entries = row-entries (row .entries) indices factors count room q (k .rising) (k .inside) (stand-small s bytes (k .stands .entries))
+  pub row-held : {indices : List ℕ} {factors : List ℤ} {count : ℕ} {g : List ℤ} → HoldsEntries (row .entries) indices factors count → length g ≡ room → Below gatheredMost g
+      → RowHeld indices factors count (row .weight) g
+  row-held {indices} {factors} {count} q e b =
+      record {
+        entries = rw e (row-entries (row .entries) indices factors count room q (k .rising) (k .inside) (stand-small s bytes (k .stands .entries)));
+        factors-length = q .factors-length;
+        weight-small = weight-small s bytes from;
+        below = b;
+      }
 
-    products : (x : ℕ) → outerAt (row .weight) (termsIn count indices factors) x ≡ doubled x (coefficient x (outer row))
-    products = outer-is row indices factors count q (rows-low room (row .entries) (k .inside))
-
-    products-small : (x : ℕ) → natAbs (outerAt (row .weight) (termsIn count indices factors) x) ≤ rowUnit
-    unfolding outerAt
-    products-small x = outer-bound _ _ _ _ low-entries (row .weight) (weight-small s bytes from) x count (omega arith)
-
-    pub low-added : {g g₂ : List ℤ} → Raised g (outerAt (row .weight) (termsIn count indices factors)) g₂ → RowAdded row g g₂
-    low-added d = record { raised = raised-same d products; small = λ x. rw (← products x) (products-small x) }
+-- what is added for the arrays is added for the row that they hold
+pub added-same : {part part′ : Part} {w w′ : ℤ} {F F′ : List Term} {g₀ g₁ : List ℤ} {wide : Bool} → PartAdded part w F g₀ g₁ wide → part′ ≡ part → w ≡ w′ → F ≡ F′
+    → PartAdded part′ w′ F′ g₀ g₁ wide
+added-same a p q r = rw (p, ← q, ← r) a
 
 -- a row on basis j that is walked
 pub walked-low : {s starts : List ℕ} {rows j room : ℕ} → RowsFor s starts rows j room → (t : ℕ) → t < rows → basisAt s (getD starts t 0) ≡ j
@@ -397,7 +427,7 @@ module _ {s : List ℕ} {to : ℕ} {es : List Entry} {indices : List ℕ} {facto
           let d = k .held .count-is in
           omega arith
 
-      pub filling-more : length es ≤ 64 → Filling s to es (set indices n (entryAt s x .index)) (set factors n (entryAt s x .factor)) (n + 1) (x + 4)
+      pub filling-more : length es ≤ 64 → Filling s to es (set indices n (entryAt s x .index)) (set factors n (entryAt s x .factor)) (n + 1) (x + sizeAt s x)
       filling-more f =
           let l = filling-few f in
           let i = k .held .indices-length in

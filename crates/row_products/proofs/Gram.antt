@@ -37,10 +37,10 @@ combination-factors : (B : List ℕ) (es : List Entry) → combination B es ≡ 
 combination-factors B [] = refl
 combination-factors B (e ∷ es) = rw (combination-factors B es)
 
-pub factors-small : (es : List Entry) → All (λ (e : Entry). e .index < 64) es → Keys (λ i. i < 64) (factorTerms es)
+pub factors-low : (m : ℕ) (es : List Entry) → All (λ (e : Entry). e .index < m) es → Keys (λ i. i < m) (factorTerms es)
 unfolding All
-factors-small [] h = tt
-factors-small (e ∷ es) h = (h .0, factors-small es (h .1))
+factors-low m [] h = tt
+factors-low m (e ∷ es) h = (h .0, factors-low m es (h .1))
 
 pub keys-rekeyed : (A : ℕ → Type 0) (f : ℕ → ℕ) (P : List Term) → Keys (λ k. A (f k)) P → Keys A (rekeyed f P)
 keys-rekeyed A f [] h = tt
@@ -50,7 +50,7 @@ keys-rekeyed A f (t ∷ P) h = (h .0, keys-rekeyed A f P (h .1))
 outer-keys : (r : Row) → All (λ (e : Entry). e .index < 64) (r .entries) → Keys (λ n. n < 4096) (outer r)
 outer-keys r h =
     let F = factorTerms (r .entries) in
-    let b = factors-small (r .entries) h in
+    let b = factors-low 64 (r .entries) h in
     keys-scale _ (r .weight) (rekeyed (λ i. 64 * i) F ⊗ F)
     (keys-⊗ _ (rekeyed (λ i. 64 * i) F) F (keys-rekeyed _ (λ i. 64 * i) F (keys-map _ _ (λ i l. keys-map _ _ (λ i′ l′. omega arith) F b) F b)))
 
@@ -108,7 +108,7 @@ module _ (p : Problem) (j : ℕ) where
         → sum (at m) (outer r) ≡ r .weight *ℤ sum (λ i. sum (λ i′. under m (getD (basisOf p j) i 0 + getD (basisOf p j) i′ 0)) (factorTerms (r .entries))) (factorTerms (r .entries))
     outer-sum r h =
         let F = factorTerms (r .entries) in
-        let small = factors-small (r .entries) h in
+        let small = factors-low 64 (r .entries) h in
         sum-scale (at m) (r .weight) (rekeyed (λ i. 64 * i) F ⊗ F)
         ∙ ap (λ (z : ℤ). r .weight *ℤ z) (sum-⊗ (at m) (rekeyed (λ i. 64 * i) F) F ∙ sum-rekeyed _ (λ i. 64 * i) F
         ∙ sum-same (λ i. i < 64) _ _ (λ i _. sum-same (λ i. i < 64) _ _ (λ i′ b. ap (under m) (place-key i i′ b)) F small) F small)

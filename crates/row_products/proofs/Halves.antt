@@ -21,9 +21,9 @@ use Rattle.format.specs.ProblemBases.{basisOf, multiplier}
 use Rattle.format.specs.All.{All}
 use Rattle.format.specs.CertificateRules.{Entry, Row}
 use Rattle.accepting.specs.Identity.{squares}
-use Rattle.row_products.specs.Gram.{factorTerms, rekeyed, outer, gram, tableTerms, times, timesAt, doubled}
-use Rattle.row_products.specs.Frame.{spreadAt}
-use Rattle.row_products.proofs.Gram.{sum-same, sum-rekeyed, factors-small, gram-places, at, under, place-key, rows-gram}
+use Rattle.row_products.specs.Gram.{factorTerms, rekeyed, outer, gram, times, timesAt, doubled}
+use Rattle.row_products.specs.Frame.{share}
+use Rattle.row_products.proofs.Gram.{sum-same, sum-rekeyed, factors-low, gram-places, at, under, place-key, rows-gram}
 
 -- ---- sums over one list and over two
 pub sum-alike : (m m′ : ℕ → ℤ) → ((k : ℕ) → m k ≡ m′ k) → (P : List Term) → sum m P ≡ sum m′ P
@@ -38,7 +38,7 @@ module _ (a b : ℕ → ℤ) where
   plus-step : (c x y s t : ℤ) → c *ℤ (x +ℤ y) +ℤ (s +ℤ t) ≡ (c *ℤ x +ℤ s) +ℤ (c *ℤ y +ℤ t)
   plus-step c x y s t = rw (view c .eq, view x .eq, view y .eq, view s .eq, view t .eq) (simp diffs (⊖-eq _ _ _ _ (omega arith)))
 
-  sum-plus : (P : List Term) → sum (λ k. a k +ℤ b k) P ≡ sum a P +ℤ sum b P
+  pub sum-plus : (P : List Term) → sum (λ k. a k +ℤ b k) P ≡ sum a P +ℤ sum b P
   sum-plus [] = refl
   sum-plus (t ∷ P) = rw (sum-plus P) (plus-step (t .coefficient) (a (t .key)) (b (t .key)) (sum a P) (sum b P))
 
@@ -127,7 +127,7 @@ module _ (M : ℕ → ℤ) (symmetric : (i k : ℕ) → i < 64 → k < 64 → M 
   outer-half : (r : Row) → All (λ (e : Entry). e .index < 64) (r .entries) → sum M (outer r) ≡ sum half (outer r)
   outer-half r h =
       let F = factorTerms (r .entries) in
-      let low = factors-small (r .entries) h in
+      let low = factors-low 64 (r .entries) h in
       outer-pairs M r
       ∙ ap (λ (z : ℤ). r .weight *ℤ z)
       (halved (λ i k. M (64 * i + k)) symmetric F low ∙ sum-alike _ _ (λ i. sum-same (λ i. i < 64) _ _ (λ k b. half-at i k b) F low) F)
@@ -148,13 +148,11 @@ module _ (M : ℕ → ℤ) (symmetric : (i k : ℕ) → i < 64 → k < 64 → M 
   doubled-moved : (n : ℕ) (c x : ℤ) → doubled n c *ℤ x ≡ c *ℤ doubled n x
   doubled-moved n c x = *ℤ-assoc (timesAt n) c x ∙ *ℤ-left-comm (timesAt n) c x
 
-  half-table : (rs : List Row) → All (λ (r : Row). All (λ (e : Entry). e .index < 64) (r .entries)) rs → (table : List ℤ)
-      → ((n : ℕ) → getD table n (pos 0) ≡ doubled n (coefficient n (gram rs))) → sum M (gram rs) ≡ sum M (tableTerms table)
-  half-table rs small table e =
+  half-table : (rs : List Row) → All (λ (r : Row). All (λ (e : Entry). e .index < 64) (r .entries)) rs → sum M (gram rs) ≡ sum M (listed 4096 (λ n. term n (doubled n (coefficient n (gram rs)))))
+  half-table rs small =
       gram-half rs small
       ∙ gram-places rs small half
-      ∙ listed-same-sum (λ n. coefficient n (gram rs)) (λ n. getD table n (pos 0)) half M 4096
-      (λ n. sym (ap (λ (z : ℤ). z *ℤ M n) (e n) ∙ doubled-moved n (coefficient n (gram rs)) (M n)))
+      ∙ listed-same-sum (λ n. coefficient n (gram rs)) (λ n. doubled n (coefficient n (gram rs))) half M 4096 (λ n. sym (doubled-moved n (coefficient n (gram rs)) (M n)))
 
 -- ---- the law: a table with half of the rows' products, doubled, gives the same polynomial as the rows
 module _ (p : Problem) (j : ℕ) where
@@ -163,7 +161,6 @@ module _ (p : Problem) (j : ℕ) where
       ap (under p j m) (place-key p j i k b ∙ add-comm (getD (basisOf p j) i 0) (getD (basisOf p j) k 0) ∙ sym (place-key p j k i a))
 
   pub gram-table : (rs : List Row) → All (λ (r : Row). r .basis ≡ j) rs → All (λ (r : Row). All (λ (e : Entry). e .index < 64) (r .entries)) rs
-      → (table : List ℤ) → ((n : ℕ) → getD table n (pos 0) ≡ doubled n (coefficient n (gram rs)))
-      → (k : ℕ) → coefficient k (squares p rs) ≡ spreadAt (basisOf p j) (multiplier p j) table k
-  unfolding coefficient spreadAt
-  gram-table rs on small table e k = rows-gram p j (match k) rs on small ∙ half-table (at p j (match k)) (pair-symmetric (match k)) rs small table e
+      → (k : ℕ) → coefficient k (squares p rs) ≡ sum (share (basisOf p j) (multiplier p j) k) (listed 4096 (λ n. term n (doubled n (coefficient n (gram rs)))))
+  unfolding coefficient
+  gram-table rs on small k = rows-gram p j (match k) rs on small ∙ half-table (at p j (match k)) (pair-symmetric (match k)) rs small

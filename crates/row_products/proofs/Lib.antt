@@ -4,4 +4,6 @@ pub mod Folds
 pub mod Outers
 pub mod Gram
 pub mod Halves
+pub mod Digits
 pub mod Gathering
+pub mod Parts

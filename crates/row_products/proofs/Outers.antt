@@ -1,9 +1,9 @@
--- The products of a row: what each place of the table gets, and how large it is at most.
+-- The products of the digits of a row: what each place of the table gets, and how large it is at most.
 use mathlib.Core.Path.{_≡_, refl, sym, ap, _∙_, subst}
 use mathlib.Core.Bool.{Bool, true, false, cond}
 use mathlib.Core.List.{List}
 use mathlib.Core.Logic.{⊎-elim}
-use Prim.Native.Nat.{ℕ, zero, suc, _+_, _-_, _*_, _/_, _≤_, _<_}
+use Prim.Native.Nat.{ℕ, zero, suc, _+_, _-_, _*_, _/_, _%_, _≤_, _<_}
 use native.Mathlib.Numerals.{add-one}
 use native.Mathlib.Omega.{arith}
 use borrow.Author.Tests.{eq-eqb, ne-eqb, le-leb, lt-leb}
@@ -19,7 +19,7 @@ use Rattle.flat.specs.TermArrays.{termsIn}
 use Rattle.polynomial.specs.Algebra.{sum, match}
 use Rattle.row_products.specs.Gram.{times}
 use Rattle.row_products.specs.Frame.{Below}
-use Rattle.row_products.specs.Outer.{weightMost, factorMost, rowUnit, Entries, Raised, above, inRow}
+use Rattle.row_products.specs.Outer.{weightMost, digitMost, outerUnit, Entries, Raised, above, inRow, outerAt}
 use Rattle.row_products.proofs.Prefixes.{at, sum-none, sum-more, times-more}
 
 pub match-other : (x y : ℕ) → (y ≡ x → ⊥) → match x y ≡ pos 0
@@ -34,7 +34,7 @@ match-small x y = go (eqb y x)
 
 -- ---- how often a product counts
 module _ (i k : ℕ) where
-  pub lower-never : k < i → times i k ≡ pos 0
+  lower-never : k < i → times i k ≡ pos 0
   lower-never h = rw (lt-leb i k h)
 
   upper-twice : i < k → times i k ≡ pos 2
@@ -60,6 +60,10 @@ module _ (x i k : ℕ) where
 
   above-lower : k < i → above x i k ≡ pos 0
   above-lower h = ap (λ (z : ℤ). z *ℤ match x (64 * i + k)) (lower-never i k h) ∙ zero-*ℤ (match x (64 * i + k))
+
+  -- below the diagonal
+  pub above-never : k < 64 → x % 64 < x / 64 → above x i k ≡ pos 0
+  above-never b l = ⊎-elim (λ e. above-lower (omega arith)) above-other (same-or-not (64 * i + k) x)
 
 -- ---- a sum in which at most one term counts is no larger than that term
 module _ (m : ℕ → ℤ) (E : List ℕ) (C : List ℤ) where
@@ -89,35 +93,56 @@ module _ (m : ℕ → ℤ) (E : List ℕ) (C : List ℤ) where
       omega (arith, single y M L only most n (λ i k a b. rising i k a (omega arith)) (λ k b. small k (omega arith))))
       (same-or-not (getD E n 0) y)
 
--- ---- the entries of a row
-module _ (E : List ℕ) (C : List ℤ) (count room : ℕ) (e : Entries E C count room) where
-  abbrev F : List Term
-  F = termsIn count E C
-
+-- ---- the entries of a row, with one digit of each
+module _ (E : List ℕ) (C : List ℤ) (count room : ℕ) (e : Entries digitMost E C count room) where
   -- one entry with the first n
-  inner-small : (x i n : ℕ) → n ≤ count → natAbs (inRow (termsIn n E C) x i) ≤ factorMost * 2
+  inner-small : (x i n : ℕ) → n ≤ count → natAbs (inRow (termsIn n E C) x i) ≤ digitMost * 2
   inner-small x i n h =
-      single (above x i) E C (x - 64 * i) 2 factorMost (λ k f. above-other x i k (λ q. f (omega arith))) (above-small x i) n
+      single (above x i) E C (x - 64 * i) 2 digitMost (λ k f. above-other x i k (λ q. f (omega arith))) (above-small x i) n
       (λ i k a b. e .rising i k a (omega arith)) (λ k b. e .factors-small k (omega arith))
 
-  other-row : (x i : ℕ) → (i ≡ x / 64 → ⊥) → inRow F x i ≡ pos 0
+  other-row : (x i : ℕ) → (i ≡ x / 64 → ⊥) → inRow (termsIn count E C) x i ≡ pos 0
   other-row x i f = sum-zero (above x i) E C count (λ k b. above-other x i (getD E k 0) (λ q. f (let l = e .inside k b in omega arith)))
 
   -- the entries before one have lower indices
   pub before-none : (first : ℕ) → first < count → (x : ℕ) → inRow (termsIn first E C) x (getD E first 0) ≡ pos 0
   before-none first h x = sum-zero (above x (getD E first 0)) E C first (λ k b. above-lower x (getD E first 0) (getD E k 0) (e .rising k first b h))
 
-  -- the first n entries with all
-  outer-small : (x n : ℕ) → n ≤ count → natAbs (sum (inRow F x) (termsIn n E C)) ≤ factorMost * (factorMost * 2)
+  pub inner-bound : (a : ℤ) → natAbs a ≤ weightMost * digitMost → (x i n : ℕ) → n ≤ count → natAbs (a *ℤ inRow (termsIn n E C) x i) ≤ outerUnit
+  inner-bound a h x i n l = abs-mul-le a (inRow (termsIn n E C) x i) (weightMost * digitMost) (digitMost * 2) h (inner-small x i n l)
+
+-- and with two, one on the left and one on the right
+module _ {E : List ℕ} {C C′ : List ℤ} {count room : ℕ} (e : Entries digitMost E C count room) (e′ : Entries digitMost E C′ count room) where
+  abbrev F′ : List Term
+  F′ = termsIn count E C′
+
+  -- the first n entries on the left with all on the right
+  outer-small : (x n : ℕ) → n ≤ count → natAbs (sum (inRow F′ x) (termsIn n E C)) ≤ digitMost * (digitMost * 2)
   outer-small x n h =
-      single (inRow F x) E C (x / 64) (factorMost * 2) factorMost (other-row x) (λ i. inner-small x i count (omega arith)) n
+      single (inRow F′ x) E C (x / 64) (digitMost * 2) digitMost (other-row E C′ count room e′ x) (λ i. inner-small E C′ count room e′ x i count (omega arith)) n
       (λ i k a b. e .rising i k a (omega arith)) (λ k b. e .factors-small k (omega arith))
 
-  pub inner-bound : (a : ℤ) → natAbs a ≤ weightMost * factorMost → (x i n : ℕ) → n ≤ count → natAbs (a *ℤ inRow (termsIn n E C) x i) ≤ rowUnit
-  inner-bound a h x i n l = abs-mul-le a (inRow (termsIn n E C) x i) (weightMost * factorMost) (factorMost * 2) h (inner-small x i n l)
+  module _ (w : ℤ) (h : natAbs w ≤ weightMost) where
+    pub outer-bound : (x n : ℕ) → n ≤ count → natAbs (w *ℤ sum (inRow F′ x) (termsIn n E C)) ≤ outerUnit
+    outer-bound x n l = abs-mul-le w (sum (inRow F′ x) (termsIn n E C)) weightMost (digitMost * (digitMost * 2)) h (outer-small x n l)
 
-  pub outer-bound : (w : ℤ) → natAbs w ≤ weightMost → (x n : ℕ) → n ≤ count → natAbs (w *ℤ sum (inRow F x) (termsIn n E C)) ≤ rowUnit
-  outer-bound w h x n l = abs-mul-le w (sum (inRow F x) (termsIn n E C)) weightMost (factorMost * (factorMost * 2)) h (outer-small x n l)
+    pub outer-at-bound : (x : ℕ) → natAbs (outerAt w (termsIn count E C) F′ x) ≤ outerUnit
+    unfolding outerAt
+    outer-at-bound x = outer-bound x count (omega arith)
+
+-- ---- what is added to the table
+pub raised-same : {g₀ g₁ : List ℤ} {f h : ℕ → ℤ} → Raised g₀ f g₁ → ((y : ℕ) → f y ≡ h y) → Raised g₀ h g₁
+raised-same {g₀} r e = record { long = r .long; there = λ y. r .there y ∙ ap (λ (z : ℤ). getD g₀ y (pos 0) +ℤ z) (e y) }
+
+pub raised-none : {g : List ℤ} {f : ℕ → ℤ} → ((y : ℕ) → f y ≡ pos 0) → Raised g f g
+raised-none {g} e = record { long = refl; there = λ y. sym (ap (λ (z : ℤ). getD g y (pos 0) +ℤ z) (e y) ∙ +ℤ-idr (getD g y (pos 0))) }
+
+pub raised-then : {g₀ g₁ g₂ : List ℤ} {f h : ℕ → ℤ} → Raised g₀ f g₁ → Raised g₁ h g₂ → Raised g₀ (λ y. f y +ℤ h y) g₂
+raised-then {g₀} {f = f} {h = h} r k =
+    record { long = k .long ∙ r .long; there = λ y. k .there y ∙ ap (λ (z : ℤ). z +ℤ h y) (r .there y) ∙ +ℤ-assoc (getD g₀ y (pos 0)) (f y) (h y) }
+
+pub raised-below : {g₀ g₁ : List ℤ} {f : ℕ → ℤ} (c d : ℕ) → Raised g₀ f g₁ → Below c g₀ → ((y : ℕ) → natAbs (f y) ≤ d) → Below (c + d) g₁
+raised-below {g₀} {f = f} c d r b h y = let e = ap natAbs (r .there y) in omega (arith, abs-sum (getD g₀ y (pos 0)) (f y), b y, h y)
 
 -- ---- the turns of the loops: x times the sum over the first t entries
 pub record Raising (g₀ : List ℤ) (m : ℕ → ℕ → ℤ) (x : ℤ) (E : List ℕ) (C : List ℤ) (t : ℕ) (g₁ : List ℤ) : Type 0 where
@@ -147,16 +172,11 @@ module _ {g₀ : List ℤ} {m : ℕ → ℕ → ℤ} {x : ℤ} {E : List ℕ} {C
       }
 
   pub raising-below : {g₁ : List ℤ} {t : ℕ} (c d : ℕ) → Raising g₀ m x E C t g₁ → Below c g₀ → ((y : ℕ) → natAbs (x *ℤ sum (m y) (termsIn t E C)) ≤ d) → Below (c + d) g₁
-  raising-below {g₁} {t} c d h b f y =
-      let e = ap natAbs (h .raised .there y) in
-      omega (arith, abs-sum (getD g₀ y (pos 0)) (x *ℤ sum (m y) (termsIn t E C)), b y, f y)
+  raising-below c d h b f = raised-below c d (h .raised) b f
 
   -- the last turn
   pub raising-end : {g₁ : List ℤ} {t n : ℕ} → Raising g₀ m x E C t g₁ → t ≡ n → Raised g₀ (λ y. x *ℤ sum (m y) (termsIn n E C)) g₁
   raising-end {g₁} h e = subst (λ (n : ℕ). Raised g₀ (λ y. x *ℤ sum (m y) (termsIn n E C)) g₁) e (h .raised)
-
-pub raised-same : {g₀ g₁ : List ℤ} {f h : ℕ → ℤ} → Raised g₀ f g₁ → ((y : ℕ) → f y ≡ h y) → Raised g₀ h g₁
-raised-same {g₀} r e = record { long = r .long; there = λ y. r .there y ∙ ap (λ (z : ℤ). getD g₀ y (pos 0) +ℤ z) (e y) }
 
 -- one number added at a place
 pub raised-set : (g : List ℤ) (y : ℕ) (v : ℤ) → y < length g → Raised g (λ z. v *ℤ match z y) (set g y (getD g y (pos 0) +ℤ v))

@@ -34,10 +34,12 @@ pub record Framed (m c : ℕ) (g : List ℤ) : Type 0 where
   pub lower : (x : ℕ) → x % 64 < x / 64 → getD g x (pos 0) ≡ pos 0
   pub small : Below c g
 
--- r is a place after x, and those between them have a column that no index below m has, or are below the diagonal
+-- r is a place after x, and those between them have a column that no index below m has, or are below the diagonal; from
+-- a place on or above the diagonal the walk comes to another, or past the rows of all indices below m
 pub record Next (m x r : ℕ) : Type 0 where
   pub later : x < r
   pub between : (y : ℕ) → x < y → y < r → (m ≤ y % 64) ⊎ (y % 64 < y / 64)
+  pub upper : x / 64 ≤ x % 64 → (r / 64 ≤ r % 64) ⊎ (64 * m ≤ r)
 
 -- an entry that is not 0 is at indices of the basis, and is at most c
 pub record Entered (c : ℕ) (basis : List ℕ) (x : ℕ) (a : ℤ) : Type 0 where

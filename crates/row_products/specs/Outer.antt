@@ -1,5 +1,5 @@
--- The products w × l × l' of a row, added into the table of sums. They are symmetric: only those with i ≤ i' are added,
--- and twice where i < i'.
+-- The products w × d × d' of the digits of a row, added into the table of sums. Their matrix is symmetric: only those
+-- with i ≤ i' are added, and twice where i < i'.
 use mathlib.Core.Path.{_≡_}
 use mathlib.Core.List.{List}
 use Prim.Native.Nat.{ℕ, _+_, _*_, _^_, _≤_, _<_}
@@ -11,16 +11,24 @@ use Rattle.flat.specs.TermArrays.{termsIn}
 use Rattle.format.specs.CertificateRules.{Entry, mostRows}
 use Rattle.row_products.specs.Gram.{factorTerms, times}
 
--- no weight and no factor of a row is larger
+-- no weight and no factor of a row is larger, and no digit of a factor
 abbrev pub weightMost : ℕ
 weightMost = 2 ^ 16
 
 abbrev pub factorMost : ℕ
-factorMost = 2 ^ 15
+factorMost = 2 ^ 31
 
--- what one row at most adds to an entry: its indices rise, so each place gets one product, which counts at most twice
+abbrev pub digitMost : ℕ
+digitMost = 2 ^ 15
+
+-- what the products of two digits of a row at most add to an entry: its indices rise, so each place gets one product,
+-- which counts at most twice
+abbrev pub outerUnit : ℕ
+outerUnit = weightMost * digitMost * digitMost * 2
+
+-- and what one row at most adds: the lower digits with the upper ones, and the upper with the lower
 abbrev pub rowUnit : ℕ
-rowUnit = weightMost * factorMost * factorMost * 2
+rowUnit = outerUnit * 2
 
 -- and all rows
 abbrev pub gatheredMost : ℕ
@@ -30,12 +38,13 @@ gatheredMost = mostRows * rowUnit
 abbrev pub HasRow : ℕ → ℕ → Type 0
 HasRow room i = (i < 64) × (64 * i + 64 ≤ room)
 
--- a row's entries in arrays: indices that rise and have their rows in a table of this length, and factors
-pub record Entries (indices : List ℕ) (factors : List ℤ) (count room : ℕ) : Type 0 where
+-- a row's entries in arrays: indices that rise and have their rows in a table of this length, and factors, or a digit
+-- of each, that are at most `most` in size
+pub record Entries (most : ℕ) (indices : List ℕ) (factors : List ℤ) (count room : ℕ) : Type 0 where
   pub few : count ≤ 64
   pub inside : (k : ℕ) → k < count → HasRow room (getD indices k 0)
   pub rising : (i k : ℕ) → i < k → k < count → getD indices i 0 < getD indices k 0
-  pub factors-small : (k : ℕ) → k < count → natAbs (getD factors k (pos 0)) ≤ factorMost
+  pub factors-small : (k : ℕ) → k < count → natAbs (getD factors k (pos 0)) ≤ most
 
 -- the arrays hold the entries es of a row, place by place
 pub record HoldsEntries (es : List Entry) (indices : List ℕ) (factors : List ℤ) (count : ℕ) : Type 0 where
@@ -57,6 +66,6 @@ above x i i′ = times i i′ *ℤ match x (64 * i + i′)
 abbrev pub inRow : List Term → ℕ → ℕ → ℤ
 inRow F x i = sum (above x i) F
 
--- w × l × l' for each two entries, at its place, as often
-unfoldable pub outerAt : ℤ → List Term → ℕ → ℤ
-outerAt w F x = w *ℤ sum (inRow F x) F
+-- w × d × d' for each d of one list and d' of another, at its place, as often
+unfoldable pub outerAt : ℤ → List Term → List Term → ℕ → ℤ
+outerAt w F F′ x = w *ℤ sum (inRow F′ x) F

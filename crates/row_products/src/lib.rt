@@ -1,6 +1,9 @@
 // The table of sums, 64 places to an index: the products w * l * l' of the rows on one basis, read off the
 // certificate's bytes by their offsets, are summed by their indices, on and above the diagonal; then the entries with
 // the same product b * b' are summed at one place. The compared keys have no part in it.
+//
+// A factor of 32 bits is l = h * 2^16 + l0 with -2^15 <= l0 < 2^15, and so its products have three parts. The table
+// holds one of them at a time, all of products of 16 bits. A factor of 16 bits is its own l0, and has the first alone.
 ghost use mathlib.Core.Path.{_≡_};
 ghost use mathlib.Core.Bool.{true};
 ghost use Prim.Native.Nat.{_+_, _*_, _^_, _≤_, _<_};
@@ -11,10 +14,19 @@ ghost use Rattle.flat.specs.TermArrays.{termsIn};
 ghost use Rattle.counting.specs.Counting.{Bounded};
 ghost use Rattle.certificate_reader.specs.Rows.{rowAt, rowsBy, RowStands};
 ghost use Rattle.row_products.specs.Frame.{Empty, Below, Next, Framed, Entered};
-ghost use Rattle.row_products.specs.Outer.{weightMost, factorMost, gatheredMost, Entries, HoldsEntries};
+ghost use Rattle.row_products.specs.Outer.{weightMost, digitMost, gatheredMost, Entries, HoldsEntries};
 ghost use Rattle.row_products.specs.Outer.{Raised, inRow, outerAt};
+ghost use Rattle.row_products.specs.declared.Part.the-variants as P;
+ghost use Rattle.row_products.specs.Digits.{highDigit, lowDigit, HoldsDigits};
 ghost use Rattle.row_products.specs.Fold.{WithProduct, Folded, FoldedTable};
-ghost use Rattle.row_products.specs.Gather.{RowsFor, LowRow, RowAdded, Gathered};
+ghost use Rattle.row_products.specs.Gather.{RowsFor, LowRow, RowHeld, PartAdded, RowAdded, Gathered};
+
+// The parts of the products: w * l0 * l0', then 2^16 * w * (l0 * h' + h * l0'), then 2^32 * w * h * h'.
+pub enum Part {
+    Low,
+    Cross,
+    High,
+}
 
 // The entries of the row between two offsets, put into arrays; how many they are.
 fn read_row(
@@ -45,13 +57,13 @@ fn read_row(
     n
 }
 
-// Adds a times a factor to the entry at place x. There is room: the limits of the rows keep every sum far below 2^63.
+// Adds a times a digit to the entry at place x. There is room: the limits of the rows keep every sum far below 2^63.
 fn add_at(g: &mut [i64], x: usize, a: i64, factor: i32)
     requires { ⌜
         (x < length (now g))
         × Below (2 ^ 61) (now g)
-        × (natAbs a ≤ 2 * (weightMost * factorMost))
-        × (natAbs factor ≤ factorMost)
+        × (natAbs a ≤ 2 * (weightMost * digitMost))
+        × (natAbs factor ≤ digitMost)
         ⌝ }
     ensures { λ _. ⌜ Raised (now (g .entry)) (λ y. a *ℤ factor *ℤ match y x) (now (g .exit)) ⌝ }
 {
@@ -71,10 +83,10 @@ fn add_products(
     a: i64,
 )
     requires { ⌜
-        Entries (now indices) (now factors) count (length (now g))
+        Entries digitMost (now indices) (now factors) count (length (now g))
         × Below (2 ^ 60) (now g)
         × (first < count)
-        × (natAbs a ≤ weightMost * factorMost)
+        × (natAbs a ≤ weightMost * digitMost)
         ⌝ }
     ensures { λ _. ⌜
         Raised (now (g .entry))
@@ -92,58 +104,196 @@ fn add_products(
     }
 }
 
-// Adds the products w * l * l' of each two entries of a row, an entry with itself and with those after it, to the table
-// of sums.
-fn add_outer(g: &mut [i64], indices: &[u8; 64], factors: &[i32; 64], count: usize, w: i64)
+// Adds the products w * d * d' of each digit d on the left and d' on the right, an entry with itself and with those
+// after it, to the table of sums.
+fn add_outer(
+    g: &mut [i64],
+    indices: &[u8; 64],
+    left: &[i32; 64],
+    right: &[i32; 64],
+    count: usize,
+    w: i64,
+)
     requires { ⌜
-        Entries (now indices) (now factors) count (length (now g))
-        × Below gatheredMost (now g)
+        Entries digitMost (now indices) (now left) count (length (now g))
+        × Entries digitMost (now indices) (now right) count (length (now g))
+        × Below (2 ^ 59) (now g)
         × (natAbs w ≤ weightMost)
         ⌝ }
     ensures { λ _. ⌜
-        Raised (now (g .entry)) (outerAt w (termsIn count (now (indices .entry)) (now (factors .entry))))
-        (now (g .exit))
+        Raised (now (g .entry))
+        (outerAt w (termsIn count (now (indices .entry)) (now (left .entry)))
+        (termsIn count (now (indices .entry)) (now (right .entry)))) (now (g .exit))
         ⌝ }
 {
     let mut k = 0;
     while k < count {
-        let a = w * (factors[k] as i64);
-        add_products(g, indices, factors, count, k, a);
+        let a = w * (left[k] as i64);
+        add_products(g, indices, right, count, k, a);
         k += 1;
     }
 }
 
-// Adds the products of the row between two offsets.
-fn add_row(g: &mut [i64], s: &[u8], from: usize, to: usize)
+// Half of where the digits meet, and where they meet.
+const HALF: i64 = 1 << 15;
+
+const DIGIT: i64 = 1 << 16;
+
+// The upper digit of a factor. `>>` on a signed number rounds down, so half of 2^16 is added first, in 64 bits: the
+// largest factors leave 32.
+fn high_digit(l: i32) -> i32
+    ensures { λ r. ⌜ r ≡ highDigit l ⌝ }
+{
+    (((l as i64) + HALF) >> 16) as i32
+}
+
+// The lower digit of a factor.
+fn low_digit(l: i32) -> i32
+    ensures { λ r. ⌜ r ≡ lowDigit l ⌝ }
+{
+    ((l as i64) - (high_digit(l) as i64) * DIGIT) as i32
+}
+
+// Replaces each factor by its lower digit, which a factor of 16 bits is itself; whether one is wide.
+fn keep_low_digits(factors: &mut [i32; 64], count: usize) -> bool
+    requires { ⌜ (count ≤ 64) × (length (now factors) ≡ 64) ⌝ }
+    ensures { λ r. ⌜ HoldsDigits lowDigit (now (factors .entry)) count (now (factors .exit)) r ⌝ }
+{
+    let mut wide = false;
+    let mut k = 0;
+    while k < count {
+        let l = factors[k];
+        if high_digit(l) != 0 {
+            factors[k] = low_digit(l);
+            wide = true;
+        }
+        k += 1;
+    }
+    wide
+}
+
+// The upper digit of each factor, in an array of zeros; whether one is wide.
+fn high_digits(factors: &[i32; 64], highs: &mut [i32; 64], count: usize) -> bool
+    requires { ⌜ (count ≤ 64) × (length (now highs) ≡ 64) ⌝ }
+    ensures { λ r. ⌜ HoldsDigits highDigit (now (factors .entry)) count (now (highs .exit)) r ⌝ }
+{
+    let mut wide = false;
+    let mut k = 0;
+    while k < count {
+        let h = high_digit(factors[k]);
+        highs[k] = h;
+        if h != 0 {
+            wide = true;
+        }
+        k += 1;
+    }
+    wide
+}
+
+// Adds the products of the lower digits of a row; whether a factor is wide.
+fn add_low(g: &mut [i64], indices: &[u8; 64], factors: &mut [i32; 64], count: usize, w: i64) -> bool
+    requires { ⌜ RowHeld (now indices) (now factors) count w (now g) ⌝ }
+    ensures { λ r. ⌜
+        PartAdded P.Low w (termsIn count (now (indices .entry)) (now (factors .entry))) (now (g .entry)) (now (g .exit))
+        r
+        ⌝ }
+{
+    let wide = keep_low_digits(factors, count);
+    add_outer(g, indices, factors, factors, count, w);
+    wide
+}
+
+// Adds the products of the lower digits with the upper ones, and of the upper with the lower; whether a factor is wide.
+fn add_cross(
+    g: &mut [i64],
+    indices: &[u8; 64],
+    factors: &mut [i32; 64],
+    count: usize,
+    w: i64,
+) -> bool
+    requires { ⌜ RowHeld (now indices) (now factors) count w (now g) ⌝ }
+    ensures { λ r. ⌜
+        PartAdded P.Cross w (termsIn count (now (indices .entry)) (now (factors .entry))) (now (g .entry))
+        (now (g .exit)) r
+        ⌝ }
+{
+    let mut highs: [i32; 64] = [0; 64];
+    if !high_digits(factors, &mut highs, count) {
+        return false;
+    }
+    keep_low_digits(factors, count);
+    add_outer(g, indices, factors, &highs, count, w);
+    add_outer(g, indices, &highs, factors, count, w);
+    true
+}
+
+// Adds the products of the upper digits; whether a factor is wide.
+fn add_high(g: &mut [i64], indices: &[u8; 64], factors: &[i32; 64], count: usize, w: i64) -> bool
+    requires { ⌜ RowHeld (now indices) (now factors) count w (now g) ⌝ }
+    ensures { λ r. ⌜
+        PartAdded P.High w (termsIn count (now (indices .entry)) (now (factors .entry))) (now (g .entry))
+        (now (g .exit)) r
+        ⌝ }
+{
+    let mut highs: [i32; 64] = [0; 64];
+    if !high_digits(factors, &mut highs, count) {
+        return false;
+    }
+    add_outer(g, indices, &highs, &highs, count, w);
+    true
+}
+
+// Adds one part of the products of the row between two offsets; whether a factor is wide.
+fn add_row(g: &mut [i64], s: &[u8], from: usize, to: usize, part: Part) -> bool
     requires { ⌜ Below gatheredMost (now g) × LowRow (now s) from to (length (now g)) ⌝ }
-    ensures { λ _. ⌜ RowAdded (rowAt (now (s .entry)) from to) (now (g .entry)) (now (g .exit)) ⌝ }
+    ensures { λ r. ⌜ RowAdded part (rowAt (now (s .entry)) from to) (now (g .entry)) (now (g .exit)) r ⌝ }
 {
     let mut indices: [u8; 64] = [0; 64];
     let mut factors: [i32; 64] = [0; 64];
     let n = read_row(s, from, to, &mut indices, &mut factors);
     let w = certificate_reader::weight_at(s, from);
-    add_outer(g, &indices, &factors, n, w);
+    match part {
+        Part::Low => add_low(g, &indices, &mut factors, n, w),
+        Part::Cross => add_cross(g, &indices, &mut factors, n, w),
+        Part::High => add_high(g, &indices, &factors, n, w),
+    }
 }
 
-// Adds the products of the rows on basis j to the table of sums, which is empty; whether there is such a row. Other
-// rows are stepped over.
-pub fn add_basis_rows(g: &mut [i64], s: &[u8], starts: &[usize; 129], rows: usize, j: usize) -> bool
+// What is found among the rows on a basis: whether there is one, and whether one has a wide factor.
+pub struct Found {
+    pub any: bool,
+    pub wide: bool,
+}
+
+// Adds one part of the products of the rows on basis j to the table of sums, which is empty. Other rows are stepped
+// over.
+pub fn add_basis_rows(
+    g: &mut [i64],
+    s: &[u8],
+    starts: &[usize; 129],
+    rows: usize,
+    j: usize,
+    part: Part,
+) -> Found
     requires { ⌜ Empty (now g) × RowsFor (now s) (now starts) rows j (length (now g)) ⌝ }
     ensures { λ r. ⌜
-        Gathered (rowsBy (now (s .entry)) (now (starts .entry)) rows) j (now (g .entry)) (now (g .exit)) r
+        Gathered part (rowsBy (now (s .entry)) (now (starts .entry)) rows) j (now (g .entry)) (now (g .exit)) r
         ⌝ }
 {
     let mut any = false;
+    let mut wide = false;
     let mut r = 0;
     while r < rows {
         let at = starts[r];
         if certificate_reader::basis_at(s, at) == j {
-            add_row(g, s, at, starts[r + 1]);
             any = true;
+            if add_row(g, s, at, starts[r + 1], part) {
+                wide = true;
+            }
         }
         r += 1;
     }
-    any
+    Found { any, wide }
 }
 
 // The place after x on or above the diagonal, for a basis of this size. A row begins at its diagonal, 65 * i: only half

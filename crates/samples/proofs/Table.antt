@@ -1,7 +1,7 @@
 -- The starred samples, started from their byte streams, as one table: each row's outcome is what the definitions compute.
--- The last rows have equalities and gaps of 0 and below, which are document 02's.
+-- The last rows have equalities, gaps of 0 and below, and wide factors, which are document 02's.
 use mathlib.Core.Path.{_≡_, refl}
-use mathlib.Core.List.{List, [], _∷_, map}
+use mathlib.Core.List.{List, [], _∷_, _++_, map}
 use mathlib.Core.Bool.{true, false}
 use Prim.Native.Nat.{ℕ}
 use lib.ListN.{take, drop}
@@ -34,7 +34,7 @@ use Rattle.calls.specs.Check.{refusedCheck, checkOf, checkVerdict}
 use Rattle.calls.specs.Pair.{refusedPair, pairSides, pairOf, pairVerdict}
 use Rattle.calls.specs.declared.CheckVerdict.{CheckVerdict}
 use lib.IntN.{ℤ, pos, negsuc}
-use Rattle.samples.specs.Streams.{problemA, problemC, problemD, problemE, problemF, certificateA, certificateB, certificateD, lowF, highF, certificateI, row, equalityRow, equality, inequality, problemEqual, nineConditions, lowEqual, highEqual, withRow, problemCrossed, lowCrossed, highCrossed}
+use Rattle.samples.specs.Streams.{problemA, problemC, problemD, problemE, problemF, certificateA, certificateB, certificateD, lowF, highF, certificateI, small, minus, row, equalityRow, entry, entryMinus, wideEntry, equality, inequality, problemEqual, nineConditions, lowEqual, highEqual, problemWide, certificateWide, certificateWideD, withEntries, withRow, problemCrossed, lowCrossed, highCrossed}
 
 -- a verdict, the first three bytes of basis 0 and the first of basis 1
 record Row : Type 0 where
@@ -167,3 +167,35 @@ pub gaps :
     ∷ []
 unfolding listed fromTo sumTo number signed firstRefusal run readWhole degreeOf degree within among keysOf problemCommand appendAt fitting problemApplied problemRefusalAt problemNext readProblem basisOf multiplier multiplierOf kindOf member insert linked merged joinPair join addTerms addPair extend different singles start joinAll extendAll round same sameAll sameState closeFrom blocksIn Rounds.closingOf insertAll startFrom startSet closing tooLarge CertificateLayout.certificateCommand Certificate.certificateRefusalAt Certificate.certificateApplied Certificate.certificateNext readCertificate coefficient square squares claimOf blockOf firstOutside rowSplit splitBy firstDifference comparedKeys differenceKey judgeRead judge pairSides pairOf pairVerdict
 gaps = refl
+
+-- ---- wide factors
+-- 2^15, which 16 bits do not hold; A with either factor wide, and with both; refusal 8 at the second entry, two bytes
+-- further on; a 15 before any row; a factor 0; an index that the basis does not have; an index that does not rise, a 15
+-- after a 12 and a 12 after a 15; a 15 that is cut
+pub wide-factors :
+    checkVerdict false problemWide certificateWide
+    ∷ checkVerdict false problemA (withEntries (wideEntry 0 (minus 255) ++ entry 1 1))
+    ∷ checkVerdict false problemA (withEntries (entryMinus 0 255 ++ wideEntry 1 (small 1)))
+    ∷ checkVerdict false problemA (withEntries (wideEntry 0 (minus 255) ++ wideEntry 1 (small 1)))
+    ∷ checkVerdict false problemD certificateWideD
+    ∷ checkVerdict false problemA (withRow (wideEntry 0 (small 1)))
+    ∷ checkVerdict false problemA (withEntries (wideEntry 0 (small 0)))
+    ∷ checkVerdict false problemA (withEntries (wideEntry 2 (small 1)))
+    ∷ checkVerdict false problemA (withEntries (entry 1 1 ++ wideEntry 1 (small 1)))
+    ∷ checkVerdict false problemA (withEntries (wideEntry 1 (small 1) ++ entry 1 1))
+    ∷ checkVerdict false problemA (withEntries (wideEntry 0 (1 ∷ 0 ∷ [])))
+    ∷ []
+    ≡ accepted 0 (pos 0) 2
+    ∷ accepted 0 (pos 2) 2
+    ∷ accepted 0 (pos 2) 2
+    ∷ accepted 0 (pos 2) 2
+    ∷ refusedCheck (certificateRefusal 1 8 20 0)
+    ∷ refusedCheck (certificateRefusal 1 3 10 0)
+    ∷ refusedCheck (certificateRefusal 1 4 14 0)
+    ∷ refusedCheck (certificateRefusal 1 4 14 0)
+    ∷ refusedCheck (certificateRefusal 1 5 18 0)
+    ∷ refusedCheck (certificateRefusal 1 5 20 0)
+    ∷ refusedCheck (certificateRefusal 1 2 14 0)
+    ∷ []
+unfolding listed fromTo sumTo number signed firstRefusal run readWhole degreeOf degree within among keysOf problemCommand appendAt fitting problemApplied problemRefusalAt problemNext readProblem basisOf multiplier multiplierOf kindOf member insert linked merged joinPair join addTerms addPair extend different singles start joinAll extendAll round same sameAll sameState closeFrom blocksIn Rounds.closingOf insertAll startFrom startSet closing tooLarge CertificateLayout.certificateCommand Certificate.certificateRefusalAt Certificate.certificateApplied Certificate.certificateNext readCertificate coefficient square squares claimOf blockOf firstOutside rowSplit splitBy firstDifference comparedKeys differenceKey judgeRead judge checkOf checkVerdict
+wide-factors = refl

@@ -1,5 +1,6 @@
--- The byte streams of document 01's samples, of some with equalities and of one whose limits contradict each other. A
--- monomial is written by the exponents of its first two variables, a number below 0 as its lowest byte.
+-- The byte streams of document 01's samples, of some with equalities and wide factors, and of one whose limits
+-- contradict each other. A monomial is written by the exponents of its first two variables, a number below 0 as its
+-- lowest byte.
 use mathlib.Core.List.{List, [], _∷_, _++_}
 use Prim.Native.Nat.{ℕ}
 use lib.ListN.{replicate}
@@ -8,14 +9,21 @@ use lib.ListN.{replicate}
 abbrev pub exponents : ℕ → ℕ → List ℕ
 exponents a b = a ∷ b ∷ replicate 6 0
 
+-- a number of 32 bits: one below 256, and one of −256 to −1
+abbrev pub small : ℕ → List ℕ
+small c = c ∷ 0 ∷ 0 ∷ 0 ∷ []
+
+abbrev pub minus : ℕ → List ℕ
+minus c = c ∷ 255 ∷ 255 ∷ 255 ∷ []
+
 abbrev pub variables : ℕ → List ℕ
 variables n = 1 ∷ n ∷ []
 
 abbrev pub objectiveTerm : List ℕ → ℕ → List ℕ
-objectiveTerm e c = (2 ∷ e) ++ (c ∷ 0 ∷ 0 ∷ 0 ∷ [])
+objectiveTerm e c = (2 ∷ e) ++ small c
 
 abbrev pub objectiveMinus : List ℕ → ℕ → List ℕ
-objectiveMinus e c = (2 ∷ e) ++ (c ∷ 255 ∷ 255 ∷ 255 ∷ [])
+objectiveMinus e c = (2 ∷ e) ++ minus c
 
 abbrev pub inequality : List ℕ
 inequality = 3 ∷ []
@@ -119,6 +127,17 @@ problemCrossed =
     ++ memberCommand 2 (exponents 0 0)
     ++ end
 
+-- 2^30 x² + 2^16 x + 1, basis 1, x
+abbrev pub problemWide : List ℕ
+problemWide =
+    variables 1
+    ++ ((2 ∷ exponents 2 0) ++ (0 ∷ 0 ∷ 0 ∷ 64 ∷ []))
+    ++ ((2 ∷ exponents 1 0) ++ (0 ∷ 0 ∷ 1 ∷ 0 ∷ []))
+    ++ objectiveTerm (exponents 0 0) 1
+    ++ memberCommand 0 (exponents 0 0)
+    ++ memberCommand 0 (exponents 1 0)
+    ++ end
+
 -- seven inequalities, one equality and a further condition
 abbrev pub nineConditions : List ℕ → List ℕ
 nineConditions ninth = variables 1 ++ replicate 7 3 ++ equality ++ ninth ++ end
@@ -145,6 +164,10 @@ entry i l = 18 ∷ i ∷ l ∷ 0 ∷ []
 
 abbrev pub entryMinus : ℕ → ℕ → List ℕ
 entryMinus i l = 18 ∷ i ∷ l ∷ 255 ∷ []
+
+-- the factor by its four bytes
+abbrev pub wideEntry : ℕ → List ℕ → List ℕ
+wideEntry i l = 21 ∷ i ∷ l
 
 abbrev pub finish : List ℕ
 finish = 19 ∷ []
@@ -188,6 +211,18 @@ lowCrossed = crossing (header 0 1 1 1)
 abbrev pub highCrossed : List ℕ
 highCrossed = crossing (headerMinus 1 1 255 1)
 
--- a lower certificate 1/1 with one row, which has no entry
+-- A's certificate with a row of these entries; "both kinds may stand in one row"
+abbrev pub withEntries : List ℕ → List ℕ
+withEntries es = header 0 1 2 1 ++ row 0 1 ++ es ++ finish
+
+-- 2^30 x² + 2^16 x + 1 = (1 + 2^15 x)²
+abbrev pub certificateWide : List ℕ
+certificateWide = header 0 1 0 1 ++ row 0 1 ++ entry 0 1 ++ wideEntry 1 (0 ∷ 128 ∷ 0 ∷ 0 ∷ []) ++ finish
+
+-- D's, with a wide first factor
+abbrev pub certificateWideD : List ℕ
+certificateWideD = header 0 1 0 1 ++ row 0 1 ++ wideEntry 1 (small 1) ++ entry 2 1 ++ finish
+
+-- a lower certificate 1/1 with some commands
 abbrev pub withRow : List ℕ → List ℕ
 withRow r = header 0 1 1 1 ++ r ++ finish

@@ -1,19 +1,22 @@
 -- What additions do to a table of sums, and to the number at each place of two.
-use mathlib.Core.Path.{_≡_, refl, sym, ap₂, _∙_}
+use mathlib.Core.Path.{_≡_, refl, sym, ap, ap₂, _∙_}
 use mathlib.Core.Bool.{Bool, true, false, cond}
 use mathlib.Core.List.{List}
+use mathlib.Core.Logic.{⊎-elim}
 use Prim.Native.Nat.{ℕ, _+_, _^_, _<_, _≤_}
+use native.Mathlib.Nat.{eq-or-lt-of-le}
 use native.Mathlib.Omega.{arith}
 use borrow.Author.Tests.{eqb-true, eqb-false}
 use lib.Dec.{eqb}
 use lib.IntN.{ℤ, pos, natAbs, _+ℤ_, _*ℤ_, +ℤ-idr}
-use lib.ListN.{getD, length-set}
+use lib.ListN.{length, getD, set, length-set}
 use lib.Seq.{getD-set-same, getD-set-other}
 use mir.Syntax.{w64}
-use mir.Val.{SFits}
+use mir.Val.{SFits, ofZ}
 use Rattle.integers.proofs.Ring.{view, ⊖-eq, diffs}
-use Rattle.integers.proofs.Ranges.{abs-fits, abs-sum}
-use Rattle.wide_sums.specs.Sums.{valueOf, valueAt, Room, addedAt, HasRoom, Near}
+use Rattle.integers.proofs.Ranges.{abs-fits, fits-abs, abs-sum, zero-bits, modZ, floor-lt}
+use Rattle.wide_sums.specs.Sums.{carried, step, valueOf, valueAt, cutAt, halvesOf, Room, addedAt, HasRoom, Near, Shrunk, Replaced, Divided}
+use Rattle.wide_sums.proofs.Floors.{high-small, low-halved, rest-low, quotient-is, quotient-high, quotient-low}
 
 -- ---- one table
 module _ {t : List ℤ} {k : ℕ} {y : ℤ} (r : Room t k y) where
@@ -85,3 +88,67 @@ added-at hi lo k h l c r s q = go (eqb k q) refl
     go false e =
         let n : q ≡ k → ⊥ = λ p. eqb-false k q e (sym p) in
         ap₂ valueOf (added-other r q n) (added-other s q n) ∙ sym (+ℤ-idr (valueAt hi lo q))
+
+-- ---- a number divided by 2^16
+set-replaced : (t : List ℤ) (k : ℕ) (z : ℤ) {c : ℕ} → k < length t → natAbs z ≤ c → Replaced k c t (set t k z)
+set-replaced t k z b h =
+    record {
+      small = rw (getD-set-same t k z (pos 0) b) h;
+      other = λ q n. getD-set-other t k q z (pos 0) n;
+      long = length-set t k z;
+    }
+
+module _ (hi lo : List ℤ) (k : ℕ) (f : SFits w64 (getD lo k (pos 0))) (r : Room hi k carried) (b : k < length lo) where
+  abbrev g : ℤ
+  g = getD hi k (pos 0)
+
+  abbrev a : ℤ
+  a = getD lo k (pos 0)
+
+  abbrev quotient : ℤ
+  quotient = cutAt step (g +ℤ halvesOf a .high) .high
+
+  abbrev moved : ℤ
+  moved = cutAt step (g +ℤ halvesOf a .high) .low *ℤ pos (2 ^ 11) +ℤ cutAt step (halvesOf a .low) .high
+
+  abbrev rest : ℕ
+  rest = modZ (halvesOf a .low) step
+
+  pub carry-room : natAbs g + natAbs (halvesOf a .high) < 2 ^ 63
+  carry-room = omega (arith, r .small, high-small a (2 ^ 36) (omega (arith, fits-abs f)))
+
+  pub divided : Divided k hi lo (set hi k quotient) (set lo k moved) (eqb (ofZ w64 (cutAt step (halvesOf a .low) .low)) 0)
+  divided =
+      let w = rest-low g a f carry-room in
+      record {
+        floor = record {
+          rest = rest;
+          low = floor-lt (halvesOf a .low) step (omega arith);
+          is = quotient-is g a f carry-room
+              ∙ ap (λ (v : ℤ). v *ℤ pos step +ℤ pos rest) (sym (ap₂ valueOf (getD-set-same hi k quotient (pos 0) (r .inside)) (getD-set-same lo k moved (pos 0) b)));
+        };
+        yes = λ e. ap natAbs (sym w ∙ zero-bits (low-halved g a f carry-room .low) (eqb-true _ 0 e));
+        no = λ e z. eqb-false _ 0 e (ap (ofZ w64) (w ∙ ap pos z));
+        high = set-replaced hi k quotient (r .inside) (quotient-high g a f carry-room);
+        low = set-replaced lo k moved b (quotient-low g a f carry-room);
+      }
+
+-- ---- one place after another
+pub shrunk-none : {c : ℕ} {t : List ℤ} → Shrunk 0 c t t
+shrunk-none = record { small = λ q b. absurd (omega arith); rest = λ q b. refl; long = refl }
+
+module _ {m c : ℕ} {t₀ t₁ : List ℤ} (h : Shrunk m c t₀ t₁) where
+  pub shrunk-more : {t₂ : List ℤ} → Replaced m c t₁ t₂ → Shrunk (m + 1) c t₀ t₂
+  shrunk-more r =
+      record {
+        small = λ q b.
+            ⊎-elim
+            (λ (e : q ≡ m). rw e (r .small))
+            (λ d. rw (r .other q (λ e. omega arith)) (h .small q d))
+            (eq-or-lt-of-le {n = q} {m = m} (omega arith));
+        rest = λ q b. r .other q (λ e. omega arith) ∙ h .rest q (omega arith);
+        long = r .long ∙ h .long;
+      }
+
+  pub shrunk-room : {d : ℕ} → m ≤ length t₀ → c + d < 2 ^ 63 → HasRoom m d t₁
+  shrunk-room l k = record { long = omega (arith, h .long); small = λ q b. omega (arith, h .small q b) }

@@ -9,9 +9,15 @@ ghost use mathlib.Core.Path.{_≡_};
 ghost use Prim.Native.Nat.{_<_};
 ghost use lib.IntN.{_*ℤ_};
 ghost use lib.ListN.{length};
-ghost use Rattle.wide_sums.specs.Sums.{halvesOf, Room, addedAt, ZeroAt};
+ghost use Rattle.wide_sums.specs.Sums.{carried, step, cutAt, halvesOf, Room, addedAt, ZeroAt, Divided};
 
 const BASE: i64 = 1 << 27;
+
+// What sums are divided by: a number of wider parts is summed part by part, each 2^16 times the one before.
+const STEP: i64 = 1 << 16;
+
+// As often the step goes into the base.
+const RATIO: i64 = BASE / STEP;
 
 // The halves of a number: high * 2^27 + low.
 pub struct Halves {
@@ -55,4 +61,31 @@ pub fn is_zero(hi: &[i64], lo: &[i64], at: usize) -> bool
         return false;
     }
     hi[at] == 0 - l.high
+}
+
+// A number cut at 2^16, rounding down.
+fn cut_step(x: i64) -> Halves
+    ensures { λ r. ⌜ r ≡ cutAt step x ⌝ }
+{
+    let high = x >> 16;
+    let low = x - high * STEP;
+    Halves { high, low }
+}
+
+// Divides the sum at a place by 2^16, rounding down; whether it was a multiple of it. What the low half has above the
+// base is carried first, so that both halves are small after, and there is room again for as much as at the start.
+pub fn divide(hi: &mut [i64], lo: &mut [i64], at: usize) -> bool
+    requires { ⌜ Room (now hi) at carried × (at < length (now lo)) ⌝ }
+    ensures { λ r. ⌜
+        Divided at (now (hi .entry)) (now (lo .entry)) (now (hi .exit)) (now (lo .exit)) r
+        ⌝ }
+{
+    let l = cut(lo[at]);
+    let h = cut_step(hi[at] + l.high);
+    let r = cut_step(l.low);
+    let high = h.high;
+    let low = h.low * RATIO + r.high;
+    hi[at] = high;
+    lo[at] = low;
+    r.low == 0
 }

@@ -116,6 +116,27 @@ number-at-requires-10 c κs = let e = ap certificateSize (c .before .enum-told6 
 signed16-requires-2 : tie.Need-signed16-requires-2
 signed16-requires-2 c κs = search needs
 
+enum-told-7 : tie.Need-enum-told-7
+enum-told-7 c = search needs
+
+add-number-at-11 : tie.Need-add-number-at-11
+add-number-at-11 c = search needs
+
+number-at-requires-11 : tie.Need-number-at-requires-11
+number-at-requires-11 c κs = let e = ap certificateSize (c .enum-told7 .given .1) in omega arith
+
+cast-t37 : tie.Need-cast-t37
+cast-t37 c = search needs
+
+add-number-at-12 : tie.Need-add-number-at-12
+add-number-at-12 c = search needs
+
+number-at-requires-12 : tie.Need-number-at-requires-12
+number-at-requires-12 c κs = let e = ap certificateSize (c .before .enum-told7 .given .1) in omega arith
+
+signed32-requires-2 : tie.Need-signed32-requires-2
+signed32-requires-2 c κs = search needs
+
 returns : tie.Need-returns
 returns c =
     rw (
@@ -155,6 +176,16 @@ returns-6 c =
       c .before .before .number-at9 .ensures .0,
       c .signed162 .ensures,
       c .before .number-at10 .ensures .0,
+    )
+
+returns-7 : tie.Need-returns-7
+returns-7 c =
+    rw (
+      c .before .before .before .enum-told7 .given .1,
+      toZ-ofZ {w = w32} (sfits-of (c .signed322 .ok)),
+      c .before .before .number-at11 .ensures .0,
+      c .signed322 .ensures,
+      c .before .number-at12 .ensures .0,
     )
 
 pub decode-at-spec : {M : Type 1} → statement M
@@ -197,9 +228,17 @@ decode-at-spec =
     add-number-at-10
     number-at-requires-10
     signed16-requires-2
+    enum-told-7
+    add-number-at-11
+    number-at-requires-11
+    cast-t37
+    add-number-at-12
+    number-at-requires-12
+    signed32-requires-2
     returns
     returns-2
     returns-3
     returns-4
     returns-5
-    returns-6)
+    returns-6
+    returns-7)

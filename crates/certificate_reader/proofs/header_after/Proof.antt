@@ -24,6 +24,9 @@ enum-told-3 c = search needs
 enum-told-4 : tie.Need-enum-told-4
 enum-told-4 c = search needs
 
+enum-told-5 : tie.Need-enum-told-5
+enum-told-5 c = search needs
+
 returns : tie.Need-returns
 returns c = let g = c .before .i .given in let e : toZ w32 (ofZ w32 (g .0 .1 .1 .0)) ≡ g .0 .1 .1 .0 = search needs in rw (g .1, e)
 
@@ -39,6 +42,9 @@ returns-4 c = search needs
 returns-5 : tie.Need-returns-5
 returns-5 c = search needs
 
+returns-6 : tie.Need-returns-6
+returns-6 c = search needs
+
 pub header-after-spec : {M : Type 1} → statement M
 header-after-spec =
     tie.close
@@ -49,8 +55,10 @@ header-after-spec =
     enum-told-2
     enum-told-3
     enum-told-4
+    enum-told-5
     returns
     returns-2
     returns-3
     returns-4
-    returns-5)
+    returns-5
+    returns-6)

@@ -3,9 +3,9 @@ use mathlib.Core.Path.{_≡_}
 use native.Mathlib.Omega.{arith}
 use mir.Syntax.{w32}
 use mir.Val.{toZ, ofZ}
-use borrow.Author.Tests.{le-leb, lt-leb, lt-ltb, le-ltb, not-true, not-false}
+use borrow.Author.Tests.{le-leb, lt-leb, not-true, not-false}
 use borrow.Author.Needs.{needs}
-use Rattle.certificate_reader.proofs.Shapes.{conditions-few, kind-is, size-is}
+use Rattle.certificate_reader.proofs.Shapes.{conditions-few, kind-is}
 use Rattle.certificate_reader.proofs.is_allowed.Statement.{statement}
 use Rattle.certificate_reader.proofs.is_allowed.Tie as tie
 
@@ -31,17 +31,8 @@ is-equality-requires c κs =
 enum-known-i-3 : tie.Need-enum-known-i-3
 enum-known-i-3 c = search needs
 
-cast-if5 : tie.Need-cast-if5
-cast-if5 c = search needs
-
-mul-if5 : tie.Need-mul-if5
-mul-if5 c = search needs
-
-shared-slice-read-if5 : tie.Need-shared-slice-read-if5
-shared-slice-read-if5 c = search needs
-
-is-nonzero-requires : tie.Need-is-nonzero-requires
-is-nonzero-requires c κs = search needs
+entry-fits-requires : tie.Need-entry-fits-requires
+entry-fits-requires c κs = let s = c .before .before .before .before in (s .pre .0, s .pre .1)
 
 enum-told : tie.Need-enum-told
 enum-told c = search needs
@@ -52,8 +43,8 @@ enum-known-i-4 c = search needs
 cast-j-2 : tie.Need-cast-j-2
 cast-j-2 c = search needs
 
-shared-slice-read-if6 : tie.Need-shared-slice-read-if6
-shared-slice-read-if6 c = search needs
+shared-slice-read-if5 : tie.Need-shared-slice-read-if5
+shared-slice-read-if5 c = search needs
 
 is-equality-requires-2 : tie.Need-is-equality-requires-2
 is-equality-requires-2 c κs =
@@ -62,8 +53,14 @@ is-equality-requires-2 c κs =
     let l = k .sized .sizes-length in
     omega arith
 
-is-nonzero-requires-2 : tie.Need-is-nonzero-requires-2
-is-nonzero-requires-2 c κs = search needs
+is-nonzero-requires : tie.Need-is-nonzero-requires
+is-nonzero-requires c κs = search needs
+
+enum-known-i-5 : tie.Need-enum-known-i-5
+enum-known-i-5 c = search needs
+
+entry-fits-requires-2 : tie.Need-entry-fits-requires-2
+entry-fits-requires-2 c κs = let s = c .before .before .before .before in (s .pre .0, s .pre .1)
 
 returns : tie.Need-returns
 returns c = λ p k e f. let g = c .before .before .before .i .given in rw (g .1, le-leb (g .0 .0) 1 (c .before .if1 .taken), le-leb 1 (g .0 .1 .0) (c .if2 .taken))
@@ -100,44 +97,43 @@ returns-6 c = λ p k e f.
 
 returns-7 : tie.Need-returns-7
 returns-7 c = λ p k e f.
-    let g = c .before .before .before .before .i3 .given in
-    let n = size-is k _ f p _ e (c .before .before .before .before .before .before .before .pre .0 .basis) in
+    let g = c .before .before .i3 .given in
     let l : toZ w32 (ofZ w32 (g .0 .1 .0)) ≡ g .0 .1 .0 = search needs in
-    rw (g .1, ← n, lt-ltb (g .0 .0) _ (c .before .if5 .taken), c .is-nonzero .ensures, l)
+    rw (g .1, ← l) (c .entry-fits .ensures p k e f)
 
 returns-8 : tie.Need-returns-8
-returns-8 c = λ p k e f.
-    let g = c .before .before .before .i3 .given in
-    let n = size-is k _ f p _ e (c .before .before .before .before .before .before .pre .0 .basis) in
-    rw (g .1, ← n, le-ltb (g .0 .0) _ (c .if5 .left))
+returns-8 c = λ p k e f. search needs
 
 returns-9 : tie.Need-returns-9
-returns-9 c = λ p k e f. search needs
-
-returns-10 : tie.Need-returns-10
-returns-10 c = λ p k e f.
+returns-9 c = λ p k e f.
     let i = c .before .before in
     let g = i .before .before .before .before .i4 .given in
     let n = e .conditions in
-    let b = i .before .if6 .taken in
+    let b = i .before .if5 .taken in
     let s = i .before .before .before .before .before .before .before in
     let l : toZ w32 (ofZ w32 (g .0 .1 .0)) ≡ g .0 .1 .0 = search needs in
-    rw (g .1, ← n, le-leb (g .0 .0) _ b, kind-is (s .pre .1) e (g .0 .0) b (i .is-equality2 .ensures) (c .before .if7 .taken), c .is-nonzero2 .ensures, l)
+    rw (g .1, ← n, le-leb (g .0 .0) _ b, kind-is (s .pre .1) e (g .0 .0) b (i .is-equality2 .ensures) (c .before .if6 .taken), c .is-nonzero .ensures, l)
 
-returns-11 : tie.Need-returns-11
-returns-11 c = λ p k e f.
+returns-10 : tie.Need-returns-10
+returns-10 c = λ p k e f.
     let i = c .before in
     let g = i .before .before .before .before .i4 .given in
     let n = e .conditions in
-    let b = i .before .if6 .taken in
+    let b = i .before .if5 .taken in
     let s = i .before .before .before .before .before .before .before in
-    rw (g .1, ← n, le-leb (g .0 .0) _ b, kind-is (s .pre .1) e (g .0 .0) b (i .is-equality2 .ensures) (c .if7 .left)) (c .if7 .left)
+    rw (g .1, ← n, le-leb (g .0 .0) _ b, kind-is (s .pre .1) e (g .0 .0) b (i .is-equality2 .ensures) (c .if6 .left)) (c .if6 .left)
+
+returns-11 : tie.Need-returns-11
+returns-11 c = λ p k e f.
+    let g = c .before .before .before .i4 .given in
+    let n = e .conditions in
+    rw (g .1, ← n, lt-leb (g .0 .0) _ (c .if5 .left))
 
 returns-12 : tie.Need-returns-12
 returns-12 c = λ p k e f.
-    let g = c .before .before .before .i4 .given in
-    let n = e .conditions in
-    rw (g .1, ← n, lt-leb (g .0 .0) _ (c .if6 .left))
+    let g = c .before .before .i5 .given in
+    let l : toZ w32 (ofZ w32 (g .0 .1 .0)) ≡ g .0 .1 .0 = search needs in
+    rw (g .1, ← l) (c .entry-fits2 .ensures p k e f)
 
 pub is-allowed-spec : {M : Type 1} → statement M
 is-allowed-spec =
@@ -149,16 +145,15 @@ is-allowed-spec =
     shared-slice-read-if3
     is-equality-requires
     enum-known-i-3
-    cast-if5
-    mul-if5
-    shared-slice-read-if5
-    is-nonzero-requires
+    entry-fits-requires
     enum-told
     enum-known-i-4
     cast-j-2
-    shared-slice-read-if6
+    shared-slice-read-if5
     is-equality-requires-2
-    is-nonzero-requires-2
+    is-nonzero-requires
+    enum-known-i-5
+    entry-fits-requires-2
     returns
     returns-2
     returns-3

@@ -24,6 +24,9 @@ enum-told-5 c = search needs
 rows-full-requires-2 : tie.Need-rows-full-requires-2
 rows-full-requires-2 c κs = search needs
 
+enum-told-6 : tie.Need-enum-told-6
+enum-told-6 c = search needs
+
 returns : tie.Need-returns
 returns c = λ k e. search needs
 
@@ -39,6 +42,9 @@ returns-4 c = λ k e. search needs
 returns-5 : tie.Need-returns-5
 returns-5 c = λ k e. rw (c .before .enum-told5 .given .1) (c .rows-full2 .ensures k e)
 
+returns-6 : tie.Need-returns-6
+returns-6 c = λ k e. search needs
+
 pub is-full-spec : {M : Type 1} → statement M
 is-full-spec =
     tie.close
@@ -50,8 +56,10 @@ is-full-spec =
     enum-told-4
     enum-told-5
     rows-full-requires-2
+    enum-told-6
     returns
     returns-2
     returns-3
     returns-4
-    returns-5)
+    returns-5
+    returns-6)

@@ -1,4 +1,4 @@
--- `add_basis`: the products of the rows on basis j are gathered, and spread over the keys.
+-- `add_basis`: one part of the products of the rows on basis j is gathered, and spread over the keys.
 use mathlib.Core.Path.{_≡_}
 use mathlib.Core.Bool.{false}
 use native.Mathlib.Omega.{arith}
@@ -7,7 +7,7 @@ use borrow.Author.Tests.{not-true}
 use Prim.Native.Nat.{_≤_, _<_}
 use Rattle.flat.specs.Flat.{FlatLimits}
 use Rattle.flat.proofs.Flat.{basis-fits, polynomial-counted, exponents-fit, coefficients-fit}
-use Rattle.identity_check.proofs.Walks.{part-spreadable, rows-for, part-framed, none-room, none-summed, spread-room, rows-summed}
+use Rattle.identity_check.proofs.Walks.{part-spreadable, rows-for, part-framed, basis-alone, none-room, none-summed, spread-room, rows-summed}
 use Rattle.identity_check.proofs.add_basis.Statement.{statement}
 use Rattle.identity_check.proofs.add_basis.Tie as tie
 
@@ -17,7 +17,7 @@ start c = c .before .before .before .before .before .before
 -- there are rows on the basis
 module _ (c : tie.Else1) where
   abbrev gathered : tie.After-add-basis-rows
-  gathered = c .before .before
+  gathered = c .before .before .before
 
   abbrev s : tie.Start
   s = start gathered
@@ -39,12 +39,16 @@ same-length c = search needs
 
 returns : tie.Need-returns
 returns c =
-    let a = c .before .before in
+    let a = c .before .before .before in
     let s = start a in
     let p = s .pre in
+    let j = s .args .j in
     let g = a .add-basis-rows .ensures in
-    let e : a .add-basis-rows .result ≡ false = not-true _ (c .if1 .taken) in
-    (none-summed (p .1 .0) (s .args .j) (p .1 .1) (p .0 .1) g e, none-room (p .1 .0) (s .args .j) (p .1 .1) (p .0 .1) g e)
+    let e : a .add-basis-rows .result .any ≡ false = not-true _ (c .if1 .taken) in (
+      none-summed (p .1 .0) j (p .1 .1) (p .0 .1) g e,
+      none-room (p .1 .0) j (p .1 .1) (p .0 .1) g e,
+      basis-alone (p .1 .0) j (p .1 .1) (p .0 .1) g,
+    )
 
 basis-requires : tie.Need-basis-requires
 basis-requires c κs = (omega (arith, few c, limits c .sizes-length), basis-fits (limits c) (s c .args .j) (few c))
@@ -98,10 +102,14 @@ returns-2 c =
     let b = x .before in
     let e = b .before in
     let p = s e .pre in
+    let j = s e .args .j in
     let g = gathered e .add-basis-rows .ensures in
     let t = rw (b .basis .ensures) at (f .fold-large .ensures) in
-    let u = rw (b .basis .ensures, x .exponents .ensures, k .coefficients .ensures) at (d .spread .ensures) in
-    (rows-summed (p .1 .0) (s e .args .j) (few e) (p .0 .1) g t u, spread-room (p .1 .0) (s e .args .j) (few e) (p .0 .1) g t u)
+    let u = rw (b .basis .ensures, x .exponents .ensures, k .coefficients .ensures) at (d .spread .ensures) in (
+      rows-summed (p .1 .0) j (few e) (p .0 .1) g t u,
+      spread-room (p .1 .0) j (few e) (p .0 .1) g t u,
+      basis-alone (p .1 .0) j (few e) (p .0 .1) g,
+    )
 
 pub add-basis-spec : {M : Type 1} → statement M
 add-basis-spec =

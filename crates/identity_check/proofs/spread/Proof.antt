@@ -1,6 +1,7 @@
 -- `spread`: the places before x are spread and 0, those from x on are as they were.
 use mathlib.Core.Path.{_≡_, refl}
-use Prim.Native.Nat.{_-_, _*_, _<_}
+use mathlib.Core.Logic.{_⊎_, inl, inr, ⊎-elim}
+use Prim.Native.Nat.{_-_, _*_, _/_, _%_, _≤_, _<_}
 use native.Mathlib.Omega.{arith}
 use borrow.Author.Needs.{needs, sfits-of}
 use lib.IntN.{pos}
@@ -11,7 +12,7 @@ use mir.Val.{SFits}
 use Rattle.flat.specs.TermArrays.{termsIn}
 use Rattle.identity_check.specs.Tables.{Slots}
 use Rattle.identity_check.proofs.Growth.{ready-after}
-use Rattle.identity_check.proofs.Spreading.{Spreading, spreading-start, spreading-entered, spreading-more, spreading-skip, spreading-end}
+use Rattle.identity_check.proofs.Spreading.{Spreading, spreading-start, spreading-entered, spreading-room, spreading-more, spreading-skip, spreading-end}
 use Rattle.identity_check.proofs.spread.Statement.{statement}
 use Rattle.identity_check.proofs.spread.Tie as tie
 
@@ -21,6 +22,7 @@ Inv-loop g₀ basis exponents coefficients table n places hi₀ lo₀ slots size
     × (last ≡ 64 * length basis)
     × Slots exponents slots
     × Spreading table n basis (termsIn (length exponents) exponents coefficients) g₀ hi₀ lo₀ x g hi lo
+    × ((x / 64 ≤ x % 64) ⊎ (64 * length basis ≤ x))
 
 abbrev μ-loop : tie.MeasureT-loop
 μ-loop g₀ basis exponents coefficients table n places hi₀ lo₀ slots size last x₀ g hi lo x = last - x
@@ -39,6 +41,9 @@ module _ (c : tie.After-a Inv-loop μ-loop) where
   here : l .loop .x < 64 * length (s .args .basis .now)
   here = omega (arith, l .loop .inv .1, c .before .loop-test .taken)
 
+  upper : l .loop .x / 64 ≤ l .loop .x % 64
+  upper = ⊎-elim (λ u. u) (λ p. absurd (omega (arith, here))) (l .loop .inv .4)
+
   fits-a : SFits w64 (getD (l .loop .g) (l .loop .x) (pos 0))
   fits-a = sfits-of (c .a .given)
 
@@ -49,7 +54,7 @@ mul-last : tie.Need-mul-last Inv-loop μ-loop
 mul-last c = let s = c .before .before .before .before .before in omega (arith, s .pre .1 .0 .basis-few)
 
 loop-holds : tie.Need-loop-holds Inv-loop μ-loop
-loop-holds c = (refl, refl, c .note-slots .ensures, spreading-start)
+loop-holds c = (refl, refl, c .note-slots .ensures, spreading-start, inl (omega arith))
 
 mul-a : tie.Need-mul-a Inv-loop μ-loop
 mul-a c = search needs
@@ -72,9 +77,8 @@ add-entry-requires c κs =
     let a = c .before .before .before in
     let v = l a .loop .inv in
     let p = s a .pre in
-    let few = p .1 .0 .basis-few in
-    let w = v .3 .few in (
-      (ready-after (p .0) (v .3 .grown) (omega (arith, here a)), v .2),
+    let room = spreading-room (v .3) (p .1 .1) (here a) (p .1 .0 .basis-few) (upper a) in (
+      (ready-after (p .0) (v .3 .grown) (omega arith), v .2),
       (p .1 .0, simp (toZ-ofZ (fits-a a)) (spreading-entered (v .3) (p .1 .1))),
     )
 
@@ -98,7 +102,8 @@ loop-again c =
       v .0,
       v .1,
       v .2,
-      spreading-skip (spreading-more (v .3) (p .1) (here a) (simp (toZ-ofZ (fits-a a)) at (e .add-entry .ensures))) (p .1) (v .0) (c .next-place .ensures) refl,
+      spreading-skip (spreading-more (v .3) (p .1) (here a) (p .0 .basis-few) (upper a) (simp (toZ-ofZ (fits-a a)) at (e .add-entry .ensures))) (p .1) (v .0) (c .next-place .ensures) refl,
+      ⊎-elim inl (λ w. inr (omega (arith, v .0))) (c .next-place .ensures .upper (upper a)),
     )
 
 same-length : tie.Need-same-length Inv-loop μ-loop

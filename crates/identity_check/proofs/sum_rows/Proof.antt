@@ -1,4 +1,5 @@
--- `sum_rows`: after j turns the squares of the rows on the first j bases are added, and the table of sums is empty.
+-- `sum_rows`: after j turns one part of the squares of the rows on the first j bases is added, and the table of sums is
+-- empty.
 use mathlib.Core.Path.{_≡_, refl}
 use Prim.Native.Nat.{_+_, _-_, _≤_}
 use native.Mathlib.Omega.{arith}
@@ -14,15 +15,16 @@ use Rattle.identity_check.proofs.sum_rows.Statement.{statement}
 use Rattle.identity_check.proofs.sum_rows.Tie as tie
 
 abbrev Inv-loop : tie.InvT-loop
-Inv-loop g₀ s starts rows keys coefficients sizes table n places hi₀ lo₀ last j₀ g hi lo j =
+Inv-loop g₀ s starts rows part keys coefficients sizes table n places hi₀ lo₀ last wide₀ j₀ g hi lo wide j =
     (last ≡ getD sizes conditionsAt 0)
     × (j ≤ last + 1)
     × (length g ≡ length g₀)
     × RoomFor sizes g
-    × Summed (λ p. byBasis p (rowsBy s starts rows) j) keys coefficients sizes table n j hi₀ lo₀ hi lo
+    × Summed (onBases (rowsBy s starts rows) j part) keys coefficients sizes table n j hi₀ lo₀ hi lo
+    × (wide ≡ false → Alone (onBases (rowsBy s starts rows) j))
 
 abbrev μ-loop : tie.MeasureT-loop
-μ-loop g₀ s starts rows keys coefficients sizes table n places hi₀ lo₀ last j₀ g hi lo j = last + 1 - j
+μ-loop g₀ s starts rows part keys coefficients sizes table n places hi₀ lo₀ last wide₀ j₀ g hi lo wide j = last + 1 - j
 
 abbrev at-start : tie.At-loop Inv-loop μ-loop → tie.Start Inv-loop μ-loop
 at-start l = l .before .before .before .before .before .before

@@ -5,9 +5,9 @@ use native.Mathlib.Omega.{arith}
 use borrow.Author.Needs.{needs}
 use lib.ListN.{length, getD}
 use Rattle.joining_rule.specs.Bytes.{blockAt}
-use Rattle.certificate_reader.specs.Rows.{basisAt, entryAt}
+use Rattle.certificate_reader.specs.Rows.{basisAt, entryAt, EntryStands}
 use Rattle.certificate_reader.proofs.Rows.{stand-low}
-use Rattle.certificate_reader.proofs.Walk.{step-of}
+use Rattle.certificate_reader.proofs.Walk.{Step, step-of, step-entry, step-long}
 use Rattle.row_blocks.specs.Places.{placeOf}
 use Rattle.row_blocks.proofs.Splits.{Searching, searching-none, searching-start, searching-end, searching-low, searching-found, searching-more}
 use Rattle.row_blocks.proofs.row_split.Statement.{statement}
@@ -35,8 +35,11 @@ module _ (c : tie.In-loop Inv-loop μ-loop) where
   abbrev known : tie.After-shared-slice-known2 Inv-loop μ-loop
   known = l .before .before .before .before .before
 
-  entry-inside : l .loop .x + 4 ≤ length (start known .args .s .now)
-  entry-inside = omega (arith, step-of (l .loop .inv .stand) (c .loop-test .taken) .within, start known .pre .stands .inside)
+  step : Step (start known .args .s .now) (start known .args .to) (l .loop .x) (l .loop .inv .rest)
+  step = step-of (l .loop .inv .stand) (c .loop-test .taken)
+
+  entry-stands : EntryStands (start known .args .s .now) (l .loop .x)
+  entry-stands = step-entry step (start known .pre .stands .inside)
 
   index-low : entryAt (start known .args .s .now) (l .loop .x) .index < 64
   index-low = searching-low _ _ _ _ _ _ (l .loop .inv) (c .loop-test .taken)
@@ -54,7 +57,7 @@ mul-part : tie.Need-mul-part Inv-loop μ-loop
 mul-part c = let s = start (c .before .before) in omega (arith, c .basis-at .ensures, s .pre .basis)
 
 index-at-requires : tie.Need-index-at-requires Inv-loop μ-loop
-index-at-requires c κs = let s = start (c .before .before) in let t = step-of (s .pre .stands .entries) (c .before .if1 .left) in omega (arith, t .within, s .pre .stands .inside)
+index-at-requires c κs = let k = start (c .before .before) .pre .stands in step-entry (step-of (k .entries) (c .before .if1 .left)) (k .inside)
 
 -- the first entry's index
 module _ (c : tie.After-index-at Inv-loop μ-loop) where
@@ -82,7 +85,7 @@ loop-holds c =
     rw (i .index-at .ensures, i .before .basis-at .ensures) (searching-start _ _ _ _ (s i .pre) (i .before .before .if1 .left))
 
 index-at-requires-2 : tie.Need-index-at-requires-2 Inv-loop μ-loop
-index-at-requires-2 c κs = entry-inside c
+index-at-requires-2 c κs = entry-stands c
 
 -- where the entry's block number is
 module _ (c : tie.After-index-at2 Inv-loop μ-loop) where
@@ -112,29 +115,20 @@ returns-2 c =
     ap placeOf (sym (searching-found _ _ _ _ _ _ (l .loop .inv) (i .before .loop-test .taken) (λ q. c .if2 .taken (sym (block-is i) ∙ q))))
 
 after-entry-requires : tie.Need-after-entry-requires Inv-loop μ-loop
-after-entry-requires c κs =
-    let i = c .before .before in
-    let l = i .before .before in
-    (step-of (l .loop .inv .stand) (i .before .loop-test .taken) .command, entry-inside (i .before))
-
--- the step
-module _ (c : tie.After-after-entry Inv-loop μ-loop) where
-  abbrev index : tie.After-index-at2 Inv-loop μ-loop
-  index = c .before .before .before
-
-  stepped : c .after-entry .result ≡ index .before .before .loop .x + 4
-  stepped =
-      let l = index .before .before in
-      rw (step-of (l .loop .inv .stand) (index .before .loop-test .taken) .command) at (c .after-entry .ensures)
+after-entry-requires c κs = entry-stands (c .before .before .before)
 
 loop-less : tie.Need-loop-less Inv-loop μ-loop
-loop-less c = let e = stepped c in let t = index c .before .loop-test .taken in omega arith
+loop-less c =
+    let i = c .before .before .before .before in
+    let e = c .after-entry .ensures in
+    let t = i .loop-test .taken in
+    omega (arith, step-long (step i))
 
 loop-again : tie.Need-loop-again Inv-loop μ-loop
 loop-again c =
-    let i = index c in
+    let i = c .before .before .before in
     let l = i .before .before in
-    rw (stepped c) (searching-more _ _ _ _ _ _ (l .loop .inv) (i .before .loop-test .taken) (block-is i ∙ c .before .if2 .left))
+    rw (c .after-entry .ensures) (searching-more _ _ _ _ _ _ (l .loop .inv) (i .before .loop-test .taken) (block-is i ∙ c .before .if2 .left))
 
 returns-3 : tie.Need-returns-3 Inv-loop μ-loop
 returns-3 c = let l = c .before in ap placeOf (sym (searching-end _ _ _ _ _ _ (l .loop .inv) (c .loop-test .left)))

@@ -8,7 +8,7 @@ use mir.Facts.{toZ-ofZ, sfits-widen}
 use mir.Syntax.{w64}
 use mir.Val.{SFits}
 use Rattle.integers.proofs.Ranges.{abs-fits, abs-sum, abs-mul-le}
-use Rattle.row_products.specs.Outer.{factorMost, rowUnit}
+use Rattle.row_products.specs.Outer.{digitMost, outerUnit}
 use Rattle.row_products.proofs.Outers.{raised-set}
 use Rattle.row_products.proofs.add_at.Statement.{statement}
 use Rattle.row_products.proofs.add_at.Tie as tie
@@ -17,8 +17,8 @@ module _ (s : tie.Start) where
   abbrev y : ℤ
   y = s .args .a *ℤ s .args .factor
 
-  small : natAbs y ≤ rowUnit
-  small = abs-mul-le (s .args .a) (s .args .factor) _ factorMost (s .pre .2) (s .pre .3)
+  small : natAbs y ≤ outerUnit
+  small = abs-mul-le (s .args .a) (s .args .factor) _ digitMost (s .pre .2) (s .pre .3)
 
   fits-y : SFits w64 y
   fits-y = abs-fits (omega (arith, small))

@@ -7,15 +7,15 @@ use lib.ListN.{length, getD}
 use Rattle.format.specs.CertificateRules.{noRow}
 use Rattle.certificate_reader.specs.Rows.{rowsBy, RowStands}
 use Rattle.certificate_reader.proofs.Rows.{stand-low, rows-length, row-by}
-use Rattle.row_products.proofs.Gathering.{Gathering, gathering-start, gathering-small, gathering-end, gathering-row, gathering-other, walked-low}
+use Rattle.row_products.proofs.Gathering.{Gathering, gathering-start, gathering-small, gathering-end, gathering-wide, gathering-row, gathering-other, walked-low}
 use Rattle.row_products.proofs.add_basis_rows.Statement.{statement}
 use Rattle.row_products.proofs.add_basis_rows.Tie as tie
 
 abbrev Inv-loop : tie.InvT-loop
-Inv-loop g₀ s starts rows j any₀ r₀ g any r = Gathering (rowsBy s starts rows) j r g₀ g any
+Inv-loop g₀ s starts rows j part any₀ wide₀ r₀ g any wide r = Gathering part (rowsBy s starts rows) j r g₀ g any wide
 
 abbrev μ-loop : tie.MeasureT-loop
-μ-loop g₀ s starts rows j any₀ r₀ g any r = rows - r
+μ-loop g₀ s starts rows j part any₀ wide₀ r₀ g any wide r = rows - r
 
 -- at a row
 module _ (c : tie.In-loop Inv-loop μ-loop) where
@@ -81,8 +81,10 @@ loop-again c =
     let h = i .loop-test .taken in
     let is = row-by (start i .args .s .now) (start i .args .starts .now) (start i .args .rows) (l i .loop .r) noRow h in
     ⊎-elim
-    (λ t. rw (t .5, t .6) (gathering-row (l i .loop .inv) (omega (arith, count i)) _ is (sym (b .basis-at .ensures) ∙ t .0 .taken) (t .3 .ensures)))
-    (λ f. rw (f .1, f .2) (gathering-other (l i .loop .inv) (omega (arith, count i)) _ is (λ e. f .0 .left (b .basis-at .ensures ∙ e))))
+    (λ t. rw (t .6, t .7, t .8) (gathering-wide (l i .loop .inv) (omega (arith, count i)) _ is (sym (b .basis-at .ensures) ∙ t .0 .taken) (t .3 .ensures)))
+    (⊎-elim
+    (λ t. rw (t .6, t .7, t .8) (gathering-row (l i .loop .inv) (omega (arith, count i)) _ is (sym (b .basis-at .ensures) ∙ t .0 .taken) (t .3 .ensures) (t .5 .left)))
+    (λ f. rw (f .1, f .2, f .3) (gathering-other (l i .loop .inv) (omega (arith, count i)) _ is (λ e. f .0 .left (b .basis-at .ensures ∙ e)))))
     (c .if1 .came)
 
 same-length : tie.Need-same-length Inv-loop μ-loop

@@ -1,5 +1,5 @@
--- `add_outer`: after k turns the products of the first k entries with all are added.
-use Prim.Native.Nat.{_+_, _-_, _*_, _≤_, _<_}
+-- `add_outer`: after k turns the products of the first k digits on the left with all on the right are added.
+use Prim.Native.Nat.{_+_, _-_, _*_, _^_, _≤_, _<_}
 use native.Mathlib.Omega.{arith}
 use borrow.Author.Needs.{needs, sfits-of}
 use lib.IntN.{ℤ, pos, natAbs, _*ℤ_}
@@ -10,17 +10,17 @@ use mir.Val.{SFits, toZ}
 use Rattle.integers.proofs.Ranges.{abs-fits, abs-mul-le}
 use Rattle.flat.specs.TermArrays.{termsIn}
 use Rattle.row_products.specs.Frame.{Below}
-use Rattle.row_products.specs.Outer.{weightMost, factorMost, rowUnit, gatheredMost, inRow, outerAt}
+use Rattle.row_products.specs.Outer.{weightMost, digitMost, outerUnit, inRow, outerAt}
 use Rattle.row_products.proofs.Outers.{Raising, raising-start, raising-more, raising-below, raising-end, outer-bound}
 use Rattle.row_products.proofs.add_outer.Statement.{statement}
 use Rattle.row_products.proofs.add_outer.Tie as tie
 
 abbrev Inv-loop : tie.InvT-loop
-Inv-loop g₀ indices factors count w k₀ g k =
-    (k ≤ count) × Raising g₀ (inRow (termsIn count indices factors)) (toZ w64 w) indices factors k g
+Inv-loop g₀ indices left right count w k₀ g k =
+    (k ≤ count) × Raising g₀ (inRow (termsIn count indices right)) (toZ w64 w) indices left k g
 
 abbrev μ-loop : tie.MeasureT-loop
-μ-loop g₀ indices factors count w k₀ g k = count - k
+μ-loop g₀ indices left right count w k₀ g k = count - k
 
 -- one entry
 module _ (l : tie.At-loop Inv-loop μ-loop) where
@@ -28,20 +28,20 @@ module _ (l : tie.At-loop Inv-loop μ-loop) where
   s = l .before
 
   abbrev factor : ℤ
-  factor = getD (s .args .factors .now) (l .loop .k) (pos 0)
+  factor = getD (s .args .left .now) (l .loop .k) (pos 0)
 
-  turning : Raising (s .args .g .now) (inRow (termsIn (s .args .count) (s .args .indices .now) (s .args .factors .now))) (s .args .w) (s .args .indices .now) (s .args .factors .now) (l .loop .k) (l .loop .g)
+  turning : Raising (s .args .g .now) (inRow (termsIn (s .args .count) (s .args .indices .now) (s .args .right .now))) (s .args .w) (s .args .indices .now) (s .args .left .now) (l .loop .k) (l .loop .g)
   turning = simp (toZ-ofZ (s .fits .w)) at (l .loop .inv .1)
 
   module _ (here : l .loop .k < s .args .count) where
-    product-small : natAbs (s .args .w *ℤ factor) ≤ weightMost * factorMost
-    product-small = abs-mul-le (s .args .w) factor weightMost factorMost (s .pre .2) (s .pre .0 .factors-small (l .loop .k) here)
+    product-small : natAbs (s .args .w *ℤ factor) ≤ weightMost * digitMost
+    product-small = abs-mul-le (s .args .w) factor weightMost digitMost (s .pre .3) (s .pre .0 .factors-small (l .loop .k) here)
 
     fits-product : SFits w64 (s .args .w *ℤ factor)
     fits-product = abs-fits (omega (arith, product-small))
 
-    below : Below (gatheredMost + rowUnit) (l .loop .g)
-    below = raising-below gatheredMost rowUnit turning (s .pre .1) (λ y. outer-bound _ _ _ _ (s .pre .0) (s .args .w) (s .pre .2) y (l .loop .k) (omega arith))
+    below : Below (2 ^ 59 + outerUnit) (l .loop .g)
+    below = raising-below (2 ^ 59) outerUnit turning (s .pre .2) (λ y. outer-bound (s .pre .0) (s .pre .1) (s .args .w) (s .pre .3) y (l .loop .k) (omega arith))
 
 loop-holds : tie.Need-loop-holds Inv-loop μ-loop
 loop-holds c = (omega arith, raising-start)
@@ -72,7 +72,7 @@ add-products-requires c κs =
     let h = a .before .loop-test .taken in
     let v : SFits w32 (factor l) = sfits-of (a .a .given) in
     let u : SFits w64 (factor l) = sfits-widen tt v in
-    (rw (turning l .raised .long) (s l .pre .0), λ x. omega (arith, below l h x), h, simp (toZ-ofZ, s l .fits .w, v, u, fits-product l h) (product-small l h))
+    (rw (turning l .raised .long) (s l .pre .1), λ x. omega (arith, below l h x), h, simp (toZ-ofZ, s l .fits .w, v, u, fits-product l h) (product-small l h))
 
 add-k : tie.Need-add-k Inv-loop μ-loop
 add-k c = search needs

@@ -11,7 +11,7 @@ use mir.Syntax.{w32, w64}
 use mir.Val.{SFits, toZ}
 use Rattle.integers.proofs.Ranges.{abs-fits, abs-mul-le}
 use Rattle.row_products.specs.Frame.{Below}
-use Rattle.row_products.specs.Outer.{weightMost, factorMost, rowUnit, HasRow, above}
+use Rattle.row_products.specs.Outer.{weightMost, digitMost, outerUnit, HasRow, above}
 use Rattle.row_products.proofs.Outers.{Raising, raising-from, raising-more, raising-below, raising-end, before-none, inner-bound, added-once, added-twice}
 use Rattle.row_products.proofs.add_products.Statement.{statement}
 use Rattle.row_products.proofs.add_products.Tie as tie
@@ -42,8 +42,8 @@ module _ (s : tie.Start Inv-loop μ-loop) where
   row : HasRow (length (s .args .g .now)) i
   row = s .pre .0 .inside (s .args .first) (s .pre .2)
 
-  twice-small : natAbs (pos 2 *ℤ s .args .a) ≤ 2 * (weightMost * factorMost)
-  twice-small = abs-mul-le (pos 2) (s .args .a) 2 (weightMost * factorMost) (omega arith) (s .pre .3)
+  twice-small : natAbs (pos 2 *ℤ s .args .a) ≤ 2 * (weightMost * digitMost)
+  twice-small = abs-mul-le (pos 2) (s .args .a) 2 (weightMost * digitMost) (omega arith) (s .pre .3)
 
   fits-twice : SFits w64 (pos 2 *ℤ s .args .a)
   fits-twice = abs-fits (omega (arith, twice-small))
@@ -74,8 +74,8 @@ module _ (l : tie.At-loop Inv-loop μ-loop) where
     column : HasRow (length (t .args .g .now)) (getD (t .args .indices .now) (l .loop .k) 0)
     column = t .pre .0 .inside (l .loop .k) here
 
-    below : Below (2 ^ 60 + rowUnit) (l .loop .g)
-    below = raising-below (2 ^ 60) rowUnit turning (t .pre .1) (λ y. inner-bound _ _ _ _ (t .pre .0) (t .args .a) (t .pre .3) y (i t) (l .loop .k) (omega arith))
+    below : Below (2 ^ 60 + outerUnit) (l .loop .g)
+    below = raising-below (2 ^ 60) outerUnit turning (t .pre .1) (λ y. inner-bound _ _ _ _ (t .pre .0) (t .args .a) (t .pre .3) y (i t) (l .loop .k) (omega arith))
 
 element-copy-out-i : tie.Need-element-copy-out-i Inv-loop μ-loop
 element-copy-out-i c = omega (arith, c .pre .0 .few, c .pre .2)

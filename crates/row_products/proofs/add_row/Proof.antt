@@ -1,20 +1,22 @@
--- `add_row`: the arrays hold the row's entries.
+-- `add_row`: the arrays hold the row's entries, and the part says what is added of them.
 use mathlib.Core.Path.{_≡_, refl, _∙_}
-use Prim.Native.Nat.{ℕ, _+_, _≤_, _<_}
+use Prim.Native.Nat.{_+_, _≤_, _<_}
 use native.Mathlib.Omega.{arith}
-use borrow.Author.Needs.{sfits-of}
-use lib.ListN.{length, getD}
+use borrow.Author.Needs.{needs, sfits-of}
+use lib.ListN.{length}
 use mir.Facts.{toZ-ofZ}
 use mir.Syntax.{w64}
 use mir.Val.{toZ, ofZ}
+use Rattle.counting.specs.Counting.{Bounded}
 use Rattle.certificate_reader.specs.Rows.{weightAt}
 use Rattle.certificate_reader.proofs.Rows.{stand-low}
-use Rattle.row_products.proofs.Gathering.{weight-small, low-few, low-entries, low-added}
+use Rattle.row_products.specs.Gather.{RowHeld}
+use Rattle.row_products.proofs.Gathering.{low-few, row-held, added-same}
 use Rattle.row_products.proofs.add_row.Statement.{statement}
 use Rattle.row_products.proofs.add_row.Tie as tie
 
 module _ (c : tie.After-shared-slice-known) where
-  bytes : (i : ℕ) → getD (c .before .args .s .now) i 0 < 256
+  bytes : Bounded 255 (c .before .args .s .now)
   bytes i = let b = c .shared-slice-known .given i in omega arith
 
   inside : c .before .args .from + 4 ≤ length (c .before .args .s .now)
@@ -28,25 +30,83 @@ read-row-requires c κs =
 weight-at-requires : tie.Need-weight-at-requires
 weight-at-requires c κs = inside (c .before .before .before)
 
-weight-is : (c : tie.After-weight-at) → let s = c .before .before .before .before .before in toZ w64 (ofZ w64 (c .weight-at .result)) ≡ weightAt (s .args .s .now) (s .args .from)
-weight-is c = toZ-ofZ {w = w64} (sfits-of (c .weight-at .ok)) ∙ c .weight-at .ensures
+-- the row in its arrays
+module _ (c : tie.After-weight-at) where
+  abbrev r : tie.After-read-row
+  r = c .before
 
-add-outer-requires : tie.Need-add-outer-requires
-add-outer-requires c κs =
-    let w = c .before .before .before in
-    let r = w .before in
-    let k = r .before .before .before in
-    (low-entries (bytes k) (k .before .pre .1) (r .read-row .ensures), k .before .pre .0, rw (weight-is w) (weight-small (k .before .args .s .now) (bytes k) (k .before .args .from)))
+  abbrev k : tie.After-shared-slice-known
+  k = r .before .before .before
+
+  abbrev s : tie.Start
+  s = k .before
+
+  weight-is : toZ w64 (ofZ w64 (c .weight-at .result)) ≡ weightAt (s .args .s .now) (s .args .from)
+  weight-is = toZ-ofZ {w = w64} (sfits-of (c .weight-at .ok)) ∙ c .weight-at .ensures
+
+  held : RowHeld (r .read-row .last .1 .1 .1 .0) (r .read-row .last .1 .1 .1 .1 .0) (r .read-row .result) (toZ w64 (ofZ w64 (c .weight-at .result))) (s .args .g .now)
+  held = rw weight-is (row-held (bytes k) (s .pre .1) (r .read-row .ensures) refl (s .pre .0))
+
+enum-told : tie.Need-enum-told
+enum-told c = search needs
+
+add-low-requires : tie.Need-add-low-requires
+add-low-requires c κs = held (c .before .before .before .before .before)
+
+enum-told-2 : tie.Need-enum-told-2
+enum-told-2 c = search needs
+
+add-cross-requires : tie.Need-add-cross-requires
+add-cross-requires c κs = held (c .before .before .before .before .before)
+
+enum-told-3 : tie.Need-enum-told-3
+enum-told-3 c = search needs
+
+add-high-requires : tie.Need-add-high-requires
+add-high-requires c κs = held (c .before .before .before .before .before)
 
 same-length : tie.Need-same-length
-same-length c = c .before .add-outer .ensures .long
+same-length c = search needs
 
 returns : tie.Need-returns
 returns c =
-    let w = c .before .before .before .before .before in
-    let r = w .before in
-    let k = r .before .before .before in
-    low-added (bytes k) (k .before .pre .1) (r .read-row .ensures) (rw (weight-is w) at (c .before .add-outer .ensures))
+    let e = c .before .before .before .before .before in
+    let w = e .before .before in
+    added-same (c .before .add-low .ensures) (e .enum-told .given .1) (weight-is w) (r w .read-row .ensures .terms)
+
+same-length-2 : tie.Need-same-length-2
+same-length-2 c = search needs
+
+returns-2 : tie.Need-returns-2
+returns-2 c =
+    let e = c .before .before .before .before .before in
+    let w = e .before .before in
+    added-same (c .before .add-cross .ensures) (e .enum-told2 .given .1) (weight-is w) (r w .read-row .ensures .terms)
+
+same-length-3 : tie.Need-same-length-3
+same-length-3 c = search needs
+
+returns-3 : tie.Need-returns-3
+returns-3 c =
+    let e = c .before .before .before .before .before in
+    let w = e .before .before in
+    added-same (c .before .add-high .ensures) (e .enum-told3 .given .1) (weight-is w) (r w .read-row .ensures .terms)
 
 pub add-row-spec : {M : Type 1} → statement M
-add-row-spec = tie.close (tie.spec read-row-requires weight-at-requires add-outer-requires same-length returns)
+add-row-spec =
+    tie.close
+    (tie.spec
+    read-row-requires
+    weight-at-requires
+    enum-told
+    add-low-requires
+    enum-told-2
+    add-cross-requires
+    enum-told-3
+    add-high-requires
+    same-length
+    returns
+    same-length-2
+    returns-2
+    same-length-3
+    returns-3)

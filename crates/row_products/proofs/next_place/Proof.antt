@@ -14,7 +14,7 @@ add-result : tie.Need-add-result
 add-result c = search needs
 
 returns : tie.Need-returns
-returns c = record { later = omega arith; between = λ y a b. absurd (omega arith) }
+returns c = record { later = omega arith; between = λ y a b. absurd (omega arith); upper = λ u. inl (omega arith) }
 
 add-result-2 : tie.Need-add-result-2
 add-result-2 c = search needs
@@ -27,6 +27,7 @@ returns-2 c =
     record {
       later = omega arith;
       between = λ y a b. ⊎-elim (λ l. inl (omega arith)) (λ l. inr (omega arith)) (lt-or-le y (64 * (c .before .args .x / 64 + 1)));
+      upper = λ u. ⊎-elim (λ l. inl (omega arith)) (λ l. inr (omega arith)) (lt-or-le (c .before .args .x / 64) 63);
     }
 
 pub next-place-spec : {M : Type 1} → statement M

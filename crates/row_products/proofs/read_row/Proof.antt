@@ -7,9 +7,9 @@ use lib.ListN.{length}
 use mir.Facts.{toZ-ofZ}
 use mir.Syntax.{w32}
 use mir.Val.{toZ, ofZ}
-use Rattle.certificate_reader.specs.Rows.{rowAt, entryAt}
+use Rattle.certificate_reader.specs.Rows.{rowAt, entryAt, EntryStands}
 use Rattle.certificate_reader.proofs.Rows.{stand-low}
-use Rattle.certificate_reader.proofs.Walk.{Step, step-of}
+use Rattle.certificate_reader.proofs.Walk.{Step, step-of, step-entry, step-long}
 use Rattle.row_products.proofs.Gathering.{Filling, filling-start, filling-end, filling-few, filling-more}
 use Rattle.row_products.proofs.read_row.Statement.{statement}
 use Rattle.row_products.proofs.read_row.Tie as tie
@@ -34,8 +34,8 @@ module _ (c : tie.In-loop Inv-loop μ-loop) where
   step : Step (start .args .s .now) (start .args .to) (l .loop .x) (l .loop .inv .rest)
   step = step-of (l .loop .inv .stand) (c .loop-test .taken)
 
-  inside : l .loop .x + 4 ≤ length (start .args .s .now)
-  inside = omega (arith, step .within, start .pre .0 .inside)
+  stands : EntryStands (start .args .s .now) (l .loop .x)
+  stands = step-entry step (start .pre .0 .inside)
 
   few : l .loop .n < 64
   few = filling-few (l .loop .inv) (c .loop-test .taken) (start .pre .1)
@@ -47,13 +47,13 @@ loop-holds : tie.Need-loop-holds Inv-loop μ-loop
 loop-holds c = let s = c .before in filling-start (s .pre .0 .entries) (s .pre .2) (s .pre .3)
 
 index-at-requires : tie.Need-index-at-requires Inv-loop μ-loop
-index-at-requires c κs = inside c
+index-at-requires c κs = stands c
 
 element-write-indices : tie.Need-element-write-indices Inv-loop μ-loop
 element-write-indices c = few (c .before)
 
 factor-at-requires : tie.Need-factor-at-requires Inv-loop μ-loop
-factor-at-requires c κs = inside (c .before)
+factor-at-requires c κs = stands (c .before)
 
 mul-t13 : tie.Need-mul-t13 Inv-loop μ-loop
 mul-t13 c = let b = few (c .before .before) in omega arith
@@ -65,20 +65,17 @@ add-n : tie.Need-add-n Inv-loop μ-loop
 add-n c = let b = few (c .before .before) in omega arith
 
 after-entry-requires : tie.Need-after-entry-requires Inv-loop μ-loop
-after-entry-requires c κs = (step (c .before .before) .command, inside (c .before .before))
-
-stepped : (c : tie.After-after-entry Inv-loop μ-loop) → c .after-entry .result ≡ c .before .before .before .before .loop .x + 4
-stepped c = rw (step (c .before .before .before) .command) at (c .after-entry .ensures)
+after-entry-requires c κs = stands (c .before .before)
 
 loop-less : tie.Need-loop-less Inv-loop μ-loop
-loop-less c = let e = stepped c in let t = c .before .before .before .loop-test .taken in omega arith
+loop-less c = let e = c .after-entry .ensures in let i = c .before .before .before in let t = i .loop-test .taken in omega (arith, step-long (step i))
 
 loop-again : tie.Need-loop-again Inv-loop μ-loop
 loop-again c =
     let f = c .before in
     let i = f .before in
     let e : toZ w32 (ofZ w32 (f .factor-at .result)) ≡ entryAt (start (i .before) .args .s .now) (l (i .before) .loop .x) .factor = toZ-ofZ {w = w32} (sfits-of (f .factor-at .ok)) ∙ f .factor-at .ensures in
-    rw (stepped c, i .index-at .ensures, e)
+    rw (c .after-entry .ensures, i .index-at .ensures, e)
     (filling-more (l (i .before) .loop .inv) (i .before .loop-test .taken) (start (i .before) .pre .1))
 
 returns : tie.Need-returns Inv-loop μ-loop

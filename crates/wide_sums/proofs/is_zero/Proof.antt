@@ -12,7 +12,7 @@ use mir.Syntax.{w64}
 use mir.Val.{SFits, toZ, ofZ}
 use Rattle.integers.proofs.Ranges.{zero-bits}
 use Rattle.wide_sums.specs.Sums.{halvesOf}
-use Rattle.wide_sums.proofs.Floors.{high-fits, low-fits, minus-fits, zero-halves, halves-zero}
+use Rattle.wide_sums.proofs.Floors.{halves-fit, minus-fits, zero-halves, halves-zero}
 use Rattle.wide_sums.proofs.is_zero.Statement.{statement}
 use Rattle.wide_sums.proofs.is_zero.Tie as tie
 
@@ -63,15 +63,15 @@ shared-slice-copy-out-result c = search needs
 sub-result : tie.Need-sub-result
 sub-result c =
     let l = c .before .before .before .before .before .before in
-    rw (cut-is l, toZ-ofZ (high-fits (a l) (a-fits l))) (minus-fits (a l) (a-fits l))
+    rw (cut-is l, toZ-ofZ (halves-fit (a l) (a-fits l) .high)) (minus-fits (a l) (a-fits l))
 
 returns-2 : tie.Need-returns-2
 returns-2 c =
     let l = c .before .before .before .before .before .before in
-    let z = zero-bits (low-fits (a l) (a-fits l)) (rw (cut-is l) at (c .before .before .before .if1 .left)) in
+    let z = zero-bits (halves-fit (a l) (a-fits l) .low) (rw (cut-is l) at (c .before .before .before .if1 .left)) in
     let p : SFits w64 (g l) = sfits-of (c .before .before .result .given) in
     let q = minus-fits (a l) (a-fits l) in
-    rw (cut-is l, toZ-ofZ (high-fits (a l) (a-fits l)))
+    rw (cut-is l, toZ-ofZ (halves-fit (a l) (a-fits l) .high))
     record {
       yes = λ e. halves-zero (g l) (a l) z (sym (toZ-ofZ p) ∙ ap (toZ w64) (eqb-true (ofZ w64 (g l)) (ofZ w64 (m l)) e) ∙ toZ-ofZ q);
       no = λ e f. eqb-false (ofZ w64 (g l)) (ofZ w64 (m l)) e (ap (ofZ w64) (zero-halves (g l) (a l) f .1));
