@@ -63,6 +63,10 @@ pub fn equality_row(basis: u8, weight: i16) -> Vec<u8> {
     [&[0x14, basis], &weight.to_le_bytes()[..]].concat()
 }
 
+pub fn wide_entry(index: u8, factor: i32) -> Vec<u8> {
+    [&[0x15, index], &factor.to_le_bytes()[..]].concat()
+}
+
 pub fn certificate_end() -> Vec<u8> {
     vec![0x13]
 }

@@ -51,6 +51,17 @@ impl Certificate {
             entries: Vec::new(),
         });
     }
+
+    /// Puts an entry in the row begun last.
+    fn enter(&mut self, i: u8, factor: i32, place: usize) {
+        let last = self.rows.last_mut();
+        let last = last.expect("an entry before any row is misplaced");
+        last.entries.push(Entry {
+            index: usize::from(i),
+            factor,
+            place,
+        });
+    }
 }
 
 /// What has been read of a certificate for a problem.
@@ -60,6 +71,11 @@ struct Reading<'a> {
 }
 
 impl Reading<'_> {
+    /// Whether the basis of the row begun last has this index.
+    fn has(&self, index: u8) -> bool {
+        usize::from(index) < self.problem.bases[self.last().basis].len()
+    }
+
     /// The row begun last.
     fn last(&self) -> &Row {
         let last = self.certificate.rows.last();
@@ -79,6 +95,8 @@ enum Command {
     End,
     /// 14 j(u8) w(i16)
     EqualityRow { j: u8, w: i16 },
+    /// 15 i(u8) l(i32)
+    WideEntry { i: u8, l: i32 },
 }
 
 impl Reader for Reading<'_> {
@@ -89,8 +107,8 @@ impl Reader for Reading<'_> {
         match command {
             // "First, and only first."
             0x10 => before.is_none(),
-            // ".. and a 12 before any row, is misplaced."
-            0x12 => before.is_some() && !self.certificate.rows.is_empty(),
+            // ".. and a 12 before any row, is misplaced."; "a 15 before any row is misplaced"
+            0x12 | 0x15 => before.is_some() && !self.certificate.rows.is_empty(),
             0x11 | 0x13 | 0x14 => before.is_some(),
             _ => false,
         }
@@ -102,6 +120,7 @@ impl Reader for Reading<'_> {
             0x11 => 1 + 2,
             0x12 => 1 + 2,
             0x14 => 1 + 2,
+            0x15 => 1 + 4,
             _ => 0,
         }
     }
@@ -126,6 +145,10 @@ impl Reader for Reading<'_> {
                 j: operands.u8(),
                 w: operands.i16(),
             },
+            0x15 => Command::WideEntry {
+                i: operands.u8(),
+                l: operands.i32(),
+            },
             _ => Command::End,
         }
     }
@@ -145,17 +168,16 @@ impl Reader for Reading<'_> {
                 self.problem.has(usize::from(j), Kind::Equality) && w != 0
             }
             // "less than the basis's length"; "Coefficients and factors are never 0."
-            Command::Entry { i, l } => {
-                usize::from(i) < self.problem.bases[self.last().basis].len() && l != 0
-            }
+            Command::Entry { i, l } => self.has(i) && l != 0,
+            Command::WideEntry { i, l } => self.has(i) && l != 0,
             Command::End => true,
         }
     }
 
-    /// "Indices rise within a row."
+    /// "Indices rise within a row."; "both kinds may stand in one row and share the rising indices"
     fn repeats(&self, command: &Command) -> bool {
         match *command {
-            Command::Entry { i, .. } => {
+            Command::Entry { i, .. } | Command::WideEntry { i, .. } => {
                 let before = self.last().entries.last();
                 before.is_some_and(|before| before.index >= usize::from(i))
             }
@@ -184,15 +206,8 @@ impl Reader for Reading<'_> {
             }
             Command::Row { j, w } => certificate.begin(j, w.into()),
             Command::EqualityRow { j, w } => certificate.begin(j, w.into()),
-            Command::Entry { i, l } => {
-                let last = certificate.rows.last_mut();
-                let last = last.expect("an entry before any row is misplaced");
-                last.entries.push(Entry {
-                    index: usize::from(i),
-                    factor: i32::from(l),
-                    place,
-                });
-            }
+            Command::Entry { i, l } => certificate.enter(i, l.into(), place),
+            Command::WideEntry { i, l } => certificate.enter(i, l, place),
             Command::End => {}
         }
     }

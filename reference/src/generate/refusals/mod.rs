@@ -11,6 +11,7 @@ mod order;
 mod problems;
 mod sums;
 mod table;
+pub mod wide_factors;
 pub mod windows;
 
 use crate::generate::samples;
@@ -96,7 +97,7 @@ type Line = (
 
 /// All cases, by the order of the lists: those of document 01, then those of the requests.
 pub fn cases() -> Vec<Case> {
-    [scope(), equalities::cases()].concat()
+    [scope(), equalities::cases(), wide_factors::cases()].concat()
 }
 
 /// The cases of document 01.

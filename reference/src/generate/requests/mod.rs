@@ -2,6 +2,7 @@
 
 mod empty_region;
 mod equalities;
+mod wide_factors;
 mod windows;
 
 use crate::generate::accepted::case;
@@ -64,6 +65,12 @@ const LANDED: &[Landed] = &[
         special: empty_region::special,
         put: empty_region::put,
         count: 300,
+    }),
+    Landed::Change(Change {
+        kinds: &[CHECK, PAIR],
+        special: wide_factors::special,
+        put: wide_factors::put,
+        count: 200,
     }),
 ];
 
