@@ -35,16 +35,16 @@ fn rounds(line: &str) -> &str {
     line.rsplit(' ').next().unwrap_or_default()
 }
 
-/// Whether it is refusal 3 at a 07 of the problem or at a 14 of a certificate, behind the first
-/// command.
+/// Whether it is refusal 3 at a 07 of the problem, or at a 14 or a 15 of a certificate, behind the
+/// first command.
 fn is_of_a_request(record: &Record, refusal: Refusal) -> bool {
-    let command = if refusal.stream == PROBLEM {
-        0x07
+    let commands: &[u8] = if refusal.stream == PROBLEM {
+        &[0x07]
     } else {
-        0x14
+        &[0x14, 0x15]
     };
     let stream = &record.runs[usize::from(refusal.stream)];
-    refusal.number == MISPLACED && refusal.place > 0 && stream[refusal.place] == command
+    refusal.number == MISPLACED && refusal.place > 0 && commands.contains(&stream[refusal.place])
 }
 
 /// The problems of the blocks calls that can be read.

@@ -1,14 +1,121 @@
 //! Request 05: entries with factors of 32 bits.
 
 use super::{places, Streams};
-use crate::generate::draft::{entry, wide_entry};
+use crate::generate::certificates::{as_record, streams};
+use crate::generate::draft::*;
+use crate::generate::largest::{extreme, largest};
 use crate::generate::refusals::{met, wide_factors};
 use crate::generate::rng::Rng;
+use crate::monomial::Monomial;
 use crate::records::Record;
 
-/// Those found by hand.
+/// The refusals found by hand, the largest certificates, and sums that leave a power of two.
 pub fn special(kind: u8) -> Vec<Record> {
-    met(wide_factors::cases(), kind)
+    let mut all = met(wide_factors::cases(), kind);
+    let mut cases = largest_cases();
+    cases.extend(POWERS.iter().flat_map(power_cases));
+    let bytes = cases
+        .into_iter()
+        .map(|case| case.map(|stream| stream.concat()));
+    all.extend(bytes.map(|bytes| as_record(kind, 0, bytes)));
+    all
+}
+
+/// Certificates of 128 rows with wide factors: sums that leave 2^100 and cancel, as the conditions
+/// stand in pairs of opposite signs with the same rows; the same off by one in one factor; and sums
+/// of one sign with all factors at a limit.
+fn largest_cases() -> Vec<Streams> {
+    let full = streams(&largest(&mut Rng::new(5)));
+    let limits = |l: i16| if l > 0 { i32::MAX } else { i32::MIN };
+    let spread = |l: i16| i32::from(l) * 65_536 + i32::from(l);
+    let mut cases = vec![widened(&full, limits), widened(&full, spread)];
+    for turned in [0, 1, 16, 31] {
+        let mut near = widened(&full, spread);
+        for certificate in &mut near[1..] {
+            let last = *places(certificate, 0x15)
+                .last()
+                .expect("rows on conditions");
+            certificate[last] = wide_entry(63, factor_of(&certificate[last]) ^ (1 << turned));
+        }
+        cases.push(near);
+    }
+    for sign in [1, -1] {
+        let one_sign = streams(&extreme(sign));
+        cases.push(widened(&one_sign, |_| i32::MIN));
+        cases.push(widened(&one_sign, |_| i32::MAX));
+    }
+    cases
+}
+
+/// The streams with wide entries in all rows that are not on basis 0.
+fn widened(streams: &Streams, factor_for: fn(i16) -> i32) -> Streams {
+    let mut all = streams.clone();
+    for certificate in &mut all[1..] {
+        let mut on_condition = false;
+        for command in certificate.iter_mut() {
+            match command[0] {
+                0x11 => on_condition = command[1] > 0,
+                0x12 if on_condition => {
+                    *command = wide_entry(command[1], factor_for(factor(command)));
+                }
+                _ => {}
+            }
+        }
+    }
+    all
+}
+
+/// Rows whose products sum to a power of two: the number of its condition below, weight, factor, and
+/// how many rows.
+type Power = (u8, u16, i32, usize);
+
+/// 2^32, 2^60, 2^62, 2^64, 2^80, 2^96 and 2^97.
+const POWERS: &[Power] = &[
+    (1, 1, 1 << 16, 1),
+    (1, 1, 1 << 30, 1),
+    (1, 1, i32::MIN, 1),
+    (1, 4, i32::MIN, 1),
+    (3, 16, i32::MIN, 1),
+    (3, 32_768, i32::MIN, 32),
+    (3, 32_768, i32::MIN, 63),
+];
+
+/// x1² with the bound 0 and the row x1, on conditions 1, -1, 16384 and -16384, whose bases have x1:
+/// the rows alone, which are off by the power; with the same rows on the opposite condition, which
+/// take it back; and with one of those off by one.
+fn power_cases(&(condition, weight, factor, count): &Power) -> Vec<Streams> {
+    let x = power(1, 1);
+    let mut problem = vec![variables(1), objective_term(product(x, x), 1)];
+    for coefficient in [1, -1, 16_384, -16_384] {
+        problem.push(constraint());
+        problem.push(constraint_term(Monomial::ONE, coefficient));
+    }
+    problem.extend((0..5).map(|j| basis_monomial(j, x)));
+    problem.push(problem_end());
+    let rows = |j: u8, last: i32| {
+        let factors = (0..count).map(|n| if n + 1 < count { factor } else { last });
+        let commands = factors.flat_map(|l| [row(j, weight), wide_entry(0, l)]);
+        commands.collect::<Vec<_>>()
+    };
+    let certificate = |more: &[Vec<Vec<u8>>]| {
+        let own = vec![bound(0, 1, 0, 1), row(0, 1), entry(0, 1)];
+        let mut all = [vec![own], more.to_vec()].concat().concat();
+        all.push(certificate_end());
+        all
+    };
+    let off_by_one = if factor == i32::MIN {
+        i32::MAX
+    } else {
+        factor + 1
+    };
+    let with = [
+        certificate(&[rows(condition, factor)]),
+        certificate(&[rows(condition, factor), rows(condition + 1, factor)]),
+        certificate(&[rows(condition, factor), rows(condition + 1, off_by_one)]),
+        certificate(&[rows(condition, off_by_one), rows(condition + 1, factor)]),
+    ];
+    let streams = with.map(|one| [problem.clone(), one.clone(), one]);
+    streams.to_vec()
 }
 
 /// Scales certificates up, so that their factors leave 16 bits, and makes some of the entries wide;
@@ -84,6 +191,10 @@ fn factor(entry: &[u8]) -> i16 {
     i16::from_le_bytes([entry[2], entry[3]])
 }
 
+fn factor_of(wide: &[u8]) -> i32 {
+    i32::from_le_bytes([wide[2], wide[3], wide[4], wide[5]])
+}
+
 /// One wide factor 0, at one of its ends, or with one bit turned; or an index that does not rise.
 fn miss(rng: &mut Rng, certificate: &mut [Vec<u8>]) {
     let wide = places(certificate, 0x15);
@@ -91,7 +202,7 @@ fn miss(rng: &mut Rng, certificate: &mut [Vec<u8>]) {
         return;
     }
     let command = &mut certificate[*rng.pick(&wide)];
-    let factor = i32::from_le_bytes([command[2], command[3], command[4], command[5]]);
+    let factor = factor_of(command);
     let factor = match rng.below(6) {
         0 => 0,
         1 => i32::MIN,
