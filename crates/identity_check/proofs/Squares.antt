@@ -16,8 +16,10 @@ use Rattle.wide_sums.specs.Sums.{step, valueAt}
 use Rattle.wide_sums.proofs.Tables.{shrunk-room}
 use Rattle.row_products.specs.declared.Part.the-variants.{Low, Cross, High}
 use Rattle.identity_check.specs.Tables.{Ready}
+use Rattle.identity_check.specs.Spread.{tableUnit}
 use Rattle.identity_check.specs.Walk.{Comparable, onBases, basesIn, beyond, Alone, Summed}
 use Rattle.identity_check.specs.Compare.{DividedSums, Reached, Carried}
+use Rattle.identity_check.proofs.Growth.{ready-after}
 use Rattle.identity_check.proofs.Walks.{squares-are}
 use Rattle.identity_check.proofs.Carries.{reached-start, reached-same, reached-of, reached-divided}
 use Rattle.identity_check.proofs.Untouched.{near-untouched, shrunk-untouched, untouched-then}
@@ -32,6 +34,11 @@ divided-ready r h d l =
       high = shrunk-room (h .high) (r .high .long) (omega arith);
       low = shrunk-room (h .low) (r .low .long) (omega arith);
     }
+
+-- and after the part that is added then, room for a carry
+pub summed-ready : {f : Problem → ℕ → ℤ} {keys : List ℕ} {coefficients : List ℤ} {sizes table idx : List ℕ} {n c found r : ℕ} {hi₀ lo₀ hi₁ lo₁ hi₂ lo₂ : List ℤ}
+    → Ready table idx n hi₀ lo₀ c → DividedSums table n n found hi₀ lo₀ hi₁ lo₁ r → Summed f keys coefficients sizes table n 9 hi₁ lo₁ hi₂ lo₂ → Ready table idx n hi₂ lo₂ (2 ^ 36)
+summed-ready r h m = ready-after (divided-ready r h (9 * tableUnit + 2 ^ 36) (omega arith)) (m .grown) (omega arith)
 
 module _ {keys : List ℕ} {coefficients : List ℤ} {sizes table : List ℕ} {n : ℕ} where
   -- the sum at a place, for the problem that the arrays hold

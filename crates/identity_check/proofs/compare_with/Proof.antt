@@ -1,6 +1,6 @@
 -- `compare_with`: the sum at a key is the coefficient of the squares less that of the claim.
 use mathlib.Core.Path.{ap}
-use Prim.Native.Nat.{_+_, _*_, _≤_}
+use Prim.Native.Nat.{_+_, _*_, _^_, _≤_}
 use native.Mathlib.Omega.{arith}
 use borrow.Author.Needs.{needs}
 use lib.ListN.{length, getD}
@@ -10,7 +10,8 @@ use Rattle.key_set.proofs.Keys.{inside}
 use Rattle.identity_check.specs.Tables.{unit}
 use Rattle.identity_check.specs.Spread.{tableUnit}
 use Rattle.identity_check.proofs.Growth.{ready-after}
-use Rattle.identity_check.proofs.Differences.{zeroed-ready, near-untouched, untouched-then, claim-most, found-same, found-differs}
+use Rattle.identity_check.proofs.Untouched.{near-untouched, untouched-then}
+use Rattle.identity_check.proofs.Differences.{zeroed-ready, claim-most, found-same, found-differs}
 use Rattle.identity_check.proofs.compare_with.Statement.{statement}
 use Rattle.identity_check.proofs.compare_with.Tie as tie
 
@@ -36,11 +37,11 @@ module _ (c : tie.After-add-claim) where
   lent-few : length (terms .exponents .result .now) ≤ 256
   lent-few = omega (arith, ap length (terms .exponents .ensures), exponents-long (limits s) 9 (omega arith), few s)
 
-abbrev claiming : tie.After-sum-rows → tie.After-add-claim
+abbrev claiming : tie.After-add-squares → tie.After-add-claim
 claiming c = c .before .before .before .before .before .before
 
-abbrev rows : tie.After-smallest → tie.After-sum-rows
-rows c = c .before .before .before .before .before .before
+abbrev squared : tie.After-smallest → tie.After-add-squares
+squared c = c .before .before .before .before .before .before
 
 exponents-requires : tie.Need-exponents-requires
 exponents-requires c κs =
@@ -63,30 +64,30 @@ add-claim-requires c κs =
     let f = few s in
     rw (e .exponents .ensures, k .coefficients .ensures) (zeroed-ready (p .0) (p .1) _ (omega arith), omega arith)
 
-sum-rows-requires : tie.Need-sum-rows-requires
-sum-rows-requires c κs =
+add-squares-requires : tie.Need-add-squares-requires
+add-squares-requires c κs =
     let a = c .before .before .before .before .before in
     let p = s a .pre in
     let g = claim-most _ (lent-few a) (a .add-claim .ensures) in
-    (ready-after (zeroed-ready (p .0 .0) (p .0 .1) (257 * unit + 9 * tableUnit) (omega arith)) g (omega arith), (p .0 .2, p .1))
+    (ready-after (zeroed-ready (p .0 .0) (p .0 .1) (257 * unit + (9 * tableUnit + 2 ^ 36)) (omega arith)) g (omega arith), (p .0 .2, p .1))
 
 smallest-requires : tie.Need-smallest-requires
 smallest-requires c κs =
     let r = c .before .before .before .before .before in
     let a = claiming r in
     let z = s a .pre .0 .0 in
-    let h = r .sum-rows .ensures .grown in
+    let m = r .add-squares .ensures in
     let g = a .add-claim .ensures in (
       inside (z .support),
-      omega (arith, z .in-hi, z .support .few, g .high .long, h .high .long),
-      omega (arith, z .in-lo, z .support .few, g .low .long, h .low .long),
+      omega (arith, z .in-hi, z .support .few, g .high .long, m .high .long),
+      omega (arith, z .in-lo, z .support .few, g .low .long, m .low .long),
     )
 
-mul-t33 : tie.Need-mul-t33
-mul-t33 c = omega (arith, s (claiming (rows (c .before))) .pre .0 .0 .support .few, c .if1 .taken)
+mul-t34 : tie.Need-mul-t34
+mul-t34 c = omega (arith, s (claiming (squared (c .before))) .pre .0 .0 .support .few, c .if1 .taken)
 
-shared-slice-read-t35 : tie.Need-shared-slice-read-t35
-shared-slice-read-t35 c = omega (arith, inside (s (claiming (rows (c .before .before))) .pre .0 .0 .support), c .before .if1 .taken)
+shared-slice-read-t36 : tie.Need-shared-slice-read-t36
+shared-slice-read-t36 c = omega (arith, inside (s (claiming (squared (c .before .before))) .pre .0 .0 .support), c .before .if1 .taken)
 
 same-length : tie.Need-same-length
 same-length c = search needs
@@ -100,16 +101,16 @@ same-length-3 c = search needs
 returns : tie.Need-returns
 returns c =
     let f = c .before .before in
-    let r = rows f in
+    let r = squared f in
     let a = claiming r in
     let z = s a .pre .0 .0 in
-    let m = r .sum-rows .ensures in
+    let m = r .add-squares .ensures in
     let g = a .add-claim .ensures in
     let few = z .support .few in
     record {
       difference = λ p k given. found-differs given (terms a .exponents .ensures) (factors a .coefficients .ensures) z g m (f .smallest .ensures) (c .before .if1 .taken);
-      high = untouched-then (near-untouched few (g .high)) (near-untouched few (m .grown .high));
-      low = untouched-then (near-untouched few (g .low)) (near-untouched few (m .grown .low));
+      high = untouched-then (near-untouched few (g .high)) (m .high);
+      low = untouched-then (near-untouched few (g .low)) (m .low);
     }
 
 same-length-4 : tie.Need-same-length-4
@@ -124,16 +125,16 @@ same-length-6 c = search needs
 returns-2 : tie.Need-returns-2
 returns-2 c =
     let f = c .before in
-    let r = rows f in
+    let r = squared f in
     let a = claiming r in
     let z = s a .pre .0 .0 in
-    let m = r .sum-rows .ensures in
+    let m = r .add-squares .ensures in
     let g = a .add-claim .ensures in
     let few = z .support .few in
     record {
       difference = λ p k given. found-same given (terms a .exponents .ensures) (factors a .coefficients .ensures) z g m (f .smallest .ensures) (c .if1 .left);
-      high = untouched-then (near-untouched few (g .high)) (near-untouched few (m .grown .high));
-      low = untouched-then (near-untouched few (g .low)) (near-untouched few (m .grown .low));
+      high = untouched-then (near-untouched few (g .high)) (m .high);
+      low = untouched-then (near-untouched few (g .low)) (m .low);
     }
 
 pub compare-with-spec : {M : Type 1} → statement M
@@ -143,10 +144,10 @@ compare-with-spec =
     exponents-requires
     coefficients-requires
     add-claim-requires
-    sum-rows-requires
+    add-squares-requires
     smallest-requires
-    mul-t33
-    shared-slice-read-t35
+    mul-t34
+    shared-slice-read-t36
     same-length
     same-length-2
     same-length-3
