@@ -1,0 +1,80 @@
+-- Laws of a commutative ring, from those that its record states.
+use mathlib.Core.Path.{_≡_, refl, sym, ap, _∙_}
+use Rattle.ordered_rings.specs.Rings.{Ring}
+
+module _ {A : Type 0} (R : Ring A) where
+  open Ring R using (zero, one, _+_, -_, _*_, +-assoc, +-comm, +-zero, +-minus, *-assoc, *-comm, *-one, *-+)
+
+  infixl 60 _+_
+  infixl 70 _*_
+  infix 75 -_
+
+  -- ---- sums
+  pub zero-+ : (a : A) → zero + a ≡ a
+  zero-+ a = +-comm zero a ∙ +-zero a
+
+  pub +-left : (a b c : A) → a + (b + c) ≡ b + (a + c)
+  +-left a b c = sym (+-assoc a b c) ∙ ap (λ x. x + c) (+-comm a b) ∙ +-assoc b a c
+
+  -- ---- products
+  pub one-* : (a : A) → one * a ≡ a
+  one-* a = *-comm one a ∙ *-one a
+
+  pub *-left : (a b c : A) → a * (b * c) ≡ b * (a * c)
+  *-left a b c = sym (*-assoc a b c) ∙ ap (λ x. x * c) (*-comm a b) ∙ *-assoc b a c
+
+  pub +-* : (a b c : A) → (a + b) * c ≡ a * c + b * c
+  +-* a b c = simp (*-comm, *-+)
+
+  pub *-pairs : (a b c d : A) → (a * b) * (c * d) ≡ (a * c) * (b * d)
+  *-pairs a b c d = simp (*-assoc, *-left b c d)
+
+  -- ---- 0 and negatives
+  pub none : (a : A) → a + a ≡ a → a ≡ zero
+  none a e = sym (+-zero a) ∙ ap (λ x. a + x) (sym (+-minus a)) ∙ sym (+-assoc a a (- a)) ∙ ap (λ x. x + - a) e ∙ +-minus a
+
+  pub *-zero : (a : A) → a * zero ≡ zero
+  *-zero a = none (a * zero) (sym (*-+ a zero zero) ∙ ap (λ x. a * x) (+-zero zero))
+
+  pub zero-* : (a : A) → zero * a ≡ zero
+  zero-* a = *-comm zero a ∙ *-zero a
+
+  -- what adds up with a to 0 is its negative
+  pub is-minus : (a b : A) → a + b ≡ zero → b ≡ - a
+  is-minus a b e =
+      sym (zero-+ b) ∙ ap (λ x. x + b) (sym (+-minus a) ∙ +-comm a (- a)) ∙ +-assoc (- a) a b
+      ∙ ap (λ x. - a + x) e ∙ +-zero (- a)
+
+  pub minus-zero : - zero ≡ zero
+  minus-zero = sym (is-minus zero zero (+-zero zero))
+
+  pub minus-minus : (a : A) → - - a ≡ a
+  minus-minus a = sym (is-minus (- a) a (+-comm (- a) a ∙ +-minus a))
+
+  pub minus-+ : (a b : A) → - (a + b) ≡ - a + - b
+  minus-+ a b = sym (is-minus (a + b) (- a + - b) (simp (+-assoc, +-left b (- a) (- b), +-minus, +-zero)))
+
+  pub minus-* : (a b : A) → - a * b ≡ - (a * b)
+  minus-* a b = is-minus (a * b) (- a * b) (sym (+-* a (- a) b) ∙ ap (λ x. x * b) (+-minus a) ∙ zero-* b)
+
+  pub *-minus : (a b : A) → a * - b ≡ - (a * b)
+  *-minus a b = *-comm a (- b) ∙ minus-* b a ∙ ap -_ (*-comm b a)
+
+  -- ---- the laws that the record states, by names that a set can list
+  pub sum-assoc : (a b c : A) → (a + b) + c ≡ a + (b + c)
+  sum-assoc = +-assoc
+
+  pub sum-comm : (a b : A) → a + b ≡ b + a
+  sum-comm = +-comm
+
+  pub product-assoc : (a b c : A) → (a * b) * c ≡ a * (b * c)
+  product-assoc = *-assoc
+
+  pub product-comm : (a b : A) → a * b ≡ b * a
+  product-comm = *-comm
+
+  pub product-sum : (a b c : A) → a * (b + c) ≡ a * b + a * c
+  product-sum = *-+
+
+-- both sides of an equation multiplied out, with sums and products sorted: `simp (sorted, R)`
+pub ruleset sorted = (sum-assoc, sum-comm, +-left, product-assoc, product-comm, *-left, product-sum, +-*, minus-+, minus-*, *-minus, minus-minus)

@@ -1,0 +1,68 @@
+-- What is at least 0 in an ordered ring: sums, products, squares and whole numbers that are; a positive whole factor may
+-- be taken away; and a ≤ b where b − a is at least 0.
+use mathlib.Core.Path.{_≡_, refl, sym, ap, subst, _∙_}
+use mathlib.Core.Logic.{_⊎_, ⊎-elim, inl, inr}
+use Prim.Native.Nat.{ℕ, zero, suc, _≤_ as _≤ℕ_}
+use native.Mathlib.Numerals.{add-one}
+use native.Mathlib.Omega.{arith}
+use lib.IntN.{ℤ, pos}
+use Rattle.ordered_rings.specs.Rings.{Ring, Order, OrderedRing}
+use Rattle.ordered_rings.proofs.Laws.{zero-+, minus-minus, minus-*, *-minus, sorted}
+use Rattle.ordered_rings.proofs.Numbers.{Numbers, whole-zero}
+
+module _ {A : Type 0} (R : Ring A) (O : Order R) where
+  open Ring R using (_+_, -_, _*_, +-assoc, +-comm, +-zero, +-minus)
+  open Order O using (_≤_, ≤-trans, ≤-total, ≤-+, ≤-*)
+
+  infixl 60 _+_
+  infixl 70 _*_
+  infix 75 -_
+  infix 50 _≤_
+
+  abbrev pub Nonneg : A → Type 0
+  Nonneg a = R .zero ≤ a
+
+  pub nonneg-zero : Nonneg (R .zero)
+  nonneg-zero = ⊎-elim (λ h. h) (λ h. h) (≤-total (R .zero) (R .zero))
+
+  pub nonneg-+ : {a b : A} → Nonneg a → Nonneg b → Nonneg (a + b)
+  nonneg-+ {a} {b} h k = ≤-trans (R .zero) b (a + b) k (rw (zero-+ R b) at (≤-+ (R .zero) a b h))
+
+  -- ---- the order by differences
+  pub ≤-of-minus : (a b : A) → Nonneg (b + - a) → a ≤ b
+  ≤-of-minus a b h = rw (zero-+ R a, +-assoc, +-comm (- a) a, +-minus, +-zero) at (≤-+ (R .zero) (b + - a) a h)
+
+  pub minus-of-≤ : (a b : A) → a ≤ b → Nonneg (b + - a)
+  minus-of-≤ a b h = rw +-minus at (≤-+ a b (- a) h)
+
+  -- a number or its negative is at least 0
+  either : (a : A) → Nonneg a ⊎ Nonneg (- a)
+  either a = ⊎-elim inl (λ h. inr (rw (zero-+ R (- a)) at (minus-of-≤ a (R .zero) h))) (≤-total (R .zero) a)
+
+  pub nonneg-square : (a : A) → Nonneg (a * a)
+  nonneg-square a = ⊎-elim (λ h. ≤-* a a h h) (λ h. rw (minus-* R, *-minus R, minus-minus R) at (≤-* (- a) (- a) h h)) (either a)
+
+module _ {A : Type 0} (N : Numbers A) (O : Order (N .ring)) where
+  open Ring (N .ring) using (one, _+_, -_, _*_, +-zero, +-minus, *-one)
+
+  infixl 60 _+_
+  infixl 70 _*_
+  infix 75 -_
+
+  whole-suc : (n : ℕ) → N .whole (pos (suc n)) ≡ N .whole (pos n) + one
+  whole-suc n = ap (λ m. N .whole (pos m)) (sym (add-one n)) ∙ N .whole-+ (pos n) (pos 1) ∙ ap (λ x. N .whole (pos n) + x) (N .whole-one)
+
+  pub nonneg-one : Nonneg (N .ring) O one
+  nonneg-one = rw *-one at (nonneg-square (N .ring) O one)
+
+  pub nonneg-whole : (n : ℕ) → Nonneg (N .ring) O (N .whole (pos n))
+  nonneg-whole zero = rw (whole-zero N) (nonneg-zero (N .ring) O)
+  nonneg-whole (suc n) = rw (whole-suc n) (nonneg-+ (N .ring) O (nonneg-whole n) nonneg-one)
+
+  -- a positive whole factor is taken away: a = (n + 1) × a + n × − a
+  pub nonneg-cancel : (n : ℕ) (a : A) → 1 ≤ℕ n → Nonneg (N .ring) O (N .whole (pos n) * a) → Nonneg (N .ring) O a
+  nonneg-cancel zero a e h = absurd (omega arith)
+  nonneg-cancel (suc n) a e h = ⊎-elim (λ k. k) (λ k. rw (is n a) at (nonneg-+ (N .ring) O h (O .≤-* (N .whole (pos n)) (- a) (nonneg-whole n) k))) (either (N .ring) O a)
+    where
+      is : (n : ℕ) (a : A) → N .whole (pos (suc n)) * a + N .whole (pos n) * - a ≡ a
+      is n a = rw (whole-suc n) (simp (sorted, N .ring, +-minus, +-zero, *-one))
