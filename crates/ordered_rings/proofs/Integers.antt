@@ -17,8 +17,8 @@ times-one a = *ℤ-one a
 
 abbrev pub integerRing : Ring ℤ
 integerRing = record {
-  zero = pos 0;
-  one = pos 1;
+  𝟘 = pos 0;
+  𝟙 = pos 1;
   _+_ = _+ℤ_;
   -_ = negℤ;
   _*_ = _*ℤ_;

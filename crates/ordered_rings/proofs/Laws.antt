@@ -1,24 +1,26 @@
 -- Laws of a commutative ring, from those that its record states.
 use mathlib.Core.Path.{_≡_, refl, sym, ap, _∙_}
-use Rattle.ordered_rings.specs.Rings.{Ring}
+use Prim.Native.Nat.{ℕ, zero, suc, _+_ as _+ℕ_}
+use native.Mathlib.Nat.{add-zero, add-suc}
+use Rattle.ordered_rings.specs.Rings.{Ring, power}
 
 module _ {A : Type 0} (R : Ring A) where
-  open Ring R using (zero, one, _+_, -_, _*_, +-assoc, +-comm, +-zero, +-minus, *-assoc, *-comm, *-one, *-+)
+  open Ring R using (𝟘, 𝟙, _+_, -_, _*_, +-assoc, +-comm, +-zero, +-minus, *-assoc, *-comm, *-one, *-+)
 
   infixl 60 _+_
   infixl 70 _*_
   infix 75 -_
 
   -- ---- sums
-  pub zero-+ : (a : A) → zero + a ≡ a
-  zero-+ a = +-comm zero a ∙ +-zero a
+  pub zero-+ : (a : A) → 𝟘 + a ≡ a
+  zero-+ a = +-comm 𝟘 a ∙ +-zero a
 
   pub +-left : (a b c : A) → a + (b + c) ≡ b + (a + c)
   +-left a b c = sym (+-assoc a b c) ∙ ap (λ x. x + c) (+-comm a b) ∙ +-assoc b a c
 
   -- ---- products
-  pub one-* : (a : A) → one * a ≡ a
-  one-* a = *-comm one a ∙ *-one a
+  pub one-* : (a : A) → 𝟙 * a ≡ a
+  one-* a = *-comm 𝟙 a ∙ *-one a
 
   pub *-left : (a b c : A) → a * (b * c) ≡ b * (a * c)
   *-left a b c = sym (*-assoc a b c) ∙ ap (λ x. x * c) (*-comm a b) ∙ *-assoc b a c
@@ -29,24 +31,35 @@ module _ {A : Type 0} (R : Ring A) where
   pub *-pairs : (a b c d : A) → (a * b) * (c * d) ≡ (a * c) * (b * d)
   *-pairs a b c d = simp (*-assoc, *-left b c d)
 
+  -- ---- powers
+  pub power-+ : (a : A) (e f : ℕ) → power R a (e +ℕ f) ≡ power R a e * power R a f
+  unfolding power
+  power-+ a e zero = rw (add-zero, *-one)
+  power-+ a e (suc f) = ap (power R a) (add-suc e f) ∙ ap (λ x. x * a) (power-+ a e f) ∙ *-assoc (power R a e) (power R a f) a
+
+  pub power-one : (n : ℕ) → power R 𝟙 n ≡ 𝟙
+  unfolding power
+  power-one zero = refl
+  power-one (suc n) = *-one (power R 𝟙 n) ∙ power-one n
+
   -- ---- 0 and negatives
-  pub none : (a : A) → a + a ≡ a → a ≡ zero
+  pub none : (a : A) → a + a ≡ a → a ≡ 𝟘
   none a e = sym (+-zero a) ∙ ap (λ x. a + x) (sym (+-minus a)) ∙ sym (+-assoc a a (- a)) ∙ ap (λ x. x + - a) e ∙ +-minus a
 
-  pub *-zero : (a : A) → a * zero ≡ zero
-  *-zero a = none (a * zero) (sym (*-+ a zero zero) ∙ ap (λ x. a * x) (+-zero zero))
+  pub *-zero : (a : A) → a * 𝟘 ≡ 𝟘
+  *-zero a = none (a * 𝟘) (sym (*-+ a 𝟘 𝟘) ∙ ap (λ x. a * x) (+-zero 𝟘))
 
-  pub zero-* : (a : A) → zero * a ≡ zero
-  zero-* a = *-comm zero a ∙ *-zero a
+  pub zero-* : (a : A) → 𝟘 * a ≡ 𝟘
+  zero-* a = *-comm 𝟘 a ∙ *-zero a
 
   -- what adds up with a to 0 is its negative
-  pub is-minus : (a b : A) → a + b ≡ zero → b ≡ - a
+  pub is-minus : (a b : A) → a + b ≡ 𝟘 → b ≡ - a
   is-minus a b e =
       sym (zero-+ b) ∙ ap (λ x. x + b) (sym (+-minus a) ∙ +-comm a (- a)) ∙ +-assoc (- a) a b
       ∙ ap (λ x. - a + x) e ∙ +-zero (- a)
 
-  pub minus-zero : - zero ≡ zero
-  minus-zero = sym (is-minus zero zero (+-zero zero))
+  pub minus-zero : - 𝟘 ≡ 𝟘
+  minus-zero = sym (is-minus 𝟘 𝟘 (+-zero 𝟘))
 
   pub minus-minus : (a : A) → - - a ≡ a
   minus-minus a = sym (is-minus (- a) a (+-comm (- a) a ∙ +-minus a))

@@ -11,7 +11,7 @@ use Rattle.ordered_rings.proofs.Laws.{zero-+, minus-minus, minus-*, *-m
 use Rattle.ordered_rings.proofs.Numbers.{Numbers, whole-zero}
 
 module _ {A : Type 0} (R : Ring A) (O : Order R) where
-  open Ring R using (_+_, -_, _*_, +-assoc, +-comm, +-zero, +-minus)
+  open Ring R using (𝟘, _+_, -_, _*_, +-assoc, +-comm, +-zero, +-minus)
   open Order O using (_≤_, ≤-trans, ≤-total, ≤-+, ≤-*)
 
   infixl 60 _+_
@@ -20,40 +20,40 @@ module _ {A : Type 0} (R : Ring A) (O : Order R) where
   infix 50 _≤_
 
   abbrev pub Nonneg : A → Type 0
-  Nonneg a = R .zero ≤ a
+  Nonneg a = 𝟘 ≤ a
 
-  pub nonneg-zero : Nonneg (R .zero)
-  nonneg-zero = ⊎-elim (λ h. h) (λ h. h) (≤-total (R .zero) (R .zero))
+  pub nonneg-zero : Nonneg (𝟘)
+  nonneg-zero = ⊎-elim (λ h. h) (λ h. h) (≤-total (𝟘) (𝟘))
 
   pub nonneg-+ : {a b : A} → Nonneg a → Nonneg b → Nonneg (a + b)
-  nonneg-+ {a} {b} h k = ≤-trans (R .zero) b (a + b) k (rw (zero-+ R b) at (≤-+ (R .zero) a b h))
+  nonneg-+ {a} {b} h k = ≤-trans (𝟘) b (a + b) k (rw (zero-+ R b) at (≤-+ (𝟘) a b h))
 
   -- ---- the order by differences
   pub ≤-of-minus : (a b : A) → Nonneg (b + - a) → a ≤ b
-  ≤-of-minus a b h = rw (zero-+ R a, +-assoc, +-comm (- a) a, +-minus, +-zero) at (≤-+ (R .zero) (b + - a) a h)
+  ≤-of-minus a b h = rw (zero-+ R a, +-assoc, +-comm (- a) a, +-minus, +-zero) at (≤-+ (𝟘) (b + - a) a h)
 
   pub minus-of-≤ : (a b : A) → a ≤ b → Nonneg (b + - a)
   minus-of-≤ a b h = rw +-minus at (≤-+ a b (- a) h)
 
   -- a number or its negative is at least 0
   either : (a : A) → Nonneg a ⊎ Nonneg (- a)
-  either a = ⊎-elim inl (λ h. inr (rw (zero-+ R (- a)) at (minus-of-≤ a (R .zero) h))) (≤-total (R .zero) a)
+  either a = ⊎-elim inl (λ h. inr (rw (zero-+ R (- a)) at (minus-of-≤ a (𝟘) h))) (≤-total (𝟘) a)
 
   pub nonneg-square : (a : A) → Nonneg (a * a)
   nonneg-square a = ⊎-elim (λ h. ≤-* a a h h) (λ h. rw (minus-* R, *-minus R, minus-minus R) at (≤-* (- a) (- a) h h)) (either a)
 
 module _ {A : Type 0} (N : Numbers A) (O : Order (N .ring)) where
-  open Ring (N .ring) using (one, _+_, -_, _*_, +-zero, +-minus, *-one)
+  open Ring (N .ring) using (𝟙, _+_, -_, _*_, +-zero, +-minus, *-one)
 
   infixl 60 _+_
   infixl 70 _*_
   infix 75 -_
 
-  whole-suc : (n : ℕ) → N .whole (pos (suc n)) ≡ N .whole (pos n) + one
+  whole-suc : (n : ℕ) → N .whole (pos (suc n)) ≡ N .whole (pos n) + 𝟙
   whole-suc n = ap (λ m. N .whole (pos m)) (sym (add-one n)) ∙ N .whole-+ (pos n) (pos 1) ∙ ap (λ x. N .whole (pos n) + x) (N .whole-one)
 
-  pub nonneg-one : Nonneg (N .ring) O one
-  nonneg-one = rw *-one at (nonneg-square (N .ring) O one)
+  pub nonneg-one : Nonneg (N .ring) O 𝟙
+  nonneg-one = rw *-one at (nonneg-square (N .ring) O 𝟙)
 
   pub nonneg-whole : (n : ℕ) → Nonneg (N .ring) O (N .whole (pos n))
   nonneg-whole zero = rw (whole-zero N) (nonneg-zero (N .ring) O)

@@ -13,13 +13,13 @@ use Rattle.ordered_rings.proofs.Laws.{zero-+, +-left, *-zero, none, is-
 pub record Numbers (A : Type 0) : Type 0 where
   pub ring : Ring A
   pub whole : ℤ → A
-  pub whole-one : whole (pos 1) ≡ ring .one
+  pub whole-one : whole (pos 1) ≡ ring .𝟙
   pub whole-+ : (x y : ℤ) → whole (x +ℤ y) ≡ ring ._+_ (whole x) (whole y)
   pub whole-* : (x y : ℤ) → whole (x *ℤ y) ≡ ring ._*_ (whole x) (whole y)
 
 -- ---- the multiples of 1
 module _ {A : Type 0} (R : Ring A) where
-  open Ring R using (one, _+_, -_, _*_, +-assoc, +-zero, +-minus, *-one, *-+)
+  open Ring R using (𝟙, _+_, -_, _*_, +-assoc, +-zero, +-minus, *-one, *-+)
 
   infixl 60 _+_
   infixl 70 _*_
@@ -29,7 +29,7 @@ module _ {A : Type 0} (R : Ring A) where
   unfolding multiple
   multiple-+ m zero = rw (add-zero, +-zero)
   multiple-+ m (suc n) =
-      ap (multiple R) (add-suc m n) ∙ ap (λ x. x + one) (multiple-+ m n) ∙ +-assoc (multiple R m) (multiple R n) one
+      ap (multiple R) (add-suc m n) ∙ ap (λ x. x + 𝟙) (multiple-+ m n) ∙ +-assoc (multiple R m) (multiple R n) 𝟙
 
   multiple-* : (m n : ℕ) → multiple R (m *ℕ n) ≡ multiple R m * multiple R n
   unfolding multiple
@@ -43,11 +43,11 @@ module _ {A : Type 0} (R : Ring A) where
   whole-⊖ zero (suc n) = rw (← negsuc-⊖ n, zero-+ R)
   whole-⊖ (suc m) (suc n) =
       rw (⊖-eq (suc m) (suc n) m n (omega arith), whole-⊖ m n)
-      (simp (minus-+ R, +-assoc, +-left R one (- multiple R n) (- one), +-minus, +-zero))
+      (simp (minus-+ R, +-assoc, +-left R 𝟙 (- multiple R n) (- 𝟙), +-minus, +-zero))
 
-  pub multiple-one : whole R (pos 1) ≡ one
+  pub multiple-one : whole R (pos 1) ≡ 𝟙
   unfolding multiple whole
-  multiple-one = zero-+ R one
+  multiple-one = zero-+ R 𝟙
 
   pub sum-kept : (x y : ℤ) → whole R (x +ℤ y) ≡ whole R x + whole R y
   sum-kept x y = rw (view x .eq, view y .eq, ⊖-+) (simp (whole-⊖, multiple-+, sorted, R))
@@ -60,7 +60,7 @@ module _ {A : Type 0} (R : Ring A) where
 
 -- ---- what follows
 module _ {A : Type 0} (N : Numbers A) where
-  pub whole-zero : N .whole (pos 0) ≡ N .ring .zero
+  pub whole-zero : N .whole (pos 0) ≡ N .ring .𝟘
   whole-zero = none (N .ring) (N .whole (pos 0)) (sym (N .whole-+ (pos 0) (pos 0)))
 
   pub whole-minus : (x : ℤ) → N .whole (negℤ x) ≡ N .ring .-_ (N .whole x)

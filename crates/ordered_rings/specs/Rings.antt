@@ -10,22 +10,22 @@ pub record Ring (A : Type 0) : Type 0 where
   infixl 60 _+_
   infixl 70 _*_
   infix 75 -_
-  pub zero : A
-  pub one : A
+  pub 𝟘 : A
+  pub 𝟙 : A
   pub _+_ : A → A → A
   pub -_ : A → A
   pub _*_ : A → A → A
   pub +-assoc : (a b c : A) → (a + b) + c ≡ a + (b + c)
   pub +-comm : (a b : A) → a + b ≡ b + a
-  pub +-zero : (a : A) → a + zero ≡ a
-  pub +-minus : (a : A) → a + - a ≡ zero
+  pub +-zero : (a : A) → a + 𝟘 ≡ a
+  pub +-minus : (a : A) → a + - a ≡ 𝟘
   pub *-assoc : (a b c : A) → (a * b) * c ≡ a * (b * c)
   pub *-comm : (a b : A) → a * b ≡ b * a
-  pub *-one : (a : A) → a * one ≡ a
+  pub *-one : (a : A) → a * 𝟙 ≡ a
   pub *-+ : (a b c : A) → a * (b + c) ≡ a * b + a * c
 
 module _ {A : Type 0} (R : Ring A) where
-  open Ring R using (one, _+_, -_, _*_)
+  open Ring R using (𝟘, 𝟙, _+_, -_, _*_)
 
   infixl 60 _+_
   infixl 70 _*_
@@ -38,12 +38,12 @@ module _ {A : Type 0} (R : Ring A) where
     pub ≤-trans : (a b c : A) → a ≤ b → b ≤ c → a ≤ c
     pub ≤-total : (a b : A) → (a ≤ b) ⊎ (b ≤ a)
     pub ≤-+ : (a b c : A) → a ≤ b → a + c ≤ b + c
-    pub ≤-* : (a b : A) → R .zero ≤ a → R .zero ≤ b → R .zero ≤ a * b
+    pub ≤-* : (a b : A) → 𝟘 ≤ a → 𝟘 ≤ b → 𝟘 ≤ a * b
 
   -- the whole numbers in the ring, as multiples of 1
   unfoldable pub multiple : ℕ → A
-  multiple zero = R .zero
-  multiple (suc n) = multiple n + one
+  multiple zero = 𝟘
+  multiple (suc n) = multiple n + 𝟙
 
   unfoldable pub whole : ℤ → A
   whole (pos n) = multiple n
@@ -51,7 +51,7 @@ module _ {A : Type 0} (R : Ring A) where
 
   -- a^n; a^0 is 1, also where a is 0
   unfoldable pub power : A → ℕ → A
-  power a zero = one
+  power a zero = 𝟙
   power a (suc n) = power a n * a
 
 -- an ordered ring
