@@ -1,12 +1,13 @@
 -- What is at least 0 in an ordered ring: sums, products, squares and whole numbers that are; a positive whole factor may
 -- be taken away; and a ≤ b where b − a is at least 0.
-use mathlib.Core.Path.{_≡_, refl, sym, ap, subst, _∙_}
+use mathlib.Core.Path.{_≡_, sym, ap, _∙_}
 use mathlib.Core.Logic.{_⊎_, ⊎-elim, inl, inr}
 use Prim.Native.Nat.{ℕ, zero, suc, _≤_ as _≤ℕ_}
 use native.Mathlib.Numerals.{add-one}
 use native.Mathlib.Omega.{arith}
-use lib.IntN.{ℤ, pos}
-use Rattle.ordered_rings.specs.Rings.{Ring, Order, OrderedRing}
+use lib.IntN.{ℤ, pos, negsuc}
+use lib.Signed.{_≤ℤ_}
+use Rattle.ordered_rings.specs.Rings.{Ring, Order}
 use Rattle.ordered_rings.proofs.Laws.{zero-+, minus-minus, minus-*, *-minus, sorted}
 use Rattle.ordered_rings.proofs.Numbers.{Numbers, whole-zero}
 
@@ -55,14 +56,18 @@ module _ {A : Type 0} (N : Numbers A) (O : Order (N .ring)) where
   pub nonneg-one : Nonneg (N .ring) O 𝟙
   nonneg-one = rw *-one at (nonneg-square (N .ring) O 𝟙)
 
-  pub nonneg-whole : (n : ℕ) → Nonneg (N .ring) O (N .whole (pos n))
-  nonneg-whole zero = rw (whole-zero N) (nonneg-zero (N .ring) O)
-  nonneg-whole (suc n) = rw (whole-suc n) (nonneg-+ (N .ring) O (nonneg-whole n) nonneg-one)
+  pub nonneg-multiple : (n : ℕ) → Nonneg (N .ring) O (N .whole (pos n))
+  nonneg-multiple zero = rw (whole-zero N) (nonneg-zero (N .ring) O)
+  nonneg-multiple (suc n) = rw (whole-suc n) (nonneg-+ (N .ring) O (nonneg-multiple n) nonneg-one)
+
+  pub nonneg-whole : (x : ℤ) → pos 0 ≤ℤ x → Nonneg (N .ring) O (N .whole x)
+  nonneg-whole (pos n) h = nonneg-multiple n
+  nonneg-whole (negsuc n) h = absurd (h .le)
 
   -- a positive whole factor is taken away: a = (n + 1) × a + n × − a
   pub nonneg-cancel : (n : ℕ) (a : A) → 1 ≤ℕ n → Nonneg (N .ring) O (N .whole (pos n) * a) → Nonneg (N .ring) O a
   nonneg-cancel zero a e h = absurd (omega arith)
-  nonneg-cancel (suc n) a e h = ⊎-elim (λ k. k) (λ k. rw (is n a) at (nonneg-+ (N .ring) O h (O .≤-* (N .whole (pos n)) (- a) (nonneg-whole n) k))) (either (N .ring) O a)
+  nonneg-cancel (suc n) a e h = ⊎-elim (λ k. k) (λ k. rw (is n a) at (nonneg-+ (N .ring) O h (O .≤-* (N .whole (pos n)) (- a) (nonneg-multiple n) k))) (either (N .ring) O a)
     where
       is : (n : ℕ) (a : A) → N .whole (pos (suc n)) * a + N .whole (pos n) * - a ≡ a
       is n a = rw (whole-suc n) (simp (sorted, N .ring, +-minus, +-zero, *-one))

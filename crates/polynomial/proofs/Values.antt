@@ -8,7 +8,7 @@ use native.Mathlib.Omega.{arith}
 use lib.ListN.{length}
 use lib.Pow.{pow-add}
 use lib.IntN.{ℤ, pos, _+ℤ_, _*ℤ_, +ℤ-idr}
-use Rattle.integers.proofs.Ring.{*ℤ-pairs}
+use Rattle.ordered_rings.proofs.Laws.{*-pairs}
 use Rattle.ordered_rings.proofs.Integers.{integerRing, power-is}
 use Rattle.polynomial.specs.Monomial.{degreeOf, degree}
 use Rattle.polynomial.specs.Terms.{Term, term}
@@ -54,5 +54,5 @@ multiplies a coordinates = record {
   product = λ d e b j k hj hk.
       let s : (d + e) - (degree j + degree k) ≡ (d - degree j) + (e - degree k) = omega arith in
       let p : powers (a .numerators) (j + k) ≡ powers (a .numerators) j *ℤ powers (a .numerators) k = unfold degree in powers-add 8 (a .numerators) j k coordinates (omega arith) in
-      rw (degree-add j k (omega arith), s, pow-add (a .denominator), p, *ℤ-pairs);
+      rw (degree-add j k (omega arith), s, pow-add (a .denominator), p, *-pairs integerRing);
 }
