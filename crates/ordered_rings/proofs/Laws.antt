@@ -37,10 +37,10 @@ module _ {A : Type 0} (R : Ring A) where
   power-+ a e zero = rw (add-zero, *-one)
   power-+ a e (suc f) = ap (power R a) (add-suc e f) ∙ ap (λ x. x * a) (power-+ a e f) ∙ *-assoc (power R a e) (power R a f) a
 
-  pub power-one : (n : ℕ) → power R 𝟙 n ≡ 𝟙
+  pub power-* : (a b : A) (n : ℕ) → power R (a * b) n ≡ power R a n * power R b n
   unfolding power
-  power-one zero = refl
-  power-one (suc n) = *-one (power R 𝟙 n) ∙ power-one n
+  power-* a b zero = sym (*-one 𝟙)
+  power-* a b (suc n) = ap (λ x. x * (a * b)) (power-* a b n) ∙ *-pairs (power R a n) (power R b n) a b
 
   -- ---- 0 and negatives
   pub none : (a : A) → a + a ≡ a → a ≡ 𝟘

@@ -6,3 +6,4 @@ pub mod Products
 pub mod Exponents
 pub mod RingValues
 pub mod Values
+pub mod RationalPoints
