@@ -2,8 +2,8 @@
 -- of rational ones.
 use mathlib.Core.Path.{_≡_}
 use mathlib.Core.List.{List}
-use Prim.Native.Nat.{ℕ, _*_ as _*ℕ_}
-use lib.IntN.{ℤ, pos, _*ℤ_, _-ℤ_}
+use Prim.Native.Nat.{ℕ}
+use lib.IntN.{ℤ, pos}
 use lib.ListN.{length}
 use Rattle.ordered_rings.specs.Rings.{Ring, Order, OrderedRing, whole}
 use Rattle.polynomial.specs.RingPoint.{valueIn}
@@ -16,11 +16,6 @@ module _ {A : Type 0} (R : OrderedRing A) where
   open OrderedRing R using (ring, order)
   open Ring ring using (𝟘, 𝟙, _+_, -_, _*_)
   open Order order using (_≤_)
-
-  infixl 60 _+_
-  infixl 70 _*_
-  infix 75 -_
-  infix 50 _≤_
 
   -- what a condition asks of its value: "the inequalities are at least 0 and the equalities are 0"
   unfoldable pub MeetsIn : Kind → A → Type 0

@@ -1,5 +1,5 @@
 -- The integers are an ordered ring, in which the whole numbers are themselves: as numbers, and as the multiples of 1.
-use mathlib.Core.Path.{_≡_, refl, ap, _∙_}
+use mathlib.Core.Path.{_≡_, refl, ap}
 use mathlib.Core.Logic.{_⊎_, inl, inr}
 use Prim.Native.Nat.{ℕ, zero, suc, _+_, _≤_}
 use native.Mathlib.Decide.{decLe}
@@ -52,14 +52,26 @@ le-sum a b c h =
     rw (view a .eq, view b .eq, view c .eq) (simp diffs (⊖-le _ _ _ _ (omega arith)))
 
 abbrev pub integerOrder : Order integerRing
-integerOrder = record { _≤_ = _≤ℤ_; ≤-trans = le-trans; ≤-total = le-total; ≤-+ = le-sum; ≤-* = λ a b. nonneg-* {a = a} {b = b} }
+integerOrder = record {
+  _≤_ = _≤ℤ_;
+  ≤-trans = le-trans;
+  ≤-total = le-total;
+  ≤-+ = le-sum;
+  ≤-* = λ a b. nonneg-* {a = a} {b = b};
+}
 
 abbrev pub integers : OrderedRing ℤ
 integers = record { ring = integerRing; order = integerOrder }
 
 -- ---- the whole numbers in it
 abbrev pub integerNumbers : Numbers ℤ
-integerNumbers = record { ring = integerRing; whole = λ z. z; whole-one = refl; whole-+ = λ x y. refl; whole-* = λ x y. refl }
+integerNumbers = record {
+  ring = integerRing;
+  whole = λ z. z;
+  whole-one = refl;
+  whole-+ = λ x y. refl;
+  whole-* = λ x y. refl;
+}
 
 multiple-is : (n : ℕ) → multiple integerRing n ≡ pos n
 unfolding multiple

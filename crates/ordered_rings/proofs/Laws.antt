@@ -1,15 +1,11 @@
 -- Laws of a commutative ring, from those that its record states.
-use mathlib.Core.Path.{_≡_, refl, sym, ap, _∙_}
+use mathlib.Core.Path.{_≡_, sym, ap, _∙_}
 use Prim.Native.Nat.{ℕ, zero, suc, _+_ as _+ℕ_}
 use native.Mathlib.Nat.{add-zero, add-suc}
 use Rattle.ordered_rings.specs.Rings.{Ring, power}
 
 module _ {A : Type 0} (R : Ring A) where
   open Ring R using (𝟘, 𝟙, _+_, -_, _*_, +-assoc, +-comm, +-zero, +-minus, *-assoc, *-comm, *-one, *-+)
-
-  infixl 60 _+_
-  infixl 70 _*_
-  infix 75 -_
 
   -- ---- sums
   pub zero-+ : (a : A) → 𝟘 + a ≡ a
@@ -28,6 +24,7 @@ module _ {A : Type 0} (R : Ring A) where
   pub +-* : (a b c : A) → (a + b) * c ≡ a * c + b * c
   +-* a b c = simp (*-comm, *-+)
 
+  -- four factors, paired anew
   pub *-pairs : (a b c d : A) → (a * b) * (c * d) ≡ (a * c) * (b * d)
   *-pairs a b c d = simp (*-assoc, *-left b c d)
 
@@ -35,16 +32,17 @@ module _ {A : Type 0} (R : Ring A) where
   pub power-+ : (a : A) (e f : ℕ) → power R a (e +ℕ f) ≡ power R a e * power R a f
   unfolding power
   power-+ a e zero = rw (add-zero, *-one)
-  power-+ a e (suc f) = ap (power R a) (add-suc e f) ∙ ap (λ x. x * a) (power-+ a e f) ∙ *-assoc (power R a e) (power R a f) a
+  power-+ a e (suc f) = ap (power R a) (add-suc e f) ∙ ap (λ x. x * a) (power-+ a e f) ∙ *-assoc _ _ _
 
   pub power-* : (a b : A) (n : ℕ) → power R (a * b) n ≡ power R a n * power R b n
   unfolding power
   power-* a b zero = sym (*-one 𝟙)
-  power-* a b (suc n) = ap (λ x. x * (a * b)) (power-* a b n) ∙ *-pairs (power R a n) (power R b n) a b
+  power-* a b (suc n) = ap (λ x. x * (a * b)) (power-* a b n) ∙ *-pairs _ _ a b
 
   -- ---- 0 and negatives
   pub none : (a : A) → a + a ≡ a → a ≡ 𝟘
-  none a e = sym (+-zero a) ∙ ap (λ x. a + x) (sym (+-minus a)) ∙ sym (+-assoc a a (- a)) ∙ ap (λ x. x + - a) e ∙ +-minus a
+  none a e =
+      sym (+-zero a) ∙ ap (λ x. a + x) (sym (+-minus a)) ∙ sym (+-assoc a a (- a)) ∙ ap (λ x. x + - a) e ∙ +-minus a
 
   pub *-zero : (a : A) → a * 𝟘 ≡ 𝟘
   *-zero a = none (a * 𝟘) (sym (*-+ a 𝟘 𝟘) ∙ ap (λ x. a * x) (+-zero 𝟘))
@@ -73,7 +71,7 @@ module _ {A : Type 0} (R : Ring A) where
   pub *-minus : (a b : A) → a * - b ≡ - (a * b)
   *-minus a b = *-comm a (- b) ∙ minus-* b a ∙ ap -_ (*-comm b a)
 
-  -- ---- the laws that the record states, by names that a set can list
+  -- ---- the record's own laws, under names that a set can list
   pub sum-assoc : (a b c : A) → (a + b) + c ≡ a + (b + c)
   sum-assoc = +-assoc
 
@@ -89,5 +87,9 @@ module _ {A : Type 0} (R : Ring A) where
   pub product-sum : (a b c : A) → a * (b + c) ≡ a * b + a * c
   product-sum = *-+
 
--- both sides of an equation multiplied out, with sums and products sorted: `simp (sorted, R)`
-pub ruleset sorted = (sum-assoc, sum-comm, +-left, product-assoc, product-comm, *-left, product-sum, +-*, minus-+, minus-*, *-minus, minus-minus)
+-- both sides of an equation multiplied out, and their sums and products sorted: `simp (sorted, R)`
+pub ruleset sorted-sums = (sum-assoc, sum-comm, +-left)
+
+pub ruleset sorted-products = (product-assoc, product-comm, *-left, product-sum, +-*)
+
+pub ruleset sorted = (sorted-sums, sorted-products, minus-+, minus-*, *-minus, minus-minus)

@@ -1,6 +1,6 @@
--- The whole numbers in a ring. Two ways to have them keep sums and products: as the multiples of 1 in any ring, and as
--- themselves in the ring of the integers. What is proved of such numbers holds of both.
-use mathlib.Core.Path.{_≡_, refl, sym, ap, _∙_}
+-- The whole numbers in a ring. They keep sums and products as the multiples of 1 in any ring, and as themselves in the
+-- ring of the integers. What is proved of any ring with such whole numbers holds of both.
+use mathlib.Core.Path.{_≡_, sym, ap, _∙_}
 use Prim.Native.Nat.{ℕ, zero, suc, _+_ as _+ℕ_, _*_ as _*ℕ_}
 use native.Mathlib.Nat.{add-zero, add-suc, mul-zero, mul-suc}
 use native.Mathlib.Omega.{arith}
@@ -9,7 +9,7 @@ use Rattle.integers.proofs.Ring.{_⊖_, view, pos-⊖, negsuc-⊖, ⊖-eq, ⊖-
 use Rattle.ordered_rings.specs.Rings.{Ring, multiple, whole}
 use Rattle.ordered_rings.proofs.Laws.{zero-+, +-left, *-zero, none, is-minus, minus-zero, minus-+, sorted}
 
--- a ring in which every whole number has its place
+-- a ring with the whole numbers in it
 pub record Numbers (A : Type 0) : Type 0 where
   pub ring : Ring A
   pub whole : ℤ → A
@@ -21,22 +21,17 @@ pub record Numbers (A : Type 0) : Type 0 where
 module _ {A : Type 0} (R : Ring A) where
   open Ring R using (𝟙, _+_, -_, _*_, +-assoc, +-zero, +-minus, *-one, *-+)
 
-  infixl 60 _+_
-  infixl 70 _*_
-  infix 75 -_
-
   multiple-+ : (m n : ℕ) → multiple R (m +ℕ n) ≡ multiple R m + multiple R n
   unfolding multiple
   multiple-+ m zero = rw (add-zero, +-zero)
-  multiple-+ m (suc n) =
-      ap (multiple R) (add-suc m n) ∙ ap (λ x. x + 𝟙) (multiple-+ m n) ∙ +-assoc (multiple R m) (multiple R n) 𝟙
+  multiple-+ m (suc n) = ap (multiple R) (add-suc m n) ∙ ap (λ x. x + 𝟙) (multiple-+ m n) ∙ +-assoc _ _ 𝟙
 
   multiple-* : (m n : ℕ) → multiple R (m *ℕ n) ≡ multiple R m * multiple R n
   unfolding multiple
   multiple-* m zero = rw (mul-zero, *-zero R)
   multiple-* m (suc n) = rw (mul-suc, multiple-+ (m *ℕ n) m, multiple-* m n, *-+, *-one)
 
-  -- of a difference of two naturals
+  -- of a difference of two naturals, as which every integer can be viewed
   whole-⊖ : (m n : ℕ) → whole R (m ⊖ n) ≡ multiple R m + - multiple R n
   unfolding multiple whole
   whole-⊖ m zero = rw (← pos-⊖ m, minus-zero R, +-zero)
@@ -60,8 +55,11 @@ module _ {A : Type 0} (R : Ring A) where
 
 -- ---- what follows
 module _ {A : Type 0} (N : Numbers A) where
-  pub whole-zero : N .whole (pos 0) ≡ N .ring .𝟘
-  whole-zero = none (N .ring) (N .whole (pos 0)) (sym (N .whole-+ (pos 0) (pos 0)))
+  open Numbers N using (ring, whole, whole-+)
+  open Ring ring using (𝟘, -_)
 
-  pub whole-minus : (x : ℤ) → N .whole (negℤ x) ≡ N .ring .-_ (N .whole x)
-  whole-minus x = is-minus (N .ring) (N .whole x) (N .whole (negℤ x)) (sym (N .whole-+ x (negℤ x)) ∙ ap (N .whole) (+ℤ-invr x) ∙ whole-zero)
+  pub whole-zero : whole (pos 0) ≡ 𝟘
+  whole-zero = none ring (whole (pos 0)) (sym (whole-+ (pos 0) (pos 0)))
+
+  pub whole-minus : (x : ℤ) → whole (negℤ x) ≡ - whole x
+  whole-minus x = is-minus ring _ _ (sym (whole-+ x (negℤ x)) ∙ ap whole (+ℤ-invr x) ∙ whole-zero)

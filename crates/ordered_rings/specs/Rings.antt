@@ -5,7 +5,7 @@ use mathlib.Core.Logic.{_⊎_}
 use Prim.Native.Nat.{ℕ, zero, suc}
 use lib.IntN.{ℤ, pos, negsuc}
 
--- a commutative ring of the numbers in A
+-- a commutative ring: its numbers, of the type A, with 0, 1, sums, negatives and products
 pub record Ring (A : Type 0) : Type 0 where
   infixl 60 _+_
   infixl 70 _*_
@@ -27,11 +27,7 @@ pub record Ring (A : Type 0) : Type 0 where
 module _ {A : Type 0} (R : Ring A) where
   open Ring R using (𝟘, 𝟙, _+_, -_, _*_)
 
-  infixl 60 _+_
-  infixl 70 _*_
-  infix 75 -_
-
-  -- a total order that sums and products keep. That a ≤ b and b ≤ a make a and b equal is not asked for
+  -- a total order that sums and products keep. That a ≤ b and b ≤ a make a and b equal is not needed
   pub record Order : Type 1 where
     infix 50 _≤_
     pub _≤_ : A → A → Type 0
@@ -40,7 +36,7 @@ module _ {A : Type 0} (R : Ring A) where
     pub ≤-+ : (a b c : A) → a ≤ b → a + c ≤ b + c
     pub ≤-* : (a b : A) → 𝟘 ≤ a → 𝟘 ≤ b → 𝟘 ≤ a * b
 
-  -- the whole numbers in the ring, as multiples of 1
+  -- the whole numbers in the ring: multiples of 1, and their negatives
   unfoldable pub multiple : ℕ → A
   multiple zero = 𝟘
   multiple (suc n) = multiple n + 𝟙
@@ -54,7 +50,6 @@ module _ {A : Type 0} (R : Ring A) where
   power a zero = 𝟙
   power a (suc n) = power a n * a
 
--- an ordered ring
 pub record OrderedRing (A : Type 0) : Type 1 where
   pub ring : Ring A
   pub order : Order ring

@@ -1,6 +1,6 @@
--- Values of products, in any ring with the whole numbers in it. What is asked of the values of monomials is that they
--- multiply where the degrees allow it, each scaled for a degree; so the law is one for the values at a point of a ring,
--- where no scale is needed, and for those at a rational point, scaled by powers of its denominator.
+-- Values of products, in a ring with the whole numbers in it. All that is asked of the values of monomials, each scaled
+-- for a degree, is that they multiply; so the law is one for the values at a point of a ring, which need no scale, and
+-- for those at a rational point, which are scaled by powers of its denominator.
 use mathlib.Core.Path.{_≡_, refl, sym, ap, ap₂, _∙_}
 use mathlib.Core.List.{List, [], _∷_}
 use Prim.Native.Nat.{ℕ, zero, suc, _+_ as _+ℕ_, _/_, _%_, _≤_}
@@ -34,8 +34,7 @@ product-in N m M d e b P Q v w =
 module _ {A : Type 0} (R : Ring A) where
   open Ring R using (𝟙, _*_, *-one)
 
-  infixl 70 _*_
-
+  -- adding keys multiplies powers
   pub powers-add-in : (n : ℕ) (xs : List A) (j k : ℕ) → length xs ≤ n → degreeOf n j +ℕ degreeOf n k ≤ 255
       → powersIn R xs (j +ℕ k) ≡ powersIn R xs j * powersIn R xs k
   unfolding degreeOf
@@ -53,6 +52,7 @@ module _ {A : Type 0} (R : Ring A) where
   powers-none-in [] = refl
   powers-none-in (a ∷ xs) = ap (λ x. 𝟙 * x) (powers-none-in xs) ∙ *-one 𝟙
 
+  -- at most 8 coordinates, and no scale
   pub multiplies-in : (xs : List A) → length xs ≤ 8 → Multiplies R (λ d. powersIn R xs)
   unfolding degree
   multiplies-in xs l = record { product = λ d e b j k h g. powers-add-in 8 xs j k l (omega arith) }

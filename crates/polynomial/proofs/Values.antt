@@ -7,11 +7,11 @@ use native.Mathlib.Nat.{sub-zero, one-mul}
 use native.Mathlib.Omega.{arith}
 use lib.ListN.{length}
 use lib.Pow.{pow-add}
-use lib.IntN.{ℤ, pos, _+ℤ_, _*ℤ_, +ℤ-idr}
+use lib.IntN.{ℤ, pos, _+ℤ_, _*ℤ_}
 use Rattle.ordered_rings.proofs.Laws.{*-pairs}
 use Rattle.ordered_rings.proofs.Integers.{integerRing, power-is}
 use Rattle.polynomial.specs.Monomial.{degreeOf, degree}
-use Rattle.polynomial.specs.Terms.{Term, term}
+use Rattle.polynomial.specs.Terms.{Term}
 use Rattle.polynomial.specs.Algebra.{coefficient, scale}
 use Rattle.polynomial.specs.Point.{Point, powers, monomialValue, value}
 use Rattle.polynomial.specs.RingPoint.{powersIn}
@@ -38,21 +38,24 @@ powers-is : (xs : List ℤ) (k : ℕ) → powersIn integerRing xs k ≡ powers x
 powers-is [] k = refl
 powers-is (a ∷ xs) k = ap₂ _*ℤ_ (power-is a (k % 256)) (powers-is xs (k / 256))
 
-pub powers-add : (n : ℕ) (xs : List ℤ) (j k : ℕ) → length xs ≤ n → degreeOf n j + degreeOf n k ≤ 255 → powers xs (j + k) ≡ powers xs j *ℤ powers xs k
-powers-add n xs j k l h = sym (powers-is xs (j + k)) ∙ powers-add-in integerRing n xs j k l h ∙ ap₂ _*ℤ_ (powers-is xs j) (powers-is xs k)
+pub powers-add : (n : ℕ) (xs : List ℤ) (j k : ℕ) → length xs ≤ n → degreeOf n j + degreeOf n k ≤ 255
+    → powers xs (j + k) ≡ powers xs j *ℤ powers xs k
+powers-add n xs j k l h =
+    sym (powers-is xs (j + k)) ∙ powers-add-in integerRing n xs j k l h ∙ ap₂ _*ℤ_ (powers-is xs j) (powers-is xs k)
 
--- ---- constants: x scaled by c^d
+-- ---- the value of 1 is c^d
 pub constant-scaled : (a : Point) (d : ℕ) → monomialValue a d 0 ≡ pos (a .denominator ^ d)
 unfolding monomialValue degree degreeOf
-constant-scaled a d = rw (sym (powers-is (a .numerators) 0) ∙ powers-none-in integerRing (a .numerators), sub-zero, one-mul)
+constant-scaled a d =
+    rw (sym (powers-is (a .numerators) 0) ∙ powers-none-in integerRing (a .numerators), sub-zero, one-mul)
 
--- ---- products, at a point of at most 8 coordinates: the value of a product of monomials, each scaled by its own power
--- of c
+-- ---- the value of a product of monomials, each scaled by its own power of c, at a point of at most 8 coordinates
 pub multiplies : (a : Point) → length (a .numerators) ≤ 8 → Multiplies integerRing (monomialValue a)
 unfolding monomialValue
 multiplies a coordinates = record {
   product = λ d e b j k hj hk.
       let s : (d + e) - (degree j + degree k) ≡ (d - degree j) + (e - degree k) = omega arith in
-      let p : powers (a .numerators) (j + k) ≡ powers (a .numerators) j *ℤ powers (a .numerators) k = unfold degree in powers-add 8 (a .numerators) j k coordinates (omega arith) in
+      let p : powers (a .numerators) (j + k) ≡ powers (a .numerators) j *ℤ powers (a .numerators) k =
+      unfold degree in powers-add 8 (a .numerators) j k coordinates (omega arith) in
       rw (degree-add j k (omega arith), s, pow-add (a .denominator), p, *-pairs integerRing);
 }

@@ -8,8 +8,6 @@ use Rattle.polynomial.specs.Algebra.{sumBy}
 module _ {A : Type 0} (R : Ring A) where
   open Ring R using (𝟘, 𝟙, _+_, _*_)
 
-  infixl 70 _*_
-
   -- the product of x_i ^ e_i, where k is the key of the exponents e_i; x ^ 0 is 1 for every x
   abbrev pub powersIn : List A → ℕ → A
   powersIn [] k = 𝟙
