@@ -13,7 +13,7 @@ use Rattle.integers.proofs.Ring.{nonneg-pos}
 use Rattle.ordered_rings.specs.Rings.{Ring, Order, OrderedRing}
 use Rattle.ordered_rings.proofs.Laws.{one-*, *-zero, minus-*, sorted}
 use Rattle.ordered_rings.proofs.Numbers.{Numbers, whole-minus}
-use Rattle.ordered_rings.proofs.Nonneg.{Nonneg, ≤-of-minus, minus-of-≤, nonneg-zero, nonneg-+, nonneg-square, nonneg-multiple, nonneg-whole, nonneg-cancel}
+use Rattle.ordered_rings.proofs.AtLeastZero.{Nonneg, ≤-of-minus, minus-of-≤, nonneg-zero, nonneg-+, nonneg-square, nonneg-multiple, nonneg-whole, nonneg-cancel}
 use Rattle.ordered_rings.proofs.Integers.{integerRing, integerNumbers, integerOrder, integers}
 use Rattle.polynomial.specs.Monomial.{degreeOf, degree}
 use Rattle.polynomial.specs.Terms.{Term}

@@ -8,7 +8,7 @@ use lib.IntN.{ℤ, pos, negsuc, negℤ, _*ℤ_, _-ℤ_}
 use Rattle.ordered_rings.specs.Rings.{Ring, Order, OrderedRing, whole}
 use Rattle.ordered_rings.proofs.Laws.{zero-+, zero-*, *-minus}
 use Rattle.ordered_rings.proofs.Numbers.{numbers, sum-kept, product-kept, whole-minus}
-use Rattle.ordered_rings.proofs.Nonneg.{Nonneg, nonneg-one, nonneg-cancel, ≤-of-minus}
+use Rattle.ordered_rings.proofs.AtLeastZero.{Nonneg, nonneg-one, nonneg-cancel, ≤-of-minus}
 use Rattle.polynomial.specs.RingPoint.{powersIn, valueIn}
 use Rattle.polynomial.proofs.RingValues.{multiplies-in, powers-none-in}
 use Rattle.format.specs.ProblemRules.{Problem}

@@ -1,4 +1,4 @@
 pub mod Laws
 pub mod Numbers
-pub mod Nonneg
+pub mod AtLeastZero
 pub mod Integers
