@@ -40,7 +40,8 @@ use Rattle.accepting.proofs.Reach.{keys-all}
 
 combination-degree : (B : List ℕ) → All (λ k. degree k ≤ℕ 8) B → (es : List Entry) → Degree 8 (combination B es)
 combination-degree B h [] = tt
-combination-degree B h (e ∷ es) = (all-at _ B (e .index) 0 h (unfold degree degreeOf in lit≤ tt), combination-degree B h es)
+combination-degree B h (e ∷ es) =
+    (all-at _ B (e .index) 0 h (unfold degree degreeOf in lit≤ tt), combination-degree B h es)
 
 -- a weight is at least 0 on basis 0 and on an inequality; on an equality it may have either sign
 abbrev pub RowWeighted : Problem → Row → Type 0
@@ -100,7 +101,7 @@ module _ {A : Type 0} (N : Numbers A) (O : Order (N .ring)) where
         (product-in N m M 16 16 (lit≤ tt) (L ⊗ L) G w (multiplier-degree p limits (r .basis))
         ∙ ap (λ z. z * valueOf 16 G) (product-in N m M 8 8 (lit≤ tt) L L v v))
 
-    -- the claim's value: D × (q × V − p × c), where V is the objective's value and c that of 1; and for side 1 with both
+    -- the claim's value: D × (q × V − p × c), where V is the objective's value and c that of 1; for side 1 with both
     -- signs turned
     claim-value : (h : Header) → valueOf 32 (claim p h)
         ≡ whole (pos (h .scale)) * (whole (turned (h .side) (pos (h .q))) * valueOf 32 (p .objective)
@@ -162,7 +163,8 @@ module _ {A : Type 0} (N : Numbers A) (O : Order (N .ring)) where
       times : {a b : A} → Nonneg ring O a → Nonneg ring O b → Nonneg ring O (a * b)
       times {a} {b} = O .≤-* a b
 
-      same : (whole (pos q) * d) * (P * c + - (whole (pos Q) * v)) + (whole (pos Q) * c) * (whole (pos q) * w + - (p * d))
+      same : (whole (pos q) * d) * (P * c + - (whole (pos Q) * v))
+          + (whole (pos Q) * c) * (whole (pos q) * w + - (p * d))
           ≡ (P * whole (pos q) + - (p * whole (pos Q))) * (c * d)
           + - ((v * d + - (w * c)) * (whole (pos Q) * whole (pos q)))
       same = simp (sorted, ring)

@@ -1,6 +1,5 @@
--- What an accepted pair says over an ordered ring, for its problem p and the bounds that it returns. A contract's clause
--- cannot speak of all rings; proofs/RingPairs.antt has this for every one, from what the clause `accepted` of the pair
--- gives.
+-- What an accepted pair says over an ordered ring, of its problem p and the bounds that it returns. A contract's clause
+-- cannot speak of all rings; proofs/RingPairs.antt has this for each of them, from what the clause `accepted` gives.
 use mathlib.Core.Path.{_≡_}
 use mathlib.Core.Bool.{true}
 use lib.IntN.{pos}

@@ -1,5 +1,5 @@
--- What is at least 0 in an ordered ring: sums, products, squares and whole numbers; a positive whole factor may be taken
--- away; and a ≤ b exactly where b − a is at least 0.
+-- What is at least 0 in an ordered ring: sums, squares and whole numbers; a positive whole factor may be taken away; and
+-- a ≤ b exactly where b − a is at least 0.
 use mathlib.Core.Path.{_≡_, sym, ap, _∙_}
 use mathlib.Core.Logic.{_⊎_, ⊎-elim, inl, inr}
 use Prim.Native.Nat.{ℕ, zero, suc, _≤_ as _≤ℕ_}

@@ -1,6 +1,6 @@
--- Laws of the sum of coefficient × m(monomial) over the terms of a polynomial, in a ring with the whole numbers in it. A
--- coefficient is such a sum, and so are a scaled value at a rational point and a value at a point of a ring; so each law
--- here is one of all three.
+-- Laws of the sum of coefficient × m(monomial) over the terms of a polynomial, in a ring with the whole numbers in it.
+-- A coefficient is such a sum, and so are a scaled value at a rational point and a value at a point of a ring; so each
+-- law here is one of all three.
 use mathlib.Core.Path.{_≡_, refl, sym, ap, ap₂, _∙_}
 use mathlib.Core.Bool.{Bool, true, false, cond}
 use mathlib.Core.List.{List, [], _∷_, _++_}

@@ -43,7 +43,7 @@ coefficient-none A k (t ∷ P) h f = go (eqb (t .key) k) (eqb→eq (t .key) k) (
     go true q e = absurd (f (subst A (q tt) (h .0)))
     go false q e = rw (e, *ℤ-zero (t .coefficient))
 
--- "Equality is per monomial": two polynomials with the same coefficient at every monomial have the same sum under every m, and so
--- the same value at every point
+-- "Equality is per monomial": two polynomials with the same coefficient at every monomial have the same sum under every
+-- m, and so the same value at every point
 pub same-sums : (P Q : List Term) → ((k : ℕ) → coefficient k P ≡ coefficient k Q) → (m : ℕ → ℤ) → sum m P ≡ sum m Q
 same-sums P Q e m = same-in integerNumbers m P Q e
