@@ -66,10 +66,10 @@ module _ (p : Problem) where
 
   -- ---- what is accepted bounds the objective at every allowed point
   module _ (limits : Limits p) (s : List ℕ) (c : Certificate) (a : Accepted p s c) where
-    sound : Sound p c
+    pub sound : Sound p c
     sound = read-sound p s c (a .read)
 
-    weighted : Weighted p (c .rows)
+    pub weighted : Weighted p (c .rows)
     weighted =
         all-map _ (RowWeighted p) (λ (r : Row) k e. nonneg-of-one (r .weight) (k .positive e)) (c .rows) (sound .rows)
 

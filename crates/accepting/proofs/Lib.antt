@@ -3,5 +3,6 @@ pub mod Bounds
 pub mod Blocks
 pub mod Difference
 pub mod Accepted
+pub mod RingBounds
 pub mod Empty
 pub mod Worked

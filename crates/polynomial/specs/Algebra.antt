@@ -6,10 +6,15 @@ use lib.Dec.{eqb}
 use lib.IntN.{ℤ, pos, _+ℤ_, _*ℤ_}
 use Rattle.polynomial.specs.Terms.{Term, term}
 
--- the sum over the terms of coefficient × m(monomial)
+-- the sum over the terms of coefficient × m(monomial), in numbers of any kind: with their 0, their sum, and a whole
+-- number times one of them
+abbrev pub sumBy : {A : Type 0} → A → (A → A → A) → (ℤ → A → A) → (ℕ → A) → List Term → A
+sumBy none plus times m [] = none
+sumBy none plus times m (t ∷ P) = plus (times (t .coefficient) (m (t .key))) (sumBy none plus times m P)
+
+-- in whole numbers
 abbrev pub sum : (ℕ → ℤ) → List Term → ℤ
-sum m [] = pos 0
-sum m (t ∷ P) = t .coefficient *ℤ m (t .key) +ℤ sum m P
+sum m P = sumBy (pos 0) _+ℤ_ _*ℤ_ m P
 
 abbrev pub match : ℕ → ℕ → ℤ
 match k j = cond (eqb j k) (pos 1) (pos 0)

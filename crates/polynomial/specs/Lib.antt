@@ -2,3 +2,4 @@ pub mod Monomial
 pub mod Terms
 pub mod Algebra
 pub mod Point
+pub mod RingPoint
