@@ -4,7 +4,7 @@ use mathlib.Core.Path.{_≡_, refl, sym, ap, ap₂, _∙_}
 use mathlib.Core.Bool.{Bool, true, false, cond}
 use mathlib.Core.List.{List, [], _∷_, _++_}
 use mathlib.Core.Logic.{⊎-elim}
-use Prim.Native.Nat.{ℕ, zero, suc, _+_, _-_, _*_, _^_, _≤_, _<_}
+use Prim.Native.Nat.{ℕ, zero, suc, _+_, _-_, _^_, _≤_, _<_}
 use native.Mathlib.Nat.{eq-or-lt-of-le}
 use native.Mathlib.Omega.{arith}
 use borrow.Author.Tests.{ltb-true, ltb-false}
@@ -127,6 +127,11 @@ keys-digits A d [] h = tt
 keys-digits A d (t ∷ F) h = (h .0, keys-digits A d F (h .1))
 
 -- ---- the products of digits at a place
+-- the parts with upper digits
+pub data Upper : Part → Type 0 where
+  cross-upper : Upper P.Cross
+  high-upper : Upper P.High
+
 module _ (w : ℤ) (x : ℕ) where
   module _ (F : List Term) where
     abbrev L : List Term
@@ -150,7 +155,8 @@ module _ (w : ℤ) (x : ℕ) where
         (digits-sum (inRow F x) F ∙ ap₂ (λ (a b : ℤ). a +ℤ pos digitBase *ℤ b) (right-digits L) (right-digits H))
         ∙ regroup w (sum (inRow L x) L) (sum (inRow H x) L) (sum (inRow L x) H) (sum (inRow H x) H)
       where
-        regroup : (w a b c d : ℤ) → w *ℤ (a +ℤ pos digitBase *ℤ b +ℤ pos digitBase *ℤ (c +ℤ pos digitBase *ℤ d)) ≡ w *ℤ a +ℤ pos (2 ^ 16) *ℤ (w *ℤ b +ℤ w *ℤ c) +ℤ pos (2 ^ 32) *ℤ (w *ℤ d)
+        regroup : (w a b c d : ℤ)
+            → w *ℤ (a +ℤ pos digitBase *ℤ b +ℤ pos digitBase *ℤ (c +ℤ pos digitBase *ℤ d)) ≡ w *ℤ a +ℤ pos (2 ^ 16) *ℤ (w *ℤ b +ℤ w *ℤ c) +ℤ pos (2 ^ 32) *ℤ (w *ℤ d)
         regroup w a b c d = rw (view w .eq, view a .eq, view b .eq, view c .eq, view d .eq) (simp diffs (⊖-eq _ _ _ _ (omega arith)))
 
     -- without a wide factor the parts with upper digits are 0
@@ -163,13 +169,10 @@ module _ (w : ℤ) (x : ℕ) where
       unfolding outerAt
       right-none G = ap (λ (z : ℤ). w *ℤ z) (sum-alike _ _ (λ i. narrow-sum (above x i) F n) G ∙ sum-zeros G) ∙ *ℤ-zero w
 
-      pub cross-none : partOf P.Cross w F x ≡ pos 0
+      pub upper-none : {part : Part} → Upper part → partOf part w F x ≡ pos 0
       unfolding partOf
-      cross-none = rw (right-none L, left-none L)
-
-      pub high-none : partOf P.High w F x ≡ pos 0
-      unfolding partOf
-      high-none = left-none H
+      upper-none cross-upper = rw (right-none L, left-none L)
+      upper-none high-upper = left-none H
 
   -- where no two keys have the place, nothing is added
   module _ (A : ℕ → Type 0) (z : (i k : ℕ) → A i → A k → above x i k ≡ pos 0) where
@@ -197,15 +200,15 @@ unfolding listed
 digits-listed d f zero = refl
 digits-listed d f (suc n) = digits-append d (listed n f) (f n ∷ []) ∙ ap (λ (F : List Term). F ++ (term (f n .key) (d (f n .coefficient)) ∷ [])) (digits-listed d f n)
 
-narrow-append : (F G : List Term) → Narrow F → Narrow G → Narrow (F ++ G)
+pub all-append : {X : Type 0} (A : X → Type 0) (k l : List X) → All A k → All A l → All A (k ++ l)
 unfolding All
-narrow-append [] G h k = k
-narrow-append (t ∷ F) G h k = (h .0, narrow-append F G (h .1) k)
+all-append A [] l h m = m
+all-append A (x ∷ k) l h m = (h .0, all-append A k l (h .1) m)
 
 narrow-listed : (f : ℕ → Term) (n : ℕ) → ((i : ℕ) → i < n → highDigit (f i .coefficient) ≡ pos 0) → Narrow (listed n f)
 unfolding listed All
 narrow-listed f zero h = tt
-narrow-listed f (suc n) h = narrow-append (listed n f) (f n ∷ []) (narrow-listed f n (λ i b. h i (omega arith))) (h n (omega arith), tt)
+narrow-listed f (suc n) h = all-append _ (listed n f) (f n ∷ []) (narrow-listed f n (λ i b. h i (omega arith))) (h n (omega arith), tt)
 
 module _ {d : ℤ → ℤ} {factors : List ℤ} {count : ℕ} {held : List ℤ} {wide : Bool} (q : HoldsDigits d factors count held wide) (indices : List ℕ) where
   pub held-digits : termsIn count indices held ≡ digits d (termsIn count indices factors)

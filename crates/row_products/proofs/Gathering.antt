@@ -41,7 +41,7 @@ use Rattle.row_products.specs.Digits.{highDigit, lowDigit, Narrow, Narro
 use Rattle.row_products.specs.Gather.{RowsFor, LowRow, RowHeld, PartAdded, RowAdded, Gathered}
 use Rattle.row_products.proofs.Gram.{factors-low, rows-on, rows-all}
 use Rattle.row_products.proofs.Outers.{above-other, above-never, outer-at-bound, raised-none, raised-then, raised-below}
-use Rattle.row_products.proofs.Digits.{low-small, high-small, cross-none, high-none, part-none, held-digits, held-narrow}
+use Rattle.row_products.proofs.Digits.{low-small, high-small, Upper, upper-none, part-none, all-append, held-digits, held-narrow}
 
 -- ---- a row in arrays, as the table of sums takes it
 abbrev noEntry : Entry
@@ -144,22 +144,15 @@ module _ {indices : List ℕ} {factors : List ℤ} {count : ℕ} {w : ℤ} {g : 
   abbrev room : ℕ
   room = length g
 
-  pub low-entries : {lows : List ℤ} {wide : Bool} → HoldsDigits lowDigit factors count lows wide → Entries digitMost indices lows count room
-  low-entries q = digit-entries (h .entries) q (λ l b. low-small l)
+  pub low-digit-entries : {lows : List ℤ} {wide : Bool} → HoldsDigits lowDigit factors count lows wide → Entries digitMost indices lows count room
+  low-digit-entries q = digit-entries (h .entries) q (λ l b. low-small l)
 
-  pub high-entries : {highs : List ℤ} {wide : Bool} → HoldsDigits highDigit factors count highs wide → Entries digitMost indices highs count room
-  high-entries q = digit-entries (h .entries) q high-small
+  pub high-digit-entries : {highs : List ℤ} {wide : Bool} → HoldsDigits highDigit factors count highs wide → Entries digitMost indices highs count room
+  high-digit-entries q = digit-entries (h .entries) q high-small
 
-  -- without a wide factor there is nothing to add
-  module _ (n : Narrow F) where
-    none-added : (part : Part) → ((x : ℕ) → partOf part w F x ≡ pos 0) → PartAdded part w F g g false
-    none-added part z = record { raised = raised-none z; small = λ x. rw (z x) (omega arith); narrow = λ e. n }
-
-    pub cross-not-added : PartAdded P.Cross w F g g false
-    cross-not-added = none-added P.Cross (λ x. cross-none w x F n)
-
-    pub high-not-added : PartAdded P.High w F g g false
-    high-not-added = none-added P.High (λ x. high-none w x F n)
+  -- without a wide factor the parts with upper digits have nothing to add
+  pub not-added : {part : Part} → Upper part → Narrow F → PartAdded part w F g g false
+  not-added u n = record { raised = raised-none (λ x. upper-none w x F n u); small = λ x. rw (upper-none w x F n u) (omega arith); narrow = λ e. n }
 
   module _ {lows : List ℤ} {a : Bool} (l : HoldsDigits lowDigit factors count lows a) where
     pub low-added : {g₁ : List ℤ} → Raised g (outerAt w (termsIn count indices lows) (termsIn count indices lows)) g₁ → PartAdded P.Low w F g g₁ a
@@ -167,14 +160,14 @@ module _ {indices : List ℕ} {factors : List ℤ} {count : ℕ} {w : ℤ} {g : 
     low-added r =
         record {
           raised = rw (held-digits l indices) at r;
-          small = λ x. rw (← held-digits l indices) (omega (arith, outer-at-bound (low-entries l) (low-entries l) w (h .weight-small) x));
+          small = λ x. rw (← held-digits l indices) (omega (arith, outer-at-bound (low-digit-entries l) (low-digit-entries l) w (h .weight-small) x));
           narrow = held-narrow l indices;
         }
 
     module _ {highs : List ℤ} {b : Bool} (u : HoldsDigits highDigit factors count highs b) where
       -- there is room for the second half of them
       pub cross-below : {g₁ : List ℤ} → Raised g (outerAt w (termsIn count indices lows) (termsIn count indices highs)) g₁ → Below (gatheredMost + outerUnit) g₁
-      cross-below r = raised-below gatheredMost outerUnit r (h .below) (outer-at-bound (low-entries l) (high-entries u) w (h .weight-small))
+      cross-below r = raised-below gatheredMost outerUnit r (h .below) (outer-at-bound (low-digit-entries l) (high-digit-entries u) w (h .weight-small))
 
       pub cross-added : {g₁ g₂ : List ℤ} → Raised g (outerAt w (termsIn count indices lows) (termsIn count indices highs)) g₁
           → Raised g₁ (outerAt w (termsIn count indices highs) (termsIn count indices lows)) g₂ → PartAdded P.Cross w F g g₂ true
@@ -187,8 +180,8 @@ module _ {indices : List ℕ} {factors : List ℤ} {count : ℕ} {w : ℤ} {g : 
                 (omega (
                   arith,
                   abs-sum (outerAt w (termsIn count indices lows) (termsIn count indices highs) x) (outerAt w (termsIn count indices highs) (termsIn count indices lows) x),
-                  outer-at-bound (low-entries l) (high-entries u) w (h .weight-small) x,
-                  outer-at-bound (high-entries u) (low-entries l) w (h .weight-small) x,
+                  outer-at-bound (low-digit-entries l) (high-digit-entries u) w (h .weight-small) x,
+                  outer-at-bound (high-digit-entries u) (low-digit-entries l) w (h .weight-small) x,
                 ));
             narrow = λ e. clash (cc);
           }
@@ -199,7 +192,7 @@ module _ {indices : List ℕ} {factors : List ℤ} {count : ℕ} {w : ℤ} {g : 
   high-added u r =
       record {
         raised = rw (held-digits u indices) at r;
-        small = λ x. rw (← held-digits u indices) (omega (arith, outer-at-bound (high-entries u) (high-entries u) w (h .weight-small) x));
+        small = λ x. rw (← held-digits u indices) (omega (arith, outer-at-bound (high-digit-entries u) (high-digit-entries u) w (h .weight-small) x));
         narrow = λ e. clash (cc);
       }
 
@@ -246,11 +239,6 @@ parts-more : (part : Part) (rs : List Row) (r : Row) (x : ℕ) → parts part (r
 unfolding parts
 parts-more part [] r x = +ℤ-comm (partAt part r x) (pos 0)
 parts-more part (q ∷ rs) r x = rw (parts-more part rs r x) (sym (+ℤ-assoc (partAt part q x) (parts part rs x) (partAt part r x)))
-
-narrow-more : (rs : List Row) (r : Row) → All NarrowRow rs → NarrowRow r → All NarrowRow (rs ++ (r ∷ []))
-unfolding All
-narrow-more [] r h n = (n, tt)
-narrow-more (q ∷ rs) r h n = (h .0, narrow-more rs r (h .1) n)
 
 -- ---- the walk for basis j: the table of sums holds one part of the products of the first t rows; `any` says whether one is on it, and
 -- `wide` whether one of those has a wide factor
@@ -325,7 +313,7 @@ module _ {part : Part} {rs : List Row} {j t : ℕ} {g₀ g : List ℤ} {any wide
                 omega (arith, abs-sum (getD g x (pos 0)) (partAt part r x), w .below x, a .small x);
             long = d .long ∙ w .long;
             none = λ n. clash (cc);
-            narrow = λ n. rw one-more (narrow-more (rowsOn j (take t rs)) r (w .narrow (f n .0)) (a .narrow (f n .1)));
+            narrow = λ n. rw one-more (unfold All in all-append NarrowRow (rowsOn j (take t rs)) (r ∷ []) (w .narrow (f n .0)) (a .narrow (f n .1), tt));
           }
 
       pub gathering-wide : Gathering part rs j (t + 1) g₀ g₂ true true

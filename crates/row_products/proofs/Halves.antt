@@ -148,7 +148,8 @@ module _ (M : ℕ → ℤ) (symmetric : (i k : ℕ) → i < 64 → k < 64 → M 
   doubled-moved : (n : ℕ) (c x : ℤ) → doubled n c *ℤ x ≡ c *ℤ doubled n x
   doubled-moved n c x = *ℤ-assoc (timesAt n) c x ∙ *ℤ-left-comm (timesAt n) c x
 
-  half-table : (rs : List Row) → All (λ (r : Row). All (λ (e : Entry). e .index < 64) (r .entries)) rs → sum M (gram rs) ≡ sum M (listed 4096 (λ n. term n (doubled n (coefficient n (gram rs)))))
+  half-table : (rs : List Row) → All (λ (r : Row). All (λ (e : Entry). e .index < 64) (r .entries)) rs
+      → sum M (gram rs) ≡ sum M (listed 4096 (λ n. term n (doubled n (coefficient n (gram rs)))))
   half-table rs small =
       gram-half rs small
       ∙ gram-places rs small half

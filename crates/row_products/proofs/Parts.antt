@@ -3,10 +3,9 @@ use mathlib.Core.Path.{_≡_, refl, sym, ap, ap₂, _∙_}
 use mathlib.Core.Bool.{false}
 use mathlib.Core.List.{List, [], _∷_}
 use mathlib.Core.Logic.{⊎-elim}
-use Prim.Native.Nat.{ℕ, zero, suc, _+_, _*_, _/_, _%_, _^_, _≤_, _<_}
+use Prim.Native.Nat.{ℕ, zero, suc, _+_, _*_, _/_, _%_, _^_, _<_}
 use native.Mathlib.Omega.{arith}
 use lib.IntN.{ℤ, pos, _+ℤ_, _*ℤ_, *ℤ-zero, +ℤ-idr}
-use lib.ListN.{length, getD}
 use Rattle.integers.proofs.Ring.{view, diffs, ⊖-eq, *ℤ-+ℤ, *ℤ-left-comm}
 use Rattle.counting.specs.Counting.{listed}
 use Rattle.counting.proofs.Listed.{listed-same, same-or-not}
@@ -33,7 +32,7 @@ use Rattle.row_products.specs.Gather.{RowsFor, Gathered}
 use Rattle.row_products.proofs.Gram.{sum-same, factors-low, outer-coefficient, rows-on}
 use Rattle.row_products.proofs.Halves.{sum-alike, sum-times, gram-table}
 use Rattle.row_products.proofs.Outers.{match-other, above-other}
-use Rattle.row_products.proofs.Digits.{outer-parts, cross-none, high-none}
+use Rattle.row_products.proofs.Digits.{Upper, cross-upper, high-upper, outer-parts, upper-none}
 use Rattle.row_products.proofs.Gathering.{on-low}
 
 -- ---- the half that is kept
@@ -54,7 +53,8 @@ module _ (x : ℕ) where
       ∙ sum-times (timesAt x) (λ i. sum (λ i′. match x (64 * i + i′)) F) F
 
   -- half of the products of a row, doubled
-  outer-is : (r : Row) → All (λ (e : Entry). e .index < 64) (r .entries) → doubled x (coefficient x (outer r)) ≡ outerAt (r .weight) (factorTerms (r .entries)) (factorTerms (r .entries)) x
+  outer-is : (r : Row) → All (λ (e : Entry). e .index < 64) (r .entries)
+      → doubled x (coefficient x (outer r)) ≡ outerAt (r .weight) (factorTerms (r .entries)) (factorTerms (r .entries)) x
   unfolding outerAt
   outer-is r low =
       let F = factorTerms (r .entries) in
@@ -128,27 +128,25 @@ unfolding partSpread
 squares-parts {s} {starts} {rows} {j} w p m =
     let on = rowsOn j (rowsBy s starts rows) in
     let few = basis-few (w .problem) (w .rows-sound .limits) j in
-    let low : All (λ (r : Row). All (λ (e : Entry). e .index < 64) (r .entries)) on = all-map _ _ (λ (r : Row) a. all-map _ _ (λ (e : Entry) b. omega (arith, few)) (r .entries) a) on (on-low (w .rows-sound) j) in
+    let low : All (λ (r : Row). All (λ (e : Entry). e .index < 64) (r .entries)) on =
+    all-map _ _ (λ (r : Row) a. all-map _ _ (λ (e : Entry) b. omega (arith, few)) (r .entries) a) on (on-low (w .rows-sound) j) in
     gram-table p j on (rows-on j (rowsBy s starts rows)) low m
-    ∙ over-together (share (basisOf p j) (multiplier p j) m) 4096 (λ x. doubled x (coefficient x (gram on))) (parts P.Low on) (parts P.Cross on) (parts P.High on) (λ x. gram-parts x on low)
+    ∙ over-together (share (basisOf p j) (multiplier p j) m) 4096 (λ x. doubled x (coefficient x (gram on))) (parts P.Low on) (parts P.Cross on) (parts P.High on)
+    (λ x. gram-parts x on low)
 
 -- ---- (3) without a wide factor the first part is all
-module _ (x : ℕ) where
-  narrow-cross : (rs : List Row) → All NarrowRow rs → parts P.Cross rs x ≡ pos 0
-  unfolding parts All
-  narrow-cross [] h = refl
-  narrow-cross (r ∷ rs) h = rw (cross-none (r .weight) x (factorTerms (r .entries)) (h .0), narrow-cross rs (h .1))
-
-  narrow-high : (rs : List Row) → All NarrowRow rs → parts P.High rs x ≡ pos 0
-  unfolding parts All
-  narrow-high [] h = refl
-  narrow-high (r ∷ rs) h = rw (high-none (r .weight) x (factorTerms (r .entries)) (h .0), narrow-high rs (h .1))
+narrow-none : {part : Part} → Upper part → (x : ℕ) (rs : List Row) → All NarrowRow rs → parts part rs x ≡ pos 0
+unfolding parts All
+narrow-none u x [] h = refl
+narrow-none u x (r ∷ rs) h = rw (upper-none (r .weight) x (factorTerms (r .entries)) (h .0) u, narrow-none u x rs (h .1))
 
 module _ {part : Part} {rs : List Row} {j : ℕ} {g₀ g : List ℤ} {found : Found} (k : Gathered part rs j g₀ g found) (e : found .wide ≡ false) (p : Problem) (m : ℕ) where
-  pub narrow-cross-spread : partSpread p j P.Cross (rowsOn j rs) m ≡ pos 0
+  pub narrow-spread : {upper : Part} → Upper upper → partSpread p j upper (rowsOn j rs) m ≡ pos 0
   unfolding partSpread
-  narrow-cross-spread = over-none (share (basisOf p j) (multiplier p j) m) 4096 _ (λ x. narrow-cross x (rowsOn j rs) (k .narrow e))
+  narrow-spread u = over-none (share (basisOf p j) (multiplier p j) m) 4096 _ (λ x. narrow-none u x (rowsOn j rs) (k .narrow e))
+
+  pub narrow-cross-spread : partSpread p j P.Cross (rowsOn j rs) m ≡ pos 0
+  narrow-cross-spread = narrow-spread cross-upper
 
   pub narrow-high-spread : partSpread p j P.High (rowsOn j rs) m ≡ pos 0
-  unfolding partSpread
-  narrow-high-spread = over-none (share (basisOf p j) (multiplier p j) m) 4096 _ (λ x. narrow-high x (rowsOn j rs) (k .narrow e))
+  narrow-high-spread = narrow-spread high-upper

@@ -3,8 +3,8 @@ use native.Mathlib.Omega.{arith}
 use borrow.Author.Needs.{needs}
 use borrow.Author.Tests.{not-true}
 use mir.Facts.{toZ-ofZ}
-use Rattle.row_products.proofs.Digits.{held-narrow}
-use Rattle.row_products.proofs.Gathering.{low-entries, high-entries, cross-not-added, cross-below, cross-added}
+use Rattle.row_products.proofs.Digits.{cross-upper, held-narrow}
+use Rattle.row_products.proofs.Gathering.{low-digit-entries, high-digit-entries, not-added, cross-below, cross-added}
 use Rattle.row_products.proofs.add_cross.Statement.{statement}
 use Rattle.row_products.proofs.add_cross.Tie as tie
 
@@ -15,7 +15,7 @@ returns : tie.Need-returns
 returns c =
     let u = c .before in
     let s = u .before .before .before in
-    cross-not-added (s .pre) (held-narrow (u .high-digits .ensures) (s .args .indices .now) (not-true _ (c .if1 .taken)))
+    not-added (s .pre) cross-upper (held-narrow (u .high-digits .ensures) (s .args .indices .now) (not-true _ (c .if1 .taken)))
 
 keep-low-digits-requires : tie.Need-keep-low-digits-requires
 keep-low-digits-requires c κs = search needs
@@ -31,8 +31,12 @@ module _ (c : tie.After-keep-low-digits) where
 add-outer-requires : tie.Need-add-outer-requires
 add-outer-requires c κs =
     let l = c .before .before .before in
-    let p = s l .pre in
-    (low-entries p (l .keep-low-digits .ensures), high-entries p (u l .high-digits .ensures), λ x. omega (arith, p .below x), rw (toZ-ofZ (s l .fits .w)) (p .weight-small))
+    let p = s l .pre in (
+      low-digit-entries p (l .keep-low-digits .ensures),
+      high-digit-entries p (u l .high-digits .ensures),
+      λ x. omega (arith, p .below x),
+      rw (toZ-ofZ (s l .fits .w)) (p .weight-small),
+    )
 
 add-outer-requires-2 : tie.Need-add-outer-requires-2
 add-outer-requires-2 c κs =
@@ -41,8 +45,8 @@ add-outer-requires-2 c κs =
     let p = s l .pre in
     let r = rw (toZ-ofZ (s l .fits .w)) at (o .add-outer .ensures) in
     rw (r .long) (
-      high-entries p (u l .high-digits .ensures),
-      low-entries p (l .keep-low-digits .ensures),
+      high-digit-entries p (u l .high-digits .ensures),
+      low-digit-entries p (l .keep-low-digits .ensures),
       λ x. omega (arith, cross-below p (l .keep-low-digits .ensures) (u l .high-digits .ensures) r x),
       rw (toZ-ofZ (s l .fits .w)) (p .weight-small),
     )
@@ -54,7 +58,8 @@ returns-2 : tie.Need-returns-2
 returns-2 c =
     let o = c .before .before .before .before .before .before in
     let l = o .before .before .before .before in
-    cross-added (s l .pre) (l .keep-low-digits .ensures) (u l .high-digits .ensures) (rw (toZ-ofZ (s l .fits .w)) at (o .add-outer .ensures)) (rw (toZ-ofZ (s l .fits .w)) at (c .before .add-outer2 .ensures))
+    cross-added (s l .pre) (l .keep-low-digits .ensures) (u l .high-digits .ensures) (rw (toZ-ofZ (s l .fits .w)) at (o .add-outer .ensures))
+    (rw (toZ-ofZ (s l .fits .w)) at (c .before .add-outer2 .ensures))
 
 pub add-cross-spec : {M : Type 1} → statement M
 add-cross-spec =

@@ -3,8 +3,8 @@ use native.Mathlib.Omega.{arith}
 use borrow.Author.Needs.{needs}
 use borrow.Author.Tests.{not-true}
 use mir.Facts.{toZ-ofZ}
-use Rattle.row_products.proofs.Digits.{held-narrow}
-use Rattle.row_products.proofs.Gathering.{high-entries, high-not-added, high-added}
+use Rattle.row_products.proofs.Digits.{high-upper, held-narrow}
+use Rattle.row_products.proofs.Gathering.{high-digit-entries, not-added, high-added}
 use Rattle.row_products.proofs.add_high.Statement.{statement}
 use Rattle.row_products.proofs.add_high.Tie as tie
 
@@ -15,13 +15,13 @@ returns : tie.Need-returns
 returns c =
     let u = c .before in
     let s = u .before .before in
-    high-not-added (s .pre) (held-narrow (u .high-digits .ensures) (s .args .indices .now) (not-true _ (c .if1 .taken)))
+    not-added (s .pre) high-upper (held-narrow (u .high-digits .ensures) (s .args .indices .now) (not-true _ (c .if1 .taken)))
 
 add-outer-requires : tie.Need-add-outer-requires
 add-outer-requires c κs =
     let u = c .before .before .before .before in
     let s = u .before .before in
-    let e = high-entries (s .pre) (u .high-digits .ensures) in
+    let e = high-digit-entries (s .pre) (u .high-digits .ensures) in
     (e, e, λ x. omega (arith, s .pre .below x), rw (toZ-ofZ (s .fits .w)) (s .pre .weight-small))
 
 same-length : tie.Need-same-length

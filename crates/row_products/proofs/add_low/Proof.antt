@@ -2,7 +2,7 @@
 use native.Mathlib.Omega.{arith}
 use borrow.Author.Needs.{needs}
 use mir.Facts.{toZ-ofZ}
-use Rattle.row_products.proofs.Gathering.{low-entries, low-added}
+use Rattle.row_products.proofs.Gathering.{low-digit-entries, low-added}
 use Rattle.row_products.proofs.add_low.Statement.{statement}
 use Rattle.row_products.proofs.add_low.Tie as tie
 
@@ -13,7 +13,7 @@ add-outer-requires : tie.Need-add-outer-requires
 add-outer-requires c κs =
     let l = c .before .before in
     let s = l .before .before in
-    let e = low-entries (s .pre) (l .keep-low-digits .ensures) in
+    let e = low-digit-entries (s .pre) (l .keep-low-digits .ensures) in
     (e, e, λ x. omega (arith, s .pre .below x), rw (toZ-ofZ (s .fits .w)) (s .pre .weight-small))
 
 same-length : tie.Need-same-length

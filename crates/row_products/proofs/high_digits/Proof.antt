@@ -1,7 +1,7 @@
 -- `high_digits`: the first k places hold the upper digits.
 use mathlib.Core.Path.{_≡_, sym, ap, _∙_}
 use mathlib.Core.Logic.{⊎-elim}
-use Prim.Native.Nat.{_+_, _-_, _≤_, _<_}
+use Prim.Native.Nat.{_-_, _≤_, _<_}
 use native.Mathlib.Omega.{arith}
 use borrow.Author.Needs.{needs, sfits-of}
 use lib.IntN.{ℤ, pos}
@@ -70,9 +70,10 @@ loop-again c =
     let h = c .before in
     let v = at h .loop .inv in
     let b : at h .loop .k < at h .before .args .count = h .before .before .loop-test .taken in
+    let n = length-set (at h .loop .highs) (at h .loop .k) (highDigit (l h)) ∙ v .1 in
     ⊎-elim
-    (λ t. rw (t .1, high-is h) (omega arith, length-set (at h .loop .highs) (at h .loop .k) _ ∙ v .1, digits-wide (v .2) (here h)))
-    (λ f. rw (f .1, high-is h) (omega arith, length-set (at h .loop .highs) (at h .loop .k) _ ∙ v .1, digits-narrow (v .2) (here h) (not-wide record { before = h; if1 = f .0 })))
+    (λ t. rw (t .1, high-is h) (omega arith, n, digits-wide (v .2) (here h)))
+    (λ f. rw (f .1, high-is h) (omega arith, n, digits-narrow (v .2) (here h) (not-wide record { before = h; if1 = f .0 })))
     (c .if1 .came)
 
 returns : tie.Need-returns Inv-loop μ-loop
