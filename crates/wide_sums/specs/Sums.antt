@@ -1,5 +1,5 @@
 -- Exact sums in two tables: the number at a place is high · 2^27 + low, both signed. What is said of one table holds of
--- each, and of a third where numbers have a third digit.
+-- each.
 use mathlib.Core.Path.{_≡_}
 use mathlib.Core.Bool.{Bool, true, false}
 use mathlib.Core.List.{List}
