@@ -8,6 +8,7 @@ ghost use Rattle.format.specs.Layouts.{ZeroUnknown};
 ghost use Rattle.format.specs.declared.certificate.Command.the-variants as C;
 ghost use Rattle.format.specs.CertificateLayout.{certificateCommand, certificateSize, certificateDecoded};
 ghost use Rattle.format.specs.CertificateRules.{Certificate, noHeader, entryPlaced, certificatePlaced, entryFits, certificateOperandsFit, indexRepeated, certificateRepeated, rowsFull, certificateFull, certificateRefusalAt};
+ghost use Rattle.format.specs.CertificateRules.{certificateInstructionAt};
 ghost use Rattle.certificate_reader.specs.Kept.{Sized, ProblemSizes, progressOf, ProgressWithin, noProgress, headed, begun, risen, advanced};
 ghost use Rattle.certificate_reader.specs.Rows.{sizeAt, entryAt, basisAt, weightAt, EntryStands, Validated};
 use format::certificate::Command;
@@ -224,33 +225,54 @@ fn is_full(g: Progress, i: Instruction) -> bool
     }
 }
 
-// The number of the refusal that the command at an offset meets, or 0.
-fn verdict_at(sizes: &[usize], g: Progress, s: &[u8], at: usize) -> u8
+// What the checks of a command found: the number of the refusal that it meets, or 0, and then what it says. Each command
+// is decoded once, for its checks and for what is kept of it.
+pub struct Checked {
+    pub number: u8,
+    pub instruction: Instruction,
+}
+
+// A command that is refused.
+fn refused(number: u8) -> Checked
+    ensures { λ r. ⌜ r .number ≡ number ⌝ }
+{
+    Checked {
+        number,
+        instruction: Instruction::End,
+    }
+}
+
+// The checks of the command at an offset, in their order.
+fn verdict_at(sizes: &[usize], g: Progress, s: &[u8], at: usize) -> Checked
     requires { ⌜ ProgressWithin g × ProblemSizes (now sizes) × (at < length (now s)) ⌝ }
     ensures { λ r. ⌜
         ((p : Problem) (c : Certificate) → Sized p (now (sizes .entry)) → g ≡ progressOf c
-        → r ≡ certificateRefusalAt p c (now (s .entry)) at)
+        → r .number ≡ certificateRefusalAt p c (now (s .entry)) at)
+        × (r .number ≡ 0 → r .instruction ≡ certificateInstructionAt (now (s .entry)) at)
         ⌝ }
 {
     let byte = s[at];
     let command = command_of(byte);
     if !is_placed(g, at, command) {
-        return 3;
+        return refused(3);
     }
     if s.len() - at < length_of(byte) {
-        return 2;
+        return refused(2);
     }
-    let i = decode_at(command, s, at);
-    if !is_allowed(sizes, g, i) {
-        return 4;
+    let instruction = decode_at(command, s, at);
+    if !is_allowed(sizes, g, instruction) {
+        return refused(4);
     }
-    if is_repeated(g, i) {
-        return 5;
+    if is_repeated(g, instruction) {
+        return refused(5);
     }
-    if is_full(g, i) {
-        return 6;
+    if is_full(g, instruction) {
+        return refused(6);
     }
-    0
+    Checked {
+        number: 0,
+        instruction,
+    }
 }
 
 // The header after a command that is not refused.
@@ -325,8 +347,9 @@ pub fn validate(sizes: &[usize], s: &[u8], starts: &mut [usize; 129]) -> Reading
     let mut progress = no_progress();
     let mut at = 0;
     while at < s.len() {
-        let number = verdict_at(sizes, progress, s, at);
+        let checked = verdict_at(sizes, progress, s, at);
         let rows = progress.rows;
+        let number = checked.number;
         if 0 < number {
             return Reading {
                 number,
@@ -336,7 +359,6 @@ pub fn validate(sizes: &[usize], s: &[u8], starts: &mut [usize; 129]) -> Reading
             };
         }
         let byte = s[at];
-        let command = command_of(byte);
         let next = at + length_of(byte);
         if byte == 0x13 {
             let number = if next < s.len() { 2 } else { 0 };
@@ -347,7 +369,7 @@ pub fn validate(sizes: &[usize], s: &[u8], starts: &mut [usize; 129]) -> Reading
                 rows,
             };
         }
-        let i = decode_at(command, s, at);
+        let i = checked.instruction;
         header = header_after(header, i);
         progress = progress_after(progress, i);
         let begun = progress.rows;

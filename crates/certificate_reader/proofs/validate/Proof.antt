@@ -55,7 +55,7 @@ returns c = λ p limits e.
     let l = c .before .before .before in
     let k = l .loop .inv p limits e in
     said p (s l) _ _ (omega arith)
-    (held-refused p (s l) _ _ _ (l .loop .at) k (omega arith) _ (c .before .verdict-at .ensures p (k .read) e (k .progress)) (omega arith))
+    (held-refused p (s l) _ _ _ (l .loop .at) k (omega arith) _ (c .before .verdict-at .ensures .0 p (k .read) e (k .progress)) (omega arith))
 
 -- past the checks
 module _ (c : tie.Else1 Inv-loop μ-loop) where
@@ -63,31 +63,31 @@ module _ (c : tie.Else1 Inv-loop μ-loop) where
   here = c .before .before .before
 
   none : (p : Problem) (limits : Limits p) (e : Sized p (sizes here)) → certificateRefusalAt p (here .loop .inv p limits e .read) (s here) (here .loop .at) ≡ 0
-  none p limits e = let k = here .loop .inv p limits e in let v = c .before .verdict-at .ensures p (k .read) e (k .progress) in omega arith
+  none p limits e = let k = here .loop .inv p limits e in let v = c .before .verdict-at .ensures .0 p (k .read) e (k .progress) in omega arith
 
   taken : certificateRefusalAt (start here .pre .0 .problem) (held here .read) (s here) (here .loop .at) ≡ 0
   unfolding held
   taken = none (start here .pre .0 .problem) (start here .pre .0 .limits) (start here .pre .0 .sized)
 
-length-is : (c : tie.After-length-of Inv-loop μ-loop) → let l = c .before .before .before .before .before .before in c .length-of .result ≡ certificateSize (certificateCommandAt (s l) (l .loop .at))
+  decoded : c .before .verdict-at .result .instruction ≡ certificateInstructionAt (s here) (here .loop .at)
+  decoded = c .before .verdict-at .ensures .1 (omega arith)
+
+length-is : (c : tie.After-length-of Inv-loop μ-loop) → let l = c .before .before .before .before .before in c .length-of .result ≡ certificateSize (certificateCommandAt (s l) (l .loop .at))
 length-is c = c .length-of .ensures .0
 
 shared-slice-read-byte : tie.Need-shared-slice-read-byte Inv-loop μ-loop
 shared-slice-read-byte c = search needs
 
-command-of-requires : tie.Need-command-of-requires Inv-loop μ-loop
-command-of-requires c κs = search needs
-
 length-of-requires : tie.Need-length-of-requires Inv-loop μ-loop
 length-of-requires c κs = search needs
 
 add-next : tie.Need-add-next Inv-loop μ-loop
-add-next c = let k = length-is c in omega (arith, taken-whole _ _ _ _ (taken (c .before .before .before)))
+add-next c = let k = length-is c in omega (arith, taken-whole _ _ _ _ (taken (c .before .before)))
 
 returns-2 : tie.Need-returns-2 Inv-loop μ-loop
 unfolding certificateCommand
 returns-2 c = λ p limits e.
-    let i = c .before .before .before .before .before in
+    let i = c .before .before .before .before in
     let l = here i in
     let b = c .before .if2 .taken in
     let k : c .before .before .length-of .result ≡ 1 = length-is (c .before .before) ∙ ap (λ (x : ℕ). certificateSize (certificateCommand x)) b in
@@ -96,7 +96,7 @@ returns-2 c = λ p limits e.
 returns-3 : tie.Need-returns-3 Inv-loop μ-loop
 unfolding certificateCommand
 returns-3 c = λ p limits e.
-    let i = c .before .before .before .before .before in
+    let i = c .before .before .before .before in
     let l = here i in
     let b = c .before .if2 .taken in
     let k : c .before .before .length-of .result ≡ 1 = length-is (c .before .before) ∙ ap (λ (x : ℕ). certificateSize (certificateCommand x)) b in
@@ -105,27 +105,18 @@ returns-3 c = λ p limits e.
       refuses = λ z. absurd (omega arith);
     }
 
-decode-at-requires : tie.Need-decode-at-requires Inv-loop μ-loop
-decode-at-requires c κs =
-    let i = c .before .before .before .before in
-    let k = length-is (c .before) in
-    let e = ap certificateSize (c .before .before .command-of .ensures) in
-    omega (arith, taken-whole _ _ _ _ (taken i))
-
 header-after-requires : tie.Need-header-after-requires Inv-loop μ-loop
 header-after-requires c κs = search needs
 
 progress-after-requires : tie.Need-progress-after-requires Inv-loop μ-loop
-progress-after-requires c κs = held (here (c .before .before .before .before .before .before)) .bounded
+progress-after-requires c κs = held (here (c .before .before .before .before)) .bounded
 
 -- the row that is begun has its place
 within : (c : tie.After-progress-after Inv-loop μ-loop) → c .progress-after .result .rows ≤ 128
 within c =
-    let e = c .before .before .before .before in
-    let i = e .before .before .before in
+    let i = c .before .before .before .before .before in
     let l = here i in
-    let d : c .before .before .decode-at .result ≡ certificateInstructionAt (s l) (l .loop .at) = rw (c .before .before .decode-at .ensures, e .before .command-of .ensures) in
-    rw (c .progress-after .ensures, d) (bounded-next (start l .pre .0 .problem) (s l) _ _ _ (l .loop .at) (held l) (omega arith) (taken i) (start l .pre .0 .limits) .rows)
+    rw (c .progress-after .ensures, decoded i) (bounded-next (start l .pre .0 .problem) (s l) _ _ _ (l .loop .at) (held l) (omega arith) (taken i) (start l .pre .0 .limits) .rows)
 
 mul-starts : tie.Need-mul-starts Inv-loop μ-loop
 mul-starts c = omega (arith, within c)
@@ -135,19 +126,18 @@ element-write-starts c = omega (arith, within c)
 
 loop-less : tie.Need-loop-less Inv-loop μ-loop
 loop-less c =
-    let e = c .before .before .before .before in
+    let e = c .before .before .before in
     let k = length-is e in
-    let n = taken (e .before .before .before) in
+    let n = taken (e .before .before) in
     omega (arith, taken-whole _ _ _ _ n, taken-size _ _ _ _ n)
 
 loop-again : tie.Need-loop-again Inv-loop μ-loop
 loop-again c = λ p limits h.
-    let e = c .before .before .before .before in
-    let i = e .before .before .before in
+    let e = c .before .before .before in
+    let i = e .before .before in
     let l = here i in
-    let d : c .before .before .decode-at .result ≡ certificateInstructionAt (s l) (l .loop .at) = rw (c .before .before .decode-at .ensures, e .before .command-of .ensures) in
-    rw (c .before .header-after .ensures, c .progress-after .ensures, d, length-is e)
-    (held-next p (s l) _ _ _ (l .loop .at) (l .loop .inv p limits h) (omega arith) (none i p limits h) limits (c .before .before .before .if2 .left))
+    rw (c .before .header-after .ensures, c .progress-after .ensures, decoded i, length-is e)
+    (held-next p (s l) _ _ _ (l .loop .at) (l .loop .inv p limits h) (omega arith) (none i p limits h) limits (c .before .before .if2 .left))
 
 returns-4 : tie.Need-returns-4 Inv-loop μ-loop
 returns-4 c = λ p limits e.
@@ -166,12 +156,10 @@ validate-spec =
     verdict-at-requires
     returns
     shared-slice-read-byte
-    command-of-requires
     length-of-requires
     add-next
     returns-2
     returns-3
-    decode-at-requires
     header-after-requires
     progress-after-requires
     mul-starts

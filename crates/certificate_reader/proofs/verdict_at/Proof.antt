@@ -2,7 +2,7 @@
 use mathlib.Core.Path.{_≡_, sym, ap, _∙_}
 use mathlib.Core.Bool.{Bool, true, false}
 use mathlib.Core.List.{List}
-use Prim.Native.Nat.{ℕ, _+_, _≤_}
+use Prim.Native.Nat.{ℕ, suc, _+_, _≤_}
 use native.Mathlib.Omega.{arith}
 use lib.ListN.{length}
 use borrow.Author.Needs.{needs}
@@ -64,50 +64,87 @@ module _ (c : tie.After-is-placed) where
     placed-as : {b : Bool} → c .is-placed .result ≡ b → certificatePlaced k at (certificateCommandAt s at) ≡ b
     placed-as e = rw (c .before .command-of .ensures) at (sym (c .is-placed .ensures k f) ∙ e)
 
+refused-requires : tie.Need-refused-requires
+refused-requires c κs = search needs
+
+-- a refusal: its number, and no instruction is promised
+refusal : {n r : ℕ} {Q : Type 0} → r ≡ suc n → r ≡ 0 → Q
+refusal e z = absurd (omega arith)
+
 returns : tie.Need-returns
-returns c = λ p k e f. verdict-3 p k _ _ (placed-as (c .before) k f (not-true _ (c .if1 .taken)))
+returns c = (λ p k e f. c .refused .ensures ∙ verdict-3 p k _ _ (placed-as (c .before .before) k f (not-true _ (c .before .if1 .taken))), refusal (c .refused .ensures))
+
+refused-requires-2 : tie.Need-refused-requires-2
+refused-requires-2 c κs = search needs
 
 returns-2 : tie.Need-returns-2
-returns-2 c = λ p k e f.
-    let i = c .before .before in
-    let n = length-is (c .before) in
-    verdict-2 p k _ _ (placed-as (i .before) k f (not-false _ (i .if1 .left))) (omega arith)
+returns-2 c =
+    let i = c .before .before .before in
+    let n = length-is (c .before .before) in
+    (λ p k e f. c .refused2 .ensures ∙ verdict-2 p k _ _ (placed-as (i .before) k f (not-false _ (i .if1 .left))) (omega arith), refusal (c .refused2 .ensures))
+
+refused-requires-3 : tie.Need-refused-requires-3
+refused-requires-3 c κs = search needs
 
 returns-3 : tie.Need-returns-3
-returns-3 c = λ p k e f.
-    let d = c .before .before in
-    let i = d .before .before .before in
-    verdict-4 p k _ _ (placed-as (i .before) k f (not-false _ (i .if1 .left))) (whole (d .before))
-    (rw (decoded d) at (sym (c .before .is-allowed .ensures p k e f) ∙ not-true _ (c .if3 .taken)))
+returns-3 c =
+    let t = c .before in
+    let d = t .before .before in
+    let i = d .before .before .before in (
+      λ p k e f.
+          c .refused3 .ensures
+          ∙ verdict-4 p k _ _ (placed-as (i .before) k f (not-false _ (i .if1 .left))) (whole (d .before))
+          (rw (decoded d) at (sym (t .before .is-allowed .ensures p k e f) ∙ not-true _ (t .if3 .taken))),
+      refusal (c .refused3 .ensures),
+    )
 
 -- past the third
 kept : (c : tie.Else3) → let a = c .before .before .before .before .before .before .before .before .before .before .before .args in (p : Problem) (k : Certificate) → Sized p (a .sizes .now) → a .g ≡ progressOf k → certificateOperandsFit p k (certificateInstructionAt (a .s .now) (a .at)) ≡ true
 kept c p k e f = rw (decoded (c .before .before)) at (sym (c .before .is-allowed .ensures p k e f) ∙ not-false _ (c .if3 .left))
 
+refused-requires-4 : tie.Need-refused-requires-4
+refused-requires-4 c κs = search needs
+
 returns-4 : tie.Need-returns-4
-returns-4 c = λ p k e f.
-    let d = c .before .before .before .before in
-    let i = d .before .before .before in
-    verdict-5 p k _ _ (placed-as (i .before) k f (not-false _ (i .if1 .left))) (whole (d .before)) (kept (c .before .before) p k e f)
-    (rw (decoded d) at (sym (c .before .is-repeated .ensures k f) ∙ c .if4 .taken))
+returns-4 c =
+    let t = c .before in
+    let d = t .before .before .before .before in
+    let i = d .before .before .before in (
+      λ p k e f.
+          c .refused4 .ensures
+          ∙ verdict-5 p k _ _ (placed-as (i .before) k f (not-false _ (i .if1 .left))) (whole (d .before)) (kept (t .before .before) p k e f)
+          (rw (decoded d) at (sym (t .before .is-repeated .ensures k f) ∙ t .if4 .taken)),
+      refusal (c .refused4 .ensures),
+    )
 
 -- past the fourth
 fresh : (c : tie.Else4) → let a = c .before .before .before .before .before .before .before .before .before .before .before .before .before .args in (k : Certificate) → a .g ≡ progressOf k → certificateRepeated k (certificateInstructionAt (a .s .now) (a .at)) ≡ false
 fresh c k f = rw (decoded (c .before .before .before .before)) at (sym (c .before .is-repeated .ensures k f) ∙ c .if4 .left)
 
+refused-requires-5 : tie.Need-refused-requires-5
+refused-requires-5 c κs = search needs
+
 returns-5 : tie.Need-returns-5
-returns-5 c = λ p k e f.
-    let d = c .before .before .before .before .before .before in
-    let i = d .before .before .before in
-    verdict-6 p k _ _ (placed-as (i .before) k f (not-false _ (i .if1 .left))) (whole (d .before)) (kept (c .before .before .before .before) p k e f) (fresh (c .before .before) k f)
-    (rw (decoded d) at (sym (c .before .is-full .ensures k f) ∙ c .if5 .taken))
+returns-5 c =
+    let t = c .before in
+    let d = t .before .before .before .before .before .before in
+    let i = d .before .before .before in (
+      λ p k e f.
+          c .refused5 .ensures
+          ∙ verdict-6 p k _ _ (placed-as (i .before) k f (not-false _ (i .if1 .left))) (whole (d .before)) (kept (t .before .before .before .before) p k e f) (fresh (t .before .before) k f)
+          (rw (decoded d) at (sym (t .before .is-full .ensures k f) ∙ t .if5 .taken)),
+      refusal (c .refused5 .ensures),
+    )
 
 returns-6 : tie.Need-returns-6
-returns-6 c = λ p k e f.
+returns-6 c =
     let d = c .before .before .before .before .before .before in
-    let i = d .before .before .before in
-    verdict-0 p k _ _ (placed-as (i .before) k f (not-false _ (i .if1 .left))) (whole (d .before)) (kept (c .before .before .before .before) p k e f) (fresh (c .before .before) k f)
-    (rw (decoded d) at (sym (c .before .is-full .ensures k f) ∙ c .if5 .left))
+    let i = d .before .before .before in (
+      λ p k e f.
+          verdict-0 p k _ _ (placed-as (i .before) k f (not-false _ (i .if1 .left))) (whole (d .before)) (kept (c .before .before .before .before) p k e f) (fresh (c .before .before) k f)
+          (rw (decoded d) at (sym (c .before .is-full .ensures k f) ∙ c .if5 .left)),
+      λ _. decoded d,
+    )
 
 pub verdict-at-spec : {M : Type 1} → statement M
 verdict-at-spec =
@@ -116,15 +153,20 @@ verdict-at-spec =
     shared-slice-read-byte
     command-of-requires
     is-placed-requires
+    refused-requires
     returns
     sub-if2
     length-of-requires
+    refused-requires-2
     returns-2
     decode-at-requires
     is-allowed-requires
+    refused-requires-3
     returns-3
     is-repeated-requires
+    refused-requires-4
     returns-4
     is-full-requires
+    refused-requires-5
     returns-5
     returns-6)
