@@ -1,6 +1,7 @@
 //! Records for the requests of document 02.
 
 mod equalities;
+mod superseding;
 mod windows;
 
 use crate::generate::accepted::case;
@@ -9,7 +10,7 @@ use crate::generate::certificates::{as_record, streams};
 use crate::generate::changes::{change_case, CHANGES};
 use crate::generate::damage::{self, damaged};
 use crate::generate::rng::Rng;
-use crate::records::{Record, BLOCKS, CHECK, PAIR, WINDOW};
+use crate::records::{Record, BLOCKS, CHECK, PAIR, TIGHTER, WINDOW};
 
 /// A call that a request added.
 pub struct Call {
@@ -55,6 +56,12 @@ const LANDED: &[Landed] = &[
         put: equalities::put,
         count: 200,
     }),
+    Landed::Call(Call {
+        kind: TIGHTER,
+        special: superseding::special,
+        random: superseding::random,
+        count: 300,
+    }),
 ];
 
 /// The seed of the corpus.
@@ -98,14 +105,25 @@ pub fn record(rng: &mut Rng, kind: u8) -> Option<Record> {
     if !rng.once_in(2) {
         return None;
     }
-    let change = |landed: &'static Landed| match landed {
-        Landed::Change(change) => Some(change),
-        Landed::Call(_) => None,
-    };
-    let mut changes: Vec<&Change> = LANDED.iter().filter_map(change).collect();
+    let mut changes: Vec<&Change> = LANDED.iter().filter_map(as_change).collect();
     rng.shuffle(&mut changes);
     changes.truncate(rng.between(1, 3));
     Some(changed(rng, kind, &changes))
+}
+
+fn as_change(landed: &'static Landed) -> Option<&'static Change> {
+    match landed {
+        Landed::Change(change) => Some(change),
+        Landed::Call(_) => None,
+    }
+}
+
+/// The changes that landed before the call of this kind. The records of the corpus for the call draw
+/// on these alone, so that they stay when another request lands.
+fn changes_before(kind: u8) -> Vec<&'static Change> {
+    let before = |landed: &&Landed| !matches!(landed, Landed::Call(call) if call.kind == kind);
+    let landed = LANDED.iter().take_while(before);
+    landed.filter_map(as_change).collect()
 }
 
 /// A record with these requests in it, now and then with a damaged stream.
