@@ -29,7 +29,8 @@ use Rattle.calls.specs.Check.{boundOf, checkVerdict}
 use Rattle.calls.specs.Promises.{NumberedTo, Reads, Within}
 use Rattle.calls.specs.Superseding.{isTighter, comesBack, noneBack, tighterOf, isAccepted}
 use Rattle.calls.specs.Superseding.{supersedingOf, supersedingVerdict, partOf}
-use Rattle.calls.specs.Superseding.{ZeroExactly, HoldingPart, HoldsBack, BothAccepted, AsTight, Tightest, TighterBack}
+use Rattle.calls.specs.Superseding.{ZeroExactly, HoldingPart, HoldsBack, BothAccepted, AsTight}
+use Rattle.calls.specs.Superseding.{Tightest, TighterBack}
 use Rattle.calls.specs.Superseding.{AloneBack, FirstRefusal, SidesDiffer, ElevenExactly}
 use Rattle.calls.proofs.Ends.{reads-at}
 use Rattle.calls.proofs.Checking.{Checked, given-once, check-found, check-clauses}
@@ -394,10 +395,24 @@ module _ (short : Bool) (s first second : List ℕ) (v : SupersedingVerdict)
       always p w d (neither h k e) = absurd (h (first-passed p w d))
 
   -- all of them
-  pub superseding-clauses : NumberedTo 11 (v .refusal .number)
+  superseding-clauses : NumberedTo 11 (v .refusal .number)
       × (ZeroExactly part (v .refusal)
       × (HoldsBack s part
       × (TighterBack short s first second part
       × (AloneBack short s first second part
       × (FirstRefusal short s first (v .refusal) × ElevenExactly short s first second (v .refusal))))))
   superseding-clauses = (numbered, (zero-exactly, (holds-back, (tighter-back, (alone-back, (first-refusal, eleven))))))
+
+-- of what comes back and what the four numbers hold, where these are the definition's
+module _ (short : Bool) (s first second part : List ℕ) (f : Refusal) where
+  abbrev verdict : SupersedingVerdict
+  verdict = supersedingVerdict short s first second
+
+  pub left-clauses : part ≡ partOf (verdict .chosen) first second → f ≡ verdict .refusal
+      → NumberedTo 11 (f .number)
+      × (ZeroExactly part f
+      × (HoldsBack s part
+      × (TighterBack short s first second part
+      × (AloneBack short s first second part
+      × (FirstRefusal short s first f × ElevenExactly short s first second f)))))
+  left-clauses e g = rw (e, g) (superseding-clauses short s first second verdict refl)
