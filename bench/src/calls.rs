@@ -43,6 +43,25 @@ extern "C" {
         low: *mut i64,
         low_length: usize,
     ) -> u64;
+
+    fn zamiachisel_tighter(
+        problem: *const u8,
+        problem_length: usize,
+        first: *const u8,
+        first_length: usize,
+        second: *const u8,
+        second_length: usize,
+        number: *mut u64,
+        stream: *mut u64,
+        place: *mut u64,
+        key: *mut u64,
+        keys: *mut u64,
+        keys_length: usize,
+        high: *mut i64,
+        high_length: usize,
+        low: *mut i64,
+        low_length: usize,
+    ) -> u64;
 }
 
 /// A record: its kind and its three byte runs.
@@ -111,6 +130,37 @@ pub fn answer(record: &Record, lent: &mut Lent) -> u64 {
         b'b' => call!(zamiachisel_blocks, problem; lent.out, lent.keys, lent.high, lent.low),
         b'c' => call!(zamiachisel_check, problem, first; lent.keys, lent.high, lent.low),
         b'p' => call!(zamiachisel_pair, problem, first, second; lent.keys, lent.high, lent.low),
+        b't' => tighter(&record.runs, lent)[0],
         _ => 0,
     }
+}
+
+/// The four numbers that the call on two certificates leaves. They are lent with other numbers in them; where the number of
+/// the refusal is 0 a certificate comes back, and nowhere else.
+pub fn tighter([problem, first, second]: &[Vec<u8>; 3], lent: &mut Lent) -> [u64; 4] {
+    let [mut number, mut stream, mut place, mut key] = [u64::MAX; 4];
+    // As above; the four numbers are apart from each other and from the tables.
+    let back = unsafe {
+        zamiachisel_tighter(
+            problem.as_ptr(),
+            problem.len(),
+            first.as_ptr(),
+            first.len(),
+            second.as_ptr(),
+            second.len(),
+            &raw mut number,
+            &raw mut stream,
+            &raw mut place,
+            &raw mut key,
+            lent.keys.as_mut_ptr(),
+            lent.keys.len(),
+            lent.high.as_mut_ptr(),
+            lent.high.len(),
+            lent.low.as_mut_ptr(),
+            lent.low.len(),
+        )
+    };
+    assert_eq!(number == 0, back == 1 || back == 2);
+    assert!(number != 0 || [stream, place, key] == [0; 3]);
+    [number, stream, place, key]
 }

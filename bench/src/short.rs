@@ -1,6 +1,6 @@
 //! Refusal 1: each call with each of the lent tables one short.
 
-use crate::calls::{answer, Lent, Record};
+use crate::calls::{answer, tighter, Lent, Record};
 
 /// Case F: a problem and its two certificates, all of which hold.
 const PROBLEM: [&[u8]; 9] = [
@@ -31,9 +31,11 @@ fn case_f(kind: u8) -> Record {
     .concat();
     let mut high = [&[0x10, 1, 2, 0, 1, 0, 0, 0, 1, 0], &ROWS.concat()[..]].concat();
     high[20..22].copy_from_slice(&[255, 255]);
+    // The call on two certificates takes two of one side.
+    let second = if kind == b't' { low.clone() } else { high };
     Record {
         kind,
-        runs: [PROBLEM.concat(), low, high],
+        runs: [PROBLEM.concat(), low, second],
     }
 }
 
@@ -86,12 +88,15 @@ pub fn run() {
         |lent| lent.low.truncate(2_047),
         |lent| lent.keys.clear(),
     ];
-    for kind in *b"bcp" {
+    for kind in *b"bcpt" {
         full(kind);
         for shorten in tables {
             shortened(kind, shorten);
         }
     }
+    let mut lent = filled();
+    lent.low.truncate(2_047);
+    assert_eq!(tighter(&case_f(b't').runs, &mut lent), [1, 0, 0, 0]);
     shortened(b'b', |lent| lent.out.truncate(575));
-    println!("refusal 1 for each short table of each call, and nothing written");
+    println!("refusal 1 for each short table of each call, and nothing written but the four numbers of the call on two");
 }

@@ -36,7 +36,13 @@ fn used(record: &Record, lent: &mut Lent) -> usize {
 fn run_all(records: &[Record]) {
     let mut lent = Lent::new();
     println!("call\trecords\tbytes");
-    for (kind, name) in [(b'b', "blocks"), (b'c', "check"), (b'p', "pair")] {
+    let calls = [
+        (b'b', "blocks"),
+        (b'c', "check"),
+        (b'p', "pair"),
+        (b't', "tighter"),
+    ];
+    for (kind, name) in calls {
         let records = records.iter().filter(|record| record.kind == kind);
         let bytes: Vec<usize> = records.map(|record| used(record, &mut lent)).collect();
         let most = bytes.iter().copied().max().unwrap_or(0);

@@ -13,12 +13,14 @@ pub const CHECK: u8 = b'c';
 pub const PAIR: u8 = b'p';
 /// That of request 11.
 pub const WINDOW: u8 = b'w';
+/// That of request 02.
+pub const TIGHTER: u8 = b't';
 
 /// The number of runs of a kind: problem, first certificate and second certificate for the calls of
-/// document 01. There is none for a byte that is no kind.
+/// document 01 and of request 02. There is none for a byte that is no kind.
 pub fn run_count(kind: u8) -> Option<usize> {
     match kind {
-        BLOCKS | CHECK | PAIR | WINDOW => Some(3),
+        BLOCKS | CHECK | PAIR | WINDOW | TIGHTER => Some(3),
         _ => None,
     }
 }
@@ -51,6 +53,14 @@ impl Record {
     pub fn pair(problem: Vec<u8>, first: Vec<u8>, second: Vec<u8>) -> Self {
         Record {
             kind: PAIR,
+            runs: vec![problem, first, second],
+        }
+    }
+
+    /// Two certificates of which the tighter one comes back.
+    pub fn tighter(problem: Vec<u8>, first: Vec<u8>, second: Vec<u8>) -> Self {
+        Record {
+            kind: TIGHTER,
             runs: vec![problem, first, second],
         }
     }

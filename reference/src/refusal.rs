@@ -27,6 +27,8 @@ pub const BLOCKS: u8 = 8;
 pub const IDENTITY: u8 = 9;
 /// In a pair, first side not 0 or second not 1.
 pub const SIDES: u8 = 10;
+/// Request 02: both certificates are accepted and their sides differ.
+pub const DIFFERENT_SIDES: u8 = 11;
 
 /// The four fields of a refusal.
 #[derive(Clone, Copy, Debug, PartialEq, Eq)]

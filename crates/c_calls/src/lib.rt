@@ -5,6 +5,8 @@ ghost use Rattle.calls.specs.Tables.{tables, tablesShort, TablesLeft};
 ghost use Rattle.calls.specs.Blocks.{blocksShort, blocksVerdict, bytesLeft};
 ghost use Rattle.calls.specs.Check.{checkVerdict};
 ghost use Rattle.calls.specs.Pair.{pairVerdict};
+ghost use Rattle.calls.specs.Superseding.{supersedingVerdict, streamOf, refusalIn};
+use calls::Chosen;
 use calls::Refusal;
 
 // The number of a refusal, 0 where nothing is refused, as C programs get it.
@@ -85,4 +87,54 @@ pub extern "C" fn zamiachisel_pair(
 {
     let v = checker::pair(problem, first, second, keys, high, low);
     number_of(v.refusal)
+}
+
+// The call on two certificates for one problem. C gets no part of a run, so what comes back is the number of the stream
+// that does, 1 for the first certificate and 2 for the second, and 0 for neither.
+// stack: see docs/measured/stack-bound.tsv (at most 205,312 bytes)
+#[no_mangle]
+pub extern "C" fn zamiachisel_tighter(
+    problem: &[u8],
+    first: &[u8],
+    second: &[u8],
+    number: &mut u64,
+    stream: &mut u64,
+    place: &mut u64,
+    key: &mut u64,
+    keys: &mut [u64],
+    high: &mut [i64],
+    low: &mut [i64],
+) -> u64
+    ensures chosen { λ r.
+        let lent = tables (now (keys .entry)) (now (high .entry)) (now (low .entry)) in
+        let s = now (problem .entry) in
+        let v = supersedingVerdict (tablesShort lent) s (now (first .entry)) (now (second .entry)) in
+        ⌜ r ≡ streamOf (v .chosen) ⌝ }
+    ensures numbers { λ _.
+        let lent = tables (now (keys .entry)) (now (high .entry)) (now (low .entry)) in
+        let s = now (problem .entry) in
+        let v = supersedingVerdict (tablesShort lent) s (now (first .entry)) (now (second .entry)) in
+        ⌜ refusalIn (now (number .exit)) (now (stream .exit)) (now (place .exit)) (now (key .exit)) ≡ v .refusal ⌝ }
+    ensures tables { λ _.
+        let lent = tables (now (keys .entry)) (now (high .entry)) (now (low .entry)) in
+        let left = tables (now (keys .exit)) (now (high .exit)) (now (low .exit)) in
+        ⌜ TablesLeft (tablesShort lent) lent left ⌝ }
+{
+    let chosen = superseding::choose(
+        problem,
+        first,
+        second,
+        number,
+        stream,
+        place,
+        key,
+        keys,
+        high,
+        low,
+    );
+    match chosen {
+        Chosen::First => 1,
+        Chosen::Second => 2,
+        Chosen::Neither => 0,
+    }
 }

@@ -24,14 +24,14 @@ use Rattle.calls.proofs.Judged.{Between, judge-number, judge-nine}
 use Rattle.calls.proofs.Ends.{reads-at, Ends, before, within, ends, opened}
 
 -- two certificates that a stream gives are one
-given-once : (h : Problem) (s : List ℕ) (c d : Certificate) → readCertificate h s ≡ given c → readCertificate h s ≡ given d → c ≡ d
+pub given-once : (h : Problem) (s : List ℕ) (c d : Certificate) → readCertificate h s ≡ given c → readCertificate h s ≡ given d → c ≡ d
 given-once h s c d e f = cc
 
 -- a certificate that is accepted, and the verdict that says so
-record Checked (p : Problem) (t : List ℕ) (v : CheckVerdict) : Type 0 where
-  certificate : Certificate
-  accepted : J.Accepted p t certificate
-  verdict : v ≡ acceptedCheck (certificate .header) (closing p .rounds)
+pub record Checked (p : Problem) (t : List ℕ) (v : CheckVerdict) : Type 0 where
+  pub certificate : Certificate
+  pub accepted : J.Accepted p t certificate
+  pub verdict : v ≡ acceptedCheck (certificate .header) (closing p .rounds)
 
 -- how the check ends
 data Ended (s t : List ℕ) (v : CheckVerdict) : Type 0 where
@@ -68,7 +68,7 @@ module _ (short : Bool) (s t : List ℕ) (v : CheckVerdict) (is : v ≡ checkVer
       go (accepted r) = omega (arith, number-is _ (r .holds .verdict))
 
   -- ---- where nothing is refused
-  check-found : v .refusal .number ≡ 0 → Reads s (λ p. Checked p t v)
+  pub check-found : v .refusal .number ≡ 0 → Reads s (λ p. Checked p t v)
   check-found h = go ended
     where
       go : Ended s t v → Reads s (λ p. Checked p t v)

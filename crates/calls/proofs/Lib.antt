@@ -7,3 +7,4 @@ pub mod Untouched
 pub mod Windows
 pub mod WidestGap
 pub mod RingPairs
+pub mod Superseded

@@ -70,3 +70,23 @@ pub struct Pushed {
     pub window: GapWindow,
     pub verdict: WindowVerdict,
 }
+
+// What the check says of two certificates for one problem, of each as if it were alone.
+pub struct TwoChecks {
+    pub first: CheckVerdict,
+    pub second: CheckVerdict,
+}
+
+// Which of two certificates comes back. Neither: an empty part of the first does.
+pub enum Chosen {
+    First,
+    Second,
+    Neither,
+}
+
+// What is decided of two certificates for one problem: the refusal that four lent numbers receive, all 0 where a
+// certificate comes back, and which of the two that is.
+pub struct SupersedingVerdict {
+    pub refusal: Refusal,
+    pub chosen: Chosen,
+}

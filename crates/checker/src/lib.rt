@@ -17,7 +17,7 @@ ghost use Rattle.calls.specs.Refusals.{certificateRefusal};
 ghost use Rattle.calls.specs.Fractions.{fraction};
 ghost use Rattle.calls.specs.Blocks.{blocksShort, refusedBlocks, blocksOf, blocksRead};
 ghost use Rattle.calls.specs.Blocks.{bytesOf, bytesRead, blocksVerdict, bytesLeft};
-ghost use Rattle.calls.specs.Check.{refusedCheck, checkOf, checkRead, checkVerdict};
+ghost use Rattle.calls.specs.Check.{refusedCheck, checkJudged, checkOf, checkRead, checkVerdict};
 ghost use Rattle.calls.specs.Pair.{refusedPair, pairSides, pairFirst, pairOf, pairRead, pairVerdict};
 ghost use Rattle.calls.specs.Promises.{NumberedTo, BlocksClosed, BlocksLeast, BlocksLowest, BlocksCounted};
 ghost use Rattle.calls.specs.Promises.{RoundsTaken, FewRounds, SevenExactly};
@@ -33,6 +33,7 @@ use calls::CheckVerdict;
 use calls::Fraction;
 use calls::PairVerdict;
 use calls::Refusal;
+use calls::TwoChecks;
 use certificate_judge::Judged;
 use closure::Joined;
 use format::certificate::Header;
@@ -553,6 +554,184 @@ pub fn pair(
         return refuse_pair(certificate_judge::problem_refusal(1, 0));
     }
     let v = answer_pair(problem, first, second, keys, high, low);
+    clear_tables(keys, high, low);
+    v
+}
+
+// A refusal before a certificate is looked at: it is that of both.
+fn refuse_two(refusal: Refusal) -> TwoChecks
+    ensures { λ r. ⌜ (r .first ≡ refusedCheck refusal) × (r .second ≡ refusedCheck refusal) ⌝ }
+{
+    TwoChecks {
+        first: refuse_check(refusal),
+        second: refuse_check(refusal),
+    }
+}
+
+// Two certificates against a problem with its blocks, each by itself.
+fn two_judged(
+    first: &[u8],
+    second: &[u8],
+    keys: &[u64],
+    coefficients: &[i32],
+    sizes: &[usize],
+    labels: &[u8],
+    j: Joined,
+    table: &[u64],
+    index: &[u16; 6144],
+    high: &mut [i64],
+    low: &mut [i64],
+) -> TwoChecks
+    requires { ⌜
+        Judgeable (now keys) (now coefficients) (now sizes) (now labels) (now table) (j .len) (now index)
+        × LongSums (now high) (now low)
+        ⌝ }
+    ensures verdicts { λ r. ⌜
+        ((p : Problem)
+        → JoinedProblem p (now (keys .entry)) (now (coefficients .entry)) (now (sizes .entry)) (now (labels .entry))
+        (now (table .entry)) (j .len) (now (index .entry)) → j .rounds ≡ closing p .rounds
+        → (r .first ≡ checkJudged p (J.judge p (now (first .entry))))
+        × (r .second ≡ checkJudged p (J.judge p (now (second .entry)))))
+        ⌝ }
+    ensures rest { λ _. ⌜ SumsRest (now (high .entry)) (now (low .entry)) (now (high .exit)) (now (low .exit)) ⌝ }
+{
+    let n = j.len;
+    let a = certificate_judge::judge(
+        1,
+        first,
+        keys,
+        coefficients,
+        sizes,
+        labels,
+        table,
+        n,
+        index,
+        high,
+        low,
+    );
+    let b = certificate_judge::judge(
+        1,
+        second,
+        keys,
+        coefficients,
+        sizes,
+        labels,
+        table,
+        n,
+        index,
+        high,
+        low,
+    );
+    TwoChecks {
+        first: check_one(a, j.rounds),
+        second: check_one(b, j.rounds),
+    }
+}
+
+// The same against the problem in the arrays. The tables are changed before place 2,048 only.
+fn two_of(
+    keys: &[u64],
+    coefficients: &[i32],
+    sizes: &[usize],
+    first: &[u8],
+    second: &[u8],
+    table: &mut [u64],
+    high: &mut [i64],
+    low: &mut [i64],
+) -> TwoChecks
+    requires { ⌜
+        Readable (now keys) (now coefficients) (now sizes) × Long (tables (now table) (now high) (now low))
+        ⌝ }
+    ensures verdicts { λ r. ⌜
+        ((p : Problem) → Limits p → FlatProblem p (now (keys .entry)) (now (coefficients .entry)) (now (sizes .entry))
+        → (r .first ≡ checkOf p (now (first .entry))) × (r .second ≡ checkOf p (now (second .entry))))
+        ⌝ }
+    ensures rest { λ _.
+        let lent = tables (now (table .entry)) (now (high .entry)) (now (low .entry)) in
+        ⌜ Rest lent (tables (now (table .exit)) (now (high .exit)) (now (low .exit))) ⌝ }
+{
+    let mut index = [0u16; 6144];
+    let mut labels = [255u8; 576];
+    let j = closure::join(keys, sizes, &mut labels, table, &mut index);
+    if j.full {
+        return refuse_two(certificate_judge::problem_refusal(7, 0));
+    }
+    two_judged(
+        first,
+        second,
+        keys,
+        coefficients,
+        sizes,
+        &labels,
+        j,
+        table,
+        &index,
+        high,
+        low,
+    )
+}
+
+// The same with tables that are long enough. The problem is read into arrays of the call.
+fn answer_two(
+    problem: &[u8],
+    first: &[u8],
+    second: &[u8],
+    table: &mut [u64],
+    high: &mut [i64],
+    low: &mut [i64],
+) -> TwoChecks
+    requires { ⌜ Long (tables (now table) (now high) (now low)) ⌝ }
+    ensures { λ r.
+        let lent = tables (now (table .entry)) (now (high .entry)) (now (low .entry)) in
+        let left = tables (now (table .exit)) (now (high .exit)) (now (low .exit)) in
+        ⌜ (r .first ≡ checkRead (readProblem (now (problem .entry))) (now (first .entry)))
+        × (r .second ≡ checkRead (readProblem (now (problem .entry))) (now (second .entry)))
+        × Rest lent left ⌝ }
+{
+    let mut keys = [0u64; 1120];
+    let mut coefficients = [0i32; 544];
+    let mut sizes = [0usize; 29];
+    let r = problem_reader::read(problem, &mut keys, &mut coefficients, &mut sizes);
+    let number = r.number;
+    if 0 < number {
+        return refuse_two(certificate_judge::problem_refusal(number, r.place));
+    }
+    two_of(
+        &keys,
+        &coefficients,
+        &sizes,
+        first,
+        second,
+        table,
+        high,
+        low,
+    )
+}
+
+// The check of two certificates for one problem, which is read and joined once: of each what `check` says of it alone.
+pub fn check_two(
+    problem: &[u8],
+    first: &[u8],
+    second: &[u8],
+    keys: &mut [u64],
+    high: &mut [i64],
+    low: &mut [i64],
+) -> TwoChecks
+    ensures first { λ r.
+        let lent = tables (now (keys .entry)) (now (high .entry)) (now (low .entry)) in
+        ⌜ r .first ≡ checkVerdict (tablesShort lent) (now (problem .entry)) (now (first .entry)) ⌝ }
+    ensures second { λ r.
+        let lent = tables (now (keys .entry)) (now (high .entry)) (now (low .entry)) in
+        ⌜ r .second ≡ checkVerdict (tablesShort lent) (now (problem .entry)) (now (second .entry)) ⌝ }
+    ensures tables { λ _.
+        let lent = tables (now (keys .entry)) (now (high .entry)) (now (low .entry)) in
+        let left = tables (now (keys .exit)) (now (high .exit)) (now (low .exit)) in
+        ⌜ TablesLeft (tablesShort lent) lent left ⌝ }
+{
+    if is_short(keys.len(), high.len(), low.len()) {
+        return refuse_two(certificate_judge::problem_refusal(1, 0));
+    }
+    let v = answer_two(problem, first, second, keys, high, low);
     clear_tables(keys, high, low);
     v
 }

@@ -114,3 +114,7 @@ arrivalWords before (v ∷ l) = before ++ (arrivalWord v ++ arrivalWords (ascii 
 
 unfoldable pub windowLine : List WindowVerdict → List ℕ
 windowLine l = ascii "window" ++ (arrivalWords (ascii " ") l ++ ascii "\n")
+
+-- the bytes that came back of two certificates
+unfoldable pub tighterLine : Refusal → List ℕ → List ℕ
+tighterLine r part = unlessRefused r (ascii "tighter " ++ hexadecimal part ++ ascii "\n")

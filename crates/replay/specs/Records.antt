@@ -7,7 +7,9 @@ use lib.ListN.{replicate}
 use Rattle.calls.specs.Blocks.{blocksVerdict, bytesLeft}
 use Rattle.calls.specs.Check.{checkVerdict}
 use Rattle.calls.specs.Pair.{pairVerdict}
-use Rattle.lines.specs.Lines.{blocksLine, checkLine, pairLine}
+use Rattle.calls.specs.Superseding.{supersedingVerdict, partOf}
+use Rattle.calls.specs.declared.SupersedingVerdict.{SupersedingVerdict}
+use Rattle.lines.specs.Lines.{blocksLine, checkLine, pairLine, tighterLine}
 
 abbrev pub blocksAnswer : List ℕ → List ℕ
 blocksAnswer problem = blocksLine (blocksVerdict false problem) (bytesLeft false problem (replicate 576 0))
@@ -18,8 +20,15 @@ checkAnswer problem certificate = checkLine (checkVerdict false problem certific
 abbrev pub pairAnswer : List ℕ → List ℕ → List ℕ → List ℕ
 pairAnswer problem first second = pairLine (pairVerdict false problem first second)
 
--- by the kind: b, c, p, or another, which is not answered. Kind w, whose line may be longer than a text, is answered by
--- `windowAnswer`
+-- what comes back of two certificates, and the refusal
+abbrev pub tighterVerdict : SupersedingVerdict → List ℕ → List ℕ → List ℕ
+tighterVerdict v first second = tighterLine (v .refusal) (partOf (v .chosen) first second)
+
+abbrev pub tighterAnswer : List ℕ → List ℕ → List ℕ → List ℕ
+tighterAnswer problem first second = tighterVerdict (supersedingVerdict false problem first second) first second
+
+-- by the kind: b, c, p, or another, which is not answered. Kinds t and w, whose lines may be longer than a text, are
+-- answered by `tighterAnswer` and `windowAnswer`
 unfoldable pub recordAnswer : ℕ → List ℕ → List ℕ → List ℕ → List ℕ
 recordAnswer kind problem first second =
     cond (eqb kind 0x62) (blocksAnswer problem)

@@ -1,7 +1,7 @@
 // Answers the records of the standard input, one line for each, until it ends. A record is a kind byte (b: blocks, c:
-// check, p: pair, w: arrivals at the window of gaps), three lengths of 32 bits, little-endian, and three byte runs,
-// each of at most 65,536 bytes. `answer_record` decides, on the kind and the runs, and `window_line` on the arrivals;
-// all else moves bytes.
+// check, p: pair, t: the tighter of two certificates, w: arrivals at the window of gaps), three lengths of 32 bits,
+// little-endian, and three byte runs, each of at most 65,536 bytes. `answer_record` decides, on the kind and the runs,
+// `window_line` on the arrivals and `tighter_line` on two certificates; all else moves bytes.
 ghost use mathlib.Core.Path.{_≡_};
 ghost use mathlib.Core.Bool.{true};
 ghost use mathlib.Core.List.{_++_};
@@ -12,7 +12,7 @@ ghost use Rattle.lines.specs.Lines.{arrivalWord};
 ghost use Rattle.lines.specs.Texts.{textOf};
 ghost use Rattle.text.specs.Appending.{Appended};
 ghost use Rattle.replay.specs.Arrivals.{arrivalAt, separator, windowAnswer};
-ghost use Rattle.replay.specs.Records.{blocksAnswer, checkAnswer, pairAnswer, recordAnswer};
+ghost use Rattle.replay.specs.Records.{blocksAnswer, checkAnswer, pairAnswer, recordAnswer, tighterAnswer};
 use calls::Fraction;
 use calls::WindowVerdict;
 use libc::STDIN_FILENO;
@@ -132,6 +132,56 @@ fn answer_window(run: &[u8; 65536], n: usize) -> bool {
     io::write_all(STDOUT_FILENO, text::cut(&out, len))
 }
 
+// The line for two certificates of a problem: what came back of them, or the refusal.
+fn tighter_line<'a>(problem: &[u8], first: &'a [u8], second: &'a [u8], out: &mut [u8]) -> usize
+    requires { ⌜
+        (2 * length (now first) + 92 ≤ length (now out)) × (2 * length (now second) + 92 ≤ length (now out))
+        ⌝ }
+    ensures { λ r. ⌜
+        take r (now (out .exit)) ≡ tighterAnswer (now (problem .entry)) (now (first .entry)) (now (second .entry))
+        ⌝ }
+{
+    let mut number = 0u64;
+    let mut stream = 0u64;
+    let mut place = 0u64;
+    let mut key = 0u64;
+    let mut keys = [0u64; 2048];
+    let mut high = [0i64; 2048];
+    let mut low = [0i64; 2048];
+    let part = superseding::tighter(
+        problem,
+        first,
+        second,
+        &mut number,
+        &mut stream,
+        &mut place,
+        &mut key,
+        &mut keys,
+        &mut high,
+        &mut low,
+    );
+    text::tighter_line(out, number, stream, place, key, part)
+}
+
+// Answers a record of two certificates; whether its line was written.
+fn answer_tighter<'a>(
+    problem: &[u8; 65536],
+    a: usize,
+    first: &'a [u8; 65536],
+    b: usize,
+    second: &'a [u8; 65536],
+    c: usize,
+) -> bool {
+    let mut out = [0u8; 135168];
+    let len = tighter_line(
+        text::cut(problem, a),
+        text::cut(first, b),
+        text::cut(second, c),
+        &mut out,
+    );
+    io::write_all(STDOUT_FILENO, text::cut(&out, len))
+}
+
 // The length that four bytes of a record's head give.
 fn length_at(head: &[u8; 13], at: usize) -> usize
     requires { ⌜ at + 4 ≤ 13 ⌝ }
@@ -174,6 +224,9 @@ fn answer_next() -> bool {
     }
     if head[0] == b'w' {
         return answer_window(&problem, a);
+    }
+    if head[0] == b't' {
+        return answer_tighter(&problem, a, &first, b, &second, c);
     }
     let text = answer_record(
         head[0],

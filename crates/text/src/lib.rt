@@ -4,8 +4,9 @@ ghost use mathlib.Core.List.{_++_};
 ghost use Prim.Native.Nat.{_+_, _*_, _≤_, _<_};
 ghost use lib.ListN.{length, take};
 ghost use Rattle.io.specs.Digits.{glyph};
+ghost use Rattle.calls.specs.Superseding.{refusalIn};
 ghost use Rattle.lines.specs.Lines.{decimal, signedDecimal, ratio, hexadecimal, refusalLine, gapWord, pairWords};
-ghost use Rattle.lines.specs.Lines.{pairLines, blocksLine, checkLine, pairLine, arrivalWord};
+ghost use Rattle.lines.specs.Lines.{pairLines, blocksLine, checkLine, pairLine, arrivalWord, tighterLine};
 ghost use Rattle.lines.specs.Texts.{textOf};
 ghost use Rattle.text.specs.Appending.{Appended};
 use calls::BlocksVerdict;
@@ -113,16 +114,30 @@ fn append_hexadecimal(out: &mut [u8], at: usize, bytes: &[u8]) -> usize
     end
 }
 
-// The line of a refusal: number, stream, place and key.
+// The line of a refusal, at the start of a buffer: number, stream, place and key.
+fn append_refusal(out: &mut [u8], number: u64, stream: u64, place: u64, key: u64) -> usize
+    requires { ⌜ 92 ≤ length (now out) ⌝ }
+    ensures { λ r. ⌜ take r (now (out .exit)) ≡ refusalLine (refusalIn number stream place key) ⌝ }
+{
+    let a = append_with_number(out, 0, b"refused ", number);
+    let b = append_with_number(out, a, b" ", stream);
+    let c = append_with_number(out, b, b" ", place);
+    let d = append_with_number(out, c, b" ", key);
+    append(out, d, b"\n")
+}
+
+// The same as a text.
 fn refusal_line(r: Refusal) -> Text
     ensures { λ t. ⌜ textOf t ≡ refusalLine r ⌝ }
 {
     let mut out = [0u8; 1280];
-    let a = append_with_number(&mut out, 0, b"refused ", r.number as u64);
-    let b = append_with_number(&mut out, a, b" ", r.stream as u64);
-    let c = append_with_number(&mut out, b, b" ", r.place as u64);
-    let d = append_with_number(&mut out, c, b" ", r.key);
-    let len = append(&mut out, d, b"\n");
+    let len = append_refusal(
+        &mut out,
+        r.number as u64,
+        r.stream as u64,
+        r.place as u64,
+        r.key,
+    );
     Text { bytes: out, len }
 }
 
@@ -224,6 +239,29 @@ pub fn append_arrival(out: &mut [u8], at: usize, word: &[u8], v: WindowVerdict) 
     }
     let b = append_ratio(out, a, v.widest);
     append_with_number(out, b, b" ", v.age as u64)
+}
+
+// The bytes that came back of two certificates, or the line of the refusal in the four numbers, at the start of a
+// buffer.
+pub fn tighter_line(
+    out: &mut [u8],
+    number: u64,
+    stream: u64,
+    place: u64,
+    key: u64,
+    part: &[u8],
+) -> usize
+    requires { ⌜ 2 * length (now part) + 92 ≤ length (now out) ⌝ }
+    ensures { λ r. ⌜
+        take r (now (out .exit)) ≡ tighterLine (refusalIn number stream place key) (now (part .entry))
+        ⌝ }
+{
+    if 0 < number {
+        return append_refusal(out, number, stream, place, key);
+    }
+    let a = append(out, 0, b"tighter ");
+    let b = append_hexadecimal(out, a, part);
+    append(out, b, b"\n")
 }
 
 // The first n bytes, or all.

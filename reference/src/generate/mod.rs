@@ -108,6 +108,9 @@ mod tests {
         expected.extend(in_certificate(2));
         expected.extend([(10, 1), (10, 2)]);
         assert_eq!(refusals("p"), expected);
+        expected.retain(|&(number, stream)| stream < 2 && number < 10);
+        expected.insert((11, 2));
+        assert_eq!(refusals("t"), expected);
     }
 
     #[test]

@@ -14,6 +14,11 @@ pub struct Fraction {
 }
 
 impl Fraction {
+    /// "Two fractions are compared by cross products." Denominators are above 0.
+    pub fn is_below(self, other: Fraction) -> bool {
+        self.numerator * other.denominator < other.numerator * self.denominator
+    }
+
     /// "(P x q - p x Q)/(Q x q), not reduced"
     fn gap(lower: Fraction, upper: Fraction) -> Fraction {
         let (p, q) = (lower.numerator, lower.denominator);
@@ -50,13 +55,13 @@ pub struct Pair {
 }
 
 /// A problem that was read, with its blocks and S.
-struct Closed {
+pub struct Closed {
     problem: Problem,
     joined: Joined,
 }
 
 /// "the problem by commands, ..; 7"
-fn close(problem: &[u8]) -> Result<Closed, Refusal> {
+pub fn close(problem: &[u8]) -> Result<Closed, Refusal> {
     let problem = Problem::read(problem)?;
     let joined = Joined::of(&problem);
     if joined.is_too_large() {
@@ -66,7 +71,7 @@ fn close(problem: &[u8]) -> Result<Closed, Refusal> {
 }
 
 /// "the first certificate by commands likewise; 8 by rows; 9; the second certificate the same"
-fn judge(closed: &Closed, certificate: &[u8], stream: u8) -> Result<Check, Refusal> {
+pub fn judge(closed: &Closed, certificate: &[u8], stream: u8) -> Result<Check, Refusal> {
     let certificate = Certificate::read(certificate, stream, &closed.problem)?;
     keep_to_blocks(&certificate, &closed.joined, stream)?;
     identity_holds(&certificate, &closed.problem, stream)?;

@@ -10,12 +10,13 @@ pub mod gaps;
 mod order;
 mod problems;
 mod sums;
+pub mod superseding;
 mod table;
 pub mod wide_factors;
 pub mod windows;
 
 use crate::generate::samples;
-use crate::records::{Record, BLOCKS, CHECK, PAIR};
+use crate::records::{Record, BLOCKS, CHECK, PAIR, TIGHTER};
 use crate::refusal::Refusal;
 pub use table::print;
 
@@ -52,6 +53,8 @@ impl Case {
             BLOCKS => Record::blocks(run(0)),
             CHECK => Record::check(run(0), run(1)),
             PAIR => Record::pair(run(0), run(1), run(2)),
+            // A refusal of the first certificate is seen only where the second is refused as well.
+            TIGHTER if self.calls.len() > 1 => Record::tighter(run(0), run(1), run(1)),
             kind => Record {
                 kind,
                 runs: self.runs.clone(),
@@ -97,7 +100,13 @@ type Line = (
 
 /// All cases, by the order of the lists: those of document 01, then those of the requests.
 pub fn cases() -> Vec<Case> {
-    [scope(), equalities::cases(), wide_factors::cases()].concat()
+    [
+        scope(),
+        equalities::cases(),
+        wide_factors::cases(),
+        superseding::cases(),
+    ]
+    .concat()
 }
 
 /// The cases of document 01.
@@ -124,7 +133,7 @@ pub fn met(cases: Vec<Case>, call: u8) -> Vec<Record> {
 
 /// The bytes of a text as document 01 writes them: hexadecimal, with 0⁷ for seven zero bytes and 0⁸
 /// for eight; a bar stands between commands.
-fn bytes(text: &str) -> Vec<u8> {
+pub fn bytes(text: &str) -> Vec<u8> {
     let mut all = Vec::new();
     for word in text.split_whitespace() {
         match word {
@@ -138,7 +147,7 @@ fn bytes(text: &str) -> Vec<u8> {
 }
 
 /// The streams of case F: problem, lower and upper certificate.
-fn case_f() -> [Vec<u8>; 3] {
+pub fn case_f() -> [Vec<u8>; 3] {
     let certificates = [0, 1].map(samples::f_certificate);
     let [lower, upper] = certificates;
     [samples::f().bytes(), lower, upper]
@@ -176,7 +185,7 @@ fn written(line: &Line, stream: u8, mut runs: [Vec<u8>; 3]) -> Case {
 
 /// The calls that meet a refusal of this stream.
 fn calls(stream: u8) -> &'static [u8] {
-    [b"bcp".as_slice(), b"cp", b"p"][usize::from(stream)]
+    [b"bcpt".as_slice(), b"cpt", b"p"][usize::from(stream)]
 }
 
 #[cfg(test)]
@@ -228,7 +237,9 @@ mod tests {
         let in_problem = (2..=7).map(|number| (number, 0));
         let in_certificate = [2, 3, 4, 5, 6, 8, 9, 10];
         let in_certificate = in_certificate.iter().flat_map(|&n| [(n, 1), (n, 2)]);
-        assert_eq!(met, in_problem.chain(in_certificate).collect());
+        let of_requests = [(11, 2)];
+        let all = in_problem.chain(in_certificate).chain(of_requests);
+        assert_eq!(met, all.collect());
     }
 
     #[test]

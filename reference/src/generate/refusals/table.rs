@@ -12,8 +12,11 @@ Every way to be refused, by number and stream, each with the words that it comes
 after its number, of a request (document 02). \
 The answers were found by hand from those words and stand beside the cases in `reference/src/generate/refusals`; a test \
 there holds the reference to them. Each case is in the stored corpus `crates/replay/stdin`, where the proved calls \
-meet it; the last column gives, for each kind of call that meets it (`b` blocks, `c` check, `p` pair, `w` arrivals at \
-the window of gaps), the number of its record there, which is that of the line in `stdout`. `reference refusals` writes this page, and `./test` compares the two.
+meet it; the last column gives, for each kind of call that meets it (`b` blocks, `c` check, `p` pair, `t` the tighter of two \
+certificates, `w` arrivals at the window of gaps), the number of its record there, which is that of the line in `stdout`. `reference refusals` writes this page, and `./test` compares the two.
+
+Of two certificates a refusal of the first is seen only where the second is refused as well: where a case names only the first, \
+its record of kind `t` has that one twice.
 
 An answer is `refused`, number, stream (0 problem, 1 first certificate, 2 second), place and key. Bytes are \
 hexadecimal, 0⁷ is seven zero bytes and 0⁸ eight, and a bar stands between commands.
@@ -23,8 +26,9 @@ const ONE: &str = "
 ## 1: a lent table or the 576 bytes is too short
 
 A replayed record is always answered with tables lent in full, so no record meets refusal 1. It is stated in the public \
-contracts in `crates/checker/src/lib.rt`: `verdict` of each call says that it is given exactly when the named test holds, and \
-`bytes` and `tables` that nothing is written then. `bench short` calls the C functions with each \
+contracts in `crates/checker/src/lib.rt` and `crates/superseding/src/lib.rt`: `verdict` or `numbers` of each call says that it is \
+given exactly when the named test holds, and `bytes` and `tables` that nothing is written then; the four numbers lent to \
+`tighter` receive it. `bench short` calls the C functions with each \
 length one short, and sees refusal 1 and all that was lent untouched.
 
 | case | what is lent | answer | clause |
@@ -39,6 +43,9 @@ length one short, and sees refusal 1 and all that was lent untouched.
 | pair, keys | 2,047 numbers as the first table | `refused 1 0 0 0` | `verdict` of `pair`, `tablesShort` |
 | pair, high | 2,047 numbers as the second table | `refused 1 0 0 0` | `verdict` of `pair`, `tablesShort` |
 | pair, low | 2,047 numbers as the third table | `refused 1 0 0 0` | `verdict` of `pair`, `tablesShort` |
+| the tighter of two, keys | 2,047 numbers as the first table | `refused 1 0 0 0` | `numbers` of `tighter`, `tablesShort` |
+| the tighter of two, high | 2,047 numbers as the second table | `refused 1 0 0 0` | `numbers` of `tighter`, `tablesShort` |
+| the tighter of two, low | 2,047 numbers as the third table | `refused 1 0 0 0` | `numbers` of `tighter`, `tablesShort` |
 ";
 
 const FOURTEEN: &str = "
@@ -71,8 +78,8 @@ contradict each other. The gap tells so where the bounds cross, and only there. 
 |---|---|---|---|---|---|---|
 ";
 
-/// The words of document 01's table for each number from 2 on.
-const TITLES: [&str; 9] = [
+/// The words of document 01's table, and of request 02, for each number from 2 on.
+const TITLES: [&str; 10] = [
     "stream ends in a command or without its end, or goes on after it",
     "command unknown in this stream or misplaced",
     "operand outside its rule",
@@ -82,6 +89,7 @@ const TITLES: [&str; 9] = [
     "a row in two blocks",
     "identity false",
     "in a pair, first side not 0 or second not 1",
+    "of two certificates, both are accepted and their sides differ",
 ];
 
 const STREAMS: [&str; 3] = [
@@ -95,7 +103,7 @@ const SHORT: usize = 130;
 
 /// Writes the page.
 pub fn print() {
-    let corpus = corpus("bcpw");
+    let corpus = corpus("bcpwt");
     let mut cases = cases();
     cases.sort_by_key(|case| (case.expected.number, case.expected.stream));
     print!("{HEAD}{ONE}");

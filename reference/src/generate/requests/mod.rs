@@ -2,6 +2,7 @@
 
 mod empty_region;
 mod equalities;
+mod superseding;
 mod wide_factors;
 mod windows;
 
@@ -11,7 +12,7 @@ use crate::generate::certificates::{as_record, streams};
 use crate::generate::changes::{change_case, CHANGES};
 use crate::generate::damage::{self, damaged};
 use crate::generate::rng::Rng;
-use crate::records::{Record, BLOCKS, CHECK, PAIR, WINDOW};
+use crate::records::{Record, BLOCKS, CHECK, PAIR, TIGHTER, WINDOW};
 
 /// A call that a request added.
 pub struct Call {
@@ -72,6 +73,12 @@ const LANDED: &[Landed] = &[
         put: wide_factors::put,
         count: 200,
     }),
+    Landed::Call(Call {
+        kind: TIGHTER,
+        special: superseding::special,
+        random: superseding::random,
+        count: 300,
+    }),
 ];
 
 /// The seed of the corpus.
@@ -123,6 +130,21 @@ pub fn record(rng: &mut Rng, kind: u8) -> Option<Record> {
     rng.shuffle(&mut changes);
     changes.truncate(rng.between(1, 3));
     Some(changed(rng, kind, &changes))
+}
+
+fn as_change(landed: &'static Landed) -> Option<&'static Change> {
+    match landed {
+        Landed::Change(change) => Some(change),
+        Landed::Call(_) => None,
+    }
+}
+
+/// The changes that landed before the call of this kind. The records of the corpus for the call draw
+/// on these alone, so that they stay when another request lands.
+fn changes_before(kind: u8) -> Vec<&'static Change> {
+    let before = |landed: &&Landed| !matches!(landed, Landed::Call(call) if call.kind == kind);
+    let landed = LANDED.iter().take_while(before);
+    landed.filter_map(as_change).collect()
 }
 
 /// A record with these requests in it, now and then with a damaged stream.

@@ -1,0 +1,54 @@
+-- `two_judged`: the first certificate, then the second, and the verdict of the check on each.
+use borrow.Author.Needs.{needs}
+use mathlib.Core.Path.{_∙_}
+use Rattle.accepting.specs.Judgement.{judge}
+use Rattle.checker.proofs.Steps.{check-judged}
+use Rattle.checker.proofs.two_judged.Statement.{statement}
+use Rattle.checker.proofs.two_judged.Tie as tie
+
+abbrev start : tie.After-judge → tie.Start
+start c = c .before .before .before .before .before .before .before .before .before
+
+judge-requires : tie.Need-judge-requires
+judge-requires c κs = search needs
+
+judge-requires-2 : tie.Need-judge-requires-2
+judge-requires-2 c κs = search needs
+
+check-one-requires : tie.Need-check-one-requires
+check-one-requires c κs = search needs
+
+check-one-requires-2 : tie.Need-check-one-requires-2
+check-one-requires-2 c κs = search needs
+
+same-length : tie.Need-same-length
+same-length c = search needs
+
+same-length-2 : tie.Need-same-length-2
+same-length-2 c = search needs
+
+returns : tie.Need-returns
+returns c =
+    let k = c .before .before .before .before in
+    let i = k .before .before .before .before .before in
+    let a = start i .args in
+    let v = i .judge .ensures in
+    let w = k .judge2 .ensures in (
+      (λ p h r. (
+        c .before .check-one .ensures ∙ check-judged p (judge p (a .first .now)) _ _ (v .0 p h) r,
+        c .check-one2 .ensures ∙ check-judged p (judge p (a .second .now)) _ _ (w .0 p h) r,
+      )),
+      record { high-rest = w .1 .high-rest ∙ v .1 .high-rest; low-rest = w .1 .low-rest ∙ v .1 .low-rest },
+    )
+
+pub two-judged-spec : {M : Type 1} → statement M
+two-judged-spec =
+    tie.close
+    (tie.spec
+    judge-requires
+    judge-requires-2
+    check-one-requires
+    check-one-requires-2
+    same-length
+    same-length-2
+    returns)
