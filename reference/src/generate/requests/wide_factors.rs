@@ -4,6 +4,7 @@ use super::{places, Streams};
 use crate::generate::certificates::{as_record, streams};
 use crate::generate::draft::*;
 use crate::generate::largest::{extreme, largest};
+use crate::generate::problems::grid;
 use crate::generate::refusals::{met, wide_factors};
 use crate::generate::rng::Rng;
 use crate::monomial::Monomial;
@@ -21,9 +22,9 @@ pub fn special(kind: u8) -> Vec<Record> {
     all
 }
 
-/// Certificates of 128 rows with wide factors: sums that leave 2^100 and cancel, as the conditions
-/// stand in pairs of opposite signs with the same rows; the same off by one in one factor; and sums
-/// of one sign with all factors at a limit.
+/// Certificates of 128 rows with wide factors: sums that cancel, as the conditions stand in pairs of
+/// opposite signs with the same rows, of many factors and, up to 2^108, of one; the same off by one
+/// in one factor; and sums of one sign with all factors at a limit.
 fn largest_cases() -> Vec<Streams> {
     let full = streams(&largest(&mut Rng::new(5)));
     let limits = |l: i16| if l > 0 { i32::MAX } else { i32::MIN };
@@ -44,7 +45,31 @@ fn largest_cases() -> Vec<Streams> {
         cases.push(widened(&one_sign, |_| i32::MIN));
         cases.push(widened(&one_sign, |_| i32::MAX));
     }
+    for factor in [i32::MIN, -i32::MAX, i32::MAX] {
+        cases.extend([factor, factor ^ 1].map(|last| opposite(factor, last)));
+    }
     cases
+}
+
+/// No objective and the bound 0, and two opposite conditions of 32 terms with 64 full rows each, all
+/// of one factor but for the last entry. Where that is the same, the sums at the middle monomials
+/// come to 64 x 65,535 x 2^62 x 32,767 x 756, above 2^108, and back to 0.
+fn opposite(factor: i32, last: i32) -> Streams {
+    let (terms, basis) = (grid([2, 4, 2, 2], 1), grid([4, 4, 2, 2], 1));
+    let mut problem = Draft::new(4, 0);
+    for sign in [1, -1] {
+        let terms = terms.iter().map(|&m| (m, sign * i16::MAX)).collect();
+        problem.constrain(terms, basis.clone());
+    }
+    let mut certificate = vec![bound(0, 1, 0, 1)];
+    for number in 0..128 {
+        certificate.push(row(if number < 64 { 1 } else { 2 }, 65_535));
+        let full = if number < 127 { factor } else { last };
+        certificate.extend((0..63).map(|i| wide_entry(i, factor)));
+        certificate.push(wide_entry(63, full));
+    }
+    certificate.push(certificate_end());
+    [problem.commands(), certificate.clone(), certificate]
 }
 
 /// The streams with wide entries in all rows that are not on basis 0.
