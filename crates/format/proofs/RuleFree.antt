@@ -1,5 +1,5 @@
--- What of a problem does not depend on its joining rule: its limits, bases, multipliers and kinds, and what a certificate
--- stream gives for it.
+-- What of a problem does not depend on its joining rule: its limits, bases, multipliers and kinds, and what a
+-- certificate stream gives for it.
 use mathlib.Core.Path.{_≡_, refl, ap, fun-ext}
 use mathlib.Core.List.{List}
 use Prim.Native.Nat.{ℕ, zero, suc, _≤_}

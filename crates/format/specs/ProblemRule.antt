@@ -9,7 +9,8 @@ use Rattle.format.specs.declared.problem.Command.the-variants as C
 use Rattle.format.specs.ProblemLayout.{problemUnsigned}
 use Rattle.format.specs.ProblemRules.{Problem, withRule}
 
--- "Problem command 08 rule(u8), value 1 or 2, stands directly after 01 and only there; absent means 1": 01 has two bytes
+-- "Problem command 08 rule(u8), value 1 or 2, stands directly after 01 and only there; absent means 1". 01 has two
+-- bytes
 unfoldable pub ruleNamed : List ℕ → ℕ
 ruleNamed s = cond (eqb (getD s 2 0) 0x08) (problemUnsigned C.Rule 0 s 2) 1
 
