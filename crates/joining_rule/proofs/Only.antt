@@ -45,8 +45,11 @@ rising-shorter (x ∷ xs) (y ∷ ys) r s f =
     (λ e. suc-le-suc (rising-shorter xs ys (r .1) (s .1) (λ z. rest-in x y z xs ys e (r .0) (f z))))
     (λ d.
     let b : y < x = omega (arith, first-least y x ys (s .0) (f x (in-here x x xs refl))) in
-    omega (arith, rising-shorter (x ∷ xs) ys r (s .1)
-    (λ z m. ⊎-elim (λ q. absurd (omega (arith, first-least x z xs (r .0) m))) (λ n. n) (in-cons z y ys (f z m)))))
+    omega (
+      arith,
+      rising-shorter (x ∷ xs) ys r (s .1)
+          (λ z m. ⊎-elim (λ q. absurd (omega (arith, first-least x z xs (r .0) m))) (λ n. n) (in-cons z y ys (f z m))),
+    ))
     (same-or-not x y)
 
 -- ---- what is closed is one of the others
