@@ -21,6 +21,7 @@ use Rattle.format.specs.declared.problem.Command.the-variants as C
 use Rattle.format.specs.declared.problem.Kind.{Kind}
 use Rattle.format.specs.ProblemLayout.{problemCommand, problemSize, problemDecoded}
 use Rattle.format.specs.ProblemRules.{Problem, noProblem, noCondition, appendAt, withCondition, withRule, conditionsFull, problemPlaced, nonzero, fitting, problemOperandsFit, problemRepeated, problemFull, problemApplied, problemCommandAt, problemRefusalAt, problemNext, problemLanguage, readProblem}
+use Rattle.format.specs.ProblemBases.{basisOf}
 use Rattle.format.specs.All.{All}
 use Rattle.format.proofs.WithinLimits.{Distinct, Monomials, Terms, ConditionTerms, Limits}
 use Rattle.format.proofs.ProblemChecks.{placed-size}
@@ -260,3 +261,9 @@ read-limits s p h =
     (λ a at t e k. subst Limits (end-leaves a s at e) (next-limits a s at k (t .passed)))
     (λ a b at cs t e f k. f (kept-next a s at k (t .passed)))
     noProblem p h kept-start
+
+-- no basis of a problem within the limits has more than 64 monomials
+pub basis-few : (p : Problem) → Limits p → (j : ℕ) → length (basisOf p j) ≤ 64
+unfolding basisOf
+basis-few p l j =
+    all-at (Monomials (p .variables) 8 64) (p .bases) j [] (l .members) (monomials-none (p .variables) 8 64) .count

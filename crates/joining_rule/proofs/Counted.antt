@@ -36,6 +36,10 @@ pub record Product (g : Bases) (label : ℕ → ℕ → ℕ) (x : ℕ) : Type 0 
 
 -- ---- what they are
 module _ (g : Bases) (s : State) where
+  pub counted-zero : In 0 (countedKeys g s)
+  unfolding countedKeys
+  counted-zero = insert-in 0 _
+
   -- they have the products of all nine bases
   pub counted-full : AllFull 9 g (record { labels = s .labels; support = countedKeys g s })
   unfolding countedKeys
@@ -47,10 +51,6 @@ module _ (g : Bases) (s : State) where
   pub counted-extends : Extends (s .support) (countedKeys g s)
   unfolding countedKeys
   counted-extends = extends-trans _ _ _ (products-extend 9 g (s .labels) (s .support)) (insert-extends 0 _)
-
-  pub counted-zero : In 0 (countedKeys g s)
-  unfolding countedKeys
-  counted-zero = insert-in 0 _
 
   -- every t + b + b' with b and b' in one block is one of them
   pub counted-product : (x : ℕ) → Product g (labelIn s) x → In x (countedKeys g s)
