@@ -75,8 +75,8 @@ RoundsTaken s number rounds = WhereAccepted s number (λ p. TakesRounds (p .rule
 abbrev pub FewRounds : List ℕ → ℕ → ℕ → Type 0
 FewRounds s number rounds = WhereAccepted s number (λ p. rounds + basesNamed s ≤ memberCommands s + 2)
 
--- with tables that are long enough, refusal 7 is given exactly when "closed S with zero" is "above 2,048"; "The limit of
--- 2,048 counts the closed S with the zero exponent and all in-block products"
+-- with tables that are long enough, refusal 7 is given exactly when "closed S with zero" is "above 2,048"; "The limit
+-- of 2,048 counts the closed S with the zero exponent and all in-block products"
 pub record SevenExactly (s : List ℕ) (number : ℕ) : Type 0 where
   pub only : (p : Problem) → readProblem s ≡ given p → number ≡ 7
       → mostKeys < length (countedKeys (basesOf p) (closing p .state))
