@@ -34,7 +34,7 @@ use Rattle.format.specs.CertificateRules.{Entry, Row, noRow, mostRows}
 use Rattle.format.proofs.All.{all-map}
 use Rattle.format.proofs.CertificateLimits.{IndicesRise, all-within}
 use Rattle.certificate_reader.specs.Rows.{entryAt, basisAt, weightAt, rowAt, rowsBy, EntriesStand, done, more, SoundRows}
-use Rattle.certificate_reader.proofs.Shapes.{basis-few}
+use Rattle.format.proofs.ProblemLimits.{basis-few}
 use Rattle.certificate_reader.proofs.Walk.{Step, step-of, step-none, walk-sound}
 use Rattle.accepting.specs.Identity.{squares}
 use Rattle.accepting.proofs.Reach.{all-both}
