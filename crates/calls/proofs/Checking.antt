@@ -8,6 +8,7 @@ use native.Mathlib.Omega.{arith}
 use Rattle.format.specs.Commands.{Outcome, given}
 use Rattle.format.specs.ProblemRules.{Problem, withRule, readProblem}
 use Rattle.format.proofs.ProblemRule.{read-rule}
+use Rattle.format.proofs.Alike.{ruled-alike}
 use Rattle.format.proofs.ProblemLimits.{read-limits}
 use Rattle.format.specs.CertificateRules.{Certificate, readCertificate}
 use Rattle.format.proofs.CertificateLimits.{read-sound}
@@ -179,7 +180,7 @@ module _ (short : Bool) (s t : List ℕ) (v : CheckVerdict) (is : v ≡ checkVer
           let q = withRule p 1 in
           let k = found-at p (b .first .read) h in
           let c = k .certificate in
-          let a = accepted-other p 1 (read-limits s p (b .first .read)) (b .fewer) t c (k .accepted) in
+          let a = accepted-other p (withRule p 1) (ruled-alike p 1) (read-limits s p (b .first .read)) (b .fewer) t c (k .accepted) in
           let e = opened refusedCheck of reads (λ n place. refl) (λ p. refl) short s′ q (b .second) ∙ ap (checkJudged q) (accepted-judge q t c a) in
           inr (
             ap (λ (x : CheckVerdict). x .refusal) e,

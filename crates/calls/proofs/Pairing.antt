@@ -10,6 +10,7 @@ use borrow.Author.Tests.{eqb-true, eq-eqb}
 use Rattle.format.specs.Commands.{Outcome, given}
 use Rattle.format.specs.ProblemRules.{Problem, withRule, readProblem}
 use Rattle.format.proofs.ProblemRule.{read-rule}
+use Rattle.format.proofs.Alike.{ruled-alike}
 use Rattle.format.proofs.ProblemLimits.{read-limits}
 use Rattle.format.specs.CertificateRules.{Certificate}
 use Rattle.joining_rule.specs.Joining.{closing}
@@ -222,8 +223,8 @@ module _ (short : Bool) (s low high : List ℕ) (v : PairVerdict) (is : v ≡ pa
           let limits = read-limits s p (b .first .read) in
           let hold : BothHold (withRule p 1) low high (k .first) (k .second) =
           record {
-            first = accepted-other p 1 limits (b .fewer) low (k .first) (k .hold .first);
-            second = accepted-other p 1 limits (b .fewer) high (k .second) (k .hold .second);
+            first = accepted-other p (withRule p 1) (ruled-alike p 1) limits (b .fewer) low (k .first) (k .hold .first);
+            second = accepted-other p (withRule p 1) (ruled-alike p 1) limits (b .fewer) high (k .second) (k .hold .second);
             lower = k .hold .lower;
             upper = k .hold .upper;
           } in

@@ -19,6 +19,7 @@ use Rattle.format.specs.ProblemCounts.{memberCommands, basesNamed}
 use Rattle.format.proofs.ProblemLimits.{read-limits, basis-few}
 use Rattle.format.proofs.ProblemCounts.{count-members, count-named}
 use Rattle.format.proofs.ProblemRule.{read-rule}
+use Rattle.format.proofs.Alike.{ruled-alike}
 use Rattle.joining_rule.proofs.Rising.{Rising}
 use Rattle.joining_rule.specs.Sets.{different}
 use Rattle.joining_rule.specs.Rounds.{Bases, blocksIn, countedKeys}
@@ -225,7 +226,7 @@ module _ (short : Bool) (s out t : List ℕ) (u : UnderOne s t) where
   under-seven h =
       let k = seven-large short s h in
       let p = k .problem in
-      large-under (withRule p 1) (k .long) (under-read u p (k .read)) (large-other p 1 (read-limits s p (k .read)) (under-fewer u p (k .read)) (k .large))
+      large-under (withRule p 1) (k .long) (under-read u p (k .read)) (large-other p (withRule p 1) (ruled-alike p 1) (read-limits s p (k .read)) (under-fewer u p (k .read)) (k .large))
 
 module _ (short : Bool) (s out : List ℕ) where
   abbrev number : ℕ

@@ -14,7 +14,7 @@ use Rattle.format.specs.ProblemRule.{ruleNamed}
 use Rattle.format.specs.Operands.{number}
 use Rattle.format.proofs.WithinLimits.{Limits}
 use Rattle.format.proofs.ProblemRule.{read-rule}
-use Rattle.format.proofs.RuleFree.{rule-basis}
+use Rattle.format.proofs.Alike.{ruled-alike, alike-basis}
 use Rattle.format.proofs.RuleExchanged.{given-exchanged, given-left-out}
 use Rattle.joining_rule.specs.Rounds.{addingBases}
 use Rattle.joining_rule.specs.Bytes.{blockBytes, blockAt}
@@ -101,9 +101,9 @@ bytes-inside p limits fewer rest j i k h a b e =
     let L = closing p .state .labels in
     let L′ = closing (withRule p 1) .state .labels in
     byte-any L′ rest j i h a
-    ∙ places-inside (getD L j []) (getD L′ j []) (length (basisOf p j)) (shaped p .long j h) (shaped (withRule p 1) .long j h ∙ ap length (rule-basis p 1 j))
+    ∙ places-inside (getD L j []) (getD L′ j []) (length (basisOf p j)) (shaped p .long j h) (shaped (withRule p 1) .long j h ∙ ap length (alike-basis p (withRule p 1) (ruled-alike p 1) j))
     (λ x c. numbered p .at j h .lowest x (rw (shaped p .long j h) c))
-    (λ x y c d. blocks-contained p 1 limits fewer j x y h c d)
+    (λ x y c d. blocks-contained p (withRule p 1) (ruled-alike p 1) limits fewer j x y h c d)
     i k a b (sym (byte-any L rest j i h a) ∙ e ∙ byte-any L rest j k h b)
     ∙ sym (byte-any L′ rest j k h b)
   where

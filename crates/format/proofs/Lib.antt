@@ -9,5 +9,5 @@ pub mod Lengths
 pub mod ProblemCounts
 pub mod ProblemRule
 pub mod RuleExchanged
-pub mod RuleFree
+pub mod Alike
 pub mod All

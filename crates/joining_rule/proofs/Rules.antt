@@ -1,4 +1,4 @@
--- Two rules compared: where more bases add, the blocks and the set are larger. First of bases, then of one problem.
+-- Two rules compared: where more bases add, the blocks and the set are larger. First of bases, then of two problems.
 use mathlib.Core.Path.{_≡_, ap, _∙_}
 use mathlib.Core.Bool.{true}
 use mathlib.Core.List.{List, []}
@@ -6,15 +6,15 @@ use Prim.Native.Nat.{ℕ, _≤_, _<_}
 use native.Mathlib.Omega.{arith}
 use lib.ListN.{length, getD}
 use borrow.Author.Tests.{lt-ltb, ltb-true}
-use Rattle.polynomial.specs.Terms.{keysOf}
-use Rattle.format.specs.ProblemRules.{Problem, withRule}
+use Rattle.polynomial.specs.Terms.{Term, keysOf}
+use Rattle.format.specs.ProblemRules.{Problem}
 use Rattle.format.specs.ProblemBases.{basisOf, multiplierOf}
 use Rattle.format.proofs.WithinLimits.{Limits}
 use Rattle.format.proofs.ProblemLimits.{basis-few}
-use Rattle.format.proofs.RuleFree.{rule-basis, rule-multiplier}
+use Rattle.format.proofs.Alike.{Alike, alike-basis, alike-multiplier}
 use Rattle.joining_rule.specs.Sets.{In}
 use Rattle.joining_rule.specs.Rounds.{Bases, addingBases, closingOf, countedKeys}
-use Rattle.joining_rule.specs.Joining.{basesOf, startSet, closing, mostKeys, tooLarge}
+use Rattle.joining_rule.specs.Joining.{basesOf, startFrom, startSet, closing, mostKeys, tooLarge}
 use Rattle.joining_rule.specs.Meaning.{Closed, Contained}
 use Rattle.joining_rule.proofs.Rising.{Rising}
 use Rattle.joining_rule.proofs.Closing.{closing-shaped, closing-rising}
@@ -51,23 +51,29 @@ module _ (r r′ : ℕ) (fewer : addingBases r ≤ addingBases r′) (g : Bases)
     rule-fewer =
         rising-shorter _ _ (counted-rising g (closingOf r g S₀ .state) (closing-rising r g S₀ rising)) (counted-rising g (closingOf r′ g S₀ .state) (closing-rising r′ g S₀ rising)) rule-counted
 
--- ---- a problem p, and the same with rule r
-module _ (p : Problem) (r : ℕ) where
-  exponents-same : (j : ℕ) → multiplierOf (withRule p r) j ≡ multiplierOf p j
+-- ---- of two problems that are alike but for the rule
+module _ (p q : Problem) (a : Alike p q) where
+  same-exponents : (j : ℕ) → multiplierOf q j ≡ multiplierOf p j
   unfolding multiplierOf
-  exponents-same j = ap keysOf (rule-multiplier p r j)
+  same-exponents j = ap keysOf (alike-multiplier p q a j)
 
-  -- the other has the same bases and the same start
-  pub rule-closing : closing (withRule p r) ≡ closingOf r (basesOf p) (startSet p)
-  unfolding closing startSet
-  rule-closing =
-      closing-same (basesOf (withRule p r)) (basesOf p) (λ j _. rule-basis p r j) (λ j _. exponents-same j) r _
-      ∙ ap (closingOf r (basesOf p)) (start-same (keysOf (p .objective)) _ _ (λ j _. rule-basis p r j) (λ j _. exponents-same j))
+  -- they have the same bases and the same start
+  alike-start : startSet q ≡ startSet p
+  unfolding startSet
+  alike-start =
+      ap (λ (ts : List Term). startFrom (keysOf ts) (basesOf q)) (a .objective)
+      ∙ start-same (keysOf (p .objective)) (basesOf q) (basesOf p) (λ j _. alike-basis p q a j) (λ j _. same-exponents j)
 
-  rule-keys : countedKeys (basesOf (withRule p r)) (closing (withRule p r) .state) ≡ countedKeys (basesOf p) (closingOf r (basesOf p) (startSet p) .state)
-  rule-keys = rw rule-closing (counted-same _ _ (λ j _. rule-basis p r j) (λ j _. exponents-same j) _)
+  alike-closing : closing q ≡ closingOf (q .rule) (basesOf p) (startSet p)
+  unfolding closing
+  alike-closing =
+      closing-same (basesOf q) (basesOf p) (λ j _. alike-basis p q a j) (λ j _. same-exponents j) (q .rule) (startSet q)
+      ∙ ap (closingOf (q .rule) (basesOf p)) alike-start
 
-  module _ (limits : Limits p) (fewer : addingBases (p .rule) ≤ addingBases r) where
+  alike-keys : countedKeys (basesOf q) (closing q .state) ≡ countedKeys (basesOf p) (closingOf (q .rule) (basesOf p) (startSet p) .state)
+  alike-keys = rw alike-closing (counted-same (basesOf q) (basesOf p) (λ j _. alike-basis p q a j) (λ j _. same-exponents j) _)
+
+  module _ (limits : Limits p) (fewer : addingBases (p .rule) ≤ addingBases (q .rule)) where
     rising : Rising (startSet p)
     unfolding startSet
     rising = start-rising (keysOf (p .objective)) (basesOf p)
@@ -75,19 +81,18 @@ module _ (p : Problem) (r : ℕ) where
     -- what is in one block is in one block of the other
     pub blocks-contained : (j i k : ℕ) → j < 9 → i < length (basisOf p j) → k < length (basisOf p j)
         → getD (getD (closing p .state .labels) j []) i 0 ≡ getD (getD (closing p .state .labels) j []) k 0
-        → getD (getD (closing (withRule p r) .state .labels) j []) i 0 ≡ getD (getD (closing (withRule p r) .state .labels) j []) k 0
+        → getD (getD (closing q .state .labels) j []) i 0 ≡ getD (getD (closing q .state .labels) j []) k 0
     unfolding closing
-    blocks-contained = rw rule-closing (rule-contained (p .rule) r fewer (basesOf p) (startSet p) rising (basis-few p limits) .blocks)
+    blocks-contained = rw alike-closing (rule-contained (p .rule) (q .rule) fewer (basesOf p) (startSet p) rising (basis-few p limits) .blocks)
 
     -- and no more keys are counted
-    pub keys-fewer : length (countedKeys (basesOf p) (closing p .state)) ≤ length (countedKeys (basesOf (withRule p r)) (closing (withRule p r) .state))
+    keys-fewer : length (countedKeys (basesOf p) (closing p .state)) ≤ length (countedKeys (basesOf q) (closing q .state))
     unfolding closing
-    keys-fewer = rw rule-keys (rule-fewer (p .rule) r fewer (basesOf p) (startSet p) rising (basis-few p limits))
+    keys-fewer = rw alike-keys (rule-fewer (p .rule) (q .rule) fewer (basesOf p) (startSet p) rising (basis-few p limits))
 
     -- so where refusal 7 applies, it applies to the other
-    pub large-other : tooLarge p ≡ true → tooLarge (withRule p r) ≡ true
+    pub large-other : tooLarge p ≡ true → tooLarge q ≡ true
     unfolding tooLarge
     large-other h =
-        let q = withRule p r in
         let b = ltb-true mostKeys (length (countedKeys (basesOf p) (closing p .state))) h in
         lt-ltb mostKeys (length (countedKeys (basesOf q) (closing q .state))) (omega (arith, keys-fewer))
