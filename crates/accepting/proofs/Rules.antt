@@ -16,7 +16,7 @@ use Rattle.format.proofs.CertificateLimits.{SoundRow, read-sound}
 use Rattle.format.proofs.Alike.{Alike, alike-basis, alike-multiplier, alike-certificate}
 use Rattle.joining_rule.specs.Rounds.{addingBases}
 use Rattle.joining_rule.proofs.Rules.{blocks-contained}
-use Rattle.accepting.specs.Identity.{square, squares, claimOf, Identity, blockOf, OneBlock, KeepsBlocks}
+use Rattle.accepting.specs.Identity.{square, squares, claimOf, Identity, blockOf, OneBlock}
 use Rattle.accepting.specs.Judgement.{Accepted}
 use Rattle.accepting.proofs.Reach.{all-both}
 

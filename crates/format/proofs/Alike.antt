@@ -3,11 +3,10 @@
 use mathlib.Core.Path.{_≡_, refl, ap, fun-ext}
 use mathlib.Core.List.{List}
 use Prim.Native.Nat.{ℕ, zero, suc}
-use Rattle.polynomial.specs.Terms.{Term}
 use Rattle.format.specs.Commands.{readWhole}
 use Rattle.format.specs.declared.certificate.Instruction.{Instruction}
 use Rattle.format.specs.declared.certificate.Instruction.the-variants as I
-use Rattle.format.specs.ProblemRules.{Condition, Problem, withRule}
+use Rattle.format.specs.ProblemRules.{Problem, withRule}
 use Rattle.format.specs.ProblemBases.{basisOf, multiplier, kindOf}
 use Rattle.format.specs.CertificateRules.{Certificate, noCertificate, certificateOperandsFit, certificateRefusalAt, certificateInstructionAt, certificateLanguage, readCertificate}
 
