@@ -36,10 +36,10 @@ module _ (p q : Problem) (a : Alike p q) where
 
   alike-fits : (c : Certificate) (i : Instruction) → certificateOperandsFit q c i ≡ certificateOperandsFit p c i
   alike-fits c (I.Header side d x y) = refl
-  alike-fits c (I.Row j w) = rw (alike-kind j, a .conditions)
+  alike-fits c (I.Row j w) = cc (alike-kind j)
   alike-fits c (I.Entry i l) = rw (alike-basis _)
   alike-fits c I.End = refl
-  alike-fits c (I.EqualityRow j w) = rw (alike-kind j, a .conditions)
+  alike-fits c (I.EqualityRow j w) = cc (alike-kind j)
 
   alike-refusal : (c : Certificate) (s : List ℕ) (at : ℕ) → certificateRefusalAt q c s at ≡ certificateRefusalAt p c s at
   unfolding certificateRefusalAt

@@ -1,5 +1,4 @@
--- What the joining rule's result means: closed, least, and the number of rounds. ""Least" and the rounds are judged by
--- the named rule".
+-- What the joining rule's result means: closed, least, and the number of rounds, which "are judged by the named rule".
 use mathlib.Core.Path.{_≡_}
 use mathlib.Core.Bool.{Bool, true}
 use mathlib.Core.List.{List}
@@ -20,7 +19,7 @@ pub record Pair (g : Bases) (j i k t : ℕ) : Type 0 where
   pub exponent : In t (g .multiplier j)
 
 -- blocks, label j i for index i of basis j, and a set S that contain the start S₀ and are closed under the steps of a
--- round
+-- round: every basis joins, and those add that the rule names
 pub record Closed (rule : ℕ) (g : Bases) (S₀ : List ℕ) (label : ℕ → ℕ → ℕ) (S : List ℕ) : Type 0 where
   pub starts : (x : ℕ) → In x S₀ → In x S
   pub joins : (j i k t : ℕ) → Pair g j i k t → In (sumOf g j i k t) S → label j i ≡ label j k
