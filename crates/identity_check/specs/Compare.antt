@@ -47,17 +47,17 @@ pub record Smallest (P : ℕ → Type 0) (table : List ℕ) (n m found r : ℕ) 
 abbrev pub Nonzero : List ℤ → List ℤ → ℕ → Type 0
 Nonzero hi lo q = valueAt hi lo q ≡ pos 0 → ⊥
 
--- the sums at the first m places are divided by 2^16, rounded down, and nothing else has changed; r is the place with the
--- smallest key of those whose sum was no multiple of 2^16 and of `found`
+-- the sums at the first m places are divided by 2^16, rounded down, and nothing else has changed; r is the place with
+-- the smallest key of those whose sum was no multiple of 2^16 and of `found`
 pub record DividedSums (table : List ℕ) (n m found : ℕ) (hi₀ lo₀ hi₁ lo₁ : List ℤ) (r : ℕ) : Type 0 where
   pub floors : (q : ℕ) → q < m → Floor (valueAt hi₀ lo₀ q) (valueAt hi₁ lo₁ q)
   pub smallest : Smallest (λ q. Uneven (valueAt hi₀ lo₀ q)) table n m found r
   pub high : Shrunk m (2 ^ 48) hi₀ hi₁
   pub low : Shrunk m base lo₀ lo₁
 
--- what is known of the differences D at the first n places, when numbers W are left to be tested for 0: r is a place that
--- differs, or no place below n; and each place differs and has no smaller key than r, or its difference is a multiple of
--- what W has there
+-- what is known of the differences D at the first n places when the numbers W are left to be tested for 0: r is a place
+-- that differs, or no place below n; and each place either differs and has no smaller key than r, or its difference is
+-- W's number there times a factor, so that one is 0 where the other is
 pub record Reached (D W : ℕ → ℤ) (table : List ℕ) (n r : ℕ) : Type 0 where
   pub factor : ℕ
   pub positive : 0 < factor
