@@ -7,6 +7,7 @@
 mod certificates;
 pub mod equalities;
 pub mod gaps;
+pub mod joining_rules;
 mod order;
 mod problems;
 mod sums;
@@ -97,7 +98,13 @@ type Line = (
 
 /// All cases, by the order of the lists: those of document 01, then those of the requests.
 pub fn cases() -> Vec<Case> {
-    [scope(), equalities::cases(), wide_factors::cases()].concat()
+    [
+        scope(),
+        equalities::cases(),
+        wide_factors::cases(),
+        joining_rules::cases(),
+    ]
+    .concat()
 }
 
 /// The cases of document 01.
@@ -198,7 +205,13 @@ mod tests {
 
     /// What is accepted beside the refusals, of all requests.
     fn accepted() -> impl Iterator<Item = &'static Accepted> {
-        equalities::ACCEPTED.iter().chain(gaps::ACCEPTED)
+        [
+            equalities::ACCEPTED,
+            gaps::ACCEPTED,
+            joining_rules::ACCEPTED,
+        ]
+        .into_iter()
+        .flatten()
     }
 
     #[test]

@@ -2,6 +2,7 @@
 
 mod empty_region;
 mod equalities;
+mod joining_rules;
 mod wide_factors;
 mod windows;
 
@@ -70,6 +71,12 @@ const LANDED: &[Landed] = &[
         kinds: &[CHECK, PAIR],
         special: wide_factors::special,
         put: wide_factors::put,
+        count: 200,
+    }),
+    Landed::Change(Change {
+        kinds: &[BLOCKS, CHECK, PAIR],
+        special: joining_rules::special,
+        put: joining_rules::put,
         count: 200,
     }),
 ];
