@@ -263,7 +263,7 @@ module _ (short : Bool) (s low high : List ℕ) (v : PairVerdict) (is : v ≡ pa
       w : PairVerdict
       w = pairVerdict short s′ low high
 
-      go : Under short s s′ → UnlessSeven (w .refusal) ((w .lower ≡ v .lower) × ((w .upper ≡ v .upper) × (w .gap ≡ v .gap)))
+      go : Under short s s′ → UnlessSeven (w .refusal) ((w .lower ≡ v .lower) × ((w .upper ≡ v .upper) × ((w .gap ≡ v .gap) × (w .empty ≡ v .empty))))
       go (large p f e l) =
           inl (ap (λ (x : PairVerdict). x .refusal) (too-large refusedPair of reads (λ n place. refl) (λ p. refl) short s′ (withRule p 1) f e l))
       go (both b) =
@@ -282,7 +282,10 @@ module _ (short : Bool) (s low high : List ℕ) (v : PairVerdict) (is : v ≡ pa
             ap (λ (x : PairVerdict). x .refusal) e,
             (
               ap (λ (x : PairVerdict). x .lower) e ∙ sym (ap (λ (x : PairVerdict). x .lower) (k .verdict)),
-              (ap (λ (x : PairVerdict). x .upper) e ∙ sym (ap (λ (x : PairVerdict). x .upper) (k .verdict)), ap (λ (x : PairVerdict). x .gap) e ∙ sym (ap (λ (x : PairVerdict). x .gap) (k .verdict))),
+              (
+                ap (λ (x : PairVerdict). x .upper) e ∙ sym (ap (λ (x : PairVerdict). x .upper) (k .verdict)),
+                (ap (λ (x : PairVerdict). x .gap) e ∙ sym (ap (λ (x : PairVerdict). x .gap) (k .verdict)), ap (λ (x : PairVerdict). x .empty) e ∙ sym (ap (λ (x : PairVerdict). x .empty) (k .verdict))),
+              ),
             ),
           )
 

@@ -44,9 +44,10 @@ CheckUnderOne short s certificate v =
     → let w = checkVerdict short t certificate in
     UnlessSeven (w .refusal) ((w .side ≡ v .side) × (w .bound ≡ v .bound))
 
--- ---- the pair: the same, with both bounds and the gap
+-- ---- the pair: the same, with both bounds and the gap, or its mark
 abbrev pub PairUnderOne : Bool → List ℕ → List ℕ → List ℕ → PairVerdict → Type 0
 PairUnderOne short s low high v =
     (t : List ℕ) → UnderOne s t → v .refusal .number ≡ 0
     → let w = pairVerdict short t low high in
-    UnlessSeven (w .refusal) ((w .lower ≡ v .lower) × ((w .upper ≡ v .upper) × (w .gap ≡ v .gap)))
+    UnlessSeven (w .refusal)
+    ((w .lower ≡ v .lower) × ((w .upper ≡ v .upper) × ((w .gap ≡ v .gap) × (w .empty ≡ v .empty))))

@@ -20,9 +20,10 @@ ghost use Rattle.calls.specs.Blocks.{bytesOf, bytesRead, blocksVerdict, bytesLe
 ghost use Rattle.calls.specs.Check.{refusedCheck, checkOf, checkRead, checkVerdict};
 ghost use Rattle.calls.specs.Pair.{refusedPair, pairSides, pairFirst, pairOf, pairRead, pairVerdict};
 ghost use Rattle.calls.specs.Promises.{NumberedTo, BlocksClosed, BlocksLeast, BlocksLowest, BlocksCounted};
-ghost use Rattle.calls.specs.Promises.{RoundsTaken, FewRounds, SevenExactly};
+ghost use Rattle.calls.specs.Promises.{RoundsTaken, FewRounds, SevenExactly, RuleUsed};
 ghost use Rattle.calls.specs.Promises.{AcceptedExactly, CheckDiffers, HoldsBySide};
 ghost use Rattle.calls.specs.Promises.{PairExactly, PairDiffers, HoldsBelow, HoldsAbove, HoldsGap, NoPoints};
+ghost use Rattle.calls.specs.Rules.{BlocksUnderOne, CheckUnderOne, PairUnderOne};
 ghost use Rattle.flat.specs.Flat.{FlatProblem};
 ghost use Rattle.fractions.specs.Ranges.{Bound};
 ghost use Rattle.certificate_judge.specs.Steps.{JoinedProblem, Judgeable, LongSums, SumsRest};
@@ -35,6 +36,7 @@ use calls::PairVerdict;
 use calls::Refusal;
 use certificate_judge::Judged;
 use closure::Joined;
+use flat::RULE;
 use format::certificate::Header;
 
 // The block numbers written to the lent bytes.
@@ -87,6 +89,7 @@ fn refuse_blocks(number: u8, place: usize) -> BlocksVerdict
         },
         blocks: 0,
         rounds: 0,
+        rule: 0,
     }
 }
 
@@ -119,6 +122,7 @@ fn blocks_of(keys: &[u64], sizes: &[usize], out: &mut [u8], table: &mut [u64]) -
         },
         blocks: j.blocks,
         rounds: j.rounds,
+        rule: sizes[RULE],
     }
 }
 
@@ -133,7 +137,7 @@ fn answer_blocks(problem: &[u8], out: &mut [u8], table: &mut [u64]) -> BlocksVer
 {
     let mut keys = [0u64; 1120];
     let mut coefficients = [0i32; 544];
-    let mut sizes = [0usize; 29];
+    let mut sizes = [0usize; 30];
     let r = problem_reader::read(problem, &mut keys, &mut coefficients, &mut sizes);
     let number = r.number;
     if 0 < number {
@@ -171,6 +175,12 @@ pub fn blocks(
     ensures rounds { λ r. ⌜ RoundsTaken (now (problem .entry)) (r .refusal .number) (r .rounds) ⌝ }
     ensures few_rounds { λ r. ⌜ FewRounds (now (problem .entry)) (r .refusal .number) (r .rounds) ⌝ }
     ensures seven { λ r. ⌜ SevenExactly (now (problem .entry)) (r .refusal .number) ⌝ }
+    ensures rule { λ r. ⌜ RuleUsed (now (problem .entry)) (r .refusal .number) (r .rule) ⌝ }
+    ensures under_one { λ r.
+        let lent = tables (now (keys .entry)) (now (high .entry)) (now (low .entry)) in
+        let before = now (out .entry) in
+        ⌜ BlocksUnderOne (blocksShort before lent) (now (problem .entry)) before (r .refusal .number)
+        (now (out .exit)) ⌝ }
 {
     if out.len() < 576 {
         return refuse_blocks(1, 0);
@@ -201,12 +211,13 @@ fn refuse_check(refusal: Refusal) -> CheckVerdict
         side: 0,
         bound: fractions::no_fraction(),
         rounds: 0,
+        rule: 0,
     }
 }
 
 // The verdict on one certificate.
-fn check_one(judged: Judged, rounds: usize) -> CheckVerdict
-    ensures { λ r. ⌜ r ≡ checkFrom judged rounds ⌝ }
+fn check_one(judged: Judged, rounds: usize, rule: usize) -> CheckVerdict
+    ensures { λ r. ⌜ r ≡ checkFrom judged rounds rule ⌝ }
 {
     match judged {
         Judged::Refused(f) => refuse_check(f),
@@ -215,6 +226,7 @@ fn check_one(judged: Judged, rounds: usize) -> CheckVerdict
             side: t.side,
             bound: bound(t.p, t.q),
             rounds,
+            rule,
         },
     }
 }
@@ -259,7 +271,7 @@ fn check_of(
         high,
         low,
     );
-    check_one(judged, j.rounds)
+    check_one(judged, j.rounds, sizes[RULE])
 }
 
 // The check, with tables that are long enough. The problem is read into arrays of the call.
@@ -278,7 +290,7 @@ fn answer_check(
 {
     let mut keys = [0u64; 1120];
     let mut coefficients = [0i32; 544];
-    let mut sizes = [0usize; 29];
+    let mut sizes = [0usize; 30];
     let r = problem_reader::read(problem, &mut keys, &mut coefficients, &mut sizes);
     let number = r.number;
     if 0 < number {
@@ -312,6 +324,10 @@ pub fn check(
     ensures holds { λ r. ⌜ HoldsBySide (now (problem .entry)) r ⌝ }
     ensures rounds { λ r. ⌜ RoundsTaken (now (problem .entry)) (r .refusal .number) (r .rounds) ⌝ }
     ensures few_rounds { λ r. ⌜ FewRounds (now (problem .entry)) (r .refusal .number) (r .rounds) ⌝ }
+    ensures rule { λ r. ⌜ RuleUsed (now (problem .entry)) (r .refusal .number) (r .rule) ⌝ }
+    ensures under_one { λ r.
+        let lent = tables (now (keys .entry)) (now (high .entry)) (now (low .entry)) in
+        ⌜ CheckUnderOne (tablesShort lent) (now (problem .entry)) (now (certificate .entry)) r ⌝ }
 {
     if is_short(keys.len(), high.len(), low.len()) {
         return refuse_check(certificate_judge::problem_refusal(1, 0));
@@ -331,6 +347,7 @@ fn refuse_pair(refusal: Refusal) -> PairVerdict
         gap: fractions::no_fraction(),
         empty: false,
         rounds: 0,
+        rule: 0,
     }
 }
 
@@ -346,8 +363,8 @@ fn refuse_side(stream: u8) -> PairVerdict
 }
 
 // The verdict on two certificates that are accepted.
-fn pair_sides(lower: Header, upper: Header, rounds: usize) -> PairVerdict
-    ensures { λ r. ⌜ r ≡ pairSides lower upper rounds ⌝ }
+fn pair_sides(lower: Header, upper: Header, rounds: usize, rule: usize) -> PairVerdict
+    ensures { λ r. ⌜ r ≡ pairSides lower upper rounds rule ⌝ }
 {
     if lower.side != 0 {
         return refuse_side(1);
@@ -365,16 +382,17 @@ fn pair_sides(lower: Header, upper: Header, rounds: usize) -> PairVerdict
         gap: fractions::unless_negative(gap),
         empty: fractions::is_negative(gap),
         rounds,
+        rule,
     }
 }
 
 // The second certificate, after the first was accepted.
-fn pair_second(lower: Header, judged: Judged, rounds: usize) -> PairVerdict
-    ensures { λ r. ⌜ r ≡ pairFrom lower judged rounds ⌝ }
+fn pair_second(lower: Header, judged: Judged, rounds: usize, rule: usize) -> PairVerdict
+    ensures { λ r. ⌜ r ≡ pairFrom lower judged rounds rule ⌝ }
 {
     match judged {
         Judged::Refused(f) => refuse_pair(f),
-        Judged::Accepted(upper) => pair_sides(lower, upper, rounds),
+        Judged::Accepted(upper) => pair_sides(lower, upper, rounds, rule),
     }
 }
 
@@ -435,6 +453,7 @@ fn pair_both(
                 low,
             ),
             j.rounds,
+            sizes[RULE],
         ),
     }
 }
@@ -500,7 +519,7 @@ fn answer_pair(
 {
     let mut keys = [0u64; 1120];
     let mut coefficients = [0i32; 544];
-    let mut sizes = [0usize; 29];
+    let mut sizes = [0usize; 30];
     let r = problem_reader::read(problem, &mut keys, &mut coefficients, &mut sizes);
     let number = r.number;
     if 0 < number {
@@ -548,6 +567,10 @@ pub fn pair(
     ensures empty { λ r. ⌜ NoPoints (now (problem .entry)) r ⌝ }
     ensures rounds { λ r. ⌜ RoundsTaken (now (problem .entry)) (r .refusal .number) (r .rounds) ⌝ }
     ensures few_rounds { λ r. ⌜ FewRounds (now (problem .entry)) (r .refusal .number) (r .rounds) ⌝ }
+    ensures rule { λ r. ⌜ RuleUsed (now (problem .entry)) (r .refusal .number) (r .rule) ⌝ }
+    ensures under_one { λ r.
+        let lent = tables (now (keys .entry)) (now (high .entry)) (now (low .entry)) in
+        ⌜ PairUnderOne (tablesShort lent) (now (problem .entry)) (now (first .entry)) (now (second .entry)) r ⌝ }
 {
     if is_short(keys.len(), high.len(), low.len()) {
         return refuse_pair(certificate_judge::problem_refusal(1, 0));
