@@ -6,3 +6,4 @@ pub mod Accepted
 pub mod RingBounds
 pub mod Empty
 pub mod Worked
+pub mod Rules

@@ -1,5 +1,6 @@
 pub mod Judged
 pub mod Ends
+pub mod Rules
 pub mod Promised
 pub mod Checking
 pub mod Pairing

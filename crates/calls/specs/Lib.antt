@@ -8,3 +8,4 @@ pub mod Window
 pub mod Promises
 pub mod RingPromises
 pub mod Superseding
+pub mod Rules

@@ -1,6 +1,6 @@
 -- What the calls promise, in the buyer's terms. s is the problem stream, and t, low and high are certificate streams;
--- number, blocks and rounds are what the call returns, and bytes the 576 bytes at exit; short is true where something
--- lent is too short.
+-- number, blocks, rounds and rule are what the call returns, and bytes the 576 bytes at exit; short is true where
+-- something lent is too short.
 use mathlib.Core.Path.{_≡_}
 use mathlib.Core.Bool.{Bool, true, false}
 use mathlib.Core.List.{List}
@@ -11,6 +11,7 @@ use Rattle.counting.specs.Counting.{listed, sumTo}
 use Rattle.format.specs.Commands.{given}
 use Rattle.format.specs.ProblemRules.{Problem, readProblem}
 use Rattle.format.specs.ProblemCounts.{memberCommands, basesNamed}
+use Rattle.format.specs.ProblemRule.{ruleNamed}
 use Rattle.format.specs.ProblemBases.{basisOf}
 use Rattle.joining_rule.specs.Sets.{different}
 use Rattle.joining_rule.specs.Bytes.{blockAt}
@@ -27,7 +28,7 @@ use Rattle.calls.specs.Check.{boundOf}
 use Rattle.calls.specs.declared.Refusal.{Refusal}
 use Rattle.calls.specs.declared.CheckVerdict.{CheckVerdict}
 use Rattle.calls.specs.declared.PairVerdict.{PairVerdict}
-use Rattle.joining_rule.specs.Rounds.{closedWithZero}
+use Rattle.joining_rule.specs.Rounds.{countedKeys}
 
 -- ---- every call
 -- the number is 0, where nothing is refused, or one of the refusals 1 to last of document 01's ten. The last of the
@@ -40,16 +41,22 @@ NumberedTo last number = number ≤ last
 abbrev pub WhereAccepted : List ℕ → ℕ → (Problem → Type 0) → Type 0
 WhereAccepted s number P = (p : Problem) → readProblem s ≡ given p → number ≡ 0 → P p
 
+-- "Each verdict of the blocks call, the check and the pair says the rule used ..; refusals say 0": the rule that the
+-- stream names
+pub record RuleUsed (s : List ℕ) (number rule : ℕ) : Type 0 where
+  pub named : number ≡ 0 → rule ≡ ruleNamed s
+  pub refused : 0 < number → rule ≡ 0
+
 -- ---- the blocks
 -- they contain the start and are closed under the joining rule's steps
 abbrev pub BlocksClosed : List ℕ → ℕ → List ℕ → Type 0
 BlocksClosed s number bytes =
-    WhereAccepted s number (λ p. Closed (basesOf p) (startSet p) (blockAt bytes) (closedSupport p))
+    WhereAccepted s number (λ p. Closed (p .rule) (basesOf p) (startSet p) (blockAt bytes) (closedSupport p))
 
 -- they are the least such
 abbrev pub BlocksLeast : List ℕ → ℕ → List ℕ → Type 0
 BlocksLeast s number bytes =
-    WhereAccepted s number (λ p. Least (basesOf p) (startSet p) (blockAt bytes) (closedSupport p))
+    WhereAccepted s number (λ p. Least (p .rule) (basesOf p) (startSet p) (blockAt bytes) (closedSupport p))
 
 -- "A block's number is its lowest index"
 abbrev pub BlocksLowest : List ℕ → ℕ → List ℕ → Type 0
@@ -63,17 +70,19 @@ BlocksCounted s number bytes blocks =
 
 -- the rounds are exactly those that the joining rule takes
 abbrev pub RoundsTaken : List ℕ → ℕ → ℕ → Type 0
-RoundsTaken s number rounds = WhereAccepted s number (λ p. TakesRounds (basesOf p) (startSet p) rounds)
+RoundsTaken s number rounds = WhereAccepted s number (λ p. TakesRounds (p .rule) (basesOf p) (startSet p) rounds)
 
 -- "at most N − B + 2": N the number of 05 commands, B the number of different j that they name
 abbrev pub FewRounds : List ℕ → ℕ → ℕ → Type 0
 FewRounds s number rounds = WhereAccepted s number (λ p. rounds + basesNamed s ≤ memberCommands s + 2)
 
--- with tables that are long enough, refusal 7 is given exactly when "closed S with zero" is "above 2,048"
+-- with tables that are long enough, refusal 7 is given exactly when "closed S with zero" is "above 2,048"; "The limit
+-- of 2,048 counts the closed S with the zero exponent and all in-block products"
 pub record SevenExactly (s : List ℕ) (number : ℕ) : Type 0 where
-  pub only : (p : Problem) → readProblem s ≡ given p → number ≡ 7 → mostKeys < length (closedWithZero (closing p))
+  pub only : (p : Problem) → readProblem s ≡ given p → number ≡ 7
+      → mostKeys < length (countedKeys (basesOf p) (closing p .state))
   pub always : (p : Problem) → readProblem s ≡ given p → (number ≡ 1 → ⊥)
-      → mostKeys < length (closedWithZero (closing p)) → number ≡ 7
+      → mostKeys < length (countedKeys (basesOf p) (closing p .state)) → number ≡ 7
 
 -- ---- bounds and gap
 -- "at every rational point where all constraints are at least 0, p/q ≤ value ≤ P/Q"; such a point "is from here on one

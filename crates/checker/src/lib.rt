@@ -20,9 +20,10 @@ ghost use Rattle.calls.specs.Blocks.{bytesOf, bytesRead, blocksVerdict, bytesLe
 ghost use Rattle.calls.specs.Check.{refusedCheck, checkJudged, checkOf, checkRead, checkVerdict};
 ghost use Rattle.calls.specs.Pair.{refusedPair, pairSides, pairFirst, pairOf, pairRead, pairVerdict};
 ghost use Rattle.calls.specs.Promises.{NumberedTo, BlocksClosed, BlocksLeast, BlocksLowest, BlocksCounted};
-ghost use Rattle.calls.specs.Promises.{RoundsTaken, FewRounds, SevenExactly};
+ghost use Rattle.calls.specs.Promises.{RoundsTaken, FewRounds, SevenExactly, RuleUsed};
 ghost use Rattle.calls.specs.Promises.{AcceptedExactly, CheckDiffers, HoldsBySide};
 ghost use Rattle.calls.specs.Promises.{PairExactly, PairDiffers, HoldsBelow, HoldsAbove, HoldsGap, NoPoints};
+ghost use Rattle.calls.specs.Rules.{BlocksUnderOne, CheckUnderOne, PairUnderOne};
 ghost use Rattle.flat.specs.Flat.{FlatProblem};
 ghost use Rattle.fractions.specs.Ranges.{Bound};
 ghost use Rattle.certificate_judge.specs.Steps.{JoinedProblem, Judgeable, LongSums, SumsRest};
@@ -36,6 +37,7 @@ use calls::Refusal;
 use calls::TwoChecks;
 use certificate_judge::Judged;
 use closure::Joined;
+use flat::RULE;
 use format::certificate::Header;
 
 // The block numbers written to the lent bytes.
@@ -88,6 +90,7 @@ fn refuse_blocks(number: u8, place: usize) -> BlocksVerdict
         },
         blocks: 0,
         rounds: 0,
+        rule: 0,
     }
 }
 
@@ -120,6 +123,7 @@ fn blocks_of(keys: &[u64], sizes: &[usize], out: &mut [u8], table: &mut [u64]) -
         },
         blocks: j.blocks,
         rounds: j.rounds,
+        rule: sizes[RULE],
     }
 }
 
@@ -134,7 +138,7 @@ fn answer_blocks(problem: &[u8], out: &mut [u8], table: &mut [u64]) -> BlocksVer
 {
     let mut keys = [0u64; 1120];
     let mut coefficients = [0i32; 544];
-    let mut sizes = [0usize; 29];
+    let mut sizes = [0usize; 30];
     let r = problem_reader::read(problem, &mut keys, &mut coefficients, &mut sizes);
     let number = r.number;
     if 0 < number {
@@ -172,6 +176,12 @@ pub fn blocks(
     ensures rounds { λ r. ⌜ RoundsTaken (now (problem .entry)) (r .refusal .number) (r .rounds) ⌝ }
     ensures few_rounds { λ r. ⌜ FewRounds (now (problem .entry)) (r .refusal .number) (r .rounds) ⌝ }
     ensures seven { λ r. ⌜ SevenExactly (now (problem .entry)) (r .refusal .number) ⌝ }
+    ensures rule { λ r. ⌜ RuleUsed (now (problem .entry)) (r .refusal .number) (r .rule) ⌝ }
+    ensures under_one { λ r.
+        let lent = tables (now (keys .entry)) (now (high .entry)) (now (low .entry)) in
+        let before = now (out .entry) in
+        ⌜ BlocksUnderOne (blocksShort before lent) (now (problem .entry)) before (r .refusal .number)
+        (now (out .exit)) ⌝ }
 {
     if out.len() < 576 {
         return refuse_blocks(1, 0);
@@ -202,12 +212,13 @@ fn refuse_check(refusal: Refusal) -> CheckVerdict
         side: 0,
         bound: fractions::no_fraction(),
         rounds: 0,
+        rule: 0,
     }
 }
 
 // The verdict on one certificate.
-fn check_one(judged: Judged, rounds: usize) -> CheckVerdict
-    ensures { λ r. ⌜ r ≡ checkFrom judged rounds ⌝ }
+fn check_one(judged: Judged, rounds: usize, rule: usize) -> CheckVerdict
+    ensures { λ r. ⌜ r ≡ checkFrom judged rounds rule ⌝ }
 {
     match judged {
         Judged::Refused(f) => refuse_check(f),
@@ -216,6 +227,7 @@ fn check_one(judged: Judged, rounds: usize) -> CheckVerdict
             side: t.side,
             bound: bound(t.p, t.q),
             rounds,
+            rule,
         },
     }
 }
@@ -260,7 +272,7 @@ fn check_of(
         high,
         low,
     );
-    check_one(judged, j.rounds)
+    check_one(judged, j.rounds, sizes[RULE])
 }
 
 // The check, with tables that are long enough. The problem is read into arrays of the call.
@@ -279,7 +291,7 @@ fn answer_check(
 {
     let mut keys = [0u64; 1120];
     let mut coefficients = [0i32; 544];
-    let mut sizes = [0usize; 29];
+    let mut sizes = [0usize; 30];
     let r = problem_reader::read(problem, &mut keys, &mut coefficients, &mut sizes);
     let number = r.number;
     if 0 < number {
@@ -313,6 +325,10 @@ pub fn check(
     ensures holds { λ r. ⌜ HoldsBySide (now (problem .entry)) r ⌝ }
     ensures rounds { λ r. ⌜ RoundsTaken (now (problem .entry)) (r .refusal .number) (r .rounds) ⌝ }
     ensures few_rounds { λ r. ⌜ FewRounds (now (problem .entry)) (r .refusal .number) (r .rounds) ⌝ }
+    ensures rule { λ r. ⌜ RuleUsed (now (problem .entry)) (r .refusal .number) (r .rule) ⌝ }
+    ensures under_one { λ r.
+        let lent = tables (now (keys .entry)) (now (high .entry)) (now (low .entry)) in
+        ⌜ CheckUnderOne (tablesShort lent) (now (problem .entry)) (now (certificate .entry)) r ⌝ }
 {
     if is_short(keys.len(), high.len(), low.len()) {
         return refuse_check(certificate_judge::problem_refusal(1, 0));
@@ -332,6 +348,7 @@ fn refuse_pair(refusal: Refusal) -> PairVerdict
         gap: fractions::no_fraction(),
         empty: false,
         rounds: 0,
+        rule: 0,
     }
 }
 
@@ -347,8 +364,8 @@ fn refuse_side(stream: u8) -> PairVerdict
 }
 
 // The verdict on two certificates that are accepted.
-fn pair_sides(lower: Header, upper: Header, rounds: usize) -> PairVerdict
-    ensures { λ r. ⌜ r ≡ pairSides lower upper rounds ⌝ }
+fn pair_sides(lower: Header, upper: Header, rounds: usize, rule: usize) -> PairVerdict
+    ensures { λ r. ⌜ r ≡ pairSides lower upper rounds rule ⌝ }
 {
     if lower.side != 0 {
         return refuse_side(1);
@@ -366,16 +383,17 @@ fn pair_sides(lower: Header, upper: Header, rounds: usize) -> PairVerdict
         gap: fractions::unless_negative(gap),
         empty: fractions::is_negative(gap),
         rounds,
+        rule,
     }
 }
 
 // The second certificate, after the first was accepted.
-fn pair_second(lower: Header, judged: Judged, rounds: usize) -> PairVerdict
-    ensures { λ r. ⌜ r ≡ pairFrom lower judged rounds ⌝ }
+fn pair_second(lower: Header, judged: Judged, rounds: usize, rule: usize) -> PairVerdict
+    ensures { λ r. ⌜ r ≡ pairFrom lower judged rounds rule ⌝ }
 {
     match judged {
         Judged::Refused(f) => refuse_pair(f),
-        Judged::Accepted(upper) => pair_sides(lower, upper, rounds),
+        Judged::Accepted(upper) => pair_sides(lower, upper, rounds, rule),
     }
 }
 
@@ -436,6 +454,7 @@ fn pair_both(
                 low,
             ),
             j.rounds,
+            sizes[RULE],
         ),
     }
 }
@@ -501,7 +520,7 @@ fn answer_pair(
 {
     let mut keys = [0u64; 1120];
     let mut coefficients = [0i32; 544];
-    let mut sizes = [0usize; 29];
+    let mut sizes = [0usize; 30];
     let r = problem_reader::read(problem, &mut keys, &mut coefficients, &mut sizes);
     let number = r.number;
     if 0 < number {
@@ -549,6 +568,10 @@ pub fn pair(
     ensures empty { λ r. ⌜ NoPoints (now (problem .entry)) r ⌝ }
     ensures rounds { λ r. ⌜ RoundsTaken (now (problem .entry)) (r .refusal .number) (r .rounds) ⌝ }
     ensures few_rounds { λ r. ⌜ FewRounds (now (problem .entry)) (r .refusal .number) (r .rounds) ⌝ }
+    ensures rule { λ r. ⌜ RuleUsed (now (problem .entry)) (r .refusal .number) (r .rule) ⌝ }
+    ensures under_one { λ r.
+        let lent = tables (now (keys .entry)) (now (high .entry)) (now (low .entry)) in
+        ⌜ PairUnderOne (tablesShort lent) (now (problem .entry)) (now (first .entry)) (now (second .entry)) r ⌝ }
 {
     if is_short(keys.len(), high.len(), low.len()) {
         return refuse_pair(certificate_judge::problem_refusal(1, 0));

@@ -17,6 +17,9 @@ pub const CONDITIONS: usize = 19;
 // The kinds of the multipliers stand in sizes from here on: 1 for an equality, 0 for an inequality.
 pub const KINDS: usize = 20;
 
+// The joining rule stands behind them.
+pub const RULE: usize = 29;
+
 // The n numbers from a place on.
 pub fn part(l: &[u64], from: usize, n: usize) -> &[u64]
     requires { ⌜ from + n ≤ length (now l) ⌝ }

@@ -7,4 +7,7 @@ pub mod CertificateLimits
 pub mod Numbers
 pub mod Lengths
 pub mod ProblemCounts
+pub mod ProblemRule
+pub mod RuleExchanged
+pub mod Alike
 pub mod All

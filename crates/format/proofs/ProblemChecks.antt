@@ -23,6 +23,7 @@ placed-size p at C.Member h = omega arith
 placed-size p at C.End h = omega arith
 placed-size p at C.Unknown h = clash (cc)
 placed-size p at C.Equality h = omega arith
+placed-size p at C.Rule h = omega arith
 
 pub end-command : (p : Problem) (s : List ℕ) (at : ℕ) (k : Command) → problemPlaced p at k ≡ true → problemDecoded k s at ≡ I.End → k ≡ C.End
 end-command p s at C.Variables h e = clash (cc)
@@ -33,6 +34,7 @@ end-command p s at C.Member h e = clash (cc)
 end-command p s at C.End h e = refl
 end-command p s at C.Unknown h e = clash (cc)
 end-command p s at C.Equality h e = clash (cc)
+end-command p s at C.Rule h e = clash (cc)
 
 pub end-byte : (b : ℕ) → problemCommand b ≡ C.End → b ≡ 6
 end-byte b h = eqb-true b 6 (problem-byte C.End b h (λ e. clash (cc)))

@@ -36,6 +36,7 @@ isMemberCommand C.Member = true
 isMemberCommand C.End = false
 isMemberCommand C.Unknown = false
 isMemberCommand C.Equality = false
+isMemberCommand C.Rule = false
 
 member-byte : (b : ℕ) → eqb b 5 ≡ isMemberCommand (problemCommand b)
 member-byte b = go (eqb b 5) refl (problemCommand b) refl
@@ -50,6 +51,7 @@ member-byte b = go (eqb b 5) refl (problemCommand b) refl
     go false e C.End h = refl
     go false e C.Unknown h = refl
     go false e C.Equality h = refl
+    go false e C.Rule h = refl
 
 -- ---- one command
 module _ (p : Problem) (s : List ℕ) (at : ℕ) (kept : Kept p at) where
@@ -94,6 +96,7 @@ module _ (p : Problem) (s : List ℕ) (at : ℕ) (kept : Kept p at) where
   step C.End w c = same-step C.End refl refl
   step C.Unknown w c = same-step C.Unknown refl refl
   step C.Equality w c = same-step C.Equality refl refl
+  step C.Rule w c = same-step C.Rule refl refl
 
   step-at : problemRefusalAt p s at ≡ 0 → Step (problemCommandAt s at)
   unfolding problemRefusalAt

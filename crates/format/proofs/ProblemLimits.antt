@@ -20,7 +20,8 @@ use Rattle.format.specs.declared.problem.Command.{Command}
 use Rattle.format.specs.declared.problem.Command.the-variants as C
 use Rattle.format.specs.declared.problem.Kind.{Kind}
 use Rattle.format.specs.ProblemLayout.{problemCommand, problemSize, problemDecoded}
-use Rattle.format.specs.ProblemRules.{Problem, noProblem, noCondition, appendAt, withCondition, conditionsFull, problemPlaced, nonzero, fitting, problemOperandsFit, problemRepeated, problemFull, problemApplied, problemCommandAt, problemRefusalAt, problemNext, problemLanguage, readProblem}
+use Rattle.format.specs.ProblemRules.{Problem, noProblem, noCondition, appendAt, withCondition, withRule, conditionsFull, problemPlaced, nonzero, fitting, problemOperandsFit, problemRepeated, problemFull, problemApplied, problemCommandAt, problemRefusalAt, problemNext, problemLanguage, readProblem}
+use Rattle.format.specs.ProblemBases.{basisOf}
 use Rattle.format.specs.All.{All}
 use Rattle.format.proofs.WithinLimits.{Distinct, Monomials, Terms, ConditionTerms, Limits}
 use Rattle.format.proofs.ProblemChecks.{placed-size}
@@ -127,10 +128,11 @@ nothing-basis j = go 9 j
 
 -- the first command gives the number of variables
 first-limits : (n : ℕ) → (leb 1 n && leb n 8) ≡ true
-    → Limits (record { variables = n; objective = []; conditions = []; bases = noProblem .bases })
+    → Limits (record { variables = n; rule = noProblem .rule; objective = []; conditions = []; bases = noProblem .bases })
 unfolding All
 first-limits n h = record {
   variables = (leb-true 1 n (and-left _ _ h), leb-true n 8 (and-right (leb 1 n) _ h));
+  rule = omega arith;
   objective = terms-none n 32 256;
   conditions = omega arith;
   terms = tt;
@@ -145,6 +147,7 @@ begun-limits p k q full =
     let e = length-append (p .conditions) (record { kind = k; terms = [] } ∷ []) in
     record {
       variables = q .variables;
+      rule = q .rule;
       objective = q .objective;
       conditions = rw e (omega (arith, leb-false 8 (length (p .conditions)) full));
       terms = all-more _ (p .conditions) _ (q .terms) (terms-none (p .variables) 16 32);
@@ -152,6 +155,23 @@ begun-limits p k q full =
       members = q .members;
       begun = λ j h. q .begun j (omega arith);
     }
+
+-- the joining rule is named, and not first
+ruled-later : (p : Problem) (at : ℕ) → problemPlaced p at C.Rule ≡ true → 0 < at
+ruled-later p zero h = clash (cc)
+ruled-later p (suc at) h = omega arith
+
+ruled-limits : (p : Problem) (r : ℕ) → Limits p → (leb 1 r && leb r 2) ≡ true → Limits (withRule p r)
+ruled-limits p r q h = record {
+  variables = q .variables;
+  rule = (leb-true 1 r (and-left _ _ h), leb-true r 2 (and-right (leb 1 r) _ h));
+  objective = q .objective;
+  conditions = q .conditions;
+  terms = q .terms;
+  bases = q .bases;
+  members = q .members;
+  begun = q .begun;
+}
 
 appended-length : {A : Type 0} (ls : List (List A)) (j : ℕ) (a : A) → length (appendAt ls j a) ≡ length ls
 unfolding appendAt
@@ -172,6 +192,7 @@ module _ (p : Problem) (s : List ℕ) (at : ℕ) (kept : Kept p at) where
       let q = kept .later (ltb-true 0 at (c .placed)) in
       record {
         variables = q .variables;
+        rule = q .rule;
         objective = terms-more (p .variables) 32 256 (p .objective) _ _ (q .objective) (c .allowed) (c .repeated) (c .full);
         conditions = q .conditions;
         terms = q .terms;
@@ -186,6 +207,7 @@ module _ (p : Problem) (s : List ℕ) (at : ℕ) (kept : Kept p at) where
       let last = all-at (ConditionTerms _) gs (length gs - 1) noCondition (q .terms) (terms-none _ 16 32) in
       record {
         variables = q .variables;
+        rule = q .rule;
         objective = q .objective;
         conditions = rw (length-set gs) (q .conditions);
         terms = all-set _ gs _ _ (q .terms) (terms-more _ 16 32 _ _ _ last (c .allowed) (c .repeated) (c .full));
@@ -199,6 +221,7 @@ module _ (p : Problem) (s : List ℕ) (at : ℕ) (kept : Kept p at) where
       let j-low = leb-true _ (length (p .conditions)) (and-left low (fitting (p .variables) 8 _) (c .allowed)) in
       record {
         variables = q .variables;
+        rule = q .rule;
         objective = q .objective;
         conditions = q .conditions;
         terms = q .terms;
@@ -211,6 +234,7 @@ module _ (p : Problem) (s : List ℕ) (at : ℕ) (kept : Kept p at) where
   applied-limits w C.End c = kept .later (ltb-true 0 at (c .placed))
   applied-limits w C.Unknown c = let z : _≡_ {A = ℕ} 0 1 = let e = c .placed in cc in absurd (omega arith)
   applied-limits w C.Equality c = begun-limits p _ (kept .later (ltb-true 0 at (c .placed))) (c .full)
+  applied-limits w C.Rule c = ruled-limits p _ (kept .later (ruled-later p at (c .placed))) (c .allowed)
 
   next-limits : problemRefusalAt p s at ≡ 0 → Limits (problemNext p s at)
   unfolding problemRefusalAt problemNext
@@ -237,3 +261,9 @@ read-limits s p h =
     (λ a at t e k. subst Limits (end-leaves a s at e) (next-limits a s at k (t .passed)))
     (λ a b at cs t e f k. f (kept-next a s at k (t .passed)))
     noProblem p h kept-start
+
+-- no basis of a problem within the limits has more than 64 monomials
+pub basis-few : (p : Problem) → Limits p → (j : ℕ) → length (basisOf p j) ≤ 64
+unfolding basisOf
+basis-few p l j =
+    all-at (Monomials (p .variables) 8 64) (p .bases) j [] (l .members) (monomials-none (p .variables) 8 64) .count

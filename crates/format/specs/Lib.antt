@@ -7,5 +7,6 @@ pub mod ProblemLimits
 pub mod ProblemRules
 pub mod ProblemBases
 pub mod ProblemCounts
+pub mod ProblemRule
 pub mod CertificateLayout
 pub mod CertificateRules

@@ -10,8 +10,9 @@ pub mod Labels
 pub mod Joined
 pub mod Laws
 pub mod Lowest
-pub mod Rounds
 pub mod Least
+pub mod Products
+pub mod Rounds
 pub mod Same
 pub mod Closing
 pub mod Bound
@@ -20,3 +21,5 @@ pub mod Bytes
 pub mod Insertions
 pub mod Only
 pub mod Start
+pub mod Counted
+pub mod Rules

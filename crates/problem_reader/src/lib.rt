@@ -20,6 +20,7 @@ ghost use Rattle.polynomial.specs.Terms.{term};
 use flat::CONDITIONS;
 use flat::KINDS;
 use flat::OBJECTIVE;
+use flat::RULE;
 use flat::TERMS;
 use format::problem::Command;
 use format::problem::Instruction;
@@ -115,6 +116,7 @@ fn command_of(byte: u8) -> Command
         5 => Command::Member,
         6 => Command::End,
         7 => Command::Equality,
+        8 => Command::Rule,
         _ => Command::Unknown,
     }
 }
@@ -126,11 +128,11 @@ pub fn length_of(byte: u8) -> usize
 {
     match byte {
         0x03 | 0x06 | 0x07 => 1,
-        0x01 => 2,
+        0x01 | 0x08 => 2,
         0x05 => 10,
         0x04 => 11,
         0x02 => 13,
-        0x00 | 0x08..=0xFF => 0,
+        0x00 | 0x09..=0xFF => 0,
     }
 }
 
@@ -147,6 +149,7 @@ fn is_placed(count: usize, at: usize, command: Command) -> bool
         Command::End => 0 < at,
         Command::Unknown => false,
         Command::Equality => 0 < at,
+        Command::Rule => at == 2,
     }
 }
 
@@ -180,6 +183,7 @@ fn decode_at(command: Command, s: &[u8], at: usize) -> Instruction
         Command::End => Instruction::End,
         Command::Unknown => Instruction::End,
         Command::Equality => Instruction::Equality,
+        Command::Rule => Instruction::Rule(operand_reader::number_at(s, at + 1, 1) as usize),
     }
 }
 
@@ -203,6 +207,7 @@ fn is_allowed(n: usize, count: usize, i: Instruction) -> bool
         Instruction::Member(j, key) => j <= count && is_fitting(n, 8, key),
         Instruction::End => true,
         Instruction::Equality => true,
+        Instruction::Rule(r) => 1 <= r && r <= 2,
     }
 }
 
@@ -250,13 +255,13 @@ fn check_room(keys: &[u64], from: usize, count: usize, key: u64, limit: usize) -
 // length is sizes[which].
 fn put(
     keys: &mut [u64; 1120],
-    sizes: &mut [usize; 29],
+    sizes: &mut [usize; 30],
     which: usize,
     from: usize,
     key: u64,
     limit: usize,
 ) -> u8
-    requires { ⌜ (which < 29) × (getD (now sizes) which 0 ≤ limit) × (from + limit ≤ 1120) ⌝ }
+    requires { ⌜ (which < 30) × (getD (now sizes) which 0 ≤ limit) × (from + limit ≤ 1120) ⌝ }
     ensures { λ r. let n = getD (now (sizes .entry)) which 0 in ⌜
         (r ≡ lateIn (now (keys .entry)) from n key limit)
         × (now (keys .exit) ≡ storedIf r (now (keys .entry)) (from + n) key)
@@ -277,7 +282,7 @@ fn put(
 fn put_objective(
     keys: &mut [u64; 1120],
     coefficients: &mut [i32; 544],
-    sizes: &mut [usize; 29],
+    sizes: &mut [usize; 30],
     key: u64,
     c: i32,
 ) -> u8
@@ -328,19 +333,20 @@ fn lay_out<'a>(
 }
 
 // Reads a problem stream into arrays that hold zeros. The condition begun last is a polynomial by itself, until the
-// next begins or the stream ends: then it is laid out. Before the first, that is g_0, which is 1. number is 2, as of a
-// stream that ends here, until it is decided.
+// next begins or the stream ends: then it is laid out. Before the first, that is g_0, which is 1. The joining rule is 1
+// until one is named. number is 2, as of a stream that ends here, until it is decided.
 pub fn read(
     s: &[u8],
     keys: &mut [u64; 1120],
     coefficients: &mut [i32; 544],
-    sizes: &mut [usize; 29],
+    sizes: &mut [usize; 30],
 ) -> Reading
     requires { ⌜ FlatZero (now keys) (now coefficients) (now sizes) ⌝ }
     ensures { λ r. ⌜
         ReadFlat (now (s .entry)) r (now (keys .exit)) (now (coefficients .exit)) (now (sizes .exit))
         ⌝ }
 {
+    sizes[RULE] = 1;
     let mut variables = 0;
     let mut last = Polynomial::one();
     let mut count = 0;
@@ -409,6 +415,9 @@ pub fn read(
                     sizes[CONDITIONS] = count;
                 }
                 break;
+            }
+            Instruction::Rule(r) => {
+                sizes[RULE] = r;
             }
         }
         if 0 < number {

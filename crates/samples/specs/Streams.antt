@@ -1,6 +1,6 @@
--- The byte streams of document 01's samples, of some with equalities and wide factors, and of one whose limits
--- contradict each other. A monomial is written by the exponents of its first two variables, a number below 0 as its
--- lowest byte.
+-- The byte streams of document 01's samples, of some with equalities, wide factors and a joining rule, and of one whose
+-- limits contradict each other. A monomial is written by the exponents of its first two variables, a number below 0 as
+-- its lowest byte.
 use mathlib.Core.List.{List, [], _∷_, _++_}
 use Prim.Native.Nat.{ℕ}
 use lib.ListN.{replicate}
@@ -18,6 +18,9 @@ minus c = c ∷ 255 ∷ 255 ∷ 255 ∷ []
 
 abbrev pub variables : ℕ → List ℕ
 variables n = 1 ∷ n ∷ []
+
+abbrev pub rule : ℕ → List ℕ
+rule r = 8 ∷ r ∷ []
 
 abbrev pub objectiveTerm : List ℕ → ℕ → List ℕ
 objectiveTerm e c = (2 ∷ e) ++ small c
@@ -78,10 +81,11 @@ problemD =
     ++ memberCommand 0 (exponents 0 1)
     ++ end
 
--- objective x⁶, constraint x, basis 0: 1, x³; basis 1: x
-abbrev pub problemE : List ℕ
-problemE =
+-- objective x⁶, constraint x, basis 0: 1, x³; basis 1: x. What stands between 01 and 02 is given
+abbrev pub problemEWith : List ℕ → List ℕ
+problemEWith between =
     variables 1
+    ++ between
     ++ objectiveTerm (exponents 6 0) 1
     ++ inequality
     ++ conditionTerm (exponents 1 0) 1
@@ -89,6 +93,9 @@ problemE =
     ++ memberCommand 0 (exponents 3 0)
     ++ memberCommand 1 (exponents 1 0)
     ++ end
+
+abbrev pub problemE : List ℕ
+problemE = problemEWith []
 
 -- objective x, constraint 1 − x², bases {1, x} and {1}
 abbrev pub problemF : List ℕ
@@ -226,3 +233,13 @@ certificateWideD = header 0 1 0 1 ++ row 0 1 ++ wideEntry 1 (small 1) ++ entry 2
 -- a lower certificate 1/1 with some commands
 abbrev pub withRow : List ℕ → List ℕ
 withRow r = header 0 1 1 1 ++ r ++ finish
+
+-- for E: x⁶ = (x³)²; the same with x × x² beside it, which is x³; and a row on 1 and x³
+abbrev pub certificateE : List ℕ
+certificateE = header 0 1 0 1 ++ row 0 1 ++ entry 1 1 ++ finish
+
+abbrev pub certificateBeside : List ℕ
+certificateBeside = header 0 1 0 1 ++ row 0 1 ++ entry 1 1 ++ row 1 1 ++ entry 0 1 ++ finish
+
+abbrev pub certificateAcross : List ℕ
+certificateAcross = header 0 1 0 1 ++ row 0 1 ++ entry 0 1 ++ entry 1 1 ++ finish

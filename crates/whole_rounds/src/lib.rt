@@ -10,11 +10,11 @@ ghost use mathlib.Core.Bool.{true, false, cond};
 ghost use Rattle.counting.specs.Counting.{listed, sumTo};
 ghost use Rattle.key_set.specs.Table.{keysIn, Holds, Stored};
 ghost use Rattle.half_rounds.specs.Ruled.{Present};
-ghost use Rattle.joining_rule.specs.Rounds.{joinAll, extendAll, same, closingOf};
+ghost use Rattle.joining_rule.specs.Rounds.{joinAll, extendTo, addingBases, same, closingOf};
 ghost use Rattle.joining_rule.proofs.Numbered.{lowestIn};
 ghost use Rattle.joining_rule.specs.Bytes.{blockBytes};
 ghost use Rattle.whole_rounds.specs.Parts.{part, basesIn, labelsIn};
-ghost use Rattle.whole_rounds.specs.Arrays.{Sizes, joinAt, extendAt, JoiningAll, JoiningFresh, JoiningAt, JoiningSince, FreshAt, roundFrom, ExtendingAll, RoundAsks, Rounded, Starting, Settled};
+ghost use Rattle.whole_rounds.specs.Arrays.{Sizes, joinAt, extendAt, JoiningAll, JoiningFresh, JoiningAt, JoiningSince, FreshAt, roundFrom, ExtendingAt, ExtendingAll, RoundAsks, Rounded, Starting, Settled};
 ghost use Rattle.whole_rounds.specs.Lookup.{BasisKeys, PairedTo, Lookup};
 ghost use Rattle.whole_rounds.specs.Between.{closeAfter, Running, Advanced};
 
@@ -277,9 +277,8 @@ fn extend_at(
     j: usize,
 ) -> usize
     requires { ⌜
-        ExtendingAll first (now table) (now index) len (now keys) (now sizes) (now exponents) (now counts)
-        (now labels) (now old)
-        × (j < 9)
+        ExtendingAt first (now table) (now index) len (now keys) (now sizes) (now exponents) (now counts)
+        (now labels) (now old) j
         ⌝ }
     ensures { λ r. ⌜
         Stored len
@@ -304,7 +303,7 @@ fn extend_at(
     )
 }
 
-// The support's extension by every basis.
+// The support's extension by the bases before `bases`.
 fn extend_all(
     table: &mut [u64],
     index: &mut [u16],
@@ -316,21 +315,23 @@ fn extend_all(
     sizes: &[usize],
     exponents: &[u64],
     counts: &[usize],
+    bases: usize,
 ) -> usize
     requires { ⌜
-        ExtendingAll first (now table) (now index) len (now keys) (now sizes) (now exponents) (now counts)
+        ExtendingAll bases first (now table) (now index) len (now keys) (now sizes) (now exponents) (now counts)
         (now labels) (now old)
         ⌝ }
     ensures { λ r. ⌜
         Stored len
-        (extendAll (basesIn (now (keys .entry)) (now (sizes .entry)) (now (exponents .entry)) (now (counts .entry)))
+        (extendTo bases
+        (basesIn (now (keys .entry)) (now (sizes .entry)) (now (exponents .entry)) (now (counts .entry)))
         (labelsIn (now (sizes .entry)) (now (labels .entry))) (keysIn len (now (table .entry)))) (now (table .entry))
         r (now (table .exit)) (now (index .exit))
         ⌝ }
 {
     let mut n = len;
     let mut j = 0;
-    while j < 9 {
+    while j < bases {
         n = extend_at(
             table,
             index,
@@ -352,8 +353,51 @@ fn extend_all(
     n
 }
 
-// A round: every basis joins, and then every basis extends the support. `old` has the blocks before it, and the members
-// after the first `since` came in the round before.
+// All products t + b + b' with b and b' in one block put in, of every basis, whether it adds under the rule or not.
+pub fn put_products(
+    table: &mut [u64],
+    index: &mut [u16],
+    len: usize,
+    labels: &[u8],
+    keys: &[u64],
+    sizes: &[usize],
+    exponents: &[u64],
+    counts: &[usize],
+) -> usize
+    requires { ⌜
+        JoiningAll (now table) (now index) len (now keys) (now sizes) (now exponents) (now counts) (now labels)
+        ⌝ }
+    ensures { λ r. ⌜
+        Stored len
+        (extendTo 9 (basesIn (now (keys .entry)) (now (sizes .entry)) (now (exponents .entry)) (now (counts .entry)))
+        (labelsIn (now (sizes .entry)) (now (labels .entry))) (keysIn len (now (table .entry)))) (now (table .entry))
+        r (now (table .exit)) (now (index .exit))
+        ⌝ }
+{
+    extend_all(
+        table,
+        index,
+        len,
+        labels,
+        labels,
+        true,
+        keys,
+        sizes,
+        exponents,
+        counts,
+        9,
+    )
+}
+
+// How many bases add to the support in a round.
+fn adding_bases(rule: usize) -> usize
+    ensures { λ r. ⌜ r ≡ addingBases rule ⌝ }
+{
+    if rule == 2 { 1 } else { 9 }
+}
+
+// A round: every basis joins, and then the bases that the rule names extend the support. `old` has the blocks before
+// it, and the members after the first `since` came in the round before.
 fn round(
     labels: &mut [u8],
     old: &[u8],
@@ -368,15 +412,17 @@ fn round(
     index: &mut [u16],
     since: usize,
     len: usize,
+    rule: usize,
 ) -> usize
     requires { ⌜
-        RoundAsks first (now table) (now index) since len (now keys) (now sizes) (now exponents) (now counts)
+        RoundAsks rule first (now table) (now index) since len (now keys) (now sizes) (now exponents) (now counts)
         (now labels) (now old)
         × Lookup (part 64 (now sizes) (now keys)) (now heads) (now next)
         ⌝ }
     ensures { λ r. ⌜
         Rounded
-        (roundFrom (basesIn (now (keys .entry)) (now (sizes .entry)) (now (exponents .entry)) (now (counts .entry)))
+        (roundFrom rule
+        (basesIn (now (keys .entry)) (now (sizes .entry)) (now (exponents .entry)) (now (counts .entry)))
         (labelsIn (now (sizes .entry)) (now (labels .entry))) (keysIn len (now (table .entry)))) len
         (now (table .entry)) r (now (table .exit)) (now (index .exit)) (now (labels .exit))
         ⌝ }
@@ -394,6 +440,7 @@ fn round(
         since,
         len,
     );
+    let bases = adding_bases(rule);
     extend_all(
         table,
         index,
@@ -405,6 +452,7 @@ fn round(
         sizes,
         exponents,
         counts,
+        bases,
     )
 }
 
@@ -440,6 +488,12 @@ fn is_last(few: usize, len: usize, old: &[u8], labels: &[u8]) -> bool
     }
 }
 
+// The support beside its table: how many keys it has, and the joining rule by which it grows.
+pub struct Support {
+    pub len: usize,
+    pub rule: usize,
+}
+
 // What the rounds leave beside the block numbers: how many keys the support has (2,049 where it has too many), how many
 // rounds.
 pub struct Closed {
@@ -473,16 +527,18 @@ fn run(
     len: usize,
     done: usize,
     most: usize,
+    rule: usize,
 ) -> Progress
     requires { ⌜
-        Running (now keys) (now sizes) (now exponents) (now counts) (now labels) came len (now table) (now index) done
-        most
+        Running rule (now keys) (now sizes) (now exponents) (now counts) (now labels) came len (now table) (now index)
+        done most
         × Lookup (part 64 (now sizes) (now keys)) (now heads) (now next)
         ⌝ }
     ensures { λ r. ⌜
-        Advanced
-        (closeAfter (basesIn (now (keys .entry)) (now (sizes .entry)) (now (exponents .entry)) (now (counts .entry)))
-        done (now (sizes .entry)) (now (labels .entry)) len (now (table .entry))) len (now (table .entry))
+        Advanced rule
+        (closeAfter rule
+        (basesIn (now (keys .entry)) (now (sizes .entry)) (now (exponents .entry)) (now (counts .entry))) done
+        (now (sizes .entry)) (now (labels .entry)) len (now (table .entry))) len (now (table .entry))
         (now (keys .entry)) (now (sizes .entry)) (now (exponents .entry)) (now (counts .entry)) most r
         (now (table .exit)) (now (index .exit)) (now (labels .exit))
         ⌝ }
@@ -508,6 +564,7 @@ fn run(
             index,
             since,
             n,
+            rule,
         );
         since = few;
         rounds += 1;
@@ -592,15 +649,17 @@ fn finish(
     came: usize,
     len: usize,
     done: usize,
+    rule: usize,
 ) -> Closed
     requires { ⌜
-        Running (now keys) (now sizes) (now exponents) (now counts) (now labels) came len (now table) (now index) done
-        578
+        Running rule (now keys) (now sizes) (now exponents) (now counts) (now labels) came len (now table) (now index)
+        done 578
         ⌝ }
     ensures { λ r. ⌜
         Settled
-        (closeAfter (basesIn (now (keys .entry)) (now (sizes .entry)) (now (exponents .entry)) (now (counts .entry)))
-        done (now (sizes .entry)) (now (labels .entry)) len (now (table .entry))) len (now (table .entry)) r
+        (closeAfter rule
+        (basesIn (now (keys .entry)) (now (sizes .entry)) (now (exponents .entry)) (now (counts .entry))) done
+        (now (sizes .entry)) (now (labels .entry)) len (now (table .entry))) len (now (table .entry)) r
         (now (table .exit)) (now (index .exit)) (now (labels .exit))
         ⌝ }
 {
@@ -621,6 +680,7 @@ fn finish(
         len,
         done,
         578,
+        rule,
     );
     Closed {
         len: p.len,
@@ -640,14 +700,17 @@ fn go_on(
     came: usize,
     len: usize,
     done: usize,
+    rule: usize,
 ) -> Closed
     requires { ⌜
-        Running (now keys) (now sizes) (now exponents) (now counts) (now labels) came len (now table) (now index) done 8
+        Running rule (now keys) (now sizes) (now exponents) (now counts) (now labels) came len (now table) (now index)
+        done 8
         ⌝ }
     ensures { λ r. ⌜
         Settled
-        (closeAfter (basesIn (now (keys .entry)) (now (sizes .entry)) (now (exponents .entry)) (now (counts .entry)))
-        done (now (sizes .entry)) (now (labels .entry)) len (now (table .entry))) len (now (table .entry)) r
+        (closeAfter rule
+        (basesIn (now (keys .entry)) (now (sizes .entry)) (now (exponents .entry)) (now (counts .entry))) done
+        (now (sizes .entry)) (now (labels .entry)) len (now (table .entry))) len (now (table .entry)) r
         (now (table .exit)) (now (index .exit)) (now (labels .exit))
         ⌝ }
 {
@@ -666,6 +729,7 @@ fn go_on(
         len,
         done,
         8,
+        rule,
     );
     if p.ended {
         return Closed {
@@ -684,6 +748,7 @@ fn go_on(
         p.since,
         p.len,
         p.rounds,
+        rule,
     )
 }
 
@@ -697,16 +762,18 @@ pub fn close(
     counts: &[usize],
     table: &mut [u64],
     index: &mut [u16],
-    len: usize,
+    support: Support,
 ) -> Closed
     requires { ⌜
-        Starting (now table) (now index) len (now keys) (now sizes) (now exponents) (now counts) (now labels)
+        Starting (now table) (now index) (support .len) (now keys) (now sizes) (now exponents) (now counts)
+        (now labels)
         ⌝ }
     ensures { λ r. ⌜
         Settled
-        (closingOf (basesIn (now (keys .entry)) (now (sizes .entry)) (now (exponents .entry)) (now (counts .entry)))
-        (keysIn len (now (table .entry)))) len (now (table .entry)) r (now (table .exit)) (now (index .exit))
-        (now (labels .exit))
+        (closingOf (support .rule)
+        (basesIn (now (keys .entry)) (now (sizes .entry)) (now (exponents .entry)) (now (counts .entry)))
+        (keysIn (support .len) (now (table .entry)))) (support .len) (now (table .entry)) r (now (table .exit))
+        (now (index .exit)) (now (labels .exit))
         ⌝ }
 {
     let none = [0u16; 1];
@@ -721,9 +788,10 @@ pub fn close(
         table,
         index,
         0,
-        len,
+        support.len,
         0,
         2,
+        support.rule,
     );
     if p.ended {
         return Closed {
@@ -743,6 +811,7 @@ pub fn close(
             p.since,
             p.len,
             p.rounds,
+            support.rule,
         )
     } else {
         go_on(
@@ -756,6 +825,7 @@ pub fn close(
             p.since,
             p.len,
             p.rounds,
+            support.rule,
         )
     }
 }

@@ -3,7 +3,7 @@ use borrow.Author.Needs.{needs}
 use mathlib.Core.Path.{_≡_, sym, _∙_}
 use mathlib.Core.Bool.{true}
 use lib.ListN.{length}
-use Rattle.joining_rule.specs.Joining.{closing, tooLarge}
+use Rattle.joining_rule.specs.Joining.{basesOf, closing, tooLarge}
 use Rattle.key_set.proofs.Index.{indexed-start}
 use Rattle.closure.specs.Tables.{ClosureLeft}
 use Rattle.checker.proofs.Joins.{full-is, left-long}
@@ -16,7 +16,7 @@ module _ (j : tie.After-join) where
   abbrev s : tie.Start
   s = j .before .before .before .before .before .before .before .before
 
-  left : ClosureLeft (closing (s .pre .0 .readable .problem)) (s .args .table .now) (j .join .result) (j .join .last .1 .1 .1 .0) (j .join .last .1 .1 .1 .1 .0) (j .join .last .1 .1 .0)
+  left : ClosureLeft (basesOf (s .pre .0 .readable .problem)) (closing (s .pre .0 .readable .problem)) (s .args .table .now) (j .join .result) (j .join .last .1 .1 .1 .0) (j .join .last .1 .1 .1 .1 .0) (j .join .last .1 .1 .0)
   left = let w = s .pre .0 in j .join .ensures (w .readable .problem) (w .coefficients) (w .readable .flat)
 
 abbrev joining : tie.Else1 → tie.After-join
@@ -68,7 +68,7 @@ returns-2 c =
     let j = joining e in (
       (λ p k f.
           let q = j .join .ensures p k f in
-          (blocks-found p q (e .if1 .left), bytes-found p q (e .if1 .left) (s j .args .out .now) _ (d .copy .ensures))),
+          (blocks-found p q (e .if1 .left) _ (f .rule), bytes-found p q (e .if1 .left) (s j .args .out .now) _ (d .copy .ensures))),
       left j .rest,
     )
 

@@ -2,7 +2,7 @@
 use borrow.Author.Needs.{needs}
 use mathlib.Core.Path.{refl, sym, _∙_}
 use Rattle.format.specs.ProblemRules.{Problem}
-use Rattle.joining_rule.specs.Joining.{closing}
+use Rattle.joining_rule.specs.Joining.{basesOf, closing}
 use Rattle.accepting.specs.Judgement.{judge}
 use Rattle.flat.specs.Flat.{FlatProblem}
 use Rattle.key_set.proofs.Index.{indexed-start}
@@ -18,11 +18,11 @@ module _ (j : tie.After-join) where
   s = j .before .before .before .before .before .before .before .before
 
   left : (p : Problem) → FlatProblem p (s .args .keys .now) (s .args .coefficients .now) (s .args .sizes .now)
-      → ClosureLeft (closing p) (s .args .table .now) (j .join .result) (j .join .last .1 .1 .1 .0) (j .join .last .1 .1 .1 .1 .0) (j .join .last .1 .1 .0)
+      → ClosureLeft (basesOf p) (closing p) (s .args .table .now) (j .join .result) (j .join .last .1 .1 .1 .0) (j .join .last .1 .1 .1 .1 .0) (j .join .last .1 .1 .0)
   left p f = j .join .ensures p _ f
 
   -- and for the one that was read
-  read-left : ClosureLeft (closing (s .pre .0 .problem)) (s .args .table .now) (j .join .result) (j .join .last .1 .1 .1 .0) (j .join .last .1 .1 .1 .1 .0) (j .join .last .1 .1 .0)
+  read-left : ClosureLeft (basesOf (s .pre .0 .problem)) (closing (s .pre .0 .problem)) (s .args .table .now) (j .join .result) (j .join .last .1 .1 .1 .0) (j .join .last .1 .1 .1 .1 .0) (j .join .last .1 .1 .0)
   read-left = left (s .pre .0 .problem) (s .pre .0 .flat)
 
 abbrev joining : tie.Else1 → tie.After-join
@@ -88,7 +88,7 @@ returns-2 c =
     let v = d .judge .ensures in (
       (λ p l f.
           let q = left j p f in
-          c .check-one .ensures ∙ check-judged p (judge p t) _ _ (v .0 p (joins p q l f (s j .pre .1 .keys) few)) (q .rounds few) ∙ check-within p t (within p q few)),
+          c .check-one .ensures ∙ check-judged p (judge p t) _ _ _ (v .0 p (joins p q l f (s j .pre .1 .keys) few)) (q .rounds few) (f .rule) ∙ check-within p t (within p q few)),
       record { keys = read-left j .rest; high = v .1 .high-rest; low = v .1 .low-rest },
     )
 

@@ -56,7 +56,7 @@ returns-2 c =
     let a = start j .args in
     let v = j .judge .ensures in
     let w = k .judge2 .ensures in (
-      (λ p h r. c .pair-second .ensures ∙ pair-both p (a .second .now) (judge p (a .first .now)) _ _ _ (sym (v .0 p h) ∙ l .lower .given .1) (sym (w .0 p h)) (sym r)),
+      (λ p h r. c .pair-second .ensures ∙ pair-both p (a .second .now) (judge p (a .first .now)) _ _ _ _ (sym (v .0 p h) ∙ l .lower .given .1) (sym (w .0 p h)) (sym r) (sym (h .flat .rule))),
       record { high-rest = w .1 .high-rest ∙ v .1 .high-rest; low-rest = w .1 .low-rest ∙ v .1 .low-rest },
     )
 

@@ -28,6 +28,9 @@ enum-told-7 c = search needs
 enum-told-8 : tie.Need-enum-told-8
 enum-told-8 c = search needs
 
+enum-told-9 : tie.Need-enum-told-9
+enum-told-9 c = search needs
+
 returns : tie.Need-returns
 returns c = λ p h. cc
 
@@ -55,6 +58,9 @@ returns-8 c = λ p h. cc
 returns-9 : tie.Need-returns-9
 returns-9 c = λ p h. cc
 
+returns-10 : tie.Need-returns-10
+returns-10 c = λ p h. cc
+
 pub is-placed-spec : {M : Type 1} → statement M
 is-placed-spec =
     tie.close
@@ -67,6 +73,7 @@ is-placed-spec =
     enum-told-6
     enum-told-7
     enum-told-8
+    enum-told-9
     returns
     returns-2
     returns-3
@@ -75,4 +82,5 @@ is-placed-spec =
     returns-6
     returns-7
     returns-8
-    returns-9)
+    returns-9
+    returns-10)

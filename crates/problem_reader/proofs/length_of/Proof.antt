@@ -1,5 +1,6 @@
 -- `length_of`: the bytes of each arm have its length.
 use mathlib.Core.Path.{refl}
+use mathlib.Core.Logic.{inl, inr, ⊎-elim}
 use Prim.Native.Nat.{zero-le}
 use native.Mathlib.Omega.{arith}
 use Rattle.format.specs.ProblemLayout.{problemCommand}
@@ -9,7 +10,12 @@ use Rattle.problem_reader.proofs.length_of.Tie as tie
 
 returns : tie.Need-returns
 unfolding problemCommand
-returns c = problem-arm 1 1 refl (c .before .args .byte) (omega arith) (omega arith)
+returns c =
+    let b = c .before .args .byte in
+    ⊎-elim
+    (λ e. problem-arm 1 1 refl b (omega arith) (omega arith))
+    (λ e. problem-arm 8 1 refl b (omega arith) (omega arith))
+    (c .match .keys2)
 
 returns-2 : tie.Need-returns-2
 unfolding problemCommand
@@ -33,7 +39,7 @@ unfolding problemCommand
 returns-6 c =
     let b = c .before .before .args .byte in
     let r = c .before .match .rest in
-    let h = past (past (past (past (past (past zero-le (r .1)) (r .0 .0 .0 .0 .1)) (r .0 .1)) (r .0 .0 .0 .0 .0 .1)) (r .0 .0 .1)) (r .0 .0 .0 .1) in
+    let h = past (past (past (past (past (past zero-le (r .1)) (λ e. r .0 .0 .0 .0 .1 (inl e))) (r .0 .1)) (r .0 .0 .0 .0 .0 .1)) (r .0 .0 .1)) (r .0 .0 .0 .1) in
     problem-arm 6 2 refl b h (omega arith)
 
 returns-7 : tie.Need-returns-7
@@ -42,7 +48,9 @@ returns-7 c = problem-arm 0 1 refl (c .before .args .byte) (omega arith) (omega 
 
 returns-8 : tie.Need-returns-8
 unfolding problemCommand
-returns-8 c = problem-arm 8 248 refl (c .before .before .args .byte) (omega arith) (omega arith)
+returns-8 c =
+    let h = past (c .if1 .left) (λ e. c .before .match .rest .0 .0 .0 .0 .1 (inr e)) in
+    problem-arm 9 247 refl (c .before .before .args .byte) h (omega arith)
 
 pub length-of-spec : {M : Type 1} → statement M
 length-of-spec =

@@ -38,7 +38,7 @@ same-length-4 c = search needs
 returns-2 : tie.Need-returns-2
 returns-2 c =
     let s = c .before .before .before .before .before .before .before .before .before .before .before .before .before .before .before .before .before .before .before .before .before .before .before .before .before in
-    between-then (s .args .keys .now) (s .args .sizes .now) (s .args .exponents .now) (s .args .counts .now) _ _ _ _ _ _ _ _ _ (c .before .before .before .before .before .before .before .before .before .before .before .before .before .run .ensures .left (c .before .before .before .before .before .before .before .before .if1 .left)) _ _ _ _ (c .before .before .before .before .finish .ensures)
+    between-then (s .args .rule) (s .args .keys .now) (s .args .sizes .now) (s .args .exponents .now) (s .args .counts .now) _ _ _ _ _ _ _ _ _ (c .before .before .before .before .before .before .before .before .before .before .before .before .before .run .ensures .left (c .before .before .before .before .before .before .before .before .if1 .left)) _ _ _ _ (c .before .before .before .before .finish .ensures)
 
 pub go-on-spec : {M : Type 1} → statement M
 go-on-spec =

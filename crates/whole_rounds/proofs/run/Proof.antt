@@ -12,10 +12,10 @@ use Rattle.whole_rounds.proofs.run.Statement.{statement}
 use Rattle.whole_rounds.proofs.run.Tie as tie
 
 abbrev Inv-loop : tie.InvT-loop
-Inv-loop labels₀ keys sizes exponents counts heads next table₀ index₀ came len done most blocks₀ n₀ since₀ rounds₀ labels table index blocks n since rounds = (rounds ≤ most) × Between (closeAfter (basesIn keys sizes exponents counts) done sizes labels₀ len table₀) len table₀ keys sizes exponents counts blocks since n table index rounds
+Inv-loop labels₀ keys sizes exponents counts heads next table₀ index₀ came len done most rule blocks₀ n₀ since₀ rounds₀ labels table index blocks n since rounds = (rounds ≤ most) × Between rule (closeAfter rule (basesIn keys sizes exponents counts) done sizes labels₀ len table₀) len table₀ keys sizes exponents counts blocks since n table index rounds
 
 abbrev μ-loop : tie.MeasureT-loop
-μ-loop labels₀ keys sizes exponents counts heads next table₀ index₀ came len done most blocks₀ n₀ since₀ rounds₀ labels table index blocks n since rounds = most - rounds
+μ-loop labels₀ keys sizes exponents counts heads next table₀ index₀ came len done most rule blocks₀ n₀ since₀ rounds₀ labels table index blocks n since rounds = most - rounds
 
 -- ---- where the loop begins
 abbrev started : tie.At-loop Inv-loop μ-loop → tie.Start Inv-loop μ-loop
@@ -24,7 +24,7 @@ started l = l .before .before .before .before .before .before .before .before .b
 loop-holds : tie.Need-loop-holds Inv-loop μ-loop
 loop-holds c =
     let s = c .before .before .before .before .before .before .before .before .before in
-    (s .pre .0 .some, between-start (s .args .keys .now) (s .args .sizes .now) (s .args .exponents .now) (s .args .counts .now) _ _ _ _ _ _ (omega (arith, s .pre .0 .some, s .pre .0 .most)) (s .pre .0 .asks))
+    (s .pre .0 .some, between-start (s .args .rule) (s .args .keys .now) (s .args .sizes .now) (s .args .exponents .now) (s .args .counts .now) _ _ _ _ _ _ (omega (arith, s .pre .0 .some, s .pre .0 .most)) (s .pre .0 .asks))
 
 slice-aggregate-round : tie.Need-slice-aggregate-round Inv-loop μ-loop
 slice-aggregate-round c = sym (labelled-long (c .before .before .loop .inv .1 .asks .extending .joining .labels))
@@ -58,7 +58,7 @@ returns c =
     let l = c .before .before .before .before .before .before .before .before .before .before .before .before .before .before .before in
     let s = started l in
     record {
-      done = λ _. between-last (s .args .keys .now) (s .args .sizes .now) (s .args .exponents .now) (s .args .counts .now) _ _ _ _ _ _ _ _ _ (l .loop .inv .1) (omega (arith, c .before .before .before .before .before .before .before .before .before .before .before .before .before .before .loop-test .taken, s .pre .0 .most)) _ _ _ _ (c .before .before .before .before .before .before .before .before .before .round .ensures) (sym (c .before .is-last .ensures) ∙ c .if1 .taken);
+      done = λ _. between-last (s .args .rule) (s .args .keys .now) (s .args .sizes .now) (s .args .exponents .now) (s .args .counts .now) _ _ _ _ _ _ _ _ _ (l .loop .inv .1) (omega (arith, c .before .before .before .before .before .before .before .before .before .before .before .before .before .before .loop-test .taken, s .pre .0 .most)) _ _ _ _ (c .before .before .before .before .before .before .before .before .before .round .ensures) (sym (c .before .is-last .ensures) ∙ c .if1 .taken);
       left = λ e. never (sym e);
       most = λ e. never (sym e);
     }
@@ -71,7 +71,7 @@ loop-again c =
     let l = c .before .before .before .before .before .before .before .before .before .before .before .before .before .before .before in
     let s = started l in
     let b = c .before .before .before .before .before .before .before .before .before .before .before .before .before .before .loop-test .taken in
-    (omega arith, between-more (s .args .keys .now) (s .args .sizes .now) (s .args .exponents .now) (s .args .counts .now) _ _ _ _ _ _ _ _ _ (l .loop .inv .1) (omega (arith, s .pre .0 .most)) _ _ _ _ (c .before .before .before .before .before .before .before .before .before .round .ensures) (sym (c .before .is-last .ensures) ∙ c .if1 .left))
+    (omega arith, between-more (s .args .rule) (s .args .keys .now) (s .args .sizes .now) (s .args .exponents .now) (s .args .counts .now) _ _ _ _ _ _ _ _ _ (l .loop .inv .1) (omega (arith, s .pre .0 .most)) _ _ _ _ (c .before .before .before .before .before .before .before .before .before .round .ensures) (sym (c .before .is-last .ensures) ∙ c .if1 .left))
 
 same-length-3 : tie.Need-same-length-3 Inv-loop μ-loop
 same-length-3 c = c .before .loop .inv .1 .long

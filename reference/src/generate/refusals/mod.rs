@@ -7,6 +7,7 @@
 mod certificates;
 pub mod equalities;
 pub mod gaps;
+pub mod joining_rules;
 mod order;
 mod problems;
 mod sums;
@@ -105,6 +106,7 @@ pub fn cases() -> Vec<Case> {
         equalities::cases(),
         wide_factors::cases(),
         superseding::cases(),
+        joining_rules::cases(),
     ]
     .concat()
 }
@@ -207,7 +209,13 @@ mod tests {
 
     /// What is accepted beside the refusals, of all requests.
     fn accepted() -> impl Iterator<Item = &'static Accepted> {
-        equalities::ACCEPTED.iter().chain(gaps::ACCEPTED)
+        [
+            equalities::ACCEPTED,
+            gaps::ACCEPTED,
+            joining_rules::ACCEPTED,
+        ]
+        .into_iter()
+        .flatten()
     }
 
     #[test]

@@ -1,7 +1,7 @@
 //! The table of refusals as a page of markdown.
 
 use super::windows::{Arrivals, CASES};
-use super::{cases, equalities, gaps, Accepted, Case};
+use super::{cases, equalities, gaps, joining_rules, Accepted, Case};
 use crate::generate::corpus;
 use crate::plain;
 use crate::records::Record;
@@ -78,6 +78,16 @@ contradict each other. The gap tells so where the bounds cross, and only there. 
 |---|---|---|---|---|---|---|
 ";
 
+const RULES: &str = "
+## Beside the refusals: two joining rules
+
+Request 08 lets a problem name its joining rule. These cases stand next to the refusals of 08 above; the answers were found \
+by hand. The bytes of a blocks call are shown to the last that is not 255.
+
+| case | what it has | problem | certificates | words | answer | record |
+|---|---|---|---|---|---|---|
+";
+
 /// The words of document 01's table, and of request 02, for each number from 2 on.
 const TITLES: [&str; 10] = [
     "stream ends in a command or without its end, or goes on after it",
@@ -125,7 +135,12 @@ pub fn print() {
     for case in CASES {
         println!("{}", window_line(case, &corpus));
     }
-    for (head, cases) in [(EQUALITIES, equalities::ACCEPTED), (GAPS, gaps::ACCEPTED)] {
+    let accepted = [
+        (EQUALITIES, equalities::ACCEPTED),
+        (GAPS, gaps::ACCEPTED),
+        (RULES, joining_rules::ACCEPTED),
+    ];
+    for (head, cases) in accepted {
         print!("{head}");
         for case in cases {
             println!("{}", accepted_line(case, &corpus));

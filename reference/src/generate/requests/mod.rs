@@ -2,6 +2,7 @@
 
 mod empty_region;
 mod equalities;
+mod joining_rules;
 mod superseding;
 mod wide_factors;
 mod windows;
@@ -78,6 +79,12 @@ const LANDED: &[Landed] = &[
         special: superseding::special,
         random: superseding::random,
         count: 300,
+    }),
+    Landed::Change(Change {
+        kinds: &[BLOCKS, CHECK, PAIR],
+        special: joining_rules::special,
+        put: joining_rules::put,
+        count: 200,
     }),
 ];
 
