@@ -646,8 +646,8 @@ fn two_judged(
         low,
     );
     TwoChecks {
-        first: check_one(a, j.rounds),
-        second: check_one(b, j.rounds),
+        first: check_one(a, j.rounds, sizes[RULE]),
+        second: check_one(b, j.rounds, sizes[RULE]),
     }
 }
 
@@ -713,7 +713,7 @@ fn answer_two(
 {
     let mut keys = [0u64; 1120];
     let mut coefficients = [0i32; 544];
-    let mut sizes = [0usize; 29];
+    let mut sizes = [0usize; 30];
     let r = problem_reader::read(problem, &mut keys, &mut coefficients, &mut sizes);
     let number = r.number;
     if 0 < number {
