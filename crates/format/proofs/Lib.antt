@@ -8,3 +8,4 @@ pub mod Numbers
 pub mod Lengths
 pub mod ProblemCounts
 pub mod All
+pub mod ProblemVariables
