@@ -6,3 +6,8 @@ pub mod Pairing
 pub mod Untouched
 pub mod Windows
 pub mod WidestGap
+pub mod Evenness
+pub mod EvenBlocks
+pub mod Doubling
+pub mod Masks
+pub mod SymmetryClauses

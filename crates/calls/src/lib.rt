@@ -68,3 +68,9 @@ pub struct Pushed {
     pub window: GapWindow,
     pub verdict: WindowVerdict,
 }
+
+// What the symmetries call returns: the number of sign symmetries, 0 with a refusal.
+pub struct SymmetriesVerdict {
+    pub refusal: Refusal,
+    pub masks: usize,
+}
