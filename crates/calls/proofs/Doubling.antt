@@ -1,6 +1,6 @@
 -- How many numbers below 2^n there are in a set that has 0 and is closed under exclusive or: a power of two.
 use mathlib.Core.Path.{_≡_, refl, sym, ap, ap₂, _∙_}
-use mathlib.Core.Logic.{_⊎_, inl, inr, ⊎-elim}
+use mathlib.Core.Logic.{⊎-elim}
 use mathlib.Core.Bool.{Bool, true, false, cond}
 use Prim.Native.Nat.{ℕ, zero, suc, _+_, _*_, _/_, _%_, _^_, _≤_, _<_, zero-le}
 use native.Mathlib.Nat.{pow-suc, add-comm, eq-or-lt-of-le}
@@ -8,7 +8,6 @@ use native.Mathlib.Omega.{arith}
 use lib.Bits.{bitXor, differ}
 use lib.Dec.{lit<}
 use Rattle.counting.specs.Counting.{sumTo}
-use Rattle.counting.proofs.Cases.{clash}
 use Rattle.counting.proofs.Sums.{sumTo-le, sumTo-same, sumTo-add, sumTo-none}
 use Rattle.calls.specs.Symmetries.{PowerOfTwo}
 use Rattle.counting.proofs.Binary.{by-bit, low, xor-more}

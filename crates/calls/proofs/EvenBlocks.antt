@@ -4,14 +4,13 @@
 use mathlib.Core.Path.{_≡_, refl, sym, _∙_}
 use mathlib.Core.Logic.{⊎-elim}
 use mathlib.Core.Bool.{true}
-use mathlib.Core.List.{List, [], _∷_, _++_}
+use mathlib.Core.List.{List, [], _∷_}
 use Prim.Native.Nat.{ℕ, zero, suc, _+_, _*_, _%_, _≤_, _<_}
 use native.Mathlib.Omega.{arith}
-use lib.Dec.{lit≤}
 use lib.ListN.{length, getD}
 use Rattle.counting.proofs.Steps.{fromTo-keeps}
 use Rattle.polynomial.specs.Monomial.{degreeOf, degree}
-use Rattle.polynomial.specs.Terms.{Term, keysOf}
+use Rattle.polynomial.specs.Terms.{keysOf}
 use Rattle.polynomial.proofs.Products.{degree-add}
 use Rattle.format.specs.All.{All}
 use Rattle.format.specs.ProblemRules.{Condition, Problem, noCondition}
@@ -20,7 +19,7 @@ use Rattle.format.proofs.WithinLimits.{ConditionTerms, Limits, Monomials}
 use Rattle.format.proofs.ProblemLimits.{all-at, monomials-none, terms-none}
 use Rattle.joining_rule.specs.Sets.{In, insertAll}
 use Rattle.joining_rule.specs.Joining.{basesOf, multiples, startFrom, startSet, closing}
-use Rattle.joining_rule.proofs.Elements.{not-nil, in-cons, in-append, append-in, append-keeps}
+use Rattle.joining_rule.proofs.Elements.{not-nil, in-cons, append-in, append-keeps}
 use Rattle.joining_rule.proofs.Insertions.{insertAll-from}
 use Rattle.joining_rule.proofs.Least.{Equivalence, ClosedFor, Within}
 use Rattle.joining_rule.proofs.Meaning.{closing-within}

@@ -1,8 +1,8 @@
 -- What it means that a mask meets an exponent evenly, and why it is additive: over sums of exponents, and over exclusive
 -- or of masks.
-use mathlib.Core.Path.{_≡_, refl, sym, ap, ap₂, _∙_}
+use mathlib.Core.Path.{_≡_, sym, ap, _∙_}
 use mathlib.Core.Bool.{true}
-use Prim.Native.Nat.{ℕ, min, _+_, _*_, _%_, _^_, _≤_, _<_}
+use Prim.Native.Nat.{ℕ, min, _+_, _*_, _%_, _≤_, _<_}
 use native.Mathlib.Omega.{arith}
 use lib.Bits.{bitAnd, bitXor, and-le-l, xor-lt}
 use lib.Dec.{eqb}
@@ -33,7 +33,7 @@ unfolding inner
 common-inner r e h =
     ap (λ (n : ℕ). n % 2) (ones-digits 8 (bitAnd r (parityByte e)) (omega (arith, and-le-l r (parityByte e))))
     ∙ sumTo-parity 8 _ _ (λ i b.
-      rw (digit-and i r (parityByte e), parity-digit i e b) (both-odd (digit i r) (exponent (i + 1) e) (digit-low i r)))
+    rw (digit-and i r (parityByte e), parity-digit i e b) (both-odd (digit i r) (exponent (i + 1) e) (digit-low i r)))
 
 -- "r · e ≡ 0 modulo 2" (paper 000, definition 6.1)
 pub meets-inner : (r e : ℕ) → r < 256 → meetsEvenly r e ≡ isEven (inner r e)

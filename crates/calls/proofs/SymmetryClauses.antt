@@ -1,20 +1,18 @@
 -- What the definitions of the symmetries call promise: each clause of the contract, from the equations.
-use mathlib.Core.Path.{_≡_, refl, sym, ap, _∙_}
+use mathlib.Core.Path.{_≡_, refl, sym, _∙_}
 use mathlib.Core.Bool.{Bool, true, false, cond}
 use mathlib.Core.List.{List, [], _++_}
-use Prim.Native.Nat.{ℕ, suc, _+_, _^_, _≤_, _<_}
+use Prim.Native.Nat.{ℕ, suc, _+_, _^_, _<_}
 use native.Mathlib.Omega.{arith}
 use lib.Bits.{bitXor, xor-lt}
 use lib.Count.{ones}
 use lib.ListN.{length, getD, drop, List·getD-append}
 use lib.Pow.{pow-mono, pow-pos}
-use Rattle.counting.proofs.Cases.{clash}
 use Rattle.format.specs.Commands.{Outcome, refused, given}
 use Rattle.format.specs.ProblemRules.{Problem, readProblem}
 use Rattle.format.specs.ProblemBases.{basisOf}
 use Rattle.format.proofs.WithinLimits.{Limits}
 use Rattle.format.proofs.ProblemLimits.{read-limits}
-use Rattle.joining_rule.specs.Sets.{In}
 use Rattle.joining_rule.specs.Bytes.{blockByteCount, blockBytes, blockAt}
 use Rattle.joining_rule.specs.Joining.{closing, tooLarge}
 use Rattle.calls.specs.Refusals.{noRefusal}
@@ -25,7 +23,7 @@ use Rattle.calls.specs.Promises.{NumberedTo}
 use Rattle.calls.specs.Symmetries.{meetsEvenly, meetsAll, exponentsOf, symmetriesOf, refusedSymmetries, symmetriesFor, symmetriesRead, symmetriesVerdict, maskBytes, masksFor, masksLeft}
 use Rattle.calls.specs.Symmetries.{RefusesAsBlocks, Symmetry, IsListed, ListsEach, EverySymmetry, InOneBlock, EvenInBlocks, PowerOfTwo, Group, SymmetryGroup}
 use Rattle.calls.proofs.Promised.{bytes-agree, clauses}
-use Rattle.calls.proofs.Doubling.{ClosedSet, closed-power}
+use Rattle.calls.proofs.Doubling.{closed-power}
 use Rattle.calls.proofs.Evenness.{meets-xor}
 use Rattle.calls.proofs.EvenBlocks.{block-even}
 use Rattle.calls.proofs.Masks.{meets-in, in-meets, Lists, passing-lists, passing-count}
