@@ -14,6 +14,7 @@ use Rattle.calls.specs.declared.BlocksVerdict.{BlocksVerdict}
 use Rattle.calls.specs.declared.CheckVerdict.{CheckVerdict}
 use Rattle.calls.specs.declared.PairVerdict.{PairVerdict}
 use Rattle.calls.specs.declared.WindowVerdict.{WindowVerdict}
+use Rattle.calls.specs.declared.SymmetriesVerdict.{SymmetriesVerdict}
 
 -- the bytes of a text, one for each character
 abbrev pub ascii : String → List ℕ
@@ -110,3 +111,9 @@ arrivalWords before (v ∷ l) = before ++ (arrivalWord v ++ arrivalWords (ascii 
 
 unfoldable pub windowLine : List WindowVerdict → List ℕ
 windowLine l = ascii "window" ++ (arrivalWords (ascii " ") l ++ ascii "\n")
+
+-- the number of masks, and the 256 bytes
+unfoldable pub symmetriesLine : SymmetriesVerdict → List ℕ → List ℕ
+symmetriesLine v out =
+    unlessRefused (v .refusal)
+    (withNumber "symmetries " (v .masks) ++ ascii " " ++ hexadecimal out ++ ascii "\n")

@@ -1,4 +1,5 @@
--- The line that answers a record. The tables and the 576 bytes are long enough, and the bytes are 0 before the call.
+-- The line that answers a record. The tables, the 576 bytes and the 256 bytes are long enough, and the bytes are 0
+-- before the call.
 use mathlib.Core.Bool.{false, cond}
 use mathlib.Core.List.{List, []}
 use Prim.Native.Nat.{ℕ}
@@ -7,7 +8,8 @@ use lib.ListN.{replicate}
 use Rattle.calls.specs.Blocks.{blocksVerdict, bytesLeft}
 use Rattle.calls.specs.Check.{checkVerdict}
 use Rattle.calls.specs.Pair.{pairVerdict}
-use Rattle.lines.specs.Lines.{blocksLine, checkLine, pairLine}
+use Rattle.calls.specs.Symmetries.{symmetriesVerdict, masksLeft}
+use Rattle.lines.specs.Lines.{blocksLine, checkLine, pairLine, symmetriesLine}
 
 abbrev pub blocksAnswer : List ℕ → List ℕ
 blocksAnswer problem = blocksLine (blocksVerdict false problem) (bytesLeft false problem (replicate 576 0))
@@ -18,10 +20,15 @@ checkAnswer problem certificate = checkLine (checkVerdict false problem certific
 abbrev pub pairAnswer : List ℕ → List ℕ → List ℕ → List ℕ
 pairAnswer problem first second = pairLine (pairVerdict false problem first second)
 
--- by the kind: b, c, p, or another, which is not answered. Kind w, whose line may be longer than a text, is answered by
--- `windowAnswer`
+abbrev pub symmetriesAnswer : List ℕ → List ℕ
+symmetriesAnswer problem =
+    symmetriesLine (symmetriesVerdict false problem) (masksLeft false problem (replicate 256 0))
+
+-- by the kind: b, c, p, s, or another, which is not answered. Kind w, whose line may be longer than a text, is answered
+-- by `windowAnswer`
 unfoldable pub recordAnswer : ℕ → List ℕ → List ℕ → List ℕ → List ℕ
 recordAnswer kind problem first second =
     cond (eqb kind 0x62) (blocksAnswer problem)
     (cond (eqb kind 0x63) (checkAnswer problem first)
-    (cond (eqb kind 0x70) (pairAnswer problem first second) []))
+    (cond (eqb kind 0x70) (pairAnswer problem first second)
+    (cond (eqb kind 0x73) (symmetriesAnswer problem) [])))
