@@ -34,9 +34,14 @@ fn used(record: &Record, lent: &mut Lent) -> usize {
 }
 
 fn run_all(records: &[Record]) {
-    let mut lent = Lent::new();
+    let mut lent = Lent::new(b'b');
     println!("call\trecords\tbytes");
-    for (kind, name) in [(b'b', "blocks"), (b'c', "check"), (b'p', "pair")] {
+    for (kind, name) in [
+        (b'b', "blocks"),
+        (b'c', "check"),
+        (b'p', "pair"),
+        (b's', "symmetries"),
+    ] {
         let records = records.iter().filter(|record| record.kind == kind);
         let bytes: Vec<usize> = records.map(|record| used(record, &mut lent)).collect();
         let most = bytes.iter().copied().max().unwrap_or(0);

@@ -49,13 +49,13 @@ pub struct Pair {
 }
 
 /// A problem that was read, with its blocks and S.
-struct Closed {
-    problem: Problem,
-    joined: Joined,
+pub struct Closed {
+    pub problem: Problem,
+    pub joined: Joined,
 }
 
 /// "the problem by commands, ..; 7"
-fn close(problem: &[u8]) -> Result<Closed, Refusal> {
+pub fn close(problem: &[u8]) -> Result<Closed, Refusal> {
     let problem = Problem::read(problem)?;
     let joined = Joined::of(&problem);
     if joined.is_too_large() {

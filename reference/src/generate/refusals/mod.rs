@@ -9,11 +9,12 @@ pub mod equalities;
 mod order;
 mod problems;
 mod sums;
+pub mod symmetries;
 mod table;
 pub mod windows;
 
 use crate::generate::samples;
-use crate::records::{Record, BLOCKS, CHECK, PAIR};
+use crate::records::{Record, BLOCKS, CHECK, PAIR, SYMMETRIES};
 use crate::refusal::Refusal;
 pub use table::print;
 
@@ -48,6 +49,7 @@ impl Case {
         let run = |place: usize| self.runs[place].clone();
         match call {
             BLOCKS => Record::blocks(run(0)),
+            SYMMETRIES => Record::symmetries(run(0)),
             CHECK => Record::check(run(0), run(1)),
             PAIR => Record::pair(run(0), run(1), run(2)),
             kind => Record {
@@ -150,7 +152,7 @@ fn written(line: &Line, stream: u8, mut runs: [Vec<u8>; 3]) -> Case {
 
 /// The calls that meet a refusal of this stream.
 fn calls(stream: u8) -> &'static [u8] {
-    [b"bcp".as_slice(), b"cp", b"p"][usize::from(stream)]
+    [b"bcps".as_slice(), b"cp", b"p"][usize::from(stream)]
 }
 
 #[cfg(test)]

@@ -1,6 +1,7 @@
 //! The table of refusals as a page of markdown.
 
 use super::equalities::{Accepted, ACCEPTED};
+use super::symmetries::{Symmetric, SYMMETRIC};
 use super::windows::{Arrivals, CASES};
 use super::{cases, Case};
 use crate::generate::corpus;
@@ -13,18 +14,18 @@ Every way to be refused, by number and stream, each with the words that it comes
 after its number, of a request (document 02). \
 The answers were found by hand from those words and stand beside the cases in `reference/src/generate/refusals`; a test \
 there holds the reference to them. Each case is in the stored corpus `crates/replay/stdin`, where the proved calls \
-meet it; the last column gives, for each kind of call that meets it (`b` blocks, `c` check, `p` pair, `w` arrivals at \
-the window of gaps), the number of its record there, which is that of the line in `stdout`. `reference refusals` writes this page, and `./test` compares the two.
+meet it; the last column gives, for each kind of call that meets it (`b` blocks, `c` check, `p` pair, `s` symmetries, \
+`w` arrivals at the window of gaps), the number of its record there, which is that of the line in `stdout`. `reference refusals` writes this page, and `./test` compares the two.
 
 An answer is `refused`, number, stream (0 problem, 1 first certificate, 2 second), place and key. Bytes are \
 hexadecimal, 0⁷ is seven zero bytes and 0⁸ eight, and a bar stands between commands.
 ";
 
 const ONE: &str = "
-## 1: a lent table or the 576 bytes is too short
+## 1: a lent table, the 576 bytes or the 256 bytes is too short
 
 A replayed record is always answered with tables lent in full, so no record meets refusal 1. It is stated in the public \
-contracts in `crates/checker/src/lib.rt`: `verdict` of each call says that it is given exactly when the named test holds, and \
+contracts in `crates/checker/src/lib.rt` and `crates/sign_symmetries/src/lib.rt`: `verdict` of each call says that it is given exactly when the named test holds, and \
 `bytes` and `tables` that nothing is written then. `bench short` calls the C functions with each \
 length one short, and sees refusal 1 and all that was lent untouched.
 
@@ -40,6 +41,10 @@ length one short, and sees refusal 1 and all that was lent untouched.
 | pair, keys | 2,047 numbers as the first table | `refused 1 0 0 0` | `verdict` of `pair`, `tablesShort` |
 | pair, high | 2,047 numbers as the second table | `refused 1 0 0 0` | `verdict` of `pair`, `tablesShort` |
 | pair, low | 2,047 numbers as the third table | `refused 1 0 0 0` | `verdict` of `pair`, `tablesShort` |
+| symmetries, bytes | 255 bytes for the masks | `refused 1 0 0 0` | `verdict` of `symmetries`, `symmetriesShort` |
+| symmetries, keys | 2,047 numbers as the first table | `refused 1 0 0 0` | `verdict` of `symmetries`, `symmetriesShort` |
+| symmetries, high | 2,047 numbers as the second table | `refused 1 0 0 0` | `verdict` of `symmetries`, `symmetriesShort` |
+| symmetries, low | 2,047 numbers as the third table | `refused 1 0 0 0` | `verdict` of `symmetries`, `symmetriesShort` |
 ";
 
 const FOURTEEN: &str = "
@@ -60,6 +65,15 @@ hand in the same way. The bytes of a blocks call are shown to the last that is n
 
 | case | what it has | problem | certificates | words | answer | record |
 |---|---|---|---|---|---|---|
+";
+
+const SYMMETRIES: &str = "
+## Beside the refusals: sign symmetries found by hand
+
+Request 01's call lists the masks of a problem into 256 bytes, which are shown to the last that is not 0.
+
+| case | what it has | problem | words | answer | record |
+|---|---|---|---|---|---|
 ";
 
 /// The words of document 01's table for each number from 2 on.
@@ -86,7 +100,7 @@ const SHORT: usize = 130;
 
 /// Writes the page.
 pub fn print() {
-    let corpus = corpus("bcpw");
+    let corpus = corpus("bcpws");
     let mut cases = cases();
     cases.sort_by_key(|case| (case.expected.number, case.expected.stream));
     print!("{HEAD}{ONE}");
@@ -111,6 +125,10 @@ pub fn print() {
     print!("{BESIDE}");
     for case in ACCEPTED {
         println!("{}", accepted_line(case, &corpus));
+    }
+    print!("{SYMMETRIES}");
+    for case in SYMMETRIC {
+        println!("{}", symmetric_line(case, &corpus));
     }
 }
 
@@ -174,6 +192,32 @@ fn accepted_line(case: &Accepted, corpus: &[Record]) -> String {
         &place(&case.record(), corpus),
     ];
     format!("| {} |", cells.join(" | "))
+}
+
+/// The line of a problem with its masks.
+fn symmetric_line(case: &Symmetric, corpus: &[Record]) -> String {
+    let problem = case.problem;
+    let text = match problem.len() <= SHORT {
+        true => code(problem),
+        false => String::new(),
+    };
+    let line = case.line();
+    let cells = [
+        case.name,
+        case.what,
+        &text,
+        &quoted(case.words),
+        &format!("`{}`", short(&line)),
+        &place(&case.record(), corpus),
+    ];
+    format!("| {} |", cells.join(" | "))
+}
+
+/// A line whose bytes end with the last that is not 0, or with the first.
+fn short(line: &str) -> &str {
+    let (head, digits) = line.rsplit_once(' ').expect("digits stand last");
+    let shown = digits.trim_end_matches('0').len().div_ceil(2).max(1);
+    &line[..head.len() + 1 + 2 * shown]
 }
 
 /// A stream as it stands in a cell.
