@@ -73,7 +73,7 @@ module _ (p : Problem) (limits : Limits p) where
     -- ---- the exponents that are given
     objective-even : (e : ℕ) → In e (keysOf (p .objective)) → Q e
     unfolding exponentsOf
-    objective-even e m = meets-even r e small (meets e (append-keeps e (keysOf (p .objective)) (conditionExponents (p .conditions)) m))
+    objective-even e m = meets-even r e small (meets e (append-keeps e (keysOf (p .objective)) _ m))
 
     multiplier-even : (j t : ℕ) → In t (multiplierOf p j) → Q t
     unfolding multiplierOf multiplier exponentsOf
