@@ -26,9 +26,9 @@ pub record Passed (key byte place rest i : ℕ) : Type 0 where
   pub made : byte ≡ parities key i
   pub small : byte < 2 ^ i
 
-pub passed-none : (key : ℕ) → Passed key 0 1 key 0
+pub passed-none : (key place : ℕ) → place ≡ 1 → Passed key 0 place key 0
 unfolding sumTo
-passed-none key = record { few = omega arith; at = refl; left = let e : key / 1 ≡ key = omega arith in sym e; made = refl; small = omega arith }
+passed-none key place h = record { few = omega arith; at = h; left = let e : key / 1 ≡ key = omega arith in sym e; made = refl; small = omega arith }
 
 -- a bit at its place
 pub bit-most : (x y : ℕ) → x % 2 * y ≤ y

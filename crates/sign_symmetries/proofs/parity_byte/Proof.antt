@@ -18,7 +18,7 @@ most : (c : tie.In-loop Inv-loop μ-loop) → let l = c .before .loop in (l .pla
 most c = let l = c .before .loop in place-most _ _ _ _ (l .i) (l .inv) (omega arith)
 
 loop-holds : tie.Need-loop-holds Inv-loop μ-loop
-loop-holds c = passed-none (c .args .key)
+loop-holds c = passed-none (c .args .key) _ (omega arith)
 
 mul-byte : tie.Need-mul-byte Inv-loop μ-loop
 mul-byte c = let l = c .before .loop in omega (arith, most c, bit-most (l .rest) (l .place))
