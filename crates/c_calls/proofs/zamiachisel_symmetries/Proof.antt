@@ -25,7 +25,7 @@ same-length-4 c = search needs
 
 returns : tie.Need-returns
 returns c =
-    let e = c .before .before .before .before .before .before .before .symmetries2 .ensures in
+    let e = c .before .before .before .before .before .before .before .symmetries .ensures in
     (c .number-of .ensures ∙ ap (λ (v : SymmetriesVerdict). v .refusal .number) (e .0), (e .1 .0, e .1 .1 .0))
 
 pub zamiachisel-symmetries-spec : {M : Type 1} → statement M

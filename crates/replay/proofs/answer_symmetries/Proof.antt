@@ -35,7 +35,7 @@ returns : tie.Need-returns
 unfolding symmetriesShort
 returns c =
     let called = c .before .before .before .before .before .before in
-    c .symmetries-line .ensures ∙ same-line (called .symmetries2 .ensures .0) (called .symmetries2 .ensures .1 .0)
+    c .symmetries-line .ensures ∙ same-line (called .symmetries .ensures .0) (called .symmetries .ensures .1 .0)
 
 pub answer-symmetries-spec : {M : Type 1} → statement M
 answer-symmetries-spec =
