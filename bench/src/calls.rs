@@ -29,6 +29,19 @@ extern "C" {
         low_length: usize,
     ) -> u64;
 
+    fn zamiachisel_symmetries(
+        problem: *const u8,
+        problem_length: usize,
+        out: *mut u8,
+        out_length: usize,
+        keys: *mut u64,
+        keys_length: usize,
+        high: *mut i64,
+        high_length: usize,
+        low: *mut i64,
+        low_length: usize,
+    ) -> u64;
+
     fn zamiachisel_pair(
         problem: *const u8,
         problem_length: usize,
@@ -80,10 +93,10 @@ pub struct Lent {
 }
 
 impl Lent {
-    /// Just the lengths that the calls ask for.
-    pub fn new() -> Self {
+    /// Just the lengths that the calls ask for; the symmetries call asks for fewer bytes than the blocks call.
+    pub fn new(kind: u8) -> Self {
         Lent {
-            out: vec![0; 576],
+            out: vec![0; if kind == b's' { 256 } else { 576 }],
             keys: vec![0; 2_048],
             high: vec![0; 2_048],
             low: vec![0; 2_048],
@@ -131,6 +144,7 @@ pub fn answer(record: &Record, lent: &mut Lent) -> u64 {
         b'c' => call!(zamiachisel_check, problem, first; lent.keys, lent.high, lent.low),
         b'p' => call!(zamiachisel_pair, problem, first, second; lent.keys, lent.high, lent.low),
         b't' => tighter(&record.runs, lent)[0],
+        b's' => call!(zamiachisel_symmetries, problem; lent.out, lent.keys, lent.high, lent.low),
         _ => 0,
     }
 }

@@ -24,6 +24,7 @@ fn main() {
 /// memory checker sees any step outside.
 fn numbers() {
     for record in calls::records() {
-        println!("{}", calls::answer(&record, &mut calls::Lent::new()));
+        let mut lent = calls::Lent::new(record.kind);
+        println!("{}", calls::answer(&record, &mut lent));
     }
 }

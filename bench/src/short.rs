@@ -64,11 +64,15 @@ fn full(kind: u8) {
     assert!(
         lent.low[..2_048].iter().all(|&low| low == 0) && lent.low[2_048..] == before.low[2_048..]
     );
-    let written = if kind == b'b' { 576 } else { 0 };
+    let written = match kind {
+        b'b' => 576,
+        b's' => 256,
+        _ => 0,
+    };
     assert_eq!(lent.out[written..], before.out[written..]);
     assert!(lent.out[..written]
         .iter()
-        .all(|&block| [0, 255].contains(&block)));
+        .all(|&byte| [0, 255].contains(&byte)));
 }
 
 /// One table shortened: refusal 1, and nothing that was lent is written.
@@ -88,7 +92,7 @@ pub fn run() {
         |lent| lent.low.truncate(2_047),
         |lent| lent.keys.clear(),
     ];
-    for kind in *b"bcpt" {
+    for kind in *b"bcpts" {
         full(kind);
         for shorten in tables {
             shortened(kind, shorten);
@@ -98,5 +102,6 @@ pub fn run() {
     lent.low.truncate(2_047);
     assert_eq!(tighter(&case_f(b't').runs, &mut lent), [1, 0, 0, 0]);
     shortened(b'b', |lent| lent.out.truncate(575));
+    shortened(b's', |lent| lent.out.truncate(255));
     println!("refusal 1 for each short table of each call, and nothing written but the four numbers of the call on two");
 }

@@ -8,7 +8,7 @@ use crate::calls::{answer, records, Lent};
 /// fastest turn.
 pub fn run() {
     let records = records();
-    let mut lent = Lent::new();
+    let mut lent = Lent::new(b'b');
     let mut best = f64::INFINITY;
     let mut refused = 0;
     let begun = Instant::now();

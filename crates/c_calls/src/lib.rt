@@ -6,6 +6,7 @@ ghost use Rattle.calls.specs.Blocks.{blocksShort, blocksVerdict, bytesLeft};
 ghost use Rattle.calls.specs.Check.{checkVerdict};
 ghost use Rattle.calls.specs.Pair.{pairVerdict};
 ghost use Rattle.calls.specs.Superseding.{supersedingVerdict, streamOf, refusalIn};
+ghost use Rattle.calls.specs.Symmetries.{symmetriesShort, symmetriesVerdict, masksLeft};
 use calls::Chosen;
 use calls::Refusal;
 
@@ -137,4 +138,31 @@ pub extern "C" fn zamiachisel_tighter(
         Chosen::Second => 2,
         Chosen::Neither => 0,
     }
+}
+
+// The symmetries call: the number of the refusal, or 0. Mask 0 stands first and is the only 0 among the masks, so they
+// are one more than the bytes that are not 0.
+// stack: see docs/measured/stack-bound.tsv
+#[no_mangle]
+pub extern "C" fn zamiachisel_symmetries(
+    problem: &[u8],
+    out: &mut [u8],
+    keys: &mut [u64],
+    high: &mut [i64],
+    low: &mut [i64],
+) -> u64
+    ensures verdict { λ r.
+        let lent = tables (now (keys .entry)) (now (high .entry)) (now (low .entry)) in
+        ⌜ r ≡ symmetriesVerdict (symmetriesShort (now (out .entry)) lent) (now (problem .entry)) .refusal .number ⌝ }
+    ensures bytes { λ _.
+        let lent = tables (now (keys .entry)) (now (high .entry)) (now (low .entry)) in
+        let before = now (out .entry) in
+        ⌜ now (out .exit) ≡ masksLeft (symmetriesShort before lent) (now (problem .entry)) before ⌝ }
+    ensures tables { λ _.
+        let lent = tables (now (keys .entry)) (now (high .entry)) (now (low .entry)) in
+        let left = tables (now (keys .exit)) (now (high .exit)) (now (low .exit)) in
+        ⌜ TablesLeft (symmetriesShort (now (out .entry)) lent) lent left ⌝ }
+{
+    let v = sign_symmetries::symmetries(problem, out, keys, high, low);
+    number_of(v.refusal)
 }

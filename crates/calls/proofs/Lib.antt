@@ -9,3 +9,8 @@ pub mod Windows
 pub mod WidestGap
 pub mod RingPairs
 pub mod Superseded
+pub mod Evenness
+pub mod EvenBlocks
+pub mod Doubling
+pub mod Masks
+pub mod SymmetryClauses

@@ -91,7 +91,7 @@ module _ (s : List ℕ) (p : Problem) (read : readProblem s ≡ given p) where
   unfolding startSet
   rising = start-rising _ (basesOf p)
 
-  bytes-agree : (rest : List ℕ) → Agree (basesOf p) (labelOf (p .rule) (basesOf p) (startSet p)) (blockAt (blockBytes (closing p .state .labels) ++ rest))
+  pub bytes-agree : (rest : List ℕ) → Agree (basesOf p) (labelOf (p .rule) (basesOf p) (startSet p)) (blockAt (blockBytes (closing p .state .labels) ++ rest))
   unfolding closing
   bytes-agree rest = record {
     at = λ j i h b.

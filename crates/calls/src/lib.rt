@@ -93,3 +93,9 @@ pub struct SupersedingVerdict {
     pub refusal: Refusal,
     pub chosen: Chosen,
 }
+
+// What the symmetries call returns: the number of sign symmetries, 0 with a refusal.
+pub struct SymmetriesVerdict {
+    pub refusal: Refusal,
+    pub masks: usize,
+}

@@ -243,3 +243,21 @@ certificateBeside = header 0 1 0 1 ++ row 0 1 ++ entry 1 1 ++ row 1 1 ++ entry 0
 
 abbrev pub certificateAcross : List ℕ
 certificateAcross = header 0 1 0 1 ++ row 0 1 ++ entry 0 1 ++ entry 1 1 ++ finish
+
+-- ---- document 02's sign symmetries
+-- x2² + x1³x2 + x1x2³ + x1²x2², an example of paper 003; basis 1, x1, x2
+abbrev pub problemSigns : List ℕ
+problemSigns =
+    variables 2
+    ++ objectiveTerm (exponents 0 2) 1
+    ++ objectiveTerm (exponents 3 1) 1
+    ++ objectiveTerm (exponents 1 3) 1
+    ++ objectiveTerm (exponents 2 2) 1
+    ++ memberCommand 0 (exponents 0 0)
+    ++ memberCommand 0 (exponents 1 0)
+    ++ memberCommand 0 (exponents 0 1)
+    ++ end
+
+-- two variables, a condition x2 of a kind, and nothing else
+abbrev pub problemOneCondition : List ℕ → List ℕ
+problemOneCondition kind = variables 2 ++ kind ++ conditionTerm (exponents 0 1) 1 ++ end

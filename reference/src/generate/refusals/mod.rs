@@ -12,12 +12,13 @@ mod order;
 mod problems;
 mod sums;
 pub mod superseding;
+pub mod symmetries;
 mod table;
 pub mod wide_factors;
 pub mod windows;
 
 use crate::generate::samples;
-use crate::records::{Record, BLOCKS, CHECK, PAIR, TIGHTER};
+use crate::records::{Record, BLOCKS, CHECK, PAIR, SYMMETRIES, TIGHTER};
 use crate::refusal::Refusal;
 pub use table::print;
 
@@ -52,6 +53,7 @@ impl Case {
         let run = |place: usize| self.runs[place].clone();
         match call {
             BLOCKS => Record::blocks(run(0)),
+            SYMMETRIES => Record::symmetries(run(0)),
             CHECK => Record::check(run(0), run(1)),
             PAIR => Record::pair(run(0), run(1), run(2)),
             // A refusal of the first certificate is seen only where the second is refused as well.
@@ -187,7 +189,7 @@ fn written(line: &Line, stream: u8, mut runs: [Vec<u8>; 3]) -> Case {
 
 /// The calls that meet a refusal of this stream.
 fn calls(stream: u8) -> &'static [u8] {
-    [b"bcpt".as_slice(), b"cpt", b"p"][usize::from(stream)]
+    [b"bcpts".as_slice(), b"cpt", b"p"][usize::from(stream)]
 }
 
 #[cfg(test)]

@@ -4,16 +4,17 @@ mod empty_region;
 mod equalities;
 mod joining_rules;
 mod superseding;
+mod symmetries;
 mod wide_factors;
 mod windows;
 
 use crate::generate::accepted::case;
-use crate::generate::blocks::valid_draft;
+use crate::generate::blocks::{problem, valid_draft};
 use crate::generate::certificates::{as_record, streams};
 use crate::generate::changes::{change_case, CHANGES};
 use crate::generate::damage::{self, damaged};
 use crate::generate::rng::Rng;
-use crate::records::{Record, BLOCKS, CHECK, PAIR, TIGHTER, WINDOW};
+use crate::records::{Record, BLOCKS, CHECK, PAIR, SYMMETRIES, TIGHTER, WINDOW};
 
 /// A call that a request added.
 pub struct Call {
@@ -86,6 +87,12 @@ const LANDED: &[Landed] = &[
         put: joining_rules::put,
         count: 200,
     }),
+    Landed::Call(Call {
+        kind: SYMMETRIES,
+        special: symmetries::special,
+        random: symmetries::random,
+        count: 250,
+    }),
 ];
 
 /// The seed of the corpus.
@@ -124,6 +131,11 @@ pub fn record(rng: &mut Rng, kind: u8) -> Option<Record> {
         _ => None,
     };
     if let Some(random) = LANDED.iter().find_map(call) {
+        // half of the symmetries calls are on a problem of a fresh blocks call
+        if kind == SYMMETRIES && rng.once_in(2) {
+            let blocks = record(rng, BLOCKS).unwrap_or_else(|| Record::blocks(problem(rng)));
+            return Some(Record { kind, ..blocks });
+        }
         return Some(random(rng));
     }
     if !rng.once_in(2) {

@@ -1,13 +1,13 @@
--- `clear`: after i turns the first i numbers are zero.
-use Rattle.certificate_judge.proofs.Fills.{fill-more}
+-- `clear_bytes`: after i turns the first i bytes are zero.
+use Rattle.work_tables.proofs.Fills.{fill-more}
 use native.Mathlib.Omega.{arith}
 use mathlib.Core.Path.{_≡_, refl, ap, _∙_}
 use mathlib.Core.List.{List, _++_}
 use Prim.Native.Nat.{ℕ, _+_, _-_, _≤_}
 use lib.ListN.{length, drop, set, length-set, replicate}
 use borrow.Author.Needs.{needs}
-use Rattle.certificate_judge.proofs.clear.Statement.{statement}
-use Rattle.certificate_judge.proofs.clear.Tie as tie
+use Rattle.work_tables.proofs.clear_bytes.Statement.{statement}
+use Rattle.work_tables.proofs.clear_bytes.Tie as tie
 
 abbrev Inv-loop : tie.InvT-loop
 Inv-loop t₀ n i₀ t i = (i ≤ n) × (length t ≡ length t₀) × (t ≡ replicate i 0 ++ drop i t₀)
@@ -17,9 +17,6 @@ abbrev μ-loop : tie.MeasureT-loop
 
 loop-holds : tie.Need-loop-holds Inv-loop μ-loop
 loop-holds c = (omega arith, refl, refl)
-
-mul-t : tie.Need-mul-t Inv-loop μ-loop
-mul-t c = search needs
 
 slice-write-t : tie.Need-slice-write-t Inv-loop μ-loop
 slice-write-t c = search needs
@@ -39,14 +36,13 @@ same-length c = c .before .loop .inv .1
 returns : tie.Need-returns Inv-loop μ-loop
 returns c = let v = c .before .loop .inv in let e : c .before .loop .i ≡ c .before .before .args .n = omega arith in v .2 ∙ ap (λ (i : ℕ). replicate i 0 ++ drop i (c .before .before .args .t .now)) e
 
-pub clear-spec : {M : Type 1} → statement M
-clear-spec =
+pub clear-bytes-spec : {M : Type 1} → statement M
+clear-bytes-spec =
     tie.close
     (tie.spec
     Inv-loop
     μ-loop
     loop-holds
-    mul-t
     slice-write-t
     add-i
     loop-less
