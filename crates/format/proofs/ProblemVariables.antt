@@ -33,6 +33,7 @@ module _ (s : List ℕ) where
   applied p at C.End h t = t (ltb-true 0 at h)
   applied p at C.Unknown h t = clash (cc)
   applied p at C.Equality h t = t (ltb-true 0 at h)
+  applied p at C.Rule h t = let e = eqb-true at 2 h in t (omega arith)
 
   next : (p : Problem) (at : ℕ) → problemRefusalAt p s at ≡ 0 → Told p at → problemNext p s at .variables ≡ getD s 1 0
   unfolding problemRefusalAt problemNext

@@ -258,6 +258,6 @@ problemSigns =
     ++ memberCommand 0 (exponents 0 1)
     ++ end
 
--- two variables, a condition x2 of a kind, and nothing else
+-- two variables, and a condition x2, which some commands begin
 abbrev pub problemOneCondition : List ℕ → List ℕ
-problemOneCondition kind = variables 2 ++ kind ++ conditionTerm (exponents 0 1) 1 ++ end
+problemOneCondition begin = variables 2 ++ begin ++ conditionTerm (exponents 0 1) 1 ++ end
