@@ -62,6 +62,7 @@ pub const SYMMETRIC: &[Symmetric] = &[
     with("the second constraint", "a constraint without terms and the constraint x2", EVEN, "01 02 | 03 | 03 | 04 00 01 00 00 00 00 00 00 01 00 | 06", &[0, 1]),
     with("an equality", "the equality x1 x2 x3", ALIKE, "01 03 | 07 | 04 01 01 01 00 00 00 00 00 01 00 | 06", &[0, 3, 5, 6]),
     with("both kinds", "the constraint x1 x2 and the equality x2 x3", ALIKE, "01 03 | 03 | 04 01 01 00 00 00 00 00 00 01 00 | 07 | 04 00 01 01 00 00 00 00 00 01 00 | 06", &[0, 7]),
+    with("rule 2", "the constraint x2³ x3, the basis x2 for it, and rule 2, which the masks do not ask for", EVEN, "01 03 | 08 02 | 03 | 04 00 03 01 00 00 00 00 00 01 00 | 05 01 00 01 00 00 00 00 00 00 | 06", &[0, 1, 6, 7]),
     with("a basis", "the basis x, whose monomials do not count", EVEN, "01 01 | 05 00 01 0⁷ | 06", &[0, 1]),
     with("even and odd", "the objective x1² x2⁴ + x3⁵", EVEN, "01 03 | 02 02 04 00 00 00 00 00 00 01 00 00 00 | 02 00 00 05 00 00 00 00 00 01 00 00 00 | 06", &[0, 1, 2, 3]),
     with("paper 003", "x2² + x1³ x2 + x1 x2³ + x1² x2², an example of paper 003", EVEN, "01 02 | 02 00 02 00 00 00 00 00 00 01 00 00 00 | 02 03 01 00 00 00 00 00 00 01 00 00 00 | 02 01 03 00 00 00 00 00 00 01 00 00 00 | 02 02 02 00 00 00 00 00 00 01 00 00 00 | 06", &[0, 3]),

@@ -9,7 +9,7 @@ mod wide_factors;
 mod windows;
 
 use crate::generate::accepted::case;
-use crate::generate::blocks::{problem, valid_draft};
+use crate::generate::blocks::valid_draft;
 use crate::generate::certificates::{as_record, streams};
 use crate::generate::changes::{change_case, CHANGES};
 use crate::generate::damage::{self, damaged};
@@ -131,11 +131,6 @@ pub fn record(rng: &mut Rng, kind: u8) -> Option<Record> {
         _ => None,
     };
     if let Some(random) = LANDED.iter().find_map(call) {
-        // half of the symmetries calls are on a problem of a fresh blocks call
-        if kind == SYMMETRIES && rng.once_in(2) {
-            let blocks = record(rng, BLOCKS).unwrap_or_else(|| Record::blocks(problem(rng)));
-            return Some(Record { kind, ..blocks });
-        }
         return Some(random(rng));
     }
     if !rng.once_in(2) {

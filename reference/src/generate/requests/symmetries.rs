@@ -1,5 +1,6 @@
 //! Request 01: records of the sign symmetries.
 
+use super::{changed, changes_before, Streams};
 use crate::generate::draft::{monomial, power, random_monomial, Draft};
 use crate::generate::problems::largest;
 use crate::generate::refusals::symmetries::{Symmetric, SYMMETRIC};
@@ -7,7 +8,7 @@ use crate::generate::refusals::{cases, met};
 use crate::generate::rng::Rng;
 use crate::generate::{blocks, samples};
 use crate::monomial::Monomial;
-use crate::records::{Record, SYMMETRIES};
+use crate::records::{Record, BLOCKS, SYMMETRIES};
 
 /// The problems with masks found by hand, every refusal of a problem, one with all 256 masks, two with
 /// as many exponents as there may be, of which one has even ones alone, and the samples.
@@ -25,11 +26,31 @@ pub fn special() -> Vec<Record> {
     all
 }
 
-/// A problem of the blocks call, or one whose exponents are mostly even.
+/// A problem of the blocks call, or, two times out of three, one of theirs or one whose exponents are
+/// mostly even with up to two of the requests that landed before.
 pub fn random(rng: &mut Rng) -> Record {
     if rng.once_in(3) {
         return Record::symmetries(blocks::problem(rng));
     }
+    let mut changes = changes_before(SYMMETRIES);
+    changes.retain(|change| change.kinds.contains(&BLOCKS));
+    rng.shuffle(&mut changes);
+    changes.truncate(rng.below(3));
+    if rng.once_in(2) {
+        return Record {
+            kind: SYMMETRIES,
+            ..changed(rng, BLOCKS, &changes)
+        };
+    }
+    let mut streams: Streams = [mostly_even(rng), Vec::new(), Vec::new()];
+    for change in changes {
+        (change.put)(rng, &mut streams);
+    }
+    Record::symmetries(streams[0].concat())
+}
+
+/// The commands of a problem whose exponents are mostly even, so that some masks meet them.
+fn mostly_even(rng: &mut Rng) -> Vec<Vec<u8>> {
     let variables = rng.between(1, 8);
     let mut draft = Draft::new(variables, rng.below(3));
     let doubled = |m: Monomial| Monomial(m.0.map(|e| 2 * e));
@@ -60,7 +81,7 @@ pub fn random(rng: &mut Rng) -> Record {
             }
         }
     }
-    Record::symmetries(draft.mixed(rng))
+    draft.mixed_commands(rng)
 }
 
 #[cfg(test)]
