@@ -35,8 +35,8 @@ returns c =
     let v = i .judge .ensures in
     let w = k .judge2 .ensures in (
       (λ p h r. (
-        c .before .check-one .ensures ∙ check-judged p (judge p (a .first .now)) _ _ (v .0 p h) r,
-        c .check-one2 .ensures ∙ check-judged p (judge p (a .second .now)) _ _ (w .0 p h) r,
+        c .before .check-one .ensures ∙ check-judged p (judge p (a .first .now)) _ _ _ (v .0 p h) r (h .flat .rule),
+        c .check-one2 .ensures ∙ check-judged p (judge p (a .second .now)) _ _ _ (w .0 p h) r (h .flat .rule),
       )),
       record { high-rest = w .1 .high-rest ∙ v .1 .high-rest; low-rest = w .1 .low-rest ∙ v .1 .low-rest },
     )
