@@ -1,10 +1,10 @@
 //! Request 01: records of the sign symmetries.
 
-use super::{changed, changes_before, Streams};
+use super::{changed, Change, Streams};
 use crate::generate::draft::{monomial, power, random_monomial, Draft};
 use crate::generate::problems::largest;
 use crate::generate::refusals::symmetries::{Symmetric, SYMMETRIC};
-use crate::generate::refusals::{cases, met};
+use crate::generate::refusals::{cases_to, met};
 use crate::generate::rng::Rng;
 use crate::generate::{blocks, samples};
 use crate::monomial::Monomial;
@@ -14,7 +14,7 @@ use crate::records::{Record, BLOCKS, SYMMETRIES};
 /// as many exponents as there may be, of which one has even ones alone, and the samples.
 pub fn special() -> Vec<Record> {
     let mut all: Vec<Record> = SYMMETRIC.iter().map(Symmetric::record).collect();
-    all.extend(met(cases(), SYMMETRIES));
+    all.extend(met(cases_to(8), SYMMETRIES));
     let mut even = Draft::new(8, 0);
     even.objective.push((monomial(&[2; 8]), 1));
     let rng = &mut Rng::new(1);
@@ -27,12 +27,11 @@ pub fn special() -> Vec<Record> {
 }
 
 /// A problem of the blocks call, or, two times out of three, one of theirs or one whose exponents are
-/// mostly even with up to two of the requests that landed before.
-pub fn random(rng: &mut Rng) -> Record {
+/// mostly even with up to two of the requests that change problems.
+pub fn random(rng: &mut Rng, mut changes: Vec<&Change>) -> Record {
     if rng.once_in(3) {
         return Record::symmetries(blocks::problem(rng));
     }
-    let mut changes = changes_before(SYMMETRIES);
     changes.retain(|change| change.kinds.contains(&BLOCKS));
     rng.shuffle(&mut changes);
     changes.truncate(rng.below(3));
