@@ -1,7 +1,7 @@
 // Answers the records of the standard input, one line for each, until it ends. A record is a kind byte (b: blocks, c:
-// check, p: pair, s: symmetries, t: the tighter of two certificates, w: arrivals at the window of gaps), three lengths of
-// 32 bits, little-endian, and three byte runs, each of at most 65,536 bytes. `answer_record` decides, on the kind and the
-// runs, `window_line` on the arrivals and `tighter_line` on two certificates; all else moves bytes.
+// check, p: pair, s: symmetries, t: the tighter of two certificates, w: arrivals at the window of gaps), three lengths
+// of 32 bits, little-endian, and three byte runs, each of at most 65,536 bytes. `answer_record` decides, on the kind
+// and the runs, `window_line` on the arrivals and `tighter_line` on two certificates; all else moves bytes.
 ghost use mathlib.Core.Path.{_≡_};
 ghost use mathlib.Core.Bool.{true};
 ghost use mathlib.Core.List.{_++_};
