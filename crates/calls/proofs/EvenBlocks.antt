@@ -16,14 +16,15 @@ use Rattle.polynomial.proofs.Products.{degree-add}
 use Rattle.format.specs.All.{All}
 use Rattle.format.specs.ProblemRules.{Condition, Problem, noCondition}
 use Rattle.format.specs.ProblemBases.{basisOf, multiplier, multiplierOf}
-use Rattle.format.proofs.WithinLimits.{ConditionTerms, Limits, Monomials}
-use Rattle.format.proofs.ProblemLimits.{all-at, monomials-none, terms-none}
+use Rattle.format.proofs.WithinLimits.{Limits}
+use Rattle.format.proofs.ProblemLimits.{all-at}
 use Rattle.joining_rule.specs.Sets.{In, insertAll}
 use Rattle.joining_rule.specs.Joining.{basesOf, multiples, startFrom, startSet, closing}
 use Rattle.joining_rule.proofs.Elements.{not-nil, in-cons, append-in, append-keeps}
 use Rattle.joining_rule.proofs.Insertions.{insertAll-from}
 use Rattle.joining_rule.proofs.Least.{Equivalence, JoinedIn, AddedIn, Within}
 use Rattle.joining_rule.proofs.Meaning.{closing-within}
+use Rattle.accepting.proofs.Bounds.{basis-degrees, multiplier-degrees}
 use Rattle.calls.specs.Symmetries.{meetsEvenly, conditionExponents, exponentsOf}
 use Rattle.calls.proofs.Evenness.{inner, meets-even, even-meets, inner-sum}
 
@@ -46,18 +47,11 @@ unfolding degree degreeOf
 degree-zero d = omega arith
 
 module _ (p : Problem) (limits : Limits p) where
-  basis-degrees : (j : ℕ) → All (λ k. degree k ≤ 8) (basisOf p j)
-  unfolding basisOf
-  basis-degrees j = all-at (Monomials (p .variables) 8 64) (p .bases) j [] (limits .members) (monomials-none _ _ _) .degrees
-
   basis-degree : (j i : ℕ) → degree (getD (basisOf p j) i 0) ≤ 8
-  basis-degree j i = all-at _ (basisOf p j) i 0 (basis-degrees j) (degree-zero 8)
+  basis-degree j i = all-at _ (basisOf p j) i 0 (basis-degrees p limits j) (degree-zero 8)
 
   multiplier-degree : (j t : ℕ) → In t (multiplierOf p j) → degree t ≤ 16
-  unfolding multiplierOf multiplier
-  multiplier-degree zero t m = ⊎-elim (λ e. rw (← e) (degree-zero 16)) (λ w. not-nil t w) (in-cons t 0 [] (unfold keysOf in m))
-  multiplier-degree (suc j) t m =
-      all-in _ _ t (all-at (ConditionTerms _) (p .conditions) j noCondition (limits .terms) (terms-none _ 16 32) .monomials .degrees) m
+  multiplier-degree j t m = all-in _ _ t (multiplier-degrees p limits j) m
 
   module _ (r : ℕ) (small : r < 256) (meets : (e : ℕ) → In e (exponentsOf p) → meetsEvenly r e ≡ true) where
     -- met evenly
@@ -93,7 +87,7 @@ module _ (p : Problem) (limits : Limits p) where
     start-even : Within Q (startSet p)
     unfolding startSet startFrom
     start-even =
-        inserted _ _ (λ x m. double-even (basisOf p 0) x (basis-degrees 0) m)
+        inserted _ _ (λ x m. double-even (basisOf p 0) x (basis-degrees p limits 0) m)
         (fromTo-keeps (Within Q) _ 9 1 (λ j S _ _ w. inserted _ S (λ x m. multiplier-even j x m) w) _
         (inserted _ [] objective-even (record { at = λ x m. not-nil x m })))
       where
