@@ -22,7 +22,7 @@ use Rattle.format.specs.ProblemRules.{Problem, noProblem, withRule, with
 use Rattle.format.specs.ProblemRule.{ruled, unruled}
 use Rattle.format.specs.ProblemOrder.{Beginning, afterVariables, afterRule, ordered}
 use Rattle.format.proofs.ProblemRule.{rule-command, rule-byte, order-command, order-byte}
-use Rattle.format.proofs.Differing.{Changes, rule-changes, order-changes, changed, Agree, Places, agrees}
+use Rattle.format.proofs.Differing.{rule-changes, order-changes, changed, Agree, Places, agrees}
 use Rattle.format.proofs.Run.{passes, Left, left-start, left-refused, left-next}
 
 -- operands that keep their rule
