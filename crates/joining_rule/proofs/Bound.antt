@@ -37,6 +37,10 @@ pub most-some : (k : ℕ) → 0 < k → mostRounds k ≡ k
 unfolding mostRounds
 most-some k h = rw (ne-eqb k 0 (λ e. omega arith))
 
+pub most-positive : (k : ℕ) → 0 < mostRounds k
+most-positive k =
+    ⊎-elim (λ e. omega (arith, most-none k (sym e))) (λ b. omega (arith, most-some k b)) (eq-or-lt-of-le {n = 0} {m = k} (omega arith))
+
 -- ---- at most `most` rounds, where the rule takes r
 module _ (rule most : ℕ) (g : Bases) (S₀ : List ℕ) where
   -- the last of them is the first that changes nothing, or they are as many as are allowed
