@@ -9,8 +9,8 @@ use native.Mathlib.Omega.{arith}
 use lib.ListN.{length, getD, length-append}
 use lib.Seq.{getD-append-seam, getD-append-add}
 use lib.Dec.{eqb, leb}
-use borrow.Author.Tests.{le-leb, eqb-true, eq-eqb, ne-eqb}
-use Rattle.counting.proofs.Cases.{clash, lt-or-le}
+use borrow.Author.Tests.{le-leb, leb-true, eqb-true, eq-eqb, ne-eqb}
+use Rattle.counting.proofs.Cases.{clash, and-left, lt-or-le}
 use Rattle.counting.proofs.Listed.{same-or-not}
 use Rattle.format.specs.Commands.{Outcome, refused, given, firstRefusal}
 use Rattle.format.specs.Operands.{number}
@@ -20,8 +20,8 @@ use Rattle.format.specs.ProblemLayout.{problemCommand}
 use Rattle.format.specs.ProblemLimits.{mostVariables, latestRule, mostOrder}
 use Rattle.format.specs.ProblemRules.{Problem, noProblem, withRule, withOrder, orderPlace, problemPlaced, problemOperandsFit, problemApplied, problemCommandAt, problemInstructionAt, problemRefusalAt, problemNext, problemLanguage, readProblem}
 use Rattle.format.specs.ProblemRule.{ruled, unruled}
-use Rattle.format.specs.ProblemOrder.{Beginning, afterVariables, afterRule, ordered}
-use Rattle.format.proofs.ProblemRule.{rule-command, rule-byte, order-command, order-byte}
+use Rattle.format.specs.ProblemOrder.{orderNamed, Beginning, afterVariables, afterRule, ordered}
+use Rattle.format.proofs.ProblemRule.{rule-command, rule-byte, order-command, order-byte, read-order}
 use Rattle.format.proofs.Differing.{rule-changes, order-changes, changed, Agree, Places, agrees}
 use Rattle.format.proofs.Run.{passes, Left, left-start, left-refused, left-next}
 
@@ -34,6 +34,9 @@ IsRule r = (leb 1 r && leb r latestRule) ≡ true
 
 abbrev pub IsOrder : ℕ → Type 0
 IsOrder k = (leb 1 k && leb k mostOrder) ≡ true
+
+is-order : (k : ℕ) → 1 ≤ k → k ≤ mostOrder → IsOrder k
+is-order k h m = rw (le-leb 1 k h, le-leb k mostOrder m)
 
 -- an operand of one byte is the byte
 one-byte : (s : List ℕ) (at : ℕ) → number 1 s at ≡ getD s at 0
@@ -335,6 +338,16 @@ module _ {b : List ℕ} (beginning : Beginning b) (k : ℕ) (rest : List ℕ) (p
       rw (c, one-byte (ordered b k rest) (length b + 1), getD-append-add b (0x09 ∷ k ∷ rest) 1 0)
       at (given-fits (ordered b k rest) p (begun .problem) (length b) read (begun .left (0x09 ∷ k ∷ rest)) (omega (arith, stream-long b (begun-long beginning) 0x09 k rest)))
 
+  -- the order of the problem is k, and k is not 0
+  pub given-positive : 1 ≤ k
+  given-positive = leb-true 1 k (and-left (leb 1 k) (leb k mostOrder) given-order)
+
+  pub order-read : p .order ≡ k
+  unfolding orderNamed
+  order-read =
+      read-order (ordered b k rest) p read
+      ∙ rw (order-place beginning k rest, getD-append-seam b 0x09 (k ∷ rest) 0) (one-byte (ordered b k rest) (length b + 1) ∙ getD-append-add b (0x09 ∷ k ∷ rest) 1 0)
+
   behind-order : (byte : ℕ) → getD rest 0 0 ≡ suc byte
       → problemPlaced (withOrder (begun .problem) k) (ordered b k rest) (length b + 2) (problemCommand (suc byte)) ≡ true
   behind-order byte e =
@@ -347,8 +360,8 @@ module _ {b : List ℕ} (beginning : Beginning b) (k : ℕ) (rest : List ℕ) (p
   no-nine : getD rest 0 0 ≡ 9 → ⊥
   no-nine e = over b beginning k rest p (length b + 2) (omega arith) (rw (order-command 9 refl) at (behind-order 8 e))
 
-  pub given-order-exchanged : (k′ : ℕ) → IsOrder k′ → readProblem (ordered b k′ rest) ≡ given (withOrder p k′)
-  given-order-exchanged k′ ok = order-exchanged b beginning begun k k′ rest given-order ok ∙ ap (changed (λ p. withOrder p k′) 0) read
+  pub given-order-exchanged : (k′ : ℕ) → 1 ≤ k′ → k′ ≤ mostOrder → readProblem (ordered b k′ rest) ≡ given (withOrder p k′)
+  given-order-exchanged k′ some most = order-exchanged b beginning begun k k′ rest given-order (is-order k′ some most) ∙ ap (changed (λ p. withOrder p k′) 0) read
 
   pub given-order-left-out : readProblem (b ++ rest) ≡ given (withOrder p 0)
   given-order-left-out = order-left-out b beginning begun k rest given-order no-eight no-nine ∙ ap (changed (λ p. withOrder p 0) 2) read
