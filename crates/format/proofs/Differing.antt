@@ -7,7 +7,7 @@ use mathlib.Core.Bool.{true}
 use Prim.Native.Nat.{ℕ, zero, suc, _+_, _-_, _≤_, _<_}
 use native.Mathlib.Omega.{arith}
 use lib.ListN.{length, getD}
-use lib.Dec.{eqb, leb, ltb}
+use lib.Dec.{leb, ltb}
 use borrow.Author.Tests.{le-leb, lt-leb, lt-ltb, ne-eqb}
 use Rattle.counting.proofs.Cases.{lt-or-le}
 use Rattle.counting.proofs.Listed.{same-or-not}
@@ -18,7 +18,7 @@ use Rattle.format.specs.declared.problem.Command.the-variants as C
 use Rattle.format.specs.declared.problem.Instruction.{Instruction}
 use Rattle.format.specs.declared.problem.Instruction.the-variants as I
 use Rattle.format.specs.ProblemLayout.{problemSize, problemDecoded}
-use Rattle.format.specs.ProblemRules.{Problem, withRule, withOrder, orderPlace, problemPlaced, problemOperandsFit, problemRepeated, problemFull, problemApplied, problemCommandAt, problemRefusalAt, problemNext, problemLanguage}
+use Rattle.format.specs.ProblemRules.{Problem, withRule, withOrder, problemPlaced, problemOperandsFit, problemRepeated, problemFull, problemApplied, problemCommandAt, problemRefusalAt, problemNext, problemLanguage}
 use Rattle.format.proofs.ProblemLimits.{taken-size}
 use Rattle.format.proofs.Run.{passes, Left, left-end, left-refused, left-extra, left-given, left-next}
 
@@ -95,8 +95,10 @@ pub record Agree (s t : List ℕ) (from d : ℕ) : Type 0 where
 -- check 3 at these offsets: 08 and 09 may stand in the second where they may in the first; and c may not stand in the
 -- first any more
 pub record Places (s t : List ℕ) (from d : ℕ) (c : Command) : Type 0 where
-  pub rule : (at : ℕ) → from ≤ at → problemCommandAt s at ≡ C.Rule → eqb (at - d) 2 ≡ eqb at 2
-  pub order : (at : ℕ) → from ≤ at → problemCommandAt s at ≡ C.Order → eqb (at - d) (orderPlace t) ≡ eqb at (orderPlace s)
+  pub rule : (p : Problem) (at : ℕ) → from ≤ at → problemCommandAt s at ≡ C.Rule
+      → problemPlaced p t (at - d) C.Rule ≡ problemPlaced p s at C.Rule
+  pub order : (p : Problem) (at : ℕ) → from ≤ at → problemCommandAt s at ≡ C.Order
+      → problemPlaced p t (at - d) C.Order ≡ problemPlaced p s at C.Order
   pub over : (p : Problem) (at : ℕ) → from ≤ at → problemPlaced p s at c ≡ true → ⊥
 
 module _ (s t : List ℕ) (from d : ℕ) (agree : Agree s t from d) where
@@ -152,8 +154,8 @@ module _ (s t : List ℕ) (from d : ℕ) (agree : Agree s t from d) where
           go C.End e = later
           go C.Unknown e = refl
           go C.Equality e = later
-          go C.Rule e = places .rule at h e
-          go C.Order e = places .order at h e
+          go C.Rule e = places .rule p at h e
+          go C.Order e = places .order p at h e
 
       refusal-agrees : problemRefusalAt (f p) t (at - d) ≡ problemRefusalAt p s at
       unfolding problemRefusalAt

@@ -94,8 +94,8 @@ agree-exchanged b some c x y rest = record {
 places-exchanged : (s t : List ℕ) (from : ℕ) (c : Command) → orderPlace t ≡ orderPlace s
     → ((p : Problem) (at : ℕ) → from ≤ at → problemPlaced p s at c ≡ true → ⊥) → Places s t from 0 c
 places-exchanged s t from c same over = record {
-  rule = λ at h e. let z : at - 0 ≡ at = omega arith in rw z;
-  order = λ at h e. let z : at - 0 ≡ at = omega arith in rw (z, same);
+  rule = λ p at h e. let z : at - 0 ≡ at = omega arith in rw z;
+  order = λ p at h e. let z : at - 0 ≡ at = omega arith in rw (z, same);
   over = over;
 }
 
@@ -103,7 +103,7 @@ places-exchanged s t from c same over = record {
 module _ (n r : ℕ) (rest : List ℕ) (away : getD rest 0 0 ≡ 8 → ⊥) where
   rule-places : Places (ruled n r rest) (unruled n rest) 4 2 C.Rule
   unfolding orderPlace
-  rule-places = record { rule = rule; order = order; over = λ p at h q. omega (arith, eqb-true at 2 q) }
+  rule-places = record { rule = λ p. rule; order = λ p. order; over = λ p at h q. omega (arith, eqb-true at 2 q) }
     where
       rule : (at : ℕ) → 4 ≤ at → problemCommandAt (ruled n r rest) at ≡ C.Rule → eqb (at - 2) 2 ≡ eqb at 2
       rule at h e =
@@ -276,7 +276,7 @@ module _ (b : List ℕ) (beginning : Beginning b) where
 
   module _ (k : ℕ) (rest : List ℕ) (eight : getD rest 0 0 ≡ 8 → ⊥) (nine : getD rest 0 0 ≡ 9 → ⊥) where
     order-places : Places (ordered b k rest) (b ++ rest) (length b + 2) 2 C.Order
-    order-places = record { rule = rule; order = order; over = over k rest }
+    order-places = record { rule = λ p. rule; order = λ p. order; over = over k rest }
       where
         apart : (byte at : ℕ) → (getD rest 0 0 ≡ byte → ⊥) → getD (ordered b k rest) at 0 ≡ byte → at ≡ length b + 2 → ⊥
         apart = not-first b some 0x09 k rest

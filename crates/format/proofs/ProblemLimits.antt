@@ -177,13 +177,16 @@ ruled-limits p r q h = record {
 }
 
 -- and so the sparse order
-ordered-later : (p : Problem) (s : List ℕ) (at : ℕ) → problemPlaced p s at C.Order ≡ true → 0 < at
+place-positive : (s : List ℕ) → 0 < orderPlace s
 unfolding orderPlace
-ordered-later p s at h = go (eqb (getD s 2 0) 8) h
+place-positive s = go (eqb (getD s 2 0) 8) refl
   where
-    go : (b : Bool) → eqb at (cond b 4 2) ≡ true → 0 < at
-    go true e = omega (arith, eqb-true at 4 e)
-    go false e = omega (arith, eqb-true at 2 e)
+    go : (b : Bool) → eqb (getD s 2 0) 8 ≡ b → 0 < orderPlace s
+    go true e = rw e (omega arith)
+    go false e = rw e (omega arith)
+
+ordered-later : (p : Problem) (s : List ℕ) (at : ℕ) → problemPlaced p s at C.Order ≡ true → 0 < at
+ordered-later p s at h = omega (arith, eqb-true at (orderPlace s) h, place-positive s)
 
 ordered-limits : (p : Problem) (k : ℕ) → Limits p → (leb 1 k && leb k 255) ≡ true → Limits (withOrder p k)
 ordered-limits p k q h = record {

@@ -222,9 +222,9 @@ order-second : (s : List ℕ) → (orderPlace s ≡ 2) ⊎ ((orderPlace s ≡ 4)
 unfolding orderPlace
 order-second s = go (eqb (getD s 2 0) 8) refl
   where
-    go : (b : Bool) → eqb (getD s 2 0) 8 ≡ b → _≡_ {A = ℕ} (cond b 4 2) 2 ⊎ (_≡_ {A = ℕ} (cond b 4 2) 4 × (problemSize (problemCommandAt s 2) ≡ 2))
-    go true e = inr (refl, rw (rule-command (getD s 2 0) (eqb-true (getD s 2 0) 8 e)))
-    go false e = inl refl
+    go : (b : Bool) → eqb (getD s 2 0) 8 ≡ b → (orderPlace s ≡ 2) ⊎ ((orderPlace s ≡ 4) × (problemSize (problemCommandAt s 2) ≡ 2))
+    go true e = inr (rw e, rw (rule-command (getD s 2 0) (eqb-true (getD s 2 0) 8 e)))
+    go false e = inl (rw e)
 
 order-setting : (s : List ℕ) → Setting s C.Order 9 (orderPlace s) (problemUnsigned C.Order 0 s (orderPlace s)) (λ p. p .order)
 order-setting s = record {

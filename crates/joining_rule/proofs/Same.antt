@@ -111,7 +111,7 @@ module _ (g g′ : Bases) (bases : (j : ℕ) → j < 9 → g .basis j ≡ g′ .
     -- the closing is the same for bases and multipliers that are the same for every j
     pub closing-same : (most : ℕ) (S : List ℕ) → closingOf rule most g S ≡ closingOf rule most g′ S
     unfolding closingOf
-    closing-same most S = rw (start-same S) (close-same most (start g′ S) 0)
+    closing-same most S = rw (start-same S) (close-same _ (start g′ S) 0)
 
 -- ---- a loop that compares two lists from the front
 
