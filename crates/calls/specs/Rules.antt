@@ -18,8 +18,8 @@ use Rattle.calls.specs.Blocks.{blocksVerdict, bytesLeft}
 use Rattle.calls.specs.Check.{checkVerdict}
 use Rattle.calls.specs.Pair.{pairVerdict}
 
--- "what is accepted under 2 is accepted under 1": the same stream under rule 1, with the operand of 08 exchanged, or with
--- the 08 left out
+-- "what is accepted under 2 is accepted under 1": the same stream under rule 1, with the operand of 08 exchanged, or
+-- with the 08 left out
 pub data UnderOne : List ℕ → List ℕ → Type 0 where
   exchanged : (n : ℕ) (rest : List ℕ) → UnderOne (ruled n 2 rest) (ruled n 1 rest)
   without : (n : ℕ) (rest : List ℕ) → UnderOne (ruled n 2 rest) (unruled n rest)

@@ -1,4 +1,5 @@
--- What the joining rule's result means: closed, least, and the number of rounds, which "are judged by the named rule".
+-- What the joining rule's result means: closed, least, and the number of rounds, which "are judged by the named rule";
+-- and at a sparse order k how many rounds are done, and where the closure is full nevertheless.
 use mathlib.Core.Path.{_≡_}
 use mathlib.Core.Bool.{Bool, true}
 use mathlib.Core.List.{List}

@@ -265,10 +265,10 @@ unfolding listed fromTo sumTo number signed firstRefusal run readWhole degreeOf 
 checks-E = refl
 
 -- ---- sparse orders
--- E at the orders 1 to 4: after one round 1 and x³ are two blocks still; at 2, one below the full number, "the blocks are
--- those of the closure already, and the rounds reported are k"; at 4 the rounds end sooner. Directly after an 08 of either
--- rule. k = 0, after 01 and after 08; 09 as the first command, after an 02, after two conditions, a second time after 01
--- and after 08; 08 after 09; 09 cut, after 01 and after 08; a problem of nothing but its order
+-- E at the orders 1 to 4: after one round 1 and x³ are two blocks still; at 2, one below the number of all rounds, the
+-- blocks are those of the closure already, and 2 rounds are reported; at 4 the rounds end sooner. Directly after an 08 of
+-- either rule. k = 0, after 01 and after 08; 09 as the first command, after an 02, after two conditions, a second time
+-- after 01 and after 08; 08 after 09; 09 cut, after 01 and after 08; a problem of nothing but its order
 pub orders :
     map outcome
     (problemEWith (order 1)
