@@ -17,11 +17,12 @@ ghost use Rattle.calls.specs.Blocks.{blocksShort, refusedBlocks, blocksOf, bloc
 ghost use Rattle.calls.specs.Blocks.{bytesOf, bytesRead, blocksVerdict, bytesLeft};
 ghost use Rattle.calls.specs.Check.{refusedCheck, checkJudged, checkOf, checkRead, checkVerdict};
 ghost use Rattle.calls.specs.Pair.{refusedPair, pairSides, pairFirst, pairOf, pairRead, pairVerdict};
-ghost use Rattle.calls.specs.Promises.{NumberedTo, BlocksClosed, BlocksLeast, BlocksLowest, BlocksCounted};
+ghost use Rattle.calls.specs.Promises.{NumberedTo, BlocksClosed, BlocksLeast, BlocksLowest, BlocksCounted, BlocksAfter};
 ghost use Rattle.calls.specs.Promises.{RoundsTaken, FewRounds, SevenExactly, RuleUsed};
 ghost use Rattle.calls.specs.Promises.{AcceptedExactly, CheckDiffers, HoldsBySide};
 ghost use Rattle.calls.specs.Promises.{PairExactly, PairDiffers, HoldsBelow, HoldsAbove, HoldsGap, NoPoints};
 ghost use Rattle.calls.specs.Rules.{BlocksUnderOne, CheckUnderOne, PairUnderOne};
+ghost use Rattle.calls.specs.Rules.{BlocksAtLarger, CheckAtLarger, PairAtLarger};
 ghost use Rattle.flat.specs.Flat.{FlatProblem};
 ghost use Rattle.fractions.specs.Ranges.{Bound};
 ghost use Rattle.certificate_judge.specs.Steps.{JoinedProblem, Judgeable, LongSums, SumsRest};
@@ -112,7 +113,7 @@ fn answer_blocks(problem: &[u8], out: &mut [u8], table: &mut [u64]) -> BlocksVer
 {
     let mut keys = [0u64; 1120];
     let mut coefficients = [0i32; 544];
-    let mut sizes = [0usize; 30];
+    let mut sizes = [0usize; 31];
     let r = problem_reader::read(problem, &mut keys, &mut coefficients, &mut sizes);
     let number = r.number;
     if 0 < number {
@@ -155,6 +156,14 @@ pub fn blocks(
         let lent = tables (now (keys .entry)) (now (high .entry)) (now (low .entry)) in
         let before = now (out .entry) in
         ⌜ BlocksUnderOne (blocksShort before lent) (now (problem .entry)) before (r .refusal .number)
+        (now (out .exit)) ⌝ }
+    ensures after { λ r. ⌜
+        BlocksAfter (now (problem .entry)) (r .refusal .number) (now (out .exit)) (r .rounds)
+        ⌝ }
+    ensures at_larger { λ r.
+        let lent = tables (now (keys .entry)) (now (high .entry)) (now (low .entry)) in
+        let before = now (out .entry) in
+        ⌜ BlocksAtLarger (blocksShort before lent) (now (problem .entry)) before (r .refusal .number)
         (now (out .exit)) ⌝ }
 {
     if out.len() < 576 {
@@ -265,7 +274,7 @@ fn answer_check(
 {
     let mut keys = [0u64; 1120];
     let mut coefficients = [0i32; 544];
-    let mut sizes = [0usize; 30];
+    let mut sizes = [0usize; 31];
     let r = problem_reader::read(problem, &mut keys, &mut coefficients, &mut sizes);
     let number = r.number;
     if 0 < number {
@@ -303,6 +312,9 @@ pub fn check(
     ensures under_one { λ r.
         let lent = tables (now (keys .entry)) (now (high .entry)) (now (low .entry)) in
         ⌜ CheckUnderOne (tablesShort lent) (now (problem .entry)) (now (certificate .entry)) r ⌝ }
+    ensures at_larger { λ r.
+        let lent = tables (now (keys .entry)) (now (high .entry)) (now (low .entry)) in
+        ⌜ CheckAtLarger (tablesShort lent) (now (problem .entry)) (now (certificate .entry)) r ⌝ }
 {
     if work_tables::is_short(keys.len(), high.len(), low.len()) {
         return refuse_check(certificate_judge::problem_refusal(1, 0));
@@ -494,7 +506,7 @@ fn answer_pair(
 {
     let mut keys = [0u64; 1120];
     let mut coefficients = [0i32; 544];
-    let mut sizes = [0usize; 30];
+    let mut sizes = [0usize; 31];
     let r = problem_reader::read(problem, &mut keys, &mut coefficients, &mut sizes);
     let number = r.number;
     if 0 < number {
@@ -546,6 +558,9 @@ pub fn pair(
     ensures under_one { λ r.
         let lent = tables (now (keys .entry)) (now (high .entry)) (now (low .entry)) in
         ⌜ PairUnderOne (tablesShort lent) (now (problem .entry)) (now (first .entry)) (now (second .entry)) r ⌝ }
+    ensures at_larger { λ r.
+        let lent = tables (now (keys .entry)) (now (high .entry)) (now (low .entry)) in
+        ⌜ PairAtLarger (tablesShort lent) (now (problem .entry)) (now (first .entry)) (now (second .entry)) r ⌝ }
 {
     if work_tables::is_short(keys.len(), high.len(), low.len()) {
         return refuse_pair(certificate_judge::problem_refusal(1, 0));
@@ -687,7 +702,7 @@ fn answer_two(
 {
     let mut keys = [0u64; 1120];
     let mut coefficients = [0i32; 544];
-    let mut sizes = [0usize; 30];
+    let mut sizes = [0usize; 31];
     let r = problem_reader::read(problem, &mut keys, &mut coefficients, &mut sizes);
     let number = r.number;
     if 0 < number {
