@@ -122,5 +122,5 @@ module _ (p : Problem) (limits : Limits p) where
     block-even j i k h hi hk e =
         let b = basis-degree j i in
         let c = basis-degree j k in
-        let q : R j i k = closing-within _ (basesOf p) (startSet p) R Q alike (λ j _. joined-alike j) (λ j _. added-even j) start-even .blocks j h .at i k hi hk e in
+        let q : R j i k = closing-within _ _ (basesOf p) (startSet p) R Q alike (λ j _. joined-alike j) (λ j _. added-even j) start-even .blocks j h .at i k hi hk e in
         even-meets r _ small (rw (inner-sum r (getD (basisOf p j) i 0) (getD (basisOf p j) k 0) (omega arith)) (omega arith))

@@ -177,7 +177,7 @@ ruled-limits p r q h = record {
 }
 
 -- and so the sparse order
-place-positive : (s : List ℕ) → 0 < orderPlace s
+pub place-positive : (s : List ℕ) → 0 < orderPlace s
 unfolding orderPlace
 place-positive s = go (eqb (getD s 2 0) 8) refl
   where

@@ -13,9 +13,9 @@ use Rattle.format.specs.Operands.{number}
 use Rattle.format.specs.declared.problem.Command.{Command}
 use Rattle.format.specs.declared.problem.Command.the-variants as C
 use Rattle.format.specs.ProblemLayout.{problemDecoded}
-use Rattle.format.specs.ProblemRules.{Problem, noProblem, problemPlaced, problemApplied, problemCommandAt, problemRefusalAt, problemNext, problemLanguage, readProblem}
+use Rattle.format.specs.ProblemRules.{Problem, noProblem, orderPlace, problemPlaced, problemApplied, problemCommandAt, problemRefusalAt, problemNext, problemLanguage, readProblem}
 use Rattle.format.proofs.Run.{passes, read-induction}
-use Rattle.format.proofs.ProblemLimits.{end-leaves}
+use Rattle.format.proofs.ProblemLimits.{end-leaves, place-positive}
 
 module _ (s : List ℕ) where
   -- after the first command
@@ -23,7 +23,7 @@ module _ (s : List ℕ) where
   Told p at = 0 < at → p .variables ≡ getD s 1 0
 
   -- 01 stands at 0 alone, and no other command changes the number
-  applied : (p : Problem) (at : ℕ) (k : Command) → problemPlaced p at k ≡ true → Told p at → problemApplied p (problemDecoded k s at) .variables ≡ getD s 1 0
+  applied : (p : Problem) (at : ℕ) (k : Command) → problemPlaced p s at k ≡ true → Told p at → problemApplied p (problemDecoded k s at) .variables ≡ getD s 1 0
   unfolding problemApplied number
   applied p at C.Variables h t = let e = eqb-true at 0 h in rw e (omega arith)
   applied p at C.Objective h t = t (ltb-true 0 at h)
@@ -34,6 +34,7 @@ module _ (s : List ℕ) where
   applied p at C.Unknown h t = clash (cc)
   applied p at C.Equality h t = t (ltb-true 0 at h)
   applied p at C.Rule h t = let e = eqb-true at 2 h in t (omega arith)
+  applied p at C.Order h t = let e = eqb-true at (orderPlace s) h in t (omega (arith, e, place-positive s))
 
   next : (p : Problem) (at : ℕ) → problemRefusalAt p s at ≡ 0 → Told p at → problemNext p s at .variables ≡ getD s 1 0
   unfolding problemRefusalAt problemNext

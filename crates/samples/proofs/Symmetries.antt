@@ -16,7 +16,7 @@ use Rattle.format.specs.ProblemBases.{basisOf, multiplierOf, multiplier}
 use Rattle.joining_rule.specs.Sets.{member, insert, insertAll}
 use Rattle.joining_rule.specs.Join.{linked, merged, joinPair, join}
 use Rattle.joining_rule.specs.Extend.{addTerms, addPair, extend}
-use Rattle.joining_rule.specs.Rounds.{singles, start, joinAll, extendTo, addingBases, round, same, sameAll, sameState, closeFrom, countedKeys}
+use Rattle.joining_rule.specs.Rounds.{singles, start, joinAll, extendTo, addingBases, round, same, sameAll, sameState, closeFrom, countedKeys, mostRounds}
 use Rattle.joining_rule.specs.Rounds as Rounds
 use Rattle.joining_rule.specs.Joining.{startFrom, startSet, closing, tooLarge}
 use Rattle.calls.specs.Refusals.{noRefusal}
@@ -51,5 +51,5 @@ pub symmetries :
     ∷ found 2 (0 ∷ 1 ∷ 0 ∷ 0 ∷ 0 ∷ [])
     ∷ record { verdict = refusedSymmetries 2 0; bytes = 7 ∷ 7 ∷ 7 ∷ 7 ∷ 7 ∷ [] }
     ∷ []
-unfolding listed fromTo sumTo number signed firstRefusal run readWhole exponent degreeOf degree within among keysOf problemCommand appendAt fitting problemApplied problemRefusalAt problemNext readProblem basisOf multiplier multiplierOf member insert linked merged joinPair join addTerms addPair extend singles start joinAll extendTo addingBases round same sameAll sameState closeFrom countedKeys Rounds.closingOf insertAll startFrom startSet closing tooLarge ones parityByte meetsEvenly meetsAll exponentsOf passing symmetriesOf symmetriesFor symmetriesVerdict maskBytes masksFor masksLeft
+unfolding listed fromTo sumTo number signed firstRefusal run readWhole exponent degreeOf degree within among keysOf problemCommand appendAt fitting problemApplied problemRefusalAt problemNext readProblem basisOf multiplier multiplierOf member insert linked merged joinPair join addTerms addPair extend singles start joinAll extendTo addingBases round same sameAll sameState closeFrom countedKeys mostRounds Rounds.closingOf insertAll startFrom startSet closing tooLarge ones parityByte meetsEvenly meetsAll exponentsOf passing symmetriesOf symmetriesFor symmetriesVerdict maskBytes masksFor masksLeft
 symmetries = refl
