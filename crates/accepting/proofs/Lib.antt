@@ -5,3 +5,4 @@ pub mod Difference
 pub mod Accepted
 pub mod Empty
 pub mod Worked
+pub mod RowOrder

@@ -1,3 +1,4 @@
 pub mod Identity
 pub mod Judgement
 pub mod Bounds
+pub mod RowOrder

@@ -6,3 +6,4 @@ pub mod Pairing
 pub mod Untouched
 pub mod Windows
 pub mod WidestGap
+pub mod RowOrder
