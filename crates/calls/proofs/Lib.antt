@@ -7,3 +7,7 @@ pub mod Untouched
 pub mod Windows
 pub mod WidestGap
 pub mod RowOrder
+pub mod FractionOrder
+pub mod Pieces
+pub mod Records
+pub mod Reports

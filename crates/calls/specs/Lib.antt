@@ -6,3 +6,4 @@ pub mod Check
 pub mod Pair
 pub mod Window
 pub mod Promises
+pub mod Report
