@@ -10,4 +10,5 @@ pub mod RowOrder
 pub mod FractionOrder
 pub mod Pieces
 pub mod Records
+pub mod Packed
 pub mod Reports

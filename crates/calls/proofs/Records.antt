@@ -136,6 +136,12 @@ number-of (suc w) x front rest at e =
     let n = number-of w (x / 256) (front ++ (y ∷ [])) rest (at + 1) (length-append front (y ∷ []) ∙ omega arith) in
     rw (getD-at front y l 0 at e, ← append-assoc front (y ∷ []) l, n) (digits w x)
 
+-- a number of w bytes
+pub number-low : (w : ℕ) (s : List ℕ) (at : ℕ) → Bounded 255 s → number w s at < 256 ^ w
+unfolding number
+number-low zero s at b = lit< tt
+number-low (suc w) s at b = let h = number-low w s (at + 1) b in let k = b at in rw pow-succ' (omega arith)
+
 -- the bytes that a number was read from
 pub bytes-of : (w : ℕ) (s : List ℕ) (at : ℕ) → Bounded 255 s → at + w ≤ length s
     → littleEndian w (number w s at) ≡ take w (drop at s)
