@@ -12,3 +12,4 @@ pub mod Pieces
 pub mod Records
 pub mod Packed
 pub mod Reports
+pub mod RecordFields
