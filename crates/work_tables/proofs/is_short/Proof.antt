@@ -1,7 +1,7 @@
 -- `is_short`: each return by the tests that led there.
 use borrow.Author.Tests.{lt-ltb, le-ltb}
-use Rattle.checker.proofs.is_short.Statement.{statement}
-use Rattle.checker.proofs.is_short.Tie as tie
+use Rattle.work_tables.proofs.is_short.Statement.{statement}
+use Rattle.work_tables.proofs.is_short.Tie as tie
 
 returns : tie.Need-returns
 returns c = rw (lt-ltb (c .before .args .keys) 2048 (c .if1 .taken))

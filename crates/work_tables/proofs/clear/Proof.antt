@@ -1,13 +1,13 @@
 -- `clear`: after i turns the first i numbers are zero.
-use Rattle.certificate_judge.proofs.Fills.{fill-more}
+use Rattle.work_tables.proofs.Fills.{fill-more}
 use native.Mathlib.Omega.{arith}
 use mathlib.Core.Path.{_≡_, refl, ap, _∙_}
 use mathlib.Core.List.{List, _++_}
 use Prim.Native.Nat.{ℕ, _+_, _-_, _≤_}
 use lib.ListN.{length, drop, set, length-set, replicate}
 use borrow.Author.Needs.{needs}
-use Rattle.certificate_judge.proofs.clear.Statement.{statement}
-use Rattle.certificate_judge.proofs.clear.Tie as tie
+use Rattle.work_tables.proofs.clear.Statement.{statement}
+use Rattle.work_tables.proofs.clear.Tie as tie
 
 abbrev Inv-loop : tie.InvT-loop
 Inv-loop t₀ n i₀ t i = (i ≤ n) × (length t ≡ length t₀) × (t ≡ replicate i 0 ++ drop i t₀)
