@@ -268,7 +268,7 @@ checked short s out = go short (recordsOf s) refl
     go false (given l) e = by-room l e (ltb (length out) (recordLength * length l)) refl
 
 -- ---- the clauses
-entry-length : (r : Runs) → length (entry r) ≡ recordLength
+pub entry-length : (r : Runs) → length (entry r) ≡ recordLength
 unfolding fieldsOf flatMap
 entry-length r = refl
 

@@ -64,6 +64,11 @@ recordsFrom (suc left) s at =
 unfoldable pub recordsOf : List ℕ → Outcome (List Runs)
 recordsOf s = recordsFrom 64 s 0
 
+-- how many records an input gives: none where it is refused
+abbrev pub recordCount : Outcome (List Runs) → ℕ
+recordCount (refused number place) = 0
+recordCount (given l) = length l
+
 -- the pair's verdict on the three runs of a record. The work tables are long enough
 unfoldable pub pairOn : Runs → PairVerdict
 pairOn r = pairVerdict false (r .problem) (r .low) (r .high)

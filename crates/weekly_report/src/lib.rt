@@ -84,14 +84,14 @@ fn pair_at(s: &[u8], at: usize, keys: &mut [u64], high: &mut [i64], low: &mut [i
     checker::pair(&s[a..b], &s[b..c], &s[c..d], keys, high, low)
 }
 
-// The bound that stands after one more: the next where none stood or where it goes before, and else the one that stood.
-fn chosen(accepted: usize, before: bool, next: Fraction, standing: Fraction) -> Fraction
-    ensures { λ r. ⌜ r ≡ cond (eqb accepted 0 || before) next standing ⌝ }
+// The bound that stands after one more: the next where none stood or where it is ahead, and else the one that stood.
+fn chosen(accepted: usize, ahead: bool, next: Fraction, standing: Fraction) -> Fraction
+    ensures { λ r. ⌜ r ≡ cond (eqb accepted 0 || ahead) next standing ⌝ }
 {
     if accepted == 0 {
         return next;
     }
-    if before {
+    if ahead {
         return next;
     }
     standing

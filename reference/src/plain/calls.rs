@@ -14,6 +14,11 @@ pub struct Fraction {
 }
 
 impl Fraction {
+    /// "Two fractions are compared by cross products." Denominators are above 0.
+    pub fn is_below(self, other: Fraction) -> bool {
+        self.numerator * other.denominator < other.numerator * self.denominator
+    }
+
     /// "(P x q - p x Q)/(Q x q), not reduced"
     fn gap(lower: Fraction, upper: Fraction) -> Fraction {
         let (p, q) = (lower.numerator, lower.denominator);

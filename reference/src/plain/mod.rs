@@ -12,6 +12,7 @@ mod joining;
 mod lines;
 mod polynomial;
 mod problem;
+mod report;
 mod stream;
 #[cfg(test)]
 mod tests;
@@ -19,7 +20,7 @@ mod window;
 
 pub use calls::{blocks, pair};
 
-use crate::records::{Record, BLOCKS, CHECK, PAIR, WINDOW};
+use crate::records::{Record, BLOCKS, CHECK, PAIR, REPORT, WINDOW};
 use crate::refusal::Refusal;
 
 /// What a record asks for: the line that answers it, or its refusal.
@@ -30,6 +31,7 @@ pub fn answer(record: &Record) -> Result<String, Refusal> {
         CHECK => calls::check(run(0), run(1)).map(|verdict| verdict.to_string()),
         PAIR => pair(run(0), run(1), run(2)).map(|verdict| verdict.to_string()),
         WINDOW => Ok(window::window(run(0))),
+        REPORT => report::report(run(0), run(1)).map(|report| report.to_string()),
         other => unreachable!("no record has the kind {other}"),
     }
 }

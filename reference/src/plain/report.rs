@@ -9,7 +9,7 @@ use crate::refusal::{Refusal, PROBLEM, RECORDS, SHORT};
 /// "up to 64 pairs"
 const PAIRS: usize = 64;
 /// "32 bytes per record"
-pub const BYTES: usize = 32;
+const BYTES: usize = 32;
 
 /// "The result gives how many were accepted, the smallest lower and largest upper bound, first record
 /// on ties, and none as 0 over 0"; and the output at exit.
@@ -83,7 +83,7 @@ fn record(bytes: &[u8]) -> Option<([&[u8]; 3], usize)> {
 /// "refusal u32 (0 if accepted), p i32, q u32, P i32, Q u32, stream u32, place u32, key as its lowest
 /// 32 bits. Numbers are little-endian; on refusal p, q, P and Q are 0, otherwise stream, place and key
 /// are."
-pub fn record_bytes(verdict: &Result<Pair, Refusal>) -> [u8; BYTES] {
+fn record_bytes(verdict: &Result<Pair, Refusal>) -> [u8; BYTES] {
     let fields: [i64; 8] = match verdict {
         Ok(Pair { lower, upper, .. }) => [
             0,

@@ -8,6 +8,7 @@ mod certificates;
 pub mod equalities;
 mod order;
 mod problems;
+pub mod reports;
 mod sums;
 mod table;
 pub mod windows;
@@ -71,7 +72,7 @@ type Line = (
 
 /// All cases, by the order of the lists: those of document 01, then those of the requests.
 pub fn cases() -> Vec<Case> {
-    [scope(), equalities::cases()].concat()
+    [scope(), equalities::cases(), reports::cases()].concat()
 }
 
 /// The cases of document 01.
@@ -112,7 +113,7 @@ fn bytes(text: &str) -> Vec<u8> {
 }
 
 /// The streams of case F: problem, lower and upper certificate.
-fn case_f() -> [Vec<u8>; 3] {
+pub fn case_f() -> [Vec<u8>; 3] {
     let certificates = [0, 1].map(samples::f_certificate);
     let [lower, upper] = certificates;
     [samples::f().bytes(), lower, upper]
@@ -179,7 +180,9 @@ mod tests {
         let in_problem = (2..=7).map(|number| (number, 0));
         let in_certificate = [2, 3, 4, 5, 6, 8, 9, 10];
         let in_certificate = in_certificate.iter().flat_map(|&n| [(n, 1), (n, 2)]);
-        assert_eq!(met, in_problem.chain(in_certificate).collect());
+        let of_requests = [(1, 0), (12, 0)];
+        let all = in_problem.chain(in_certificate).chain(of_requests);
+        assert_eq!(met, all.collect());
     }
 
     #[test]

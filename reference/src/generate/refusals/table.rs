@@ -14,18 +14,18 @@ after its number, of a request (document 02). \
 The answers were found by hand from those words and stand beside the cases in `reference/src/generate/refusals`; a test \
 there holds the reference to them. Each case is in the stored corpus `crates/replay/stdin`, where the proved calls \
 meet it; the last column gives, for each kind of call that meets it (`b` blocks, `c` check, `p` pair, `w` arrivals at \
-the window of gaps), the number of its record there, which is that of the line in `stdout`. `reference refusals` writes this page, and `./test` compares the two.
+the window of gaps, `r` report), the number of its record there, which is that of the line in `stdout`. `reference refusals` writes this page, and `./test` compares the two.
 
 An answer is `refused`, number, stream (0 problem, 1 first certificate, 2 second), place and key. Bytes are \
 hexadecimal, 0⁷ is seven zero bytes and 0⁸ eight, and a bar stands between commands.
 ";
 
 const ONE: &str = "
-## 1: a lent table or the 576 bytes is too short
+## 1: a lent table, the 576 bytes or a report's output is too short
 
-A replayed record is always answered with tables lent in full, so no record meets refusal 1. It is stated in the public \
+A replayed record is always answered with tables and blocks lent in full, so only reports meet refusal 1, by their output. It is stated in the public \
 contracts in `crates/checker/src/lib.rt`: `verdict` of each call says that it is given exactly when the named test holds, and \
-`bytes` and `tables` that nothing is written then. `bench short` calls the C functions with each \
+`bytes` and `tables` that nothing is written then; and so in `crates/weekly_report/src/lib.rt`. `bench short` calls the C functions with each \
 length one short, and sees refusal 1 and all that was lent untouched.
 
 | case | what is lent | answer | clause |
@@ -62,8 +62,8 @@ hand in the same way. The bytes of a blocks call are shown to the last that is n
 |---|---|---|---|---|---|---|
 ";
 
-/// The words of document 01's table for each number from 2 on.
-const TITLES: [&str; 9] = [
+/// The words of document 01's table, and of the requests, for each number from 2 on.
+const TITLES: [&str; 11] = [
     "stream ends in a command or without its end, or goes on after it",
     "command unknown in this stream or misplaced",
     "operand outside its rule",
@@ -73,10 +73,12 @@ const TITLES: [&str; 9] = [
     "a row in two blocks",
     "identity false",
     "in a pair, first side not 0 or second not 1",
+    "of two certificates, both are accepted and their sides differ",
+    "a record of a report is cut short, or a byte comes after the 64th",
 ];
 
 const STREAMS: [&str; 3] = [
-    "in the problem",
+    "in the problem, or of stream 0",
     "in the first certificate",
     "in the second certificate",
 ];
@@ -86,11 +88,11 @@ const SHORT: usize = 130;
 
 /// Writes the page.
 pub fn print() {
-    let corpus = corpus("bcpw");
+    let corpus = corpus("bcpwr");
     let mut cases = cases();
     cases.sort_by_key(|case| (case.expected.number, case.expected.stream));
     print!("{HEAD}{ONE}");
-    let mut section = (1, 0);
+    let mut section = (1, u8::MAX);
     for case in &cases {
         let number = case.expected.number;
         if number != section.0 {

@@ -1,6 +1,7 @@
 //! Records for the requests of document 02.
 
 mod equalities;
+mod reports;
 mod windows;
 
 use crate::generate::accepted::case;
@@ -9,7 +10,9 @@ use crate::generate::certificates::{as_record, streams};
 use crate::generate::changes::{change_case, CHANGES};
 use crate::generate::damage::{self, damaged};
 use crate::generate::rng::Rng;
-use crate::records::{Record, BLOCKS, CHECK, PAIR, WINDOW};
+use crate::records::{Record, BLOCKS, CHECK, PAIR, REPORT, WINDOW};
+
+pub use reports::packed;
 
 /// A call that a request added.
 pub struct Call {
@@ -53,6 +56,12 @@ const LANDED: &[Landed] = &[
     Landed::Change(Change {
         special: equalities::special,
         put: equalities::put,
+        count: 200,
+    }),
+    Landed::Call(Call {
+        kind: REPORT,
+        special: reports::special,
+        random: reports::random,
         count: 200,
     }),
 ];

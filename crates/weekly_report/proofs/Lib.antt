@@ -1,0 +1,4 @@
+pub mod Tables
+pub mod Ends
+pub mod Counts
+pub mod Answers
