@@ -2,3 +2,4 @@ pub mod Tables
 pub mod Ends
 pub mod Counts
 pub mod Answers
+pub mod Promised
