@@ -125,7 +125,7 @@ module _ (x y v : ℤ) (q r n : ℕ) (p : 0 < q) where
   above-through h e =
       let k = ⊖-le⁻¹ _ _ _ _ (simp diffs at (rw (view x .eq, view v .eq) at h)) in
       let l : view x .p * r + view y .m * q ≤ view y .p * q + view x .m * r =
-          ltb-false _ _ (sym (crossed-less (view y .p) (view y .m) (view x .p) (view x .m) r q) ∙ (rw (view y .eq, view x .eq) at e)) in
+      ltb-false _ _ (sym (crossed-less (view y .p) (view y .m) (view x .p) (view x .m) r q) ∙ (rw (view y .eq, view x .eq) at e)) in
       let k′ : view x .m * n + q * view v .p ≤ q * view v .m + view x .p * n = omega arith in
       let l′ : view y .m * q + view x .p * r ≤ view x .m * r + view y .p * q = omega arith in
       let m = bound-through (view x .m) (view x .p) (view y .m) (view y .p) (view v .m) (view v .p) q r n p k′ l′ in

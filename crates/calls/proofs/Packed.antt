@@ -120,8 +120,8 @@ reads-from (r ∷ l) (suc left) front at h f k =
     let e = rw (← s-is r (f .0) front rest at h) at (ends-at r (f .0) front rest at h) in
     let v = rw (← s-is r (f .0) front rest at h) at (runs-are r (f .0) front rest at h) in
     let i =
-        reads-from l left (front ++ packed r) (at + length (packed r)) (length-append front (packed r) ∙ omega arith) (f .1)
-        (omega arith) in
+    reads-from l left (front ++ packed r) (at + length (packed r)) (length-append front (packed r) ∙ omega arith) (f .1)
+    (omega arith) in
     records-one (front ++ (packed r ++ rest)) at (omega arith) left (omega arith)
     ∙ rw (v, e, ← append-assoc front (packed r) rest, i) refl
 

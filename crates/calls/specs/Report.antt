@@ -174,7 +174,8 @@ noRuns = record { problem = []; low = []; high = [] }
 abbrev pub EachRecord : List ℕ → ℕ → List ℕ → Type 0
 EachRecord s number left =
     WhereReported s number
-    (λ l. (i : ℕ) → i < length l → take recordLength (drop (recordLength * i) left) ≡ entry (getD l i noRuns))
+    (λ l. (i : ℕ) → i < length l
+    → take recordLength (drop (recordLength * i) left) ≡ recordBytes (pairOn (getD l i noRuns)))
 
 -- "no output byte is written on any" of the call's refusals; "Output past the last record is untouched"
 pub record OutputKept (s : List ℕ) (number : ℕ) (lent left : List ℕ) : Type 0 where
@@ -186,8 +187,8 @@ abbrev pub WithinBounds : List ℕ → ReportVerdict → Type 0
 WithinBounds s v =
     WhereReported s (v .refusal .number)
     (All (λ r.
-        HoldsBelow (r .problem) (pairOn r .refusal .number) (v .lower)
-        × HoldsAbove (r .problem) (pairOn r .refusal .number) (v .upper)))
+    HoldsBelow (r .problem) (pairOn r .refusal .number) (v .lower)
+    × HoldsAbove (r .problem) (pairOn r .refusal .number) (v .upper)))
 
 -- of the records with an accepted pair, the first whose bound no other's goes before
 abbrev pub OfAccepted : (PairVerdict → Type 0) → List Runs → Type 0

@@ -18,8 +18,8 @@ checkAnswer problem certificate = checkLine (checkVerdict false problem certific
 abbrev pub pairAnswer : List ℕ → List ℕ → List ℕ → List ℕ
 pairAnswer problem first second = pairLine (pairVerdict false problem first second)
 
--- by the kind: b, c, p, or another, which is not answered. Kind w, whose line may be longer than a text, is answered by
--- `windowAnswer`
+-- by the kind: b, c, p, or another, which is not answered. Kinds w and r, whose lines may be longer than a text, are
+-- answered by `windowAnswer` and `reportAnswer`
 unfoldable pub recordAnswer : ℕ → List ℕ → List ℕ → List ℕ → List ℕ
 recordAnswer kind problem first second =
     cond (eqb kind 0x62) (blocksAnswer problem)

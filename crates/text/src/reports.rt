@@ -60,14 +60,25 @@ fn field_at(bytes: &[u8], k: usize) -> u64
     operand_reader::number_at(bytes, 4 * k, 4)
 }
 
+// A bound as it stands in a record.
+fn bound(p: i32, q: u64) -> Fraction
+    ensures { λ r. ⌜ r ≡ fraction p q ⌝ }
+{
+    Fraction {
+        num: p as i64,
+        den: q,
+    }
+}
+
 // The bound in fields k and k + 1.
 fn bound_at(bytes: &[u8], k: usize) -> Fraction
     requires { ⌜ (k < 7) × (32 ≤ length (now bytes)) ⌝ }
-    ensures { λ r. ⌜ r ≡ fraction (signed 31 (fieldAt (now (bytes .entry)) k)) (fieldAt (now (bytes .entry)) (k + 1)) ⌝ }
+    ensures { λ r. ⌜
+        r ≡ fraction (signed 31 (fieldAt (now (bytes .entry)) k)) (fieldAt (now (bytes .entry)) (k + 1))
+        ⌝ }
 {
-    let num = operand_reader::signed32(field_at(bytes, k)) as i64;
-    let den = field_at(bytes, k + 1);
-    Fraction { num, den }
+    let p = operand_reader::signed32(field_at(bytes, k));
+    bound(p, field_at(bytes, k + 1))
 }
 
 // The refusal in a record.

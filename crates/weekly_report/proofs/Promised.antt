@@ -46,7 +46,7 @@ module _ (s out : List ℕ) (lent : Tables) where
   by-outcome o e v outLeft left x y z =
       let x′ : v ≡ reportVerdict (checkedRecords (tablesShort lent) s out) = x ∙ ap reportVerdict (sym e) in
       let y′ : outLeft ≡ outputLeft (checkedRecords (tablesShort lent) s out) out =
-          y ∙ ap (λ (p : Outcome (List Runs)). outputLeft p out) (sym e) in
+      y ∙ ap (λ (p : Outcome (List Runs)). outputLeft p out) (sym e) in
       (x′, (y′, (rw e z, report-clauses (tablesShort lent) s out v outLeft x′ y′)))
 
   -- "1 for a work table"

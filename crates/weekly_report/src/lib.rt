@@ -2,15 +2,13 @@
 // answers each by the pair.
 ghost use mathlib.Core.Path.{_≡_};
 ghost use mathlib.Core.Bool.{false, cond, _||_};
-ghost use mathlib.Core.List.{List};
 ghost use Prim.Native.Nat.{_+_, _^_, _≤_, _<_};
 ghost use lib.Dec.{eqb};
 ghost use lib.ListN.{length};
-ghost use Rattle.format.specs.Commands.{given};
 ghost use Rattle.format.specs.Operands.{number};
 ghost use Rattle.calls.specs.Tables.{tables, tablesShort, TablesLeft};
-ghost use Rattle.calls.specs.Report.{Runs, recordEnd, isCut, runsAt, recordsOf, pairOn, checkedRecords, outputLeft};
-ghost use Rattle.calls.specs.Report.{isShort, noneAccepted, withAccepted, withVerdict, resultOf, refusedReport};
+ghost use Rattle.calls.specs.Report.{recordEnd, isCut, runsAt, recordsOf, recordCount, pairOn, checkedRecords};
+ghost use Rattle.calls.specs.Report.{outputLeft, isShort, withAccepted, withVerdict, refusedReport};
 ghost use Rattle.calls.specs.Report.{reportVerdict, ReportNumbered, EachRecord, OutputKept, WithinBounds, Summarised};
 ghost use Rattle.work_tables.specs.Tables.{Long};
 ghost use Rattle.weekly_report.specs.Steps.{countedFrom, Roomy, Answered};
@@ -67,6 +65,16 @@ fn count_records(s: &[u8]) -> Counted
         count += 1;
     }
     Counted::Whole(count)
+}
+
+// How many records the input holds; none where one is cut.
+pub fn record_count(records: &[u8]) -> usize
+    ensures { λ r. ⌜ r ≡ recordCount (recordsOf (now (records .entry))) ⌝ }
+{
+    match count_records(records) {
+        Counted::Whole(count) => count,
+        Counted::Cut(_) => 0,
+    }
 }
 
 // The pair on the three runs of the record at an offset.

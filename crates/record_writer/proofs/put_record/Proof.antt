@@ -63,8 +63,8 @@ loop-again c =
     let out = s .before .before .before .args .part .now in
     let h : l .k < length f = omega arith in
     let g =
-        next (littleEndian 4) 4 (λ x. refl) f (l .k) out (l .part) 0 (c .before .before .put-field .last .0) h
-        (l .inv .1 .0) (c .before .before .put-field .ensures) in (
+    next (littleEndian 4) 4 (λ x. refl) f (l .k) out (l .part) 0 (c .before .before .put-field .last .0) h
+    (l .inv .1 .0) (c .before .before .put-field .ensures) in (
       omega arith,
       (
         g,

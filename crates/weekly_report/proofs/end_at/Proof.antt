@@ -46,7 +46,7 @@ returns-2 c =
     let x = y .before in
     let a = x .before .before .before .args in
     let h : length (a .s .now) < recordEnd (a .s .now) (a .at) =
-        omega (arith, x .length-at .ensures .0, y .length-at2 .ensures .0, z .length-at3 .ensures .0) in
+    omega (arith, x .length-at .ensures .0, y .length-at2 .ensures .0, z .length-at3 .ensures .0) in
     rw (lt-ltb (length (a .s .now)) (recordEnd (a .s .now) (a .at)) h)
 
 add-result : tie.Need-add-result
@@ -62,7 +62,7 @@ returns-3 c =
     let x = y .before in
     let a = x .before .before .before .args in
     let h : recordEnd (a .s .now) (a .at) ≤ length (a .s .now) =
-        omega (arith, x .length-at .ensures .0, y .length-at2 .ensures .0, z .length-at3 .ensures .0) in
+    omega (arith, x .length-at .ensures .0, y .length-at2 .ensures .0, z .length-at3 .ensures .0) in
     rw (le-ltb (length (a .s .now)) (recordEnd (a .s .now) (a .at)) h)
     (omega (arith, x .length-at .ensures .0, y .length-at2 .ensures .0, z .length-at3 .ensures .0))
 

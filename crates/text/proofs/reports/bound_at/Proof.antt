@@ -1,38 +1,36 @@
-use borrow.Author.Needs.{needs}
-use native.Mathlib.Omega.{arith}
-use mathlib.Core.Path.{_≡_, refl, sym, ap, _∙_, subst}
-use Prim.Native.Nat.{ℕ, zero, suc, _+_, _-_, _*_, _≤_, _<_}
-use lib.ListN.{length, getD, take, drop, set, length-set}
+-- `bound_at`: the two fields.
+use borrow.Author.Needs.{sfits-of, needs}
+use mathlib.Core.Path.{ap, ap₂, _∙_}
+use mir.Syntax.{w32}
+use mir.Facts.{toZ-ofZ}
+use Rattle.format.specs.Operands.{signed}
+use Rattle.calls.specs.Fractions.{fraction}
 use Rattle.text.proofs.reports.bound_at.Statement.{statement}
 use Rattle.text.proofs.reports.bound_at.Tie as tie
-use Rattle.text.proofs.reports.bound_at.Reads as reads
-use Rattle.text.proofs.reports.bound_at.Lts as lts
-use Rattle.operand_reader.proofs.signed32.Reads as signed32-reads
-use Rattle.text.proofs.reports.field_at.Reads as field-at-reads
 
--- src/reports.rt:68:40
 field-at-requires : tie.Need-field-at-requires
 field-at-requires c κs = search needs
 
--- src/reports.rt:68:15
 signed32-requires : tie.Need-signed32-requires
 signed32-requires c κs = search needs
 
--- src/reports.rt:68:15
-cast-num : tie.Need-cast-num
-cast-num c = search needs
-
--- src/reports.rt:69:31
 add-field-at : tie.Need-add-field-at
 add-field-at c = search needs
 
--- src/reports.rt:69:9
 field-at-requires-2 : tie.Need-field-at-requires-2
 field-at-requires-2 c κs = search needs
 
--- src/reports.rt:64:1
+bound-requires : tie.Need-bound-requires
+bound-requires c κs = search needs
+
 returns : tie.Need-returns
-returns c = search needs
+returns c =
+    let g = c .before in
+    let p = g .before in
+    c .bound .ensures
+    ∙ ap₂ fraction
+    (toZ-ofZ {w = w32} (sfits-of (p .signed32 .ok)) ∙ p .signed32 .ensures ∙ ap (signed 31) (p .before .field-at .ensures .0))
+    (g .field-at2 .ensures .0)
 
 pub bound-at-spec : {M : Type 1} → statement M
 bound-at-spec =
@@ -40,7 +38,7 @@ bound-at-spec =
     (tie.spec
     field-at-requires
     signed32-requires
-    cast-num
     add-field-at
     field-at-requires-2
+    bound-requires
     returns)
