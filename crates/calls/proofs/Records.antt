@@ -3,16 +3,17 @@
 use native.Mathlib.Omega.{arith}
 use native.Mathlib.Nat.{pow-succ', pow-le-pow-right, mod-lt, mod-one, mod-add-div, mod-eq-of-lt, add-mul-mod-self-left}
 use native.Mathlib.Numerals.{add-one}
-use mathlib.Core.Path.{_≡_, refl, sym, ap, ap₂, _∙_, subst}
+use mathlib.Core.Path.{_≡_, refl, sym, ap, _∙_}
 use mathlib.Core.Bool.{Bool, true, false, cond}
-use mathlib.Core.List.{List, [], _∷_, _++_, append-nil, append-assoc, flatMap}
+use mathlib.Core.List.{List, [], _∷_, _++_, append-assoc}
+use mathlib.Core.Logic.{_⊎_, inl, inr}
 use Prim.Native.Nat.{ℕ, zero, suc, _+_, _-_, _*_, _/_, _%_, _^_, _≤_, _<_, zero-le}
 use lib.Dec.{ltb, leb, lit<}
 use lib.ListN.{length, take, drop, getD, length-append, length-take, length-drop}
 use lib.Seq.{take-at, drop-at, drop-drop, drop-cons, take-all, getD-at}
 use borrow.Author.Tests.{ltb-true, ltb-false, leb-true, leb-false, lt-ltb, le-ltb, le-leb, lt-leb}
 use Rattle.counting.specs.Counting.{Bounded}
-use Rattle.counting.proofs.Cases.{clash}
+use Rattle.counting.proofs.Cases.{clash, lt-or-le}
 use Rattle.format.specs.All.{All}
 use Rattle.format.specs.Commands.{Outcome, refused, given}
 use Rattle.format.specs.Operands.{number}
@@ -111,6 +112,27 @@ records-twelve zero s at n place e = twelve-by (reading 0 s at) (λ fewer h. abs
 records-twelve (suc left) s at n place e =
     twelve-by (reading (suc left) s at)
     (λ fewer h. let k : fewer ≡ left = omega arith in rw k (records-twelve left s (recordEnd s at))) n place e
+
+-- ---- at most so many records are read as there may be
+module _ (left : ℕ) (s : List ℕ) (at : ℕ) (l : List Runs) (e : recordsFrom left s at ≡ given l) where
+  few-step : ((fewer : ℕ) → left ≡ suc fewer → (to : ℕ) (k : List Runs) → recordsFrom fewer s to ≡ given k → length k ≤ fewer)
+      → length l ≤ left
+  few-step f = go (lt-or-le at (length s))
+    where
+      go : (at < length s) ⊎ (length s ≤ at) → length l ≤ left
+      go (inl h) =
+          let t = taken left s at l e h in
+          let k = f (t .fewer) (t .left-is) (recordEnd s at) (t .rest) (t .read) in
+          omega (arith, ap length (t .list-is), t .left-is)
+      go (inr h) =
+          let g : given [] ≡ given l = sym (records-over s at left h) ∙ e in
+          let z : [] ≡ l = cc in
+          omega (arith, ap length z)
+
+pub records-few : (left : ℕ) (s : List ℕ) (at : ℕ) (l : List Runs) → recordsFrom left s at ≡ given l → length l ≤ left
+records-few zero s at l e = few-step 0 s at l e (λ fewer z. absurd (omega arith))
+records-few (suc left) s at l e =
+    few-step (suc left) s at l e (λ fewer z. let n : fewer ≡ left = omega arith in rw n (records-few left s))
 
 -- ---- the bytes of a number, by the width: what `number` reads
 -- the lowest digit to the base 256, and the others, of which w are left

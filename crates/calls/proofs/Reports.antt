@@ -211,7 +211,7 @@ verdict-refusal t v e = go (ltb 0 (v .refusal .number))
     go true = e
     go false = refl
 
-result-refusal : (t : ReportVerdict) (l : List Runs) → t .refusal ≡ noRefusal → resultOf t l .refusal ≡ noRefusal
+pub result-refusal : (t : ReportVerdict) (l : List Runs) → t .refusal ≡ noRefusal → resultOf t l .refusal ≡ noRefusal
 unfolding resultOf
 result-refusal t [] e = e
 result-refusal t (r ∷ l) e = result-refusal (withVerdict t (pairOn r)) l (verdict-refusal t (pairOn r) e)
