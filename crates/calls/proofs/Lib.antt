@@ -13,3 +13,4 @@ pub mod Records
 pub mod Packed
 pub mod Reports
 pub mod RecordFields
+pub mod BidTools

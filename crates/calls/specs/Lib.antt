@@ -7,3 +7,4 @@ pub mod Pair
 pub mod Window
 pub mod Promises
 pub mod Report
+pub mod BidTool
