@@ -9,3 +9,11 @@ pub mod Windows
 pub mod WidestGap
 pub mod RingPairs
 pub mod Superseded
+pub mod RowOrder
+pub mod FractionOrder
+pub mod Pieces
+pub mod Records
+pub mod Packed
+pub mod Reports
+pub mod RecordFields
+pub mod BidTools

@@ -93,3 +93,12 @@ pub struct SupersedingVerdict {
     pub refusal: Refusal,
     pub chosen: Chosen,
 }
+
+// What the report returns: how many pairs were accepted, the smallest of their lower bounds and the largest of their
+// upper ones; 0 over 0 where none was. With a refusal all are 0.
+pub struct ReportVerdict {
+    pub refusal: Refusal,
+    pub accepted: usize,
+    pub lower: Fraction,
+    pub upper: Fraction,
+}

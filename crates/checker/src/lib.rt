@@ -1,10 +1,8 @@
 // The public calls: the blocks of a problem, the check of one certificate and the pair of two. What they share is in
 // `certificate_judge`.
 ghost use mathlib.Core.Path.{_≡_};
-ghost use mathlib.Core.Bool.{false, _||_};
 ghost use mathlib.Core.List.{List, _++_};
 ghost use Prim.Native.Nat.{_≤_};
-ghost use lib.Dec.{ltb};
 ghost use lib.IntN.{ℤ};
 ghost use lib.ListN.{length, drop};
 ghost use Rattle.format.specs.ProblemRules.{Problem, readProblem};
@@ -27,7 +25,7 @@ ghost use Rattle.calls.specs.Rules.{BlocksUnderOne, CheckUnderOne, PairUnderOne
 ghost use Rattle.flat.specs.Flat.{FlatProblem};
 ghost use Rattle.fractions.specs.Ranges.{Bound};
 ghost use Rattle.certificate_judge.specs.Steps.{JoinedProblem, Judgeable, LongSums, SumsRest};
-ghost use Rattle.checker.specs.Tables.{Long, Rest};
+ghost use Rattle.work_tables.specs.Tables.{Long, Rest};
 ghost use Rattle.checker.specs.Steps.{Readable, ReadableKeys, checkFrom, pairFrom};
 use calls::BlocksVerdict;
 use calls::CheckVerdict;
@@ -50,31 +48,6 @@ fn copy(out: &mut [u8], labels: &[u8])
         out[i] = labels[i];
         i += 1;
     }
-}
-
-// Whether a work table is too short, by their lengths.
-fn is_short(keys: usize, high: usize, low: usize) -> bool
-    ensures { λ r. ⌜ r ≡ (ltb keys tableLength || (ltb high tableLength || ltb low tableLength)) ⌝ }
-{
-    if keys < 2048 {
-        return true;
-    }
-    if high < 2048 {
-        return true;
-    }
-    low < 2048
-}
-
-// The work tables as every call leaves them that has used them.
-fn clear_tables(keys: &mut [u64], high: &mut [i64], low: &mut [i64])
-    requires { ⌜ Long (tables (now keys) (now high) (now low)) ⌝ }
-    ensures { λ _.
-        let lent = tables (now (keys .entry)) (now (high .entry)) (now (low .entry)) in
-        ⌜ TablesLeft false lent (tables (now (keys .exit)) (now (high .exit)) (now (low .exit))) ⌝ }
-{
-    certificate_judge::clear(keys, 2048);
-    certificate_judge::clear_signed(high, 2048);
-    certificate_judge::clear_signed(low, 2048);
 }
 
 // A refusal of the blocks call: it is always the problem's, and has no key.
@@ -187,11 +160,11 @@ pub fn blocks(
     if out.len() < 576 {
         return refuse_blocks(1, 0);
     }
-    if is_short(keys.len(), high.len(), low.len()) {
+    if work_tables::is_short(keys.len(), high.len(), low.len()) {
         return refuse_blocks(1, 0);
     }
     let v = answer_blocks(problem, out, keys);
-    clear_tables(keys, high, low);
+    work_tables::clear_tables(keys, high, low);
     v
 }
 
@@ -331,11 +304,11 @@ pub fn check(
         let lent = tables (now (keys .entry)) (now (high .entry)) (now (low .entry)) in
         ⌜ CheckUnderOne (tablesShort lent) (now (problem .entry)) (now (certificate .entry)) r ⌝ }
 {
-    if is_short(keys.len(), high.len(), low.len()) {
+    if work_tables::is_short(keys.len(), high.len(), low.len()) {
         return refuse_check(certificate_judge::problem_refusal(1, 0));
     }
     let v = answer_check(problem, certificate, keys, high, low);
-    clear_tables(keys, high, low);
+    work_tables::clear_tables(keys, high, low);
     v
 }
 
@@ -574,11 +547,11 @@ pub fn pair(
         let lent = tables (now (keys .entry)) (now (high .entry)) (now (low .entry)) in
         ⌜ PairUnderOne (tablesShort lent) (now (problem .entry)) (now (first .entry)) (now (second .entry)) r ⌝ }
 {
-    if is_short(keys.len(), high.len(), low.len()) {
+    if work_tables::is_short(keys.len(), high.len(), low.len()) {
         return refuse_pair(certificate_judge::problem_refusal(1, 0));
     }
     let v = answer_pair(problem, first, second, keys, high, low);
-    clear_tables(keys, high, low);
+    work_tables::clear_tables(keys, high, low);
     v
 }
 
@@ -752,10 +725,10 @@ pub fn check_two(
         let left = tables (now (keys .exit)) (now (high .exit)) (now (low .exit)) in
         ⌜ TablesLeft (tablesShort lent) lent left ⌝ }
 {
-    if is_short(keys.len(), high.len(), low.len()) {
+    if work_tables::is_short(keys.len(), high.len(), low.len()) {
         return refuse_two(certificate_judge::problem_refusal(1, 0));
     }
     let v = answer_two(problem, first, second, keys, high, low);
-    clear_tables(keys, high, low);
+    work_tables::clear_tables(keys, high, low);
     v
 }

@@ -10,6 +10,7 @@ pub mod gaps;
 pub mod joining_rules;
 mod order;
 mod problems;
+pub mod reports;
 mod sums;
 pub mod superseding;
 mod table;
@@ -107,6 +108,7 @@ pub fn cases() -> Vec<Case> {
         wide_factors::cases(),
         superseding::cases(),
         joining_rules::cases(),
+        reports::cases(),
     ]
     .concat()
 }
@@ -245,7 +247,7 @@ mod tests {
         let in_problem = (2..=7).map(|number| (number, 0));
         let in_certificate = [2, 3, 4, 5, 6, 8, 9, 10];
         let in_certificate = in_certificate.iter().flat_map(|&n| [(n, 1), (n, 2)]);
-        let of_requests = [(11, 2)];
+        let of_requests = [(11, 2), (1, 0), (12, 0)];
         let all = in_problem.chain(in_certificate).chain(of_requests);
         assert_eq!(met, all.collect());
     }

@@ -3,6 +3,7 @@
 mod empty_region;
 mod equalities;
 mod joining_rules;
+mod reports;
 mod superseding;
 mod wide_factors;
 mod windows;
@@ -13,7 +14,9 @@ use crate::generate::certificates::{as_record, streams};
 use crate::generate::changes::{change_case, CHANGES};
 use crate::generate::damage::{self, damaged};
 use crate::generate::rng::Rng;
-use crate::records::{Record, BLOCKS, CHECK, PAIR, TIGHTER, WINDOW};
+use crate::records::{Record, BLOCKS, CHECK, PAIR, REPORT, TIGHTER, WINDOW};
+
+pub use reports::packed;
 
 /// A call that a request added.
 pub struct Call {
@@ -84,6 +87,12 @@ const LANDED: &[Landed] = &[
         kinds: &[BLOCKS, CHECK, PAIR],
         special: joining_rules::special,
         put: joining_rules::put,
+        count: 200,
+    }),
+    Landed::Call(Call {
+        kind: REPORT,
+        special: reports::special,
+        random: reports::random,
         count: 200,
     }),
 ];

@@ -1,0 +1,26 @@
+-- Request 14 of document 02, "A call for the bid tool in C": the number that is returned, the lent bytes at exit, and
+-- what the call promises. r are the three byte runs, out the bytes as they were lent, and left as they are at exit.
+use mathlib.Core.Path.{_≡_}
+use mathlib.Core.Bool.{cond}
+use mathlib.Core.List.{List, _++_}
+use Prim.Native.Nat.{ℕ, _≤_, _<_}
+use lib.Dec.{ltb}
+use lib.ListN.{length, drop}
+use Rattle.format.specs.Operands.{number}
+use Rattle.calls.specs.Report.{Runs, pairOn, recordBytes, recordLength}
+
+-- "Fewer than 32 bytes give 1 as the returned number ..; otherwise the returned number is the refusal or 0"
+unfoldable pub toolNumber : List ℕ → Runs → ℕ
+toolNumber out r = cond (ltb (length out) recordLength) 1 (pairOn r .refusal .number)
+
+-- "32 lent bytes, filled as one record of Req 07"; "Fewer than 32 bytes give .. nothing written; bytes past 32 are
+-- untouched"
+unfoldable pub toolBytes : List ℕ → Runs → List ℕ
+toolBytes out r = cond (ltb (length out) recordLength) out (recordBytes (pairOn r) ++ drop recordLength out)
+
+-- the record tells the number that is returned, and bytes past it are untouched
+pub record OneRecord (out left : List ℕ) (n : ℕ) : Type 0 where
+  pub numbered : n ≤ 10
+  pub short : length out < recordLength → (n ≡ 1) × (left ≡ out)
+  pub told : recordLength ≤ length out → number 4 left 0 ≡ n
+  pub past : drop recordLength left ≡ drop recordLength out
