@@ -18,11 +18,7 @@ pub fn put_refusal(out: &mut [u8], r: Refusal) -> usize
     requires { ⌜ 92 ≤ length (now out) ⌝ }
     ensures { λ n. ⌜ take n (now (out .exit)) ≡ refusalLine r ⌝ }
 {
-    let a = super::append_with_number(out, 0, b"refused ", r.number as u64);
-    let b = super::append_with_number(out, a, b" ", r.stream as u64);
-    let c = super::append_with_number(out, b, b" ", r.place as u64);
-    let d = super::append_with_number(out, c, b" ", r.key);
-    super::append(out, d, b"\n")
+    super::append_refusal(out, r.number as u64, r.stream as u64, r.place as u64, r.key)
 }
 
 // Both bounds.
