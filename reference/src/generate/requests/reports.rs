@@ -1,5 +1,6 @@
 //! Request 07: reports of several pairs.
 
+use super::Change;
 use crate::generate::certificates;
 use crate::generate::refusals::reports::cases;
 use crate::generate::refusals::{case_f, met};
@@ -110,9 +111,9 @@ pub fn special() -> Vec<Record> {
     all
 }
 
-/// Some pairs of the generator, or many of few values, now and then cut, or with an output that is short
-/// or long.
-pub fn random(rng: &mut Rng) -> Record {
+/// Some pairs of the generator, also with commands of some of these requests, or many of few values; now
+/// and then cut, or with an output that is short or long.
+pub fn random(rng: &mut Rng, changes: Vec<&'static Change>) -> Record {
     let mut report = Vec::new();
     let many = rng.once_in(6);
     let count = rng.below(if many { 67 } else { 7 });
@@ -124,11 +125,7 @@ pub fn random(rng: &mut Rng) -> Record {
                 rng.between(1, 3) as u16,
             ),
             0 => constant(rng.nonzero(9), 2, 3),
-            1 => {
-                super::record(rng, PAIR)
-                    .unwrap_or_else(|| certificates::record(rng, PAIR))
-                    .runs
-            }
+            1 | 2 => super::pair_with_some(rng, &changes).runs,
             _ => certificates::record(rng, PAIR).runs,
         };
         if report.len() + pair.concat().len() < 60_000 {
