@@ -6,6 +6,7 @@ ghost use Rattle.calls.specs.Blocks.{blocksShort, blocksVerdict, bytesLeft};
 ghost use Rattle.calls.specs.Check.{checkVerdict};
 ghost use Rattle.calls.specs.Pair.{pairVerdict};
 ghost use Rattle.calls.specs.Superseding.{supersedingVerdict, streamOf, refusalIn};
+ghost use Rattle.calls.specs.Report.{checkedRecords, reportVerdict, outputLeft, isShort};
 use calls::Chosen;
 use calls::Refusal;
 
@@ -137,4 +138,33 @@ pub extern "C" fn zamiachisel_tighter(
         Chosen::Second => 2,
         Chosen::Neither => 0,
     }
+}
+
+// The report on a week's pairs: the number of the refusal, or 0. Its bounds and how many were accepted are told by the
+// records in `out`.
+// stack: see docs/measured/stack-bound.tsv (at most 205,312 bytes)
+#[no_mangle]
+pub extern "C" fn zamiachisel_report(
+    records: &[u8],
+    out: &mut [u8],
+    keys: &mut [u64],
+    high: &mut [i64],
+    low: &mut [i64],
+) -> u64
+    ensures verdict { λ r.
+        let lent = tables (now (keys .entry)) (now (high .entry)) (now (low .entry)) in
+        let o = checkedRecords (tablesShort lent) (now (records .entry)) (now (out .entry)) in
+        ⌜ r ≡ reportVerdict o .refusal .number ⌝ }
+    ensures output { λ _.
+        let lent = tables (now (keys .entry)) (now (high .entry)) (now (low .entry)) in
+        let before = now (out .entry) in
+        ⌜ now (out .exit) ≡ outputLeft (checkedRecords (tablesShort lent) (now (records .entry)) before) before ⌝ }
+    ensures tables { λ _.
+        let lent = tables (now (keys .entry)) (now (high .entry)) (now (low .entry)) in
+        let left = tables (now (keys .exit)) (now (high .exit)) (now (low .exit)) in
+        let o = checkedRecords (tablesShort lent) (now (records .entry)) (now (out .entry)) in
+        ⌜ TablesLeft (isShort o) lent left ⌝ }
+{
+    let v = weekly_report::report(records, out, keys, high, low);
+    number_of(v.refusal)
 }
