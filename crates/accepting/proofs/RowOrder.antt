@@ -1,19 +1,18 @@
 -- The order of a certificate's rows has no effect on whether it is accepted: sums do not depend on it, and each row keeps to its block by
 -- itself.
-use mathlib.Core.Path.{_≡_, refl, sym, ap, _∙_, subst}
+use mathlib.Core.Path.{_≡_, refl, sym, ap, _∙_}
 use mathlib.Core.List.{List, [], _∷_, _++_}
 use Prim.Native.Nat.{ℕ}
 use lib.IntN.{ℤ, _+ℤ_}
 use lib.ListN.{getD}
 use Rattle.integers.proofs.Ring.{+ℤ-left-comm}
 use Rattle.polynomial.specs.Terms.{Term, term}
-use Rattle.polynomial.specs.Algebra.{coefficient, scale, _⊗_}
+use Rattle.polynomial.specs.Algebra.{coefficient}
 use Rattle.polynomial.proofs.Sums.{coefficient-append}
 use Rattle.format.specs.All.{All}
-use Rattle.format.specs.Commands.{given}
 use Rattle.format.specs.ProblemRules.{Problem}
-use Rattle.format.specs.ProblemBases.{basisOf, multiplier}
-use Rattle.format.specs.CertificateRules.{Entry, Row, Certificate}
+use Rattle.format.specs.ProblemBases.{basisOf}
+use Rattle.format.specs.CertificateRules.{Entry, Row}
 use Rattle.accepting.specs.Identity.{combination, square, squares, claim, Identity, blockOf, OneBlock, KeepsBlocks}
 use Rattle.accepting.specs.Judgement.{Accepted}
 use Rattle.accepting.specs.RowOrder.{unplaced, SameRow, Reordered, none, same, exchanged, then, OtherOrder}

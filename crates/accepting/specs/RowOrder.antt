@@ -2,7 +2,6 @@
 -- entries, which a stream with another order has elsewhere.
 use mathlib.Core.Path.{_≡_}
 use mathlib.Core.List.{List, [], _∷_}
-use lib.IntN.{ℤ}
 use Prim.Native.Nat.{ℕ}
 use Rattle.format.specs.Commands.{given}
 use Rattle.format.specs.ProblemRules.{Problem}

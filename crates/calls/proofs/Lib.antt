@@ -14,6 +14,7 @@ pub mod FractionOrder
 pub mod Pieces
 pub mod Records
 pub mod Packed
-pub mod Reports
 pub mod RecordFields
+pub mod Told
+pub mod Reports
 pub mod BidTools

@@ -2,20 +2,19 @@
 -- three runs, one after the other; and every such input is read. So 12 is given exactly for any other.
 use native.Mathlib.Omega.{arith}
 use native.Mathlib.Nat.{mod-eq-of-lt}
-use mathlib.Core.Path.{_≡_, refl, sym, ap, ap₂, _∙_}
-use mathlib.Core.List.{List, [], _∷_, _++_, append-nil, append-assoc, flatMap}
-use mathlib.Core.Logic.{_⊎_, inl, inr}
+use mathlib.Core.Path.{_≡_, refl, sym, ap, _∙_}
+use mathlib.Core.List.{List, [], _∷_, _++_, append-assoc, flatMap}
 use Prim.Native.Nat.{ℕ, zero, suc, _+_, _^_, _≤_, _<_}
 use lib.ListN.{length, take, drop, length-append, length-drop, take-append-drop}
 use lib.Seq.{take-at, drop-at, drop-drop, drop-length, length-take-le}
 use Rattle.counting.specs.Counting.{Bounded}
-use Rattle.counting.proofs.Cases.{clash, lt-or-le}
 use Rattle.format.specs.All.{All}
-use Rattle.format.specs.Commands.{Outcome, refused, given}
+use Rattle.format.specs.Commands.{given}
 use Rattle.format.specs.Operands.{number}
-use Rattle.calls.specs.Report.{Runs, lowStart, highStart, recordEnd, runsAt, withRuns, recordsFrom, recordsOf}
+use Rattle.format.proofs.Numbers.{number-low}
+use Rattle.calls.specs.Report.{Runs, lowStart, highStart, recordEnd, runsAt, recordsFrom, recordsOf}
 use Rattle.calls.specs.Report.{littleEndian}
-use Rattle.calls.proofs.Records.{records-over, records-one, Taken, taken, number-of, number-low, bytes-of}
+use Rattle.calls.proofs.Records.{records-over, records-one, records-induction, number-of, bytes-of}
 
 -- "three u16 lengths, then problem, low and high"
 abbrev pub packed : Runs → List ℕ
@@ -161,9 +160,9 @@ module _ (s : List ℕ) (bytes : Bounded 255 s) where
     fits : Fits (runsAt s at)
     unfolding runsAt
     fits = record {
-      problem = rw (part-length (at + 6) (number 2 s at) (omega arith)) (number-low 2 s at bytes);
-      low = rw (part-length (lowStart s at) (number 2 s (at + 2)) (omega arith)) (number-low 2 s (at + 2) bytes);
-      high = rw (part-length (highStart s at) (number 2 s (at + 4)) h) (number-low 2 s (at + 4) bytes);
+      problem = rw (part-length (at + 6) (number 2 s at) (omega arith)) (number-low s bytes 2 at);
+      low = rw (part-length (lowStart s at) (number 2 s (at + 2)) (omega arith)) (number-low s bytes 2 (at + 2));
+      high = rw (part-length (highStart s at) (number 2 s (at + 4)) h) (number-low s bytes 2 (at + 4));
     }
 
     abbrev first : List ℕ
@@ -204,44 +203,27 @@ pub record IsPacked (left : ℕ) (s : List ℕ) (at : ℕ) (l : List Runs) : Typ
   pub few : length l ≤ left
   pub fits : All Fits l
 
-module _ (left : ℕ) (s : List ℕ) (at : ℕ) (l : List Runs) (b : Bounded 255 s) (h : at ≤ length s) where
-  none-left : length s ≤ at → recordsFrom left s at ≡ given l → IsPacked left s at l
+module _ (s : List ℕ) (b : Bounded 255 s) where
+  packed-none : (left at : ℕ) → length s ≤ at → at ≤ length s → IsPacked left s at []
   unfolding flatMap All
-  none-left k e =
-      let g : given [] ≡ given l = sym (records-over s at left k) ∙ e in
-      let z : [] ≡ l = cc in
-      let n : at ≡ length s = omega arith in
-      rw (← z) (record { bytes = rw n (drop-length s); few = omega arith; fits = tt })
+  packed-none left at h k =
+      let n : at ≡ length s = omega arith in record { bytes = rw n (drop-length s); few = omega arith; fits = tt }
 
-  one-more : (t : Taken s at left l) → IsPacked (t .fewer) s (recordEnd s at) (t .rest) → IsPacked left s at l
+  packed-more : (left at : ℕ) (l : List Runs) → at < length s → recordEnd s at ≤ length s
+      → (recordEnd s at ≤ length s → IsPacked left s (recordEnd s at) l) → at ≤ length s
+      → IsPacked (suc left) s at (runsAt s at ∷ l)
   unfolding flatMap All
-  one-more t p =
-      rw (t .list-is)
-      (record {
-        bytes =
-            packed-here s b at (t .whole) ∙ ap (λ (k : List ℕ). packed (runsAt s at) ++ k) (p .bytes);
-        few = omega (arith, t .left-is, p .few);
-        fits = (fits s b at (t .whole), p .fits);
-      })
-
-  packed-step : ((fewer : ℕ) → left ≡ suc fewer → (to : ℕ) (k : List Runs) → to ≤ length s
-      → recordsFrom fewer s to ≡ given k → IsPacked fewer s to k) → recordsFrom left s at ≡ given l → IsPacked left s at l
-  packed-step f e = go (lt-or-le at (length s))
-    where
-      go : (at < length s) ⊎ (length s ≤ at) → IsPacked left s at l
-      go (inl k) =
-          let t = taken left s at l e k in
-          one-more t (f (t .fewer) (t .left-is) (recordEnd s at) (t .rest) (t .whole) (t .read))
-      go (inr k) = none-left k e
-
-packed-from : (left : ℕ) (s : List ℕ) → Bounded 255 s → (at : ℕ) (l : List Runs) → at ≤ length s
-    → recordsFrom left s at ≡ given l → IsPacked left s at l
-packed-from zero s b at l h e = packed-step 0 s at l b h (λ fewer z. absurd (omega arith)) e
-packed-from (suc left) s b at l h e =
-    packed-step (suc left) s at l b h (λ fewer z.
-    let n : fewer ≡ left = omega arith in rw n (packed-from left s b)) e
+  packed-more left at l h w f k =
+      let p = f w in
+      record {
+        bytes = packed-here s b at w ∙ ap (λ (m : List ℕ). packed (runsAt s at) ++ m) (p .bytes);
+        few = omega (arith, p .few);
+        fits = (fits s b at w, p .fits);
+      }
 
 -- of a whole input
 pub packed-read : (s : List ℕ) (l : List Runs) → Bounded 255 s → recordsOf s ≡ given l → IsPacked 64 s 0 l
 unfolding recordsOf
-packed-read s l b e = packed-from 64 s b 0 l (omega arith) e
+packed-read s l b e =
+    records-induction s (λ left at k. at ≤ length s → IsPacked left s at k) (packed-none s b) (packed-more s b) 64 0 l e
+    (omega arith)

@@ -6,18 +6,16 @@ use native.Mathlib.Numerals.{add-one}
 use mathlib.Core.Path.{_≡_, refl, sym, ap, _∙_}
 use mathlib.Core.Bool.{Bool, true, false, cond}
 use mathlib.Core.List.{List, [], _∷_, _++_, append-assoc}
-use mathlib.Core.Logic.{_⊎_, inl, inr}
 use Prim.Native.Nat.{ℕ, zero, suc, _+_, _-_, _*_, _/_, _%_, _^_, _≤_, _<_, zero-le}
-use lib.Dec.{ltb, leb, lit<}
-use lib.ListN.{length, take, drop, getD, length-append, length-take, length-drop}
-use lib.Seq.{take-at, drop-at, drop-drop, drop-cons, take-all, getD-at}
-use borrow.Author.Tests.{ltb-true, ltb-false, leb-true, leb-false, lt-ltb, le-ltb, le-leb, lt-leb}
+use lib.Dec.{leb, lit<}
+use lib.ListN.{length, take, drop, getD, length-append}
+use lib.Seq.{drop-cons, getD-at}
+use borrow.Author.Tests.{ltb-false, leb-true, leb-false, lt-ltb, le-ltb, le-leb, lt-leb}
 use Rattle.counting.specs.Counting.{Bounded}
-use Rattle.counting.proofs.Cases.{clash, lt-or-le}
-use Rattle.format.specs.All.{All}
+use Rattle.counting.proofs.Cases.{clash}
 use Rattle.format.specs.Commands.{Outcome, refused, given}
 use Rattle.format.specs.Operands.{number}
-use Rattle.calls.specs.Report.{Runs, lowStart, highStart, recordEnd, runsAt, isCut, withRuns, recordsFrom, recordsOf}
+use Rattle.calls.specs.Report.{Runs, recordEnd, runsAt, isCut, withRuns, recordsFrom}
 use Rattle.calls.specs.Report.{littleEndian}
 
 -- ---- a record at a time
@@ -113,26 +111,31 @@ records-twelve (suc left) s at n place e =
     twelve-by (reading (suc left) s at)
     (λ fewer h. let k : fewer ≡ left = omega arith in rw k (records-twelve left s (recordEnd s at))) n place e
 
--- ---- at most so many records are read as there may be
-module _ (left : ℕ) (s : List ℕ) (at : ℕ) (l : List Runs) (e : recordsFrom left s at ≡ given l) where
-  few-step : ((fewer : ℕ) → left ≡ suc fewer → (to : ℕ) (k : List Runs) → recordsFrom fewer s to ≡ given k → length k ≤ fewer)
-      → length l ≤ left
-  few-step f = go (lt-or-le at (length s))
-    where
-      go : (at < length s) ⊎ (length s ≤ at) → length l ≤ left
-      go (inl h) =
-          let t = taken left s at l e h in
-          let k = f (t .fewer) (t .left-is) (recordEnd s at) (t .rest) (t .read) in
-          omega (arith, ap length (t .list-is), t .left-is)
-      go (inr h) =
-          let g : given [] ≡ given l = sym (records-over s at left h) ∙ e in
-          let z : [] ≡ l = cc in
-          omega (arith, ap length z)
+-- ---- induction over the records that are read: P relates how many there may be, the offset, and the records from there
+-- on
+module _ (s : List ℕ) (P : ℕ → ℕ → List Runs → Type 0)
+    (ends : (left at : ℕ) → length s ≤ at → P left at [])
+    (more : (left at : ℕ) (l : List Runs) → at < length s → recordEnd s at ≤ length s → P left (recordEnd s at) l
+    → P (suc left) at (runsAt s at ∷ l)) where
+  by-step : {at left : ℕ} {o : Outcome (List Runs)} → Reading s at left o
+      → ((fewer : ℕ) → left ≡ suc fewer → (to : ℕ) (k : List Runs) → recordsFrom fewer s to ≡ given k → P fewer to k)
+      → (l : List Runs) → o ≡ given l → P left at l
+  by-step {at} (over left h) f l e = let z : [] ≡ l = cc in rw (← z) (ends left at h)
+  by-step (stops left h) f l e = clash (cc)
+  by-step {at} (one left h w) f l e =
+      let g = with-given (runsAt s at) (recordsFrom left s (recordEnd s at)) l e in
+      rw (g .list-is) (more left at (g .rest) h w (f left refl (recordEnd s at) (g .rest) (g .read)))
 
+  pub records-induction : (left at : ℕ) (l : List Runs) → recordsFrom left s at ≡ given l → P left at l
+  records-induction zero at l e = by-step (reading 0 s at) (λ fewer z. absurd (omega arith)) l e
+  records-induction (suc left) at l e =
+      by-step (reading (suc left) s at)
+      (λ fewer z. let n : fewer ≡ left = omega arith in rw n (records-induction left)) l e
+
+-- at most so many records are read as there may be
 pub records-few : (left : ℕ) (s : List ℕ) (at : ℕ) (l : List Runs) → recordsFrom left s at ≡ given l → length l ≤ left
-records-few zero s at l e = few-step 0 s at l e (λ fewer z. absurd (omega arith))
-records-few (suc left) s at l e =
-    few-step (suc left) s at l e (λ fewer z. let n : fewer ≡ left = omega arith in rw n (records-few left s))
+records-few left s =
+    records-induction s (λ n at l. length l ≤ n) (λ n at h. omega arith) (λ n at l h w k. omega arith) left
 
 -- ---- the bytes of a number, by the width: what `number` reads
 -- the lowest digit to the base 256, and the others, of which w are left
@@ -157,12 +160,6 @@ number-of (suc w) x front rest at e =
     let l = littleEndian w (x / 256) ++ rest in
     let n = number-of w (x / 256) (front ++ (y ∷ [])) rest (at + 1) (length-append front (y ∷ []) ∙ omega arith) in
     rw (getD-at front y l 0 at e, ← append-assoc front (y ∷ []) l, n) (digits w x)
-
--- a number of w bytes
-pub number-low : (w : ℕ) (s : List ℕ) (at : ℕ) → Bounded 255 s → number w s at < 256 ^ w
-unfolding number
-number-low zero s at b = lit< tt
-number-low (suc w) s at b = let h = number-low w s (at + 1) b in let k = b at in rw pow-succ' (omega arith)
 
 -- the bytes that a number was read from
 pub bytes-of : (w : ℕ) (s : List ℕ) (at : ℕ) → Bounded 255 s → at + w ≤ length s

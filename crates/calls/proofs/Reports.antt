@@ -5,34 +5,36 @@ use mathlib.Core.Bool.{Bool, true, false, cond, _||_}
 use mathlib.Core.List.{List, [], _∷_, _++_, append-nil, append-assoc, flatMap}
 use mathlib.Core.Logic.{_⊎_, inl, inr}
 use Prim.Native.Nat.{ℕ, zero, suc, _+_, _*_, _≤_, _<_}
-use lib.Dec.{ltb, leb, eqb}
-use lib.ListN.{length, take, drop, getD}
-use lib.Seq.{drop-at, append-snoc}
+use lib.Dec.{ltb, eqb}
+use lib.ListN.{length, drop}
+use lib.Seq.{drop-at}
 use borrow.Author.Tests.{ltb-true, ltb-false, eqb-true, eqb-false}
-use Rattle.counting.proofs.Cases.{clash}
+use Rattle.counting.specs.Counting.{Bounded}
 use Rattle.format.specs.All.{All}
 use Rattle.format.proofs.All.{all-map}
 use Rattle.format.proofs.ProblemLimits.{all-more}
 use Rattle.accepting.proofs.Reach.{all-both}
 use Rattle.format.specs.Commands.{Outcome, refused, given}
 use Rattle.format.proofs.CertificateLimits.{read-sound}
-use Rattle.calls.specs.Fractions.{none, isLess}
+use Rattle.calls.specs.Fractions.{isLess}
 use Rattle.calls.specs.declared.Fraction.{Fraction}
 use Rattle.calls.specs.declared.Refusal.{Refusal}
 use Rattle.calls.specs.declared.PairVerdict.{PairVerdict}
 use Rattle.calls.specs.declared.ReportVerdict.{ReportVerdict}
 use Rattle.calls.specs.Refusals.{noRefusal}
 use Rattle.calls.specs.Promises.{Stated, HoldsBelow, HoldsAbove}
-use Rattle.calls.specs.Report.{Runs, isCut, runsAt, recordEnd, withRuns, recordsFrom, recordsOf, pairOn}
+use Rattle.calls.specs.Report.{Runs, recordsOf, pairOn}
 use Rattle.calls.specs.Report.{fieldsOf, recordLength, withRoom, checkedRecords, entry, outputLeft, noneAccepted}
-use Rattle.calls.specs.Report.{withAccepted, withVerdict, resultOf, refusedReport, reportVerdict}
-use Rattle.calls.specs.Report.{ReportNumbered, WhereReported, noRuns, EachRecord, OutputKept, WithinBounds}
+use Rattle.calls.specs.Report.{withAccepted, withVerdict, resultOf, reportVerdict}
+use Rattle.calls.specs.Report.{ReportNumbered, noRuns, EachRecord, EachTold, OutputKept}
+use Rattle.calls.specs.Report.{WithinBounds}
 use Rattle.calls.specs.Report.{OfAccepted, First, acceptedCount, Summary, Summarised}
 use Rattle.calls.proofs.FractionOrder.{one-way, not-itself, less-at-most, more-at-least}
 use Rattle.calls.proofs.FractionOrder.{bounded-below, bounded-above}
 use Rattle.calls.proofs.Pairing.{pair-clauses}
 use Rattle.calls.proofs.Pieces.{pieces-length, piece-at}
 use Rattle.calls.proofs.Records.{records-twelve}
+use Rattle.calls.proofs.Told.{each-told}
 
 -- ---- an accepted pair: its bounds are stated by certificates, so their denominators are at least 1, and they hold
 abbrev Accepted : Runs → Type 0
@@ -327,9 +329,13 @@ module _ (short : Bool) (s out : List ℕ) where
 
   -- all of them, of a verdict and an output that are the definitions'
   pub report-clauses : (v : ReportVerdict) (left : List ℕ) → v ≡ reportVerdict outcome → left ≡ outputLeft outcome out
+      → Bounded 255 s
       → ReportNumbered (v .refusal .number)
       × (EachRecord s (v .refusal .number) left
-      × (OutputKept s (v .refusal .number) out left × (WithinBounds s v × Summarised s v)))
-  report-clauses v left e f =
-      rw (e, f)
-      (numbered s out outcome (checked short s out), (clause-each, (clause-kept, (clause-within, clause-summary))))
+      × (EachTold s (v .refusal .number) left
+      × (OutputKept s (v .refusal .number) out left × (WithinBounds s v × Summarised s v))))
+  report-clauses v left e f bytes =
+      rw (e, f) (
+        numbered s out outcome (checked short s out),
+        (clause-each, (each-told s bytes _ _ clause-each, (clause-kept, (clause-within, clause-summary)))),
+      )

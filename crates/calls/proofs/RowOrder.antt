@@ -1,5 +1,5 @@
--- The order of a certificate's rows has no effect on acceptance, in the check and in the pair: a stream with the rows of an accepted one
--- in another order has the same verdict. As orders can be exchanged (other-back), one is accepted exactly when the other is.
+-- The order of a certificate's rows has no effect on acceptance, in the check and in the pair: a stream with the rows of
+-- an accepted one in another order has the same verdict, so one is accepted exactly when the other is.
 use mathlib.Core.Path.{_≡_, refl, sym, ap, ap₂, _∙_}
 use mathlib.Core.Bool.{Bool, true, false, cond}
 use mathlib.Core.List.{List}
@@ -16,11 +16,13 @@ use Rattle.accepting.specs.Judgement.{Judgement, judge}
 use Rattle.accepting.specs.Judgement as J
 use Rattle.accepting.specs.RowOrder.{OtherOrder}
 use Rattle.accepting.proofs.Accepted.{judge-accepted, accepted-judge}
-use Rattle.accepting.proofs.RowOrder.{order-accepted}
+use Rattle.accepting.proofs.RowOrder.{order-accepted, other-back}
+use Rattle.calls.specs.declared.CheckVerdict.{CheckVerdict}
 use Rattle.calls.specs.declared.PairVerdict.{PairVerdict}
+use Rattle.calls.specs.BidTool.{AcceptedAlike}
 use Rattle.calls.specs.Refusals.{problemRefusal}
-use Rattle.calls.specs.Check.{refusedCheck, acceptedCheck, checkJudged, checkOf, checkRead, checkVerdict}
-use Rattle.calls.specs.Pair.{refusedPair, pairSides, pairSecond, pairFirst, pairOf, pairRead, pairVerdict}
+use Rattle.calls.specs.Check.{refusedCheck, acceptedCheck, checkJudged, checkOf, checkVerdict}
+use Rattle.calls.specs.Pair.{refusedPair, pairSides, pairSecond, pairFirst, pairOf, pairVerdict}
 use Rattle.calls.proofs.Judged.{judge-number}
 
 -- ---- one certificate: what is judged of the other order
@@ -85,3 +87,19 @@ module _ (short : Bool) (s : List ℕ) (p : Problem) (read : readProblem s ≡ g
         go false true i e h = refl
         go false false (J.refused n place key) e h = absurd (omega (arith, judge-number p low n place key e .least))
         go false false (J.accepted c) e h = second c e (judge p high) refl h
+
+  -- ---- so of two orders one is accepted exactly when the other is
+  pub check-alike : {t t′ : List ℕ} → OtherOrder p t t′
+      → AcceptedAlike (checkVerdict short s t .refusal .number) (checkVerdict short s t′ .refusal .number)
+  check-alike o = (λ e. ap number (check-order o e) ∙ e, λ e. ap number (check-order (other-back o) e) ∙ e)
+    where
+      number : CheckVerdict → ℕ
+      number v = v .refusal .number
+
+  pub pair-alike : {low low′ high high′ : List ℕ} → OtherOrder p low low′ → OtherOrder p high high′
+      → AcceptedAlike (pairVerdict short s low high .refusal .number) (pairVerdict short s low′ high′ .refusal .number)
+  pair-alike o u =
+      (λ e. ap number (pair-order o u e) ∙ e, λ e. ap number (pair-order (other-back o) (other-back u) e) ∙ e)
+    where
+      number : PairVerdict → ℕ
+      number v = v .refusal .number

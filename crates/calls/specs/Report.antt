@@ -11,7 +11,7 @@ use lib.ListN.{length, getD, take, drop}
 use lib.Signed.{ltZ}
 use Rattle.format.specs.All.{All}
 use Rattle.format.specs.Commands.{Outcome, refused, given}
-use Rattle.format.specs.Operands.{number}
+use Rattle.format.specs.Operands.{number, signed}
 use Rattle.calls.specs.Fractions.{none, isLess}
 use Rattle.calls.specs.Pair.{pairVerdict}
 use Rattle.calls.specs.Promises.{HoldsBelow, HoldsAbove}
@@ -176,6 +176,23 @@ EachRecord s number left =
     WhereReported s number
     (λ l. (i : ℕ) → i < length l
     → take recordLength (drop (recordLength * i) left) ≡ recordBytes (pairOn (getD l i noRuns)))
+
+-- what the bytes of a record tell, read as a stream's operands are: the fields of the verdict, of the place and the key
+-- the lowest 32 bits
+pub record Told (s : List ℕ) (v : PairVerdict) : Type 0 where
+  pub refusal : number 4 s 0 ≡ v .refusal .number
+  pub p : signed 31 (number 4 s 4) ≡ v .lower .num
+  pub q : number 4 s 8 ≡ v .lower .den
+  pub P : signed 31 (number 4 s 12) ≡ v .upper .num
+  pub Q : number 4 s 16 ≡ v .upper .den
+  pub stream : number 4 s 20 ≡ v .refusal .stream
+  pub place : number 4 s 24 ≡ v .refusal .place % 2 ^ 32
+  pub key : number 4 s 28 ≡ v .refusal .key % 2 ^ 32
+
+abbrev pub EachTold : List ℕ → ℕ → List ℕ → Type 0
+EachTold s number left =
+    WhereReported s number
+    (λ l. (i : ℕ) → i < length l → Told (take recordLength (drop (recordLength * i) left)) (pairOn (getD l i noRuns)))
 
 -- "no output byte is written on any" of the call's refusals; "Output past the last record is untouched"
 pub record OutputKept (s : List ℕ) (number : ℕ) (lent left : List ℕ) : Type 0 where
