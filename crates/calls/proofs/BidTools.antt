@@ -9,7 +9,7 @@ use lib.ListN.{length, drop}
 use lib.Seq.{drop-at}
 use borrow.Author.Tests.{lt-ltb, le-ltb}
 use Rattle.counting.proofs.Cases.{lt-or-le}
-use Rattle.calls.specs.Report.{Runs, pairOn, recordBytes, recordLength}
+use Rattle.calls.specs.Report.{Runs, threeRuns, pairOn, recordBytes, recordLength}
 use Rattle.calls.specs.BidTool.{toolNumber, toolBytes, OneRecord, AcceptedAlike, AnyOrder}
 use Rattle.calls.proofs.Pairing.{pair-clauses}
 use Rattle.calls.proofs.Reports.{entry-length}
@@ -56,6 +56,6 @@ module _ (out : List ℕ) (r : Runs) where
   any-order n e p read low high o u = go (lt-or-le (length out) recordLength)
     where
       go : (length out < recordLength) ⊎ (recordLength ≤ length out)
-          → AcceptedAlike n (toolNumber out (record { problem = r .problem; low = low; high = high }))
+          → AcceptedAlike n (toolNumber out (threeRuns (r .problem) low high))
       go (inl h) = rw (e, lt-ltb (length out) recordLength h) (λ z. z, λ z. z)
       go (inr h) = rw (e, le-ltb (length out) recordLength h) (pair-alike false (r .problem) p read o u)

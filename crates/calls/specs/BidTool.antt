@@ -11,7 +11,7 @@ use Rattle.format.specs.Commands.{given}
 use Rattle.format.specs.Operands.{number}
 use Rattle.format.specs.ProblemRules.{Problem, readProblem}
 use Rattle.accepting.specs.RowOrder.{OtherOrder}
-use Rattle.calls.specs.Report.{Runs, pairOn, recordBytes, recordLength, Told}
+use Rattle.calls.specs.Report.{Runs, threeRuns, pairOn, recordBytes, recordLength, Told}
 
 -- "Fewer than 32 bytes give 1 as the returned number ..; otherwise the returned number is the refusal or 0"
 unfoldable pub toolNumber : List ℕ → Runs → ℕ
@@ -41,4 +41,4 @@ abbrev pub AnyOrder : List ℕ → Runs → ℕ → Type 0
 AnyOrder out r n =
     (p : Problem) → readProblem (r .problem) ≡ given p
     → (low high : List ℕ) → OtherOrder p (r .low) low → OtherOrder p (r .high) high
-    → AcceptedAlike n (toolNumber out (record { problem = r .problem; low = low; high = high }))
+    → AcceptedAlike n (toolNumber out (threeRuns (r .problem) low high))

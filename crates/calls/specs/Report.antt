@@ -36,12 +36,13 @@ pub record Runs : Type 0 where
   pub low : List ℕ
   pub high : List ℕ
 
+abbrev pub threeRuns : List ℕ → List ℕ → List ℕ → Runs
+threeRuns problem low high = record { problem = problem; low = low; high = high }
+
 unfoldable pub runsAt : List ℕ → ℕ → Runs
-runsAt s at = record {
-  problem = take (number 2 s at) (drop (at + 6) s);
-  low = take (number 2 s (at + 2)) (drop (lowStart s at) s);
-  high = take (number 2 s (at + 4)) (drop (highStart s at) s);
-}
+runsAt s at =
+    threeRuns (take (number 2 s at) (drop (at + 6) s)) (take (number 2 s (at + 2)) (drop (lowStart s at) s))
+    (take (number 2 s (at + 4)) (drop (highStart s at) s))
 
 -- "a record cut short": the input ends before it does. Fewer than the 6 bytes of its lengths are too few whatever they
 -- say
@@ -167,7 +168,7 @@ abbrev pub WhereReported : List ℕ → ℕ → (List Runs → Type 0) → Type 
 WhereReported s number P = (l : List Runs) → recordsOf s ≡ given l → number ≡ 0 → P l
 
 abbrev pub noRuns : Runs
-noRuns = record { problem = []; low = []; high = [] }
+noRuns = threeRuns [] [] []
 
 -- the 32 bytes at a record's own position are those of the pair's verdict on its three runs: nothing else of the input
 -- has an effect on them

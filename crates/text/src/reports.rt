@@ -1,6 +1,5 @@
 // A report as text: the line that `replay` answers, and those that `weekcheck` writes, each in a lent buffer.
 ghost use mathlib.Core.Path.{_≡_};
-ghost use mathlib.Core.List.{_++_};
 ghost use Prim.Native.Nat.{_+_, _*_, _^_, _≤_, _<_};
 ghost use lib.ListN.{length, take};
 ghost use Rattle.format.specs.Operands.{signed};

@@ -1,8 +1,7 @@
 -- The text for a week, from what the report returns and leaves.
 use native.Mathlib.Omega.{arith}
-use native.Mathlib.Numerals.{add-one}
 use mathlib.Core.Path.{_≡_, refl, sym, ap, ap₂, _∙_}
-use mathlib.Core.Bool.{Bool, true, false}
+use mathlib.Core.Bool.{false}
 use mathlib.Core.List.{List, [], _∷_, _++_, append-nil, append-assoc}
 use Prim.Native.Nat.{ℕ, zero, suc, _+_, _*_, _≤_, _<_}
 use lib.ListN.{length, getD, take}
@@ -12,7 +11,7 @@ use Rattle.format.specs.Commands.{Outcome, refused, given}
 use Rattle.calls.specs.declared.Refusal.{Refusal}
 use Rattle.calls.specs.declared.ReportVerdict.{ReportVerdict}
 use Rattle.calls.specs.Report.{Runs, recordsOf, recordCount, recordLength, entry, withRoom, checkedRecords}
-use Rattle.calls.specs.Report.{noneAccepted, resultOf, reportVerdict, noRuns, EachRecord}
+use Rattle.calls.specs.Report.{noneAccepted, reportVerdict, noRuns, EachRecord}
 use Rattle.calls.proofs.Records.{records-few, records-twelve}
 use Rattle.calls.proofs.Reports.{result-refusal}
 use Rattle.lines.specs.Lines.{refusalLine}

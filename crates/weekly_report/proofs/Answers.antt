@@ -11,11 +11,11 @@ use lib.ListN.{length, getD, take, drop, length-drop}
 use lib.Seq.{take-all}
 use borrow.Rule.Slice.PartMut.{midOf, putMid}
 use Rattle.counting.proofs.Cases.{clash}
-use Rattle.format.specs.Commands.{Outcome, refused, given}
+use Rattle.format.specs.Commands.{given}
 use Rattle.calls.specs.Tables.{Tables, TablesLeft}
 use Rattle.calls.specs.declared.PairVerdict.{PairVerdict}
 use Rattle.calls.specs.declared.ReportVerdict.{ReportVerdict}
-use Rattle.calls.specs.Report.{Runs, recordEnd, isCut, runsAt, recordsFrom, recordsOf, pairOn, fieldsOf, recordBytes}
+use Rattle.calls.specs.Report.{Runs, recordEnd, isCut, runsAt, recordsFrom, recordsOf, pairOn, recordBytes}
 use Rattle.calls.specs.Report.{recordLength, entry, outputLeft, noneAccepted, withAccepted, withVerdict, resultOf, noRuns}
 use Rattle.calls.proofs.Records.{records-over, Taken, taken}
 use Rattle.calls.proofs.Reports.{entry-length}

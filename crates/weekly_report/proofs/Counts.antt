@@ -1,13 +1,12 @@
 -- The records counted one by one.
 use native.Mathlib.Omega.{arith}
 use mathlib.Core.Path.{_≡_, refl, sym, ap, _∙_}
-use mathlib.Core.List.{List, []}
+use mathlib.Core.List.{List}
 use Prim.Native.Nat.{ℕ, suc, _+_, _-_, _≤_, _<_}
 use lib.ListN.{length}
 use Rattle.format.specs.Commands.{Outcome, refused, given}
 use Rattle.calls.specs.Report.{Runs, recordEnd, runsAt, withRuns, recordsFrom, recordsOf}
 use Rattle.calls.proofs.Records.{records-over, records-past, records-cut, records-one}
-use Rattle.weekly_report.specs.declared.Counted.{Counted}
 use Rattle.weekly_report.specs.declared.Counted.the-variants.{Whole, Cut}
 use Rattle.weekly_report.specs.Steps.{countedFrom}
 

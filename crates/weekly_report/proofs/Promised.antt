@@ -1,17 +1,18 @@
 -- What a report promises, by how it ends.
 use native.Mathlib.Omega.{arith}
-use mathlib.Core.Path.{_≡_, refl, sym, ap, _∙_, subst}
-use mathlib.Core.Bool.{Bool, true, false, cond}
+use mathlib.Core.Path.{_≡_, refl, sym, ap, _∙_}
+use mathlib.Core.Bool.{true, false}
 use mathlib.Core.List.{List}
 use Prim.Native.Nat.{ℕ, _+_, _*_, _/_, _≤_, _<_}
 use lib.ListN.{length}
 use borrow.Author.Tests.{lt-ltb, le-ltb}
+use Rattle.counting.specs.Counting.{Bounded}
 use Rattle.counting.proofs.Cases.{clash}
 use Rattle.format.specs.Commands.{Outcome, refused, given}
 use Rattle.calls.specs.Tables.{Tables, tablesShort, TablesLeft}
 use Rattle.calls.specs.declared.ReportVerdict.{ReportVerdict}
-use Rattle.calls.specs.Report.{Runs, recordsOf, recordLength, withRoom, checkedRecords, outputLeft, isShort, refusedReport}
-use Rattle.calls.specs.Report.{reportVerdict, ReportNumbered, EachRecord, OutputKept, WithinBounds, Summarised}
+use Rattle.calls.specs.Report.{Runs, recordsOf, recordLength, checkedRecords, outputLeft, isShort, refusedReport}
+use Rattle.calls.specs.Report.{reportVerdict, ReportNumbered, EachRecord, EachTold, OutputKept, WithinBounds, Summarised}
 use Rattle.calls.proofs.Records.{records-twelve}
 use Rattle.calls.proofs.Reports.{report-clauses}
 use Rattle.work_tables.proofs.Tables.{tables-kept}
@@ -27,7 +28,8 @@ Promised s out lent v outLeft left =
     × (TablesLeft (isShort o) lent left
     × (ReportNumbered (v .refusal .number)
     × (EachRecord s (v .refusal .number) outLeft
-    × (OutputKept s (v .refusal .number) out outLeft × (WithinBounds s v × Summarised s v))))))
+    × (EachTold s (v .refusal .number) outLeft
+    × (OutputKept s (v .refusal .number) out outLeft × (WithinBounds s v × Summarised s v)))))))
 
 -- ---- what the count tells of the records
 counted-whole : (o : Outcome (List Runs)) (count : ℕ) → Whole count ≡ countedFrom 0 o
@@ -40,14 +42,14 @@ counted-cut : (o : Outcome (List Runs)) (place : ℕ) → Cut place ≡ countedF
 counted-cut (refused number at) place e = let f : place ≡ at = cc in record { number = number; is = rw f refl }
 counted-cut (given l) place e = clash (cc)
 
-module _ (s out : List ℕ) (lent : Tables) where
+module _ (s out : List ℕ) (lent : Tables) (bytes : Bounded 255 s) where
   by-outcome : (o : Outcome (List Runs)) → checkedRecords (tablesShort lent) s out ≡ o → (v : ReportVerdict) (outLeft : List ℕ) (left : Tables)
       → v ≡ reportVerdict o → outLeft ≡ outputLeft o out → TablesLeft (isShort o) lent left → Promised s out lent v outLeft left
   by-outcome o e v outLeft left x y z =
       let x′ : v ≡ reportVerdict (checkedRecords (tablesShort lent) s out) = x ∙ ap reportVerdict (sym e) in
       let y′ : outLeft ≡ outputLeft (checkedRecords (tablesShort lent) s out) out =
       y ∙ ap (λ (p : Outcome (List Runs)). outputLeft p out) (sym e) in
-      (x′, (y′, (rw e z, report-clauses (tablesShort lent) s out v outLeft x′ y′)))
+      (x′, (y′, (rw e z, report-clauses (tablesShort lent) s out v outLeft x′ y′ bytes)))
 
   -- "1 for a work table"
   pub tables-short : tablesShort lent ≡ true → (v : ReportVerdict) → v ≡ refusedReport 1 0 → Promised s out lent v out lent

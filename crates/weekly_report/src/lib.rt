@@ -9,7 +9,8 @@ ghost use Rattle.format.specs.Operands.{number};
 ghost use Rattle.calls.specs.Tables.{tables, tablesShort, TablesLeft};
 ghost use Rattle.calls.specs.Report.{recordEnd, isCut, runsAt, recordsOf, recordCount, pairOn, checkedRecords};
 ghost use Rattle.calls.specs.Report.{outputLeft, isShort, withAccepted, withVerdict, refusedReport};
-ghost use Rattle.calls.specs.Report.{reportVerdict, ReportNumbered, EachRecord, OutputKept, WithinBounds, Summarised};
+ghost use Rattle.calls.specs.Report.{reportVerdict, ReportNumbered, EachRecord, EachTold, OutputKept, WithinBounds};
+ghost use Rattle.calls.specs.Report.{Summarised};
 ghost use Rattle.work_tables.specs.Tables.{Long};
 ghost use Rattle.weekly_report.specs.Steps.{countedFrom, Roomy, Answered};
 use calls::Fraction;
@@ -209,6 +210,7 @@ pub fn report(
         ⌜ TablesLeft (isShort o) lent left ⌝ }
     ensures numbered { λ r. ⌜ ReportNumbered (r .refusal .number) ⌝ }
     ensures each { λ r. ⌜ EachRecord (now (records .entry)) (r .refusal .number) (now (out .exit)) ⌝ }
+    ensures told { λ r. ⌜ EachTold (now (records .entry)) (r .refusal .number) (now (out .exit)) ⌝ }
     ensures kept { λ r. ⌜
         OutputKept (now (records .entry)) (r .refusal .number) (now (out .entry)) (now (out .exit))
         ⌝ }

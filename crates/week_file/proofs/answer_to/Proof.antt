@@ -1,7 +1,7 @@
 -- `answer_to`: the line of refusal 12, or the lines of the records and the last one.
 use borrow.Author.Needs.{needs}
 use native.Mathlib.Omega.{arith}
-use mathlib.Core.Path.{_≡_, _∙_}
+use mathlib.Core.Path.{_∙_}
 use Prim.Native.Nat.{_+_, _≤_}
 use lib.ListN.{length}
 use Rattle.text.proofs.Appending.{appended-text}

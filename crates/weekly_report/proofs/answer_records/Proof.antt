@@ -1,8 +1,7 @@
 -- `answer_records`: after i records what is written and counted is theirs, and what is left gives the rest.
 use borrow.Author.Needs.{needs}
 use native.Mathlib.Omega.{arith}
-use mathlib.Core.Path.{_≡_}
-use Prim.Native.Nat.{_-_, _<_}
+use Prim.Native.Nat.{_-_}
 use lib.ListN.{length, length-take, length-drop}
 use Rattle.calls.specs.Tables.{Tables, tables}
 use Rattle.work_tables.proofs.Tables.{tables-cleared}

@@ -1,8 +1,7 @@
 -- `count_records`: what is left from the offset gives the count.
 use borrow.Author.Needs.{needs}
 use native.Mathlib.Omega.{arith}
-use mathlib.Core.Path.{_≡_}
-use Prim.Native.Nat.{_-_, _<_}
+use Prim.Native.Nat.{_-_}
 use lib.ListN.{length}
 use Rattle.weekly_report.proofs.Ends.{end-cut, end-whole}
 use Rattle.weekly_report.proofs.Counts.{Counting, counting-none, counted-past, counted-cut, counted-all, counting-more}

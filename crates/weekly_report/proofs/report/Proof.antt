@@ -1,6 +1,5 @@
 -- `report`: the equations from the callees, and the clauses from the equations.
 use borrow.Author.Needs.{needs}
-use native.Mathlib.Omega.{arith}
 use mathlib.Core.Path.{_≡_, sym, _∙_}
 use mathlib.Core.Bool.{false}
 use Rattle.calls.specs.Tables.{Tables, tables, tablesShort}
