@@ -3,9 +3,9 @@
 use super::Change;
 use crate::generate::certificates;
 use crate::generate::refusals::reports::cases;
-use crate::generate::refusals::{case_f, met};
+use crate::generate::refusals::{case_f, cases_to, met};
 use crate::generate::rng::Rng;
-use crate::records::{Record, PAIR, REPORT};
+use crate::records::{Record, PAIR, REPORT, RUN};
 
 /// The bytes of a record: three lengths, and the runs.
 pub fn packed(runs: &[Vec<u8>]) -> Vec<u8> {
@@ -101,13 +101,31 @@ fn found() -> Vec<(Record, &'static str)> {
     ]
 }
 
-/// Those, full reports of 64 records, and the refusals.
+/// Reports on the refused pairs of the table, as many in each as there is room for.
+fn refused_pairs() -> Vec<Record> {
+    let mut reports = vec![(Vec::new(), 0_usize)];
+    for pair in met(cases_to(7), PAIR) {
+        let bytes = packed(&pair.runs);
+        let (report, count) = reports.last().expect("there is one");
+        if *count == 64 || report.len() + bytes.len() > RUN {
+            reports.push((Vec::new(), 0));
+        }
+        let (report, count) = reports.last_mut().expect("there is one");
+        report.extend(bytes);
+        *count += 1;
+    }
+    let lent = |(report, count)| record(report, vec![0xEE; 32 * count + 3]);
+    reports.into_iter().map(lent).collect()
+}
+
+/// Those, full reports of 64 records, the refusals, and those of the pairs.
 pub fn special() -> Vec<Record> {
     let mut all: Vec<Record> = found().into_iter().map(|(record, _)| record).collect();
     let full = packed(&case_f()).repeat(64);
     all.push(record(full.clone(), vec![1; 2_048]));
     all.push(record(full, vec![1; 2_060]));
     all.extend(met(cases(), REPORT));
+    all.extend(refused_pairs());
     all
 }
 
@@ -157,5 +175,23 @@ mod tests {
         for (record, expected) in found() {
             assert!(line(&record).starts_with(expected), "{}", line(&record));
         }
+    }
+
+    /// The 32 bytes of each refused pair begin with the number of its refusal.
+    #[test]
+    fn every_refusal_of_a_pair_stands_in_a_report() {
+        let mut met = [false; 11];
+        for report in refused_pairs() {
+            let line = line(&report);
+            let digits = line.split(' ').next_back().expect("a line has words");
+            let (records, past) = digits.split_at(digits.len() - 6);
+            assert_eq!(past, "eeeeee");
+            for record in records.as_bytes().chunks(64) {
+                let number = std::str::from_utf8(&record[..2]).expect("digits");
+                met[usize::from_str_radix(number, 16).expect("digits")] = true;
+            }
+        }
+        assert_eq!(met[..2], [false; 2]);
+        assert_eq!(met[2..], [true; 9]);
     }
 }
