@@ -75,6 +75,19 @@ extern "C" {
         low: *mut i64,
         low_length: usize,
     ) -> u64;
+
+    fn zamiachisel_report(
+        records: *const u8,
+        records_length: usize,
+        out: *mut u8,
+        out_length: usize,
+        keys: *mut u64,
+        keys_length: usize,
+        high: *mut i64,
+        high_length: usize,
+        low: *mut i64,
+        low_length: usize,
+    ) -> u64;
 }
 
 /// A record: its kind and its three byte runs.
@@ -145,8 +158,14 @@ pub fn answer(record: &Record, lent: &mut Lent) -> u64 {
         b'p' => call!(zamiachisel_pair, problem, first, second; lent.keys, lent.high, lent.low),
         b't' => tighter(&record.runs, lent)[0],
         b's' => call!(zamiachisel_symmetries, problem; lent.out, lent.keys, lent.high, lent.low),
+        b'r' => report(problem, &mut first.clone(), lent),
         _ => 0,
     }
+}
+
+/// The report on these records, which writes to this output: the number of the refusal, or 0.
+pub fn report(records: &[u8], output: &mut [u8], lent: &mut Lent) -> u64 {
+    call!(zamiachisel_report, records; output, lent.keys, lent.high, lent.low)
 }
 
 /// The four numbers that the call on two certificates leaves. They are lent with other numbers in them; where the number of

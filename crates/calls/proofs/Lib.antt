@@ -14,3 +14,12 @@ pub mod EvenBlocks
 pub mod Doubling
 pub mod Masks
 pub mod SymmetryClauses
+pub mod RowOrder
+pub mod FractionOrder
+pub mod Pieces
+pub mod Records
+pub mod Packed
+pub mod RecordFields
+pub mod Told
+pub mod Reports
+pub mod BidTools

@@ -10,3 +10,5 @@ pub mod RingPromises
 pub mod Superseding
 pub mod Rules
 pub mod Symmetries
+pub mod Report
+pub mod BidTool

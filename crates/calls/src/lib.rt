@@ -99,3 +99,12 @@ pub struct SymmetriesVerdict {
     pub refusal: Refusal,
     pub masks: usize,
 }
+
+// What the report returns: how many pairs were accepted, the smallest of their lower bounds and the largest of their
+// upper ones; 0 over 0 where none was. With a refusal all are 0.
+pub struct ReportVerdict {
+    pub refusal: Refusal,
+    pub accepted: usize,
+    pub lower: Fraction,
+    pub upper: Fraction,
+}

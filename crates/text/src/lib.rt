@@ -1,4 +1,6 @@
 // Verdicts as text: the lines that the programs write, made in a buffer first, each proved equal to its definition.
+pub mod reports;
+
 ghost use mathlib.Core.Path.{_≡_};
 ghost use mathlib.Core.List.{_++_};
 ghost use Prim.Native.Nat.{_+_, _*_, _≤_, _<_};

@@ -14,7 +14,7 @@ after its number, of a request (document 02). \
 The answers were found by hand from those words and stand beside the cases in `reference/src/generate/refusals`; a test \
 there holds the reference to them. Each case is in the stored corpus `crates/replay/stdin`, where the proved calls \
 meet it; the last column gives, for each kind of call that meets it (`b` blocks, `c` check, `p` pair, `s` symmetries, `t` the \
-tighter of two certificates, `w` arrivals at the window of gaps), the number of its record there, which is that of the line in `stdout`. `reference refusals` writes this page, and `./test` compares the two.
+tighter of two certificates, `w` arrivals at the window of gaps, `r` report), the number of its record there, which is that of the line in `stdout`. `reference refusals` writes this page, and `./test` compares the two.
 
 Of two certificates a refusal of the first is seen only where the second is refused as well: where a case names only the first, \
 its record of kind `t` has that one twice.
@@ -24,12 +24,12 @@ hexadecimal, 0⁷ is seven zero bytes and 0⁸ eight, and a bar stands between c
 ";
 
 const ONE: &str = "
-## 1: a lent table, the 576 bytes or the 256 bytes is too short
+## 1: a lent table, the 576 bytes, the 256 bytes or a report's output is too short
 
-A replayed record is always answered with tables lent in full, so no record meets refusal 1. It is stated in the public \
-contracts in `crates/checker/src/lib.rt`, `crates/superseding/src/lib.rt` and `crates/sign_symmetries/src/lib.rt`: `verdict` or \
-`numbers` of each call says that it is given exactly when the named test holds, and `bytes` and `tables` that nothing is written \
-then; the four numbers lent to `tighter` receive it. `bench short` calls the C functions with each \
+A replayed record is always answered with tables lent in full, so only reports meet refusal 1, by their output. It is stated in the public \
+contracts in `crates/checker/src/lib.rt`, `crates/superseding/src/lib.rt`, `crates/sign_symmetries/src/lib.rt` and `crates/weekly_report/src/lib.rt`: \
+`verdict` or `numbers` of each call says that it is given exactly when the named test holds, and `bytes`, `output` and `tables` that nothing is \
+written then; the four numbers lent to `tighter` receive it. `bench short` calls the C functions with each \
 length one short, and sees refusal 1 and all that was lent untouched.
 
 | case | what is lent | answer | clause |
@@ -102,8 +102,8 @@ Request 01's call lists the masks of a problem into 256 bytes, which are shown t
 |---|---|---|---|---|---|
 ";
 
-/// The words of document 01's table, and of request 02, for each number from 2 on.
-const TITLES: [&str; 10] = [
+/// The words of document 01's table, and of the requests, for each number from 2 on.
+const TITLES: [&str; 11] = [
     "stream ends in a command or without its end, or goes on after it",
     "command unknown in this stream or misplaced",
     "operand outside its rule",
@@ -114,10 +114,11 @@ const TITLES: [&str; 10] = [
     "identity false",
     "in a pair, first side not 0 or second not 1",
     "of two certificates, both are accepted and their sides differ",
+    "a record of a report is cut short, or a byte comes after the 64th",
 ];
 
 const STREAMS: [&str; 3] = [
-    "in the problem",
+    "in the problem, or of stream 0",
     "in the first certificate",
     "in the second certificate",
 ];
@@ -127,11 +128,11 @@ const SHORT: usize = 130;
 
 /// Writes the page.
 pub fn print() {
-    let corpus = corpus("bcpwts");
+    let corpus = corpus("bcpwtsr");
     let mut cases = cases();
     cases.sort_by_key(|case| (case.expected.number, case.expected.stream));
     print!("{HEAD}{ONE}");
-    let mut section = (1, 0);
+    let mut section = (1, u8::MAX);
     for case in &cases {
         let number = case.expected.number;
         if number != section.0 {

@@ -3,6 +3,7 @@
 mod empty_region;
 mod equalities;
 mod joining_rules;
+mod reports;
 mod superseding;
 mod symmetries;
 mod wide_factors;
@@ -14,7 +15,9 @@ use crate::generate::certificates::{as_record, streams};
 use crate::generate::changes::{change_case, CHANGES};
 use crate::generate::damage::{self, damaged};
 use crate::generate::rng::Rng;
-use crate::records::{Record, BLOCKS, CHECK, PAIR, SYMMETRIES, TIGHTER, WINDOW};
+use crate::records::{Record, BLOCKS, CHECK, PAIR, REPORT, SYMMETRIES, TIGHTER, WINDOW};
+
+pub use reports::packed;
 
 /// A call that a request added.
 pub struct Call {
@@ -93,6 +96,12 @@ const LANDED: &[Landed] = &[
         special: symmetries::special,
         random: symmetries::random,
         count: 250,
+    }),
+    Landed::Call(Call {
+        kind: REPORT,
+        special: reports::special,
+        random: reports::random,
+        count: 200,
     }),
 ];
 
@@ -218,6 +227,14 @@ fn drawn(rng: &mut Rng, kind: u8) -> (Streams, usize) {
         streams[0] = case.problem.mixed_commands(rng);
     }
     (streams, case.focus)
+}
+
+/// A record of the pair with some of these requests in it.
+fn pair_with_some(rng: &mut Rng, changes: &[&'static Change]) -> Record {
+    let mut changes = changes.to_vec();
+    rng.shuffle(&mut changes);
+    changes.truncate(rng.below(4));
+    changed(rng, PAIR, &changes)
 }
 
 /// The places of the commands with this first byte.
