@@ -10,6 +10,7 @@ pub mod gaps;
 pub mod joining_rules;
 mod order;
 mod problems;
+pub mod sparse_orders;
 mod sums;
 pub mod superseding;
 mod table;
@@ -107,6 +108,7 @@ const LISTS: &[(u8, fn() -> Vec<Case>)] = &[
     (5, wide_factors::cases),
     (2, superseding::cases),
     (8, joining_rules::cases),
+    (9, sparse_orders::cases),
 ];
 
 /// All cases, by the order of the lists.
@@ -224,6 +226,7 @@ mod tests {
             equalities::ACCEPTED,
             gaps::ACCEPTED,
             joining_rules::ACCEPTED,
+            sparse_orders::ACCEPTED,
         ]
         .into_iter()
         .flatten()

@@ -1,7 +1,7 @@
 //! The table of refusals as a page of markdown.
 
 use super::windows::{Arrivals, CASES};
-use super::{cases, equalities, gaps, joining_rules, Accepted, Case};
+use super::{cases, equalities, gaps, joining_rules, sparse_orders, Accepted, Case};
 use crate::generate::corpus;
 use crate::plain;
 use crate::records::Record;
@@ -88,6 +88,16 @@ by hand. The bytes of a blocks call are shown to the last that is not 255.
 |---|---|---|---|---|---|---|
 ";
 
+const ORDERS: &str = "
+## Beside the refusals: sparse orders
+
+Request 09 lets a problem end the rounds. These cases stand next to the refusals of 09 above; the answers were found by hand. \
+The bytes of a blocks call are shown to the last that is not 255.
+
+| case | what it has | problem | certificates | words | answer | record |
+|---|---|---|---|---|---|---|
+";
+
 /// The words of document 01's table, and of request 02, for each number from 2 on.
 const TITLES: [&str; 10] = [
     "stream ends in a command or without its end, or goes on after it",
@@ -139,6 +149,7 @@ pub fn print() {
         (EQUALITIES, equalities::ACCEPTED),
         (GAPS, gaps::ACCEPTED),
         (RULES, joining_rules::ACCEPTED),
+        (ORDERS, sparse_orders::ACCEPTED),
     ];
     for (head, cases) in accepted {
         print!("{head}");

@@ -3,6 +3,7 @@
 mod empty_region;
 mod equalities;
 mod joining_rules;
+mod sparse_orders;
 mod superseding;
 mod wide_factors;
 mod windows;
@@ -85,6 +86,12 @@ const LANDED: &[Landed] = &[
         kinds: &[BLOCKS, CHECK, PAIR, TIGHTER],
         special: joining_rules::special,
         put: joining_rules::put,
+        count: 200,
+    }),
+    Landed::Change(Change {
+        kinds: &[BLOCKS, CHECK, PAIR, TIGHTER],
+        special: sparse_orders::special,
+        put: sparse_orders::put,
         count: 200,
     }),
 ];
