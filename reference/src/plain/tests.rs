@@ -38,11 +38,11 @@ fn rounds(line: &str) -> &str {
     line.rsplit(' ').next().unwrap_or_default()
 }
 
-/// Whether it is refusal 3 at a 07 or an 08 of the problem, or at a 14 or a 15 of a certificate,
+/// Whether it is refusal 3 at a 07, an 08 or a 09 of the problem, or at a 14 or a 15 of a certificate,
 /// behind the first command.
 fn is_of_a_request(record: &Record, refusal: Refusal) -> bool {
     let commands: &[u8] = if refusal.stream == PROBLEM {
-        &[0x07, 0x08]
+        &[0x07, 0x08, 0x09]
     } else {
         &[0x14, 0x15]
     };

@@ -11,6 +11,7 @@ pub mod joining_rules;
 mod order;
 mod problems;
 pub mod reports;
+pub mod sparse_orders;
 mod sums;
 pub mod superseding;
 pub mod symmetries;
@@ -110,6 +111,7 @@ const LISTS: &[(u8, fn() -> Vec<Case>)] = &[
     (5, wide_factors::cases),
     (2, superseding::cases),
     (8, joining_rules::cases),
+    (9, sparse_orders::cases),
     (7, reports::cases),
 ];
 
@@ -228,6 +230,7 @@ mod tests {
             equalities::ACCEPTED,
             gaps::ACCEPTED,
             joining_rules::ACCEPTED,
+            sparse_orders::ACCEPTED,
         ]
         .into_iter()
         .flatten()

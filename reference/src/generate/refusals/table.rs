@@ -2,7 +2,7 @@
 
 use super::symmetries::{Symmetric, SYMMETRIC};
 use super::windows::{Arrivals, CASES};
-use super::{cases, equalities, gaps, joining_rules, Accepted, Case};
+use super::{cases, equalities, gaps, joining_rules, sparse_orders, Accepted, Case};
 use crate::generate::corpus;
 use crate::plain;
 use crate::records::Record;
@@ -93,6 +93,16 @@ by hand. The bytes of a blocks call are shown to the last that is not 255.
 |---|---|---|---|---|---|---|
 ";
 
+const ORDERS: &str = "
+## Beside the refusals: sparse orders
+
+Request 09 lets a problem end the rounds. These cases stand next to the refusals of 09 above; the answers were found by hand. \
+The bytes of a blocks call are shown to the last that is not 255.
+
+| case | what it has | problem | certificates | words | answer | record |
+|---|---|---|---|---|---|---|
+";
+
 const SYMMETRIES: &str = "
 ## Beside the refusals: sign symmetries found by hand
 
@@ -154,6 +164,7 @@ pub fn print() {
         (EQUALITIES, equalities::ACCEPTED),
         (GAPS, gaps::ACCEPTED),
         (RULES, joining_rules::ACCEPTED),
+        (ORDERS, sparse_orders::ACCEPTED),
     ];
     for (head, cases) in accepted {
         print!("{head}");

@@ -4,6 +4,7 @@ mod empty_region;
 mod equalities;
 mod joining_rules;
 mod reports;
+mod sparse_orders;
 mod superseding;
 mod symmetries;
 mod wide_factors;
@@ -89,6 +90,12 @@ const LANDED: &[Landed] = &[
         kinds: &[BLOCKS, CHECK, PAIR, TIGHTER],
         special: joining_rules::special,
         put: joining_rules::put,
+        count: 200,
+    }),
+    Landed::Change(Change {
+        kinds: &[BLOCKS, CHECK, PAIR, TIGHTER],
+        special: sparse_orders::special,
+        put: sparse_orders::put,
         count: 200,
     }),
     Landed::Call(Call {

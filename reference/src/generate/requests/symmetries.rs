@@ -14,7 +14,7 @@ use crate::records::{Record, BLOCKS, SYMMETRIES};
 /// as many exponents as there may be, of which one has even ones alone, and the samples.
 pub fn special() -> Vec<Record> {
     let mut all: Vec<Record> = SYMMETRIC.iter().map(Symmetric::record).collect();
-    all.extend(met(cases_to(8), SYMMETRIES));
+    all.extend(met(cases_to(9), SYMMETRIES));
     let mut even = Draft::new(8, 0);
     even.objective.push((monomial(&[2; 8]), 1));
     let rng = &mut Rng::new(1);
