@@ -46,6 +46,9 @@ length one short, and sees refusal 1 and all that was lent untouched.
 | the tighter of two, keys | 2,047 numbers as the first table | `refused 1 0 0 0` | `numbers` of `tighter`, `tablesShort` |
 | the tighter of two, high | 2,047 numbers as the second table | `refused 1 0 0 0` | `numbers` of `tighter`, `tablesShort` |
 | the tighter of two, low | 2,047 numbers as the third table | `refused 1 0 0 0` | `numbers` of `tighter`, `tablesShort` |
+| report, keys | 2,047 numbers as the first table | `refused 1 0 0 0` | `verdict` of `report`, `checkedRecords` |
+| report, high | 2,047 numbers as the second table | `refused 1 0 0 0` | `verdict` of `report`, `checkedRecords` |
+| report, low | 2,047 numbers as the third table | `refused 1 0 0 0` | `verdict` of `report`, `checkedRecords` |
 ";
 
 const FOURTEEN: &str = "
