@@ -1,7 +1,9 @@
 -- `report`: the equations from the callees, and the clauses from the equations.
 use borrow.Author.Needs.{needs}
+use native.Mathlib.Omega.{arith}
 use mathlib.Core.Path.{_≡_, sym, _∙_}
 use mathlib.Core.Bool.{false}
+use Rattle.counting.specs.Counting.{Bounded}
 use Rattle.calls.specs.Tables.{Tables, tables, tablesShort}
 use Rattle.work_tables.specs.Tables.{Long}
 use Rattle.work_tables.proofs.Tables.{tables-long}
@@ -20,6 +22,13 @@ start c = c .before .before .before .before .before
 not-short : (c : tie.Else1) → tablesShort (lent (start c)) ≡ false
 not-short c = sym (c .before .is-short .ensures) ∙ c .if1 .left
 
+-- the records are bytes
+known : (c : tie.After-shared-slice-known) → Bounded 255 (c .before .args .records .now)
+known c i = omega (arith, c .shared-slice-known .given i)
+
+bytes : (c : tie.Else1) → Bounded 255 (start c .args .records .now)
+bytes c = known (c .before .before .before .before)
+
 long : (c : tie.Else1) → Long (lent (start c))
 long c = tables-long _ (not-short c)
 
@@ -33,7 +42,7 @@ returns : tie.Need-returns
 returns c =
     let i = c .before in
     let s = i .before .before .before .before .before in
-    tables-short _ _ (lent s) (sym (i .before .is-short .ensures) ∙ i .if1 .taken) _ (c .refuse .ensures)
+    tables-short _ _ (lent s) (known (i .before .before .before .before)) (sym (i .before .is-short .ensures) ∙ i .if1 .taken) _ (c .refuse .ensures)
 
 count-records-requires : tie.Need-count-records-requires
 count-records-requires c κs = search needs
@@ -50,7 +59,7 @@ returns-2 c =
     let k = i .before .before in
     let n = k .before .before in
     let e = n .before in
-    output-short _ _ _ (not-short e) _ (n .count-records .ensures) _ (k .count .given .1) (i .if2 .taken) _ (c .refuse2 .ensures)
+    output-short _ _ _ (bytes e) (not-short e) _ (n .count-records .ensures) _ (k .count .given .1) (i .if2 .taken) _ (c .refuse2 .ensures)
 
 answer-records-requires : tie.Need-answer-records-requires
 answer-records-requires c κs =
@@ -58,7 +67,7 @@ answer-records-requires c κs =
     let k = i .before .before in
     let n = k .before .before in
     let e = n .before in
-    (roomy _ _ (lent (start e)) (not-short e) _ (n .count-records .ensures) _ (k .count .given .1) (i .if2 .left), long e)
+    (roomy _ _ (lent (start e)) (bytes e) (not-short e) _ (n .count-records .ensures) _ (k .count .given .1) (i .if2 .left), long e)
 
 enum-known-place : tie.Need-enum-known-place
 enum-known-place c = search needs
@@ -94,7 +103,7 @@ returns-3 c =
     let k = i .before .before in
     let n = k .before .before in
     let e = n .before in
-    all-answered _ _ _ (not-short e) _ (n .count-records .ensures) _ (k .count .given .1) (i .if2 .left) _ _ _
+    all-answered _ _ _ (bytes e) (not-short e) _ (n .count-records .ensures) _ (k .count .given .1) (i .if2 .left) _ _ _
     (a .answer-records .ensures .0) (a .answer-records .ensures .1)
 
 same-length-5 : tie.Need-same-length-5
@@ -118,7 +127,7 @@ returns-4 c =
     let p = t .before .before .before .before .before in
     let n = p .before .before in
     let e = n .before in
-    records-cut _ _ _ (not-short e) _ (n .count-records .ensures) _ (p .place .given .1) _ _ (c .refuse3 .ensures)
+    records-cut _ _ _ (bytes e) (not-short e) _ (n .count-records .ensures) _ (p .place .given .1) _ _ (c .refuse3 .ensures)
     (t .clear-tables .ensures)
 
 pub report-spec : {M : Type 1} → statement M

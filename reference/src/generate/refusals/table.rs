@@ -51,6 +51,9 @@ length one short, and sees refusal 1 and all that was lent untouched.
 | symmetries, keys | 2,047 numbers as the first table | `refused 1 0 0 0` | `verdict` of `symmetries`, `symmetriesShort` |
 | symmetries, high | 2,047 numbers as the second table | `refused 1 0 0 0` | `verdict` of `symmetries`, `symmetriesShort` |
 | symmetries, low | 2,047 numbers as the third table | `refused 1 0 0 0` | `verdict` of `symmetries`, `symmetriesShort` |
+| report, keys | 2,047 numbers as the first table | `refused 1 0 0 0` | `verdict` of `report`, `checkedRecords` |
+| report, high | 2,047 numbers as the second table | `refused 1 0 0 0` | `verdict` of `report`, `checkedRecords` |
+| report, low | 2,047 numbers as the third table | `refused 1 0 0 0` | `verdict` of `report`, `checkedRecords` |
 ";
 
 const FOURTEEN: &str = "
