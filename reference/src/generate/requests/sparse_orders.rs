@@ -113,7 +113,7 @@ mod tests {
     /// Among the records that the request brought: accepted at an order that ends the rounds.
     #[test]
     fn the_corpus_has_rounds_that_end_early() {
-        for (kind, most) in [("b", 60), ("c", 20), ("p", 20)] {
+        for (kind, most) in [("b", 60), ("c", 20), ("p", 15)] {
             let records = corpus(kind);
             let first = met(cases(), kind.as_bytes()[0])[0].clone();
             let first = records.iter().position(|record| *record == first);
