@@ -2,13 +2,17 @@
 
 use super::Streams;
 use crate::generate::cascade::{longest, Plan};
-use crate::generate::draft::{order, rule, Draft};
+use crate::generate::draft::{
+    basis_monomial, bound, certificate_end, constraint_term, entry, equality, equality_row,
+    objective_term, order, power, problem_end, row, rule, variables, Draft,
+};
 use crate::generate::refusals::met;
 use crate::generate::refusals::sparse_orders::{cases, ACCEPTED};
 use crate::generate::rng::Rng;
 use crate::generate::support::late;
+use crate::monomial::Monomial;
 use crate::plain::blocks;
-use crate::records::{Record, BLOCKS};
+use crate::records::{Record, BLOCKS, CHECK, PAIR};
 
 /// The refusals, what stands beside them and is accepted, problems at the limit, and one of many
 /// rounds.
@@ -19,6 +23,8 @@ pub fn special(kind: u8) -> Vec<Record> {
     if kind == BLOCKS {
         let problems = at_the_limit().into_iter().chain(near_the_end());
         all.extend(problems.map(Record::blocks));
+    } else {
+        all.extend(late_joins(kind));
     }
     all
 }
@@ -64,6 +70,70 @@ fn near_the_end() -> Vec<Vec<u8>> {
     orders.map(|rounds| at(&draft, rounds, None)).into()
 }
 
+/// Certificates that need a join of round 2, at the orders 1 to 3, at the largest and without 09:
+/// checks of the lower one, pairs, and the lower one twice.
+fn late_joins(kind: u8) -> Vec<Record> {
+    let rng = &mut Rng::new(u64::from(kind));
+    let record = |rounds: Option<u8>| {
+        let [mut problem, lower, upper] = across(rng);
+        if let Some(rounds) = rounds {
+            problem.insert(1, order(rounds));
+        }
+        let [problem, lower, upper] = [problem, lower, upper].map(|commands| commands.concat());
+        match kind {
+            CHECK => Record::check(problem, lower),
+            PAIR => Record::pair(problem, lower, upper),
+            _ => Record::tighter(problem, lower.clone(), lower),
+        }
+    };
+    let orders = [Some(1), Some(1), Some(2), Some(3), Some(255), None];
+    orders.repeat(4).into_iter().map(record).collect()
+}
+
+/// w (c² + d² y⁶) where y = 0, and y a power of a variable, with two certificates on the bases 1, y³ and
+/// y, y², y³. The lower one is w (c + d y³)² − 2 w c d × y × y². Round 1 adds y³ to S as y × y × y, and
+/// round 2 joins 1 with y³. The upper one is 4 (w c² − objective), from y times squares of y² ± y³,
+/// which round 1 joins.
+fn across(rng: &mut Rng) -> Streams {
+    let count = rng.between(1, 3);
+    let (variable, e) = (rng.between(1, count), rng.between(1, 2) as u8);
+    let y = |exponent: u8| power(variable, exponent * e);
+    let [w, c, d] = [0; 3].map(|_| rng.between(1, 9) as i16);
+    let problem = vec![
+        variables(count as u8),
+        objective_term(Monomial::ONE, i32::from(w * c * c)),
+        objective_term(y(6), i32::from(w * d * d)),
+        equality(),
+        constraint_term(y(1), 1),
+        basis_monomial(0, Monomial::ONE),
+        basis_monomial(0, y(3)),
+        basis_monomial(1, y(1)),
+        basis_monomial(1, y(2)),
+        basis_monomial(1, y(3)),
+        problem_end(),
+    ];
+    let lower = vec![
+        bound(0, 1, 0, 1),
+        row(0, w as u16),
+        entry(0, c),
+        entry(1, d),
+        equality_row(1, -2 * w * c * d),
+        entry(0, 1),
+        certificate_end(),
+    ];
+    let upper = vec![
+        bound(1, 4, i32::from(w * c * c), 1),
+        equality_row(1, -w * d * d),
+        entry(1, 1),
+        entry(2, 1),
+        equality_row(1, w * d * d),
+        entry(1, 1),
+        entry(2, -1),
+        certificate_end(),
+    ];
+    [problem, lower, upper]
+}
+
 /// Puts a small order after 01 or 08; now and then elsewhere, or with another number.
 pub fn put(rng: &mut Rng, streams: &mut Streams) {
     let problem = &mut streams[0];
@@ -83,6 +153,7 @@ mod tests {
     use super::*;
     use crate::generate::corpus;
     use crate::plain::{answer, line};
+    use crate::records::TIGHTER;
 
     /// 2,048 is met after the round that is the last, and not before.
     #[test]
@@ -108,6 +179,19 @@ mod tests {
         let done = [1, 2, 3, 8, 9, full - 2, full - 1, full, full, full];
         assert_eq!(done.to_vec(), made.iter().map(|m| m.0).collect::<Vec<_>>());
         assert!(made.windows(2).all(|w| w[0].1 >= w[1].1) && made[0].1 > made[5].1);
+    }
+
+    /// What round 2 joins is in two blocks at the order 1, and in one at every larger one.
+    #[test]
+    fn late_joins_need_round_2() {
+        for kind in [CHECK, PAIR, TIGHTER] {
+            for (place, record) in late_joins(kind).iter().enumerate() {
+                let line = line(record);
+                let split = line.starts_with("refused 8 1 18 ");
+                assert_eq!(split, place % 6 < 2, "{line}");
+                assert!(split || !line.starts_with("refused"), "{line}");
+            }
+        }
     }
 
     /// Among the records that the request brought: accepted at an order that ends the rounds.
