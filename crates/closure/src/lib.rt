@@ -1,6 +1,6 @@
 // The joining rule applied to a problem that stands in the arrays of the crate flat: from its start to the closed
-// support, or the one reached where a sparse order ends the rounds, what is counted with it, and the blocks. The first `len` numbers of `table` are the support, in the order in
-// which they came, with `index`.
+// support, or the one reached where a sparse order ends the rounds, what is counted with it, and the blocks. The first
+// `len` numbers of `table` are the support, in the order in which they came, with `index`.
 ghost use mathlib.Core.Path.{_≡_};
 ghost use mathlib.Core.Bool.{true};
 ghost use mathlib.Core.List.{List};
@@ -136,8 +136,8 @@ fn too_many() -> Joined
     }
 }
 
-// The in-block products that the support may lack after the rounds put in: those of every basis under rule 2, none under rule 1,
-// where it has them all. The arrays are those of the crate whole_rounds.
+// The in-block products that the support may lack after the rounds, put in: those of every basis under rule 2, none
+// under rule 1, where it has them all. The arrays are those of the crate whole_rounds.
 fn put_missing(
     table: &mut [u64],
     index: &mut [u16],

@@ -1,8 +1,8 @@
 // Answers the records of the standard input, one line for each, until it ends. A record is a kind byte (b: blocks, c:
 // check, p: pair, s: symmetries, t: the tighter of two certificates, w: arrivals at the window of gaps, r: a report),
-// three lengths of 32 bits, little-endian, and three byte runs, each of at most 65,536 bytes. `answer_record` decides, on
-// the kind and the runs, `window_line` on the arrivals, `tighter_line` on two certificates and `report_line` on a report;
-// all else moves bytes.
+// three lengths of 32 bits, little-endian, and three byte runs, each of at most 65,536 bytes. `answer_record` decides,
+// on the kind and the runs, `window_line` on the arrivals, `tighter_line` on two certificates and `report_line` on a
+// report; all else moves bytes.
 ghost use mathlib.Core.Path.{_≡_};
 ghost use mathlib.Core.Bool.{true};
 ghost use mathlib.Core.List.{_++_};

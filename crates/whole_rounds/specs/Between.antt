@@ -29,14 +29,14 @@ pub record Between (rule most : ℕ) (o : Closing) (n₀ : ℕ) (t₀ keys sizes
   pub first : take n₀ t ≡ take n₀ t₀
 
 -- what a run asks that begins after c rounds and ends after at most m, or `most` where that is smaller
-pub record Running (rule most : ℕ) (keys sizes exponents counts l : List ℕ) (since n : ℕ) (t idx : List ℕ) (c m : ℕ) : Type
-    0 where
+pub record Running (rule most : ℕ) (keys sizes exponents counts l : List ℕ) (since n : ℕ) (t idx : List ℕ) (c m : ℕ) :
+    Type 0 where
   pub asks : RoundAsks rule (eqb c 0) t idx since n keys sizes exponents counts l l
   pub some : c ≤ m
   pub upto : c ≤ most
 
--- what it leaves: the outcome o, where one of its rounds was the last; else it has made m rounds, which are not all, and
--- stands between two
+-- what it leaves: the outcome o, where one of its rounds was the last; else it has made m rounds, which are not all,
+-- and stands between two
 pub record Advanced (rule most : ℕ) (o : Closing) (n₀ : ℕ) (t₀ keys sizes exponents counts : List ℕ) (m : ℕ)
     (r : Progress) (t idx l : List ℕ) : Type 0 where
   pub done : r .ended ≡ true → Settled o n₀ t₀ (record { len = r .len; rounds = r .rounds }) t idx l

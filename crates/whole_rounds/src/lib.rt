@@ -503,8 +503,8 @@ pub struct Closed {
     pub rounds: usize,
 }
 
-// What some of the rounds leave beside them: `ended`, where one of them was the last, or all were made; else the members
-// after the first `since` came in the last of them.
+// What some of the rounds leave beside them: `ended`, where one of them was the last, or all were made; else the
+// members after the first `since` came in the last of them.
 struct Progress {
     since: usize,
     len: usize,
@@ -760,8 +760,8 @@ fn go_on(
     )
 }
 
-// Rounds until one changes neither a block nor the support, or the support has too many keys, or the most were made. The
-// index of the pairs is made only after two rounds, or eight where the bases are small: most problems end before.
+// Rounds until one changes neither a block nor the support, or the support has too many keys, or the most were made.
+// The index of the pairs is made only after two rounds, or eight where the bases are small: most problems end before.
 pub fn close(
     labels: &mut [u8; 576],
     keys: &[u64],
