@@ -104,7 +104,7 @@ fn read_week(bytes: &mut [u8]) -> usize
 // are returned.
 pub fn answer(records: &mut [u8; 7340032], text: &mut [u8; 8192]) -> Answered
     ensures text { λ r. ⌜ take (r .text) (now (text .exit)) ≡ weekAnswer (take (r .records) (now (records .exit))) ⌝ }
-    ensures lengths { λ r. ⌜ r .records ≤ 7340032 ⌝ }
+    ensures lengths { λ r. ⌜ (r .records ≤ 7340032) × (length (now (text .exit)) ≡ 8192) ⌝ }
 {
     if 2 < os::arg_count() {
         messages::more_arguments();

@@ -32,7 +32,7 @@ returns : tie.Need-returns
 returns c =
     let r = c .before .before .before .before .before in (
       c .answer-to .ensures ∙ ap weekAnswer (c .before .before .cut .ensures),
-      at-most (r .read-week .result) (r .read-week .last .0) (r .read-week .ensures) (omega arith),
+      (at-most (r .read-week .result) (r .read-week .last .0) (r .read-week .ensures) (omega arith), omega arith),
     )
 
 pub answer-spec : {M : Type 1} → statement M
