@@ -1,7 +1,8 @@
 """Points that meet equalities exactly: some variables follow from the others, or a point is moved along a line.
 
-An equality in which a variable is linear gives that variable; it is put into the other equalities where it is a polynomial.
-One equality of degree 2 is met along lines through a rational point of it: the second point of each line is rational too.
+An equality in which a variable is linear gives that variable, which is put into the other equalities where it is a
+polynomial. One equality of degree 2 is met along lines through a rational point of it: the second point of each line is
+rational too.
 """
 from __future__ import annotations
 
@@ -41,7 +42,7 @@ class Equalities:
 
     def __init__(self, problem: Problem, prefer: int = 0) -> None:
         self.count = problem.variables
-        self.solved: list[tuple[int, Function, Function]] = []       # variable, rest, factor: rest + variable x factor = 0
+        self.solved: list[tuple[int, Function, Function]] = []       # i, rest, factor: rest + x_i x factor = 0
         self.quadric: Optional[Quadric] = None
         self.possible = True
         left = [{e: Fraction(c) for e, c in condition.terms.items()} for condition in problem.conditions

@@ -1,4 +1,5 @@
-"""Polynomials and conditions as HTML, no longer than the sheet has room for; and back from the stream to the model's variables."""
+"""Polynomials and conditions as HTML, no longer than the sheet has room for, in the stream's variables or, computed
+back, in the model's."""
 from __future__ import annotations
 
 import re
@@ -94,7 +95,8 @@ def region(conditions: list[Condition], variables: list[Scaled], room: int) -> s
             ranges.setdefault((v.middle - v.half, v.middle + v.half), []).append(f"<i>{escape(v.name)}</i>")
         else:
             others.append(Condition(condition.equality, whole(in_the_model(condition.terms, variables))[0]))
-    parts = [f"{minus(number(low))} ≤ {', '.join(names)} ≤ {minus(number(high))}" for (low, high), names in ranges.items()]
+    parts = [f"{minus(number(low))} ≤ {', '.join(names)} ≤ {minus(number(high))}"
+             for (low, high), names in ranges.items()]
     return joined(parts, others, [v.name for v in variables], room)
 
 

@@ -71,8 +71,8 @@ def pose(model: Model) -> Posed:
         origins.append(where.text)
     if len(problem.conditions) > LIMITS["conditions"]:
         ranges = sum(v.range is not None for v in model.variables)
-        raise LimitError(f"{len(problem.conditions)} conditions, of which {ranges} are ranges; at most {LIMITS['conditions']} are allowed. A variable that the other conditions bound "
-                         "needs no range")
+        raise LimitError(f"{len(problem.conditions)} conditions, of which {ranges} are ranges; at most "
+                         f"{LIMITS['conditions']} are allowed. A variable that other conditions bound needs no range")
     problem.bases = [[] for _ in range(len(problem.conditions) + 1)]
     return Posed(problem, factor, middle, half, origins)
 

@@ -32,8 +32,8 @@ def off_by(side: Side, factor: int) -> Fraction:
 def report_lines(solved: Solved, model: Model) -> list[str]:
     """Relaxation, filed, lost and attained for both sides, in the model's units; rows and blocks."""
     factor = solved.posed.factor
-    lines = [f"degree {solved.degree}; {counted(solved.blocks.count, 'block')}, {counted(solved.blocks.rounds, 'round')}; "
-             f"{solved.sizes}"]
+    blocks, rounds = counted(solved.blocks.count, "block"), counted(solved.blocks.rounds, "round")
+    lines = [f"degree {solved.degree}; {blocks}, {rounds}; {solved.sizes}"]
     if factor != 1:
         lines.append(f"the objective was multiplied by {factor} to whole numbers; the figures below are divided by it")
     digits = max(digits_for((solved.sides[1].bound - solved.sides[0].bound) / factor), 9)
@@ -62,8 +62,8 @@ def _remarks(solved: Solved, model: Model, side: Side) -> list[str]:
     value = side.attained.value / factor
     if off_by(side, factor) > FAR * max(Fraction(1), abs(value)):
         far = abs(side.relaxation / factor - float(value))
-        lines.append(f"{word}: the relaxation itself is {far:.2g} from the attained value. Either a better point was not found, "
-                     f"or this degree gives no more: {higher(solved.posed, solved.degree + 2)}")
+        lines.append(f"{word}: the relaxation itself is {far:.2g} from the attained value. Either a better point was "
+                     f"not found, or this degree gives no more: {higher(solved.posed, solved.degree + 2)}")
     return lines
 
 

@@ -113,8 +113,8 @@ def _one_side(solved: Solved, parts: Parts, side: int, solver: Solver, narrow: b
     try:
         program = pose_program(problem, parts, side)
     except Unreachable:
-        raise NoCertificate(f"{none}: the objective has a monomial that no product of the bases has; give every variable "
-                            "a range", bool(problem.conditions)) from None
+        raise NoCertificate(f"{none}: the objective has a monomial that no product of the bases has; give every "
+                            "variable a range", bool(problem.conditions)) from None
     say(f"{word}: asking the solver for the best bound")
     best = solve(program, solver)
     if best.status not in USABLE:

@@ -75,11 +75,12 @@ class BlocksOfAProblem(unittest.TestCase):
         self.assertEqual(self.blocks(stream, "--names", "load")[0], 2)
 
     def test_case_e_by_both_rules(self) -> None:
-        """Under rule 1 x times x^2 puts x^3 into S, and 1 and x^3 join; under rule 2 it is counted and joins nothing. Counted are
-        1, x, x^3 and x^6 under both."""
+        """Under rule 1 x times x^2 puts x^3 into S, and 1 and x^3 join; under rule 2 it is counted and joins nothing.
+        Counted are 1, x, x^3 and x^6 under both."""
         for rule, blocks, rounds in (("", 2, 3), ("rule 1\n", 2, 3), ("rule 2\n", 3, 1)):
             lines = self.blocks(encode(CASE_E.format(rule))[0])[1].splitlines()
-            self.assertEqual(lines[:4], [f"blocks {blocks}", f"rounds {rounds}", f"rule {rule[5:6] or 1}", "keys 4 of 2048"])
+            self.assertEqual(lines[:4], [f"blocks {blocks}", f"rounds {rounds}", f"rule {rule[5:6] or 1}",
+                                         "keys 4 of 2048"])
 
     def test_rule_2_counts_other_keys(self) -> None:
         """The closed support of two_decks_rule2 has 17 monomials and 21 are compared; under rule 1 it has 26."""

@@ -5,7 +5,7 @@ from fractions import Fraction
 from gapfile.equalities import Equalities, rational_point
 from gapfile.model import parse
 from gapfile.points import Attained, attain
-from gapfile.polynomials import evaluate
+from gapfile.polynomials import Polynomial, evaluate
 from gapfile.problem import allowed, pose
 
 
@@ -53,7 +53,7 @@ class Points(unittest.TestCase):
     def test_no_rational_point(self) -> None:
         """a^2 + b^2 = 3 has real points and no rational one."""
         self.assertIsNone(attain(pose(parse("var a b\nbound a\nwhere a^2 + b^2 == 3")).problem, 0))
-        terms = {(2,) + (0,) * 7: Fraction(1), (0, 2) + (0,) * 6: Fraction(1), (0,) * 8: Fraction(-3)}
+        terms: Polynomial = {(2,) + (0,) * 7: Fraction(1), (0, 2) + (0,) * 6: Fraction(1), (0,) * 8: Fraction(-3)}
         self.assertIsNone(rational_point(terms, [0, 1]))
 
     def test_empty(self) -> None:

@@ -98,24 +98,25 @@ class Statuses(unittest.TestCase):
     def test_sentences(self) -> None:
         """Every status that csdp has is a sentence; those that leave nothing to round end the way."""
         self.assertEqual(sorted(STATUS), list(range(11)))
-        model = "var x in [-1, 1]\nbound x\ndegree 4"
+        model, none = "var x in [-1, 1]\nbound x\ndegree 4", "no lower certificate of degree 4"
         for status in (1, 8, 9, 10):
-            self.assertEqual(self.sentence(status, model), f"no lower certificate of degree 4: {STATUS[status]}; try degree 6")
-        self.assertEqual(self.sentence(2, model), f"no lower certificate of degree 4: {STATUS[2]}")
+            self.assertEqual(self.sentence(status, model), f"{none}: {STATUS[status]}; try degree 6")
+        self.assertEqual(self.sentence(2, model), f"{none}: {STATUS[2]}")
 
     def test_no_higher_degree(self) -> None:
         """Advice is given only for a degree that the limits leave room for."""
         model = "var a b c d e f g h in [-1, 1]\nbound a*b + c*d + e*f + g*h + a + c + e + g\ndegree 2"
         self.assertIn("; degree 4 is too large: basis 0 alone needs about 134 rows of 128", self.sentence(1, model))
         model = "var a b c d e f in [-1, 1]\nbound (a + b + c + d + e + f)^4\ndegree 4"
-        self.assertIn("; degree 6 is too large: basis 0 of degree 3 has 84 monomials, more than 64", self.sentence(1, model))
+        self.assertIn("; degree 6 is too large: basis 0 of degree 3 has 84 monomials, more than 64",
+                      self.sentence(1, model))
         self.assertIn("; degree 18 is too large: a basis of degree 8 reaches 16",
                       self.sentence(1, "var x in [-1, 1]\nbound x\ndegree 16"))
 
     def test_unreachable(self) -> None:
         self.assertEqual(self.sentence(0, "var x\nbound x"),
-                         "no lower certificate of degree 2: the objective has a monomial that no product of the bases has; "
-                         "give every variable a range")
+                         "no lower certificate of degree 2: the objective has a monomial that no product of the bases "
+                         "has; give every variable a range")
 
 
 @needs_programs
@@ -132,7 +133,7 @@ class Replayed(unittest.TestCase):
         self.assertEqual(read_problem(result.problem).objective, read_problem(sent).objective)
 
     def test_chained_wood(self) -> None:
-        """0.1 in the objective and ranges from 0 to 1: the factor is recorded, and the figures are those of the model."""
+        """0.1 in the objective, ranges from 0 to 1: the factor is recorded, and the figures are those of the model."""
         result = solved("chained_wood", Recorded(RECORDED / "chained_wood"))
         self.assertEqual(result.posed.factor, 40)
         self.assertTrue(judged(result).accepted)
@@ -199,8 +200,9 @@ class WithCsdp(unittest.TestCase):
                 self.close(name, True)
 
     def test_no_certificate(self) -> None:
+        model = parse("var x y in [-1, 1]\nbound x*y\nwhere x^2*y^2 <= 1\ndegree 4\nwhere x >= 2")
         with self.assertRaises(NoCertificate) as caught:
-            solve_model(parse("var x y in [-1, 1]\nbound x*y\nwhere x^2*y^2 <= 1\ndegree 4\nwhere x >= 2"), Csdp(), True, quiet)
+            solve_model(model, Csdp(), True, quiet)
         self.assertTrue(str(caught.exception).endswith("the region seems to have no points"), caught.exception)
 
     def test_unbounded_region(self) -> None:
