@@ -17,7 +17,7 @@ from .problem import allowed
 from .reading import Problem
 
 Point = list[float]
-STARTS, HALVINGS = 24, 44
+STARTS, HALVINGS = 24, 46
 DENOMINATORS = (1, 2, 3, 4, 5, 6, 8, 10, 12, 16, 20, 25, 50, 100, 1000, 10 ** 4, 10 ** 5, 10 ** 6, 10 ** 7)
 
 
@@ -67,7 +67,7 @@ class Search:
     def descend(self, x: Point, sign: int) -> tuple[float, Point]:
         """Steps along the axes and on along the last success, halved where none helps."""
         x = self.pulled(x)
-        best, step = self.rate(x, sign), 0.5
+        best, step = self.rate(x, sign), 2.0                     # the whole range of a variable
         for _ in range(HALVINGS):
             for _ in range(12):
                 start, before = list(x), best

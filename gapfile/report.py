@@ -11,22 +11,15 @@ from .model import Model
 from .points import Attained
 from .problem import stream_names
 from .solver import STATUS
-from .solving import WORDS, Side, Solved, higher
+from .solving import FAR, WORDS, Side, Solved, higher
 
 HEADS = ("", "relaxation", "filed", "lost", "attained", "off by", "rows", "wide entries")
-FAR = Fraction(1, 1000)          # from here on the relaxation itself is called far from the attained value
 
 
 def point_text(solved: Solved, model: Model, attained: Attained) -> str:
     """The point in the model's variables."""
     values = solved.posed.model_point(attained.point)
     return ", ".join(f"{name} = {fraction(value)}" for name, value in zip(model.names, values))
-
-
-def off_by(side: Side, factor: int) -> Fraction:
-    """How far the bound is from the attained value, in the model's units."""
-    assert side.attained
-    return abs(side.bound - side.attained.value) / factor
 
 
 def report_lines(solved: Solved, model: Model) -> list[str]:
@@ -49,7 +42,7 @@ def _row(side: Side, factor: int, digits: int) -> tuple[str, ...]:
     attained = side.attained
     return (WORDS[side.side], f"{side.relaxation / factor:.9g}", decimal(side.bound / factor, side.side == 1, digits),
             f"{_lost(side, factor):.2g}", f"{float(attained.value / factor):.9g}" if attained else "none found",
-            decimal(off_by(side, factor), True, digits) if attained else "", str(side.rows), str(side.wide))
+            decimal(side.off / factor, True, digits) if attained else "", str(side.rows), str(side.wide))
 
 
 def _remarks(solved: Solved, model: Model, side: Side) -> list[str]:
@@ -60,9 +53,9 @@ def _remarks(solved: Solved, model: Model, side: Side) -> list[str]:
         return [lines[0] + "; no allowed point was found by search"]
     lines[0] += f"; attained at {point_text(solved, model, side.attained)}"
     value = side.attained.value / factor
-    if off_by(side, factor) > FAR * max(Fraction(1), abs(value)):
-        far = abs(side.relaxation / factor - float(value))
-        lines.append(f"{word}: the relaxation itself is {far:.2g} from the attained value. Either a better point was "
+    if side.off / factor > FAR * max(Fraction(1), abs(value)):
+        distance = abs(side.relaxation / factor - float(value))
+        lines.append(f"{word}: the relaxation itself is {distance:.2g} from the attained value. Either a better point was "
                      f"not found, or this degree gives no more: {higher(solved.posed, solved.degree + 2)}")
     return lines
 

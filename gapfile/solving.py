@@ -22,6 +22,7 @@ Parts = list[list[list[int]]]    # for each basis its blocks, as lists of indice
 WORDS = ("lower", "upper")
 SLACKS = tuple(m * 10.0 ** -k for k in range(10, 1, -1) for m in (1, 3))      # of the objective's largest coefficient
 LARGEST_DEGREE = 16
+FAR = Fraction(1, 1000)          # from here on a bound is called far from the attained value
 ANY_BOUND = 2                    # csdp's status where the program is unbounded
 
 
@@ -46,6 +47,12 @@ class Side:
     wide: int
     attained: Optional[Attained]
 
+    @property
+    def off(self) -> Fraction:
+        """How far the bound is from the attained value."""
+        assert self.attained
+        return abs(self.bound - self.attained.value)
+
 
 @dataclass
 class Solved:
@@ -61,23 +68,41 @@ class Solved:
 def solve_model(model: Model, solver: Solver, narrow: bool, say: Say) -> Solved:
     """Both certificates of a model. Raises LimitError, NoCertificate or NoSolver."""
     posed = pose(model)
+    if model.degree:
+        return _with_advice(posed, model.degree, solver, narrow, say)
     least = basis.least_degree(posed.problem)
-    degrees = [model.degree] if model.degree else [least, least + 2]
-    for total in degrees:
-        try:
-            return _at_degree(posed, total, solver, narrow, say)
-        except NoCertificate as error:
-            if not error.higher:
-                raise
-            if total == degrees[-1]:
-                raise NoCertificate(f"{error}; {higher(posed, total + 2)}") from None
-            say(f"{error}; trying degree {total + 2}")
-        except LimitError as error:
-            if total == degrees[0]:
-                raise
-            raise NoCertificate(f"no certificate of degree {degrees[0]}, and degree {total} is too large: {error}",
-                                False) from None
-    raise AssertionError("no degree")
+    try:
+        first = _at_degree(posed, least, solver, narrow, say)
+        if not far(first):
+            return first
+        say(f"degree {least} is far from what is attained; trying degree {least + 2}")
+    except NoCertificate as error:
+        if not error.higher:
+            raise
+        say(f"{error}; trying degree {least + 2}")
+        return _with_advice(posed, least + 2, solver, narrow, say)
+    try:
+        second = _at_degree(posed, least + 2, solver, narrow, say)
+    except (NoCertificate, LimitError) as error:
+        say(str(error))
+        return first
+    return min(first, second, key=lambda found: found.sides[1].bound - found.sides[0].bound)
+
+
+def far(solved: Solved) -> bool:
+    """Whether a bound is further from an attained value than 1e-3 of it, and of 1."""
+    return any(side.attained is not None and side.off > FAR * max(Fraction(solved.posed.factor), abs(side.attained.value))
+               for side in solved.sides)
+
+
+def _with_advice(posed: Posed, total: int, solver: Solver, narrow: bool, say: Say) -> Solved:
+    """At one degree; the sentence where there is no certificate ends with what to try."""
+    try:
+        return _at_degree(posed, total, solver, narrow, say)
+    except NoCertificate as error:
+        if not error.higher:
+            raise
+        raise NoCertificate(f"{error}; {higher(posed, total + 2)}") from None
 
 
 def higher(posed: Posed, total: int) -> str:
@@ -94,7 +119,9 @@ def higher(posed: Posed, total: int) -> str:
 
 
 def _at_degree(posed: Posed, total: int, solver: Solver, narrow: bool, say: Say) -> Solved:
-    problem = posed.problem
+    """Both certificates at one degree. Raises LimitError, NoCertificate or NoSolver."""
+    problem = replace(posed.problem)
+    posed = replace(posed, problem=problem)
     basis.by_degree(problem, total)
     found = basis.find_blocks(problem)
     sizes = basis.check_limits(problem, found)
