@@ -2,7 +2,6 @@
 from __future__ import annotations
 
 import json
-from fractions import Fraction
 from typing import Any, Optional
 
 from . import VERSION
@@ -11,7 +10,7 @@ from .model import Model
 from .points import Attained
 from .problem import stream_names
 from .solver import STATUS
-from .solving import FAR, WORDS, Side, Solved, higher
+from .solving import WORDS, Side, Solved, far, far_off, higher
 
 HEADS = ("", "relaxation", "filed", "lost", "attained", "off by", "rows", "wide entries")
 
@@ -35,6 +34,9 @@ def report_lines(solved: Solved, model: Model) -> list[str]:
     lines += ["  ".join(f"{cell:<{width}}" for cell, width in zip(row, wide)).rstrip() for row in table]
     for side in solved.sides:
         lines += _remarks(solved, model, side)
+    if far(solved):
+        lines.append(f"either better points were not found, or degree {solved.degree} gives no more; "
+                     f"{higher(solved.posed, solved.degree + 2)}")
     return lines
 
 
@@ -46,17 +48,14 @@ def _row(side: Side, factor: int, digits: int) -> tuple[str, ...]:
 
 
 def _remarks(solved: Solved, model: Model, side: Side) -> list[str]:
-    """What csdp said, the attained point, and advice where the relaxation itself is far from it."""
+    """What csdp said, the attained point, and whether the relaxation itself is far from it."""
     word, factor = WORDS[side.side], solved.posed.factor
-    lines = [f"{word}: {STATUS[side.status]}"]
     if side.attained is None:
-        return [lines[0] + "; no allowed point was found by search"]
-    lines[0] += f"; attained at {point_text(solved, model, side.attained)}"
-    value = side.attained.value / factor
-    if side.off / factor > FAR * max(Fraction(1), abs(value)):
-        distance = abs(side.relaxation / factor - float(value))
-        lines.append(f"{word}: the relaxation itself is {distance:.2g} from the attained value. Either a better point was "
-                     f"not found, or this degree gives no more: {higher(solved.posed, solved.degree + 2)}")
+        return [f"{word}: {STATUS[side.status]}; no allowed point was found by search"]
+    lines = [f"{word}: {STATUS[side.status]}; attained at {point_text(solved, model, side.attained)}"]
+    if far_off(side, factor):
+        distance = abs(side.relaxation - float(side.attained.value)) / factor
+        lines.append(f"{word}: the relaxation itself is {distance:.2g} from the attained value")
     return lines
 
 

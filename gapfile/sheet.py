@@ -59,7 +59,8 @@ high.bin</code>: it must print the lines above. Nothing else is trusted, neither
 <h2>What is not claimed</h2>
 <ul class="small"><li>That the polynomial and the region are those of the bid: compare them.</li>
 <li>That the bounds are the best: what is attained stands above.</li>
-<li>Anything about points outside the region, or with coordinates that are not rational.</li></ul>"""
+<li>Anything about points outside the region. gapcheck's contract speaks of rational points; of real ones a theorem
+beside it does (docs/WHY.md, part 5).</li></ul>"""
 DENSE = 1500                     # more letters than these are set smaller
 LARGEST = 1.45                   # the picture's scale at most
 

@@ -89,10 +89,14 @@ def solve_model(model: Model, solver: Solver, narrow: bool, say: Say) -> Solved:
     return min(first, second, key=lambda found: found.sides[1].bound - found.sides[0].bound)
 
 
+def far_off(side: Side, factor: int) -> bool:
+    """Whether the bound is further from the attained value than 1e-3 of it, and of 1 in the model's units."""
+    return side.attained is not None and side.off > FAR * max(Fraction(factor), abs(side.attained.value))
+
+
 def far(solved: Solved) -> bool:
-    """Whether a bound is further from an attained value than 1e-3 of it, and of 1."""
-    return any(side.attained is not None and side.off > FAR * max(Fraction(solved.posed.factor), abs(side.attained.value))
-               for side in solved.sides)
+    """Whether one of the bounds is."""
+    return any(far_off(side, solved.posed.factor) for side in solved.sides)
 
 
 def _with_advice(posed: Posed, total: int, solver: Solver, narrow: bool, say: Say) -> Solved:

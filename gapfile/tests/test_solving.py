@@ -195,9 +195,25 @@ class WithCsdp(unittest.TestCase):
                 self.close(name)
 
     def test_narrow(self) -> None:
-        for name in ("two_decks", "chained_wood", "chained_singular"):
+        for name in ("crosstalk", "bolted_decks", "chained_wood", "rosenbrock", "chained_singular"):
             with self.subTest(model=name):
                 self.close(name, True)
+
+    def test_the_next_degree(self) -> None:
+        """a*b on a box that is not centred: degree 2 is far from what is attained, so `auto` takes degree 4."""
+        text = "var a in [1, 3]\nvar b in [-1, 9]\nbound a*b"
+        result = solve_model(parse(text), Csdp(), False, quiet)
+        self.assertEqual(result.degree, 4)
+        self.assertEqual([side.attained and side.attained.value / result.posed.factor for side in result.sides], [-3, 27])
+        self.assertLess(max(side.off for side in result.sides) / result.posed.factor, Fraction(1, 1000))
+        self.assertEqual(solve_model(parse(text + "\ndegree 2"), Csdp(), False, quiet).degree, 2)
+
+    def test_choices(self) -> None:
+        """Variables that are 0 or 1."""
+        result = solve_model(parse("var a b c in [0, 1]\nbound 3*a + 2*b*c - 4*a*c - b\nwhere a^2 == a\n"
+                                   "where b^2 == b\nwhere c^2 == c"), Csdp(), False, quiet)
+        self.assertTrue(judged(result).accepted)
+        self.assertLess(max(side.off for side in result.sides) / result.posed.factor, Fraction(1, 1000))
 
     def test_no_certificate(self) -> None:
         model = parse("var x y in [-1, 1]\nbound x*y\nwhere x^2*y^2 <= 1\ndegree 4\nwhere x >= 2")
