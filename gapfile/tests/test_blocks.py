@@ -82,6 +82,16 @@ class BlocksOfAProblem(unittest.TestCase):
             self.assertEqual(lines[:4], [f"blocks {blocks}", f"rounds {rounds}", f"rule {rule[5:6] or 1}",
                                          "keys 4 of 2048"])
 
+    def test_chosen_order(self) -> None:
+        """Case E after one round: x^3 is in S, and nothing has joined. A checker that knows no 09 refuses it, and that is
+        said."""
+        status, out = self.blocks(encode(CASE_E.format("order 1\n"))[0])
+        if status == 1:
+            self.assertEqual(out.splitlines()[2:], ["line 2, byte 2: order 1",
+                                                    "why: this gapcheck does not read command 09 (`order`) here"])
+        else:
+            self.assertEqual(out.splitlines()[:4], ["blocks 3", "rounds 1 (at most 1)", "rule 1", "keys 4 of 2048"])
+
     def test_rule_2_counts_other_keys(self) -> None:
         """The closed support of two_decks_rule2 has 17 monomials and 21 are compared; under rule 1 it has 26."""
         stream = (EXAMPLES / "two_decks_rule2/problem.bin").read_bytes()
