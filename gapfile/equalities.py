@@ -1,8 +1,8 @@
 """Points that meet equalities exactly.
 
 An equality in which a variable is linear gives that variable, which is put into the other equalities where it is a
-polynomial. One in a single variable leaves its rational roots, of which the nearest is taken. One of degree 2 in several
-variables is met along lines through a rational point of it: the second point of each line is rational too.
+polynomial. One in a single variable leaves its rational roots, of which the nearest is taken. One of degree 2 in
+several variables is met along lines through a rational point of it: the second point of each line is rational too.
 """
 from __future__ import annotations
 
@@ -103,7 +103,7 @@ class Equalities:
         return None
 
     def _curved(self, terms: Polynomial) -> bool:
-        """Takes an equality in one variable by its small rational roots, or one of degree 2 by a small rational point."""
+        """Takes an equality in one variable by its small rational roots, one of degree 2 by a small rational point."""
         used = [i for i in range(self.count) if any(m[i] for m in terms)]
         if len(used) == 1 and used[0] not in self.followers:
             roots = [point[used[0]] for point in rational_points(terms, used)]
@@ -113,7 +113,8 @@ class Equalities:
             return False
         base = next(rational_points(terms, used), None)
         if base:
-            self.quadric = Quadric(used, base, Function(terms), Function({m: c for m, c in terms.items() if sum(m) == 2}))
+            square = Function({m: c for m, c in terms.items() if sum(m) == 2})
+            self.quadric = Quadric(used, base, Function(terms), square)
         return base is not None
 
     def complete(self, x: list[Number]) -> bool:

@@ -6,11 +6,12 @@ import re
 from dataclasses import dataclass
 from fractions import Fraction
 from html import escape
-from typing import Mapping, Optional
+from typing import Mapping
 
-from .commands import Monomial, ONE, monomial_text
+from .commands import Monomial, monomial_text
 from .decimals import decimal, fraction, is_exact
 from .polynomials import Polynomial, constant, ordered, plus, substitute, variable, whole
+from .problem import range_of
 from .reading import Condition
 
 
@@ -74,14 +75,6 @@ def in_the_model(terms: Mapping[Monomial, int], variables: list[Scaled]) -> Poly
     values = [plus(constant(-v.middle / v.half), variable(i), 1 / v.half) for i, v in enumerate(variables)]
     found = substitute({e: Fraction(c) for e, c in terms.items()}, values)
     return {e: found[e] for e in ordered(found)}
-
-
-def range_of(condition: Condition) -> Optional[int]:
-    """The variable, from 0, of which the condition is 1 - u^2 >= 0."""
-    if condition.equality or len(condition.terms) != 2 or condition.terms.get(ONE) != 1:
-        return None
-    (square, c), = [(e, c) for e, c in condition.terms.items() if e != ONE]
-    return square.index(2) if c == -1 and sum(square) == max(square) == 2 else None
 
 
 def region(conditions: list[Condition], variables: list[Scaled], room: int) -> str:

@@ -134,7 +134,8 @@ def solve(program: Program, solver: Solver, slack: float = 0.0) -> Solution:
     if equations:
         answer = solver.solve(sizes, cost, equations, sides)
     else:                                                        # csdp reads no program without equations
-        answer = Answer(2 if any(c > 0 for c in cost.values()) else 0, [[[0.0] * n for _ in range(n)] for n in sizes], [])
+        nothing = [[[0.0] * n for _ in range(n)] for n in sizes]
+        answer = Answer(2 if any(c > 0 for c in cost.values()) else 0, nothing, [])
     scale = float(program.scale)
     value = target[ONE] + sum(c * answer.matrices[k][a][b] * (1 if a == b else 2) for (k, a, b), c in cost.items())
     free = _free_values(program, answer, slack)

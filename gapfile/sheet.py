@@ -196,8 +196,9 @@ def _points(sheet: Sheet) -> str:
 
 
 def _short(value: Fraction) -> str:
+    """The value exactly, or the first digits of it."""
     text = fraction(value)
-    return text if len(text) <= 20 else f"{decimal(value, False, 9)}…"
+    return text if len(text) <= 20 else f"{decimal(value, value < 0, 9)}…"
 
 
 def _picture(sheet: Sheet) -> str:

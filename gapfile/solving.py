@@ -66,27 +66,40 @@ class Solved:
 
 
 def solve_model(model: Model, solver: Solver, narrow: bool, say: Say) -> Solved:
-    """Both certificates of a model. Raises LimitError, NoCertificate or NoSolver."""
+    """Both certificates of a model: at its degree, or at the least one and, where that gives none or is far from what
+    is attained, at the next. Raises LimitError, NoCertificate or NoSolver."""
     posed = pose(model)
-    if model.degree:
-        return _with_advice(posed, model.degree, solver, narrow, say)
-    least = basis.least_degree(posed.problem)
+    total = model.degree or basis.least_degree(posed.problem)
     try:
-        first = _at_degree(posed, least, solver, narrow, say)
-        if not far(first):
-            return first
-        say(f"degree {least} is far from what is attained; trying degree {least + 2}")
+        first = _at_degree(posed, total, solver, narrow, say)
     except NoCertificate as error:
         if not error.higher:
             raise
-        say(f"{error}; trying degree {least + 2}")
-        return _with_advice(posed, least + 2, solver, narrow, say)
+        if model.degree:
+            raise NoCertificate(f"{error}; {higher(posed, total + 2)}") from None
+        say(f"{error}; trying degree {total + 2}")
+        return _next(error, posed, total + 2, solver, narrow, say)
+    if model.degree or not far(first):
+        return first
+    say(f"degree {total} is far from what is attained; trying degree {total + 2}")
     try:
-        second = _at_degree(posed, least + 2, solver, narrow, say)
+        second = _at_degree(posed, total + 2, solver, narrow, say)
     except (NoCertificate, LimitError) as error:
         say(str(error))
         return first
     return min(first, second, key=lambda found: found.sides[1].bound - found.sides[0].bound)
+
+
+def _next(before: NoCertificate, posed: Posed, total: int, solver: Solver, narrow: bool, say: Say) -> Solved:
+    """At the degree after one that gave no certificate; the sentence where this gives none either says what to try."""
+    try:
+        return _at_degree(posed, total, solver, narrow, say)
+    except LimitError as error:
+        raise NoCertificate(f"{before}; degree {total} is too large: {error}", False) from None
+    except NoCertificate as error:
+        if not error.higher:
+            raise
+        raise NoCertificate(f"{error}; {higher(posed, total + 2)}") from None
 
 
 def far_off(side: Side, factor: int) -> bool:
@@ -97,16 +110,6 @@ def far_off(side: Side, factor: int) -> bool:
 def far(solved: Solved) -> bool:
     """Whether one of the bounds is."""
     return any(far_off(side, solved.posed.factor) for side in solved.sides)
-
-
-def _with_advice(posed: Posed, total: int, solver: Solver, narrow: bool, say: Say) -> Solved:
-    """At one degree; the sentence where there is no certificate ends with what to try."""
-    try:
-        return _at_degree(posed, total, solver, narrow, say)
-    except NoCertificate as error:
-        if not error.higher:
-            raise
-        raise NoCertificate(f"{error}; {higher(posed, total + 2)}") from None
 
 
 def higher(posed: Posed, total: int) -> str:
@@ -185,7 +188,8 @@ def _least_slack(stream: bytes, program: Program, parts: Parts, solver: Solver, 
         usable = solution.status in USABLE
         if found and not (usable and bound_of(program, solution) == Fraction(found.rounded.p, found.rounded.q)):
             break
-        for wide in () if not usable else (False,) if narrow or found else (False, True):
+        widths = (False,) if narrow or found else (False, True)
+        for wide in widths if usable else ():
             try:
                 rounded = _rounded(program, parts, solution, absolute, wide)
             except RoundingError as error:

@@ -83,8 +83,8 @@ class BlocksOfAProblem(unittest.TestCase):
                                          "keys 4 of 2048"])
 
     def test_chosen_order(self) -> None:
-        """Case E after one round: x^3 is in S, and nothing has joined. A checker that knows no 09 refuses it, and that is
-        said."""
+        """Case E after one round: x^3 is in S, and nothing has joined. A checker that knows no 09 refuses it, and that
+        is said."""
         status, out = self.blocks(encode(CASE_E.format("order 1\n"))[0])
         if status == 1:
             self.assertEqual(out.splitlines()[2:], ["line 2, byte 2: order 1",

@@ -111,7 +111,7 @@ class Check(unittest.TestCase):
                                      "gap    97899/1625 = 60.245539 (rounded up)"])
 
     def test_every_example(self) -> None:
-        for folder in sorted(EXAMPLES.glob("*/")):
+        for folder in sorted(file.parent for file in EXAMPLES.glob("*/problem.bin")):
             lines = run("check", "--second", folder)[1].splitlines()
             self.assertEqual(lines[:4], (folder / "expected").read_text().splitlines())
             self.assertTrue(lines[-1].startswith("second: ") and lines[-1].endswith(" agrees"), lines[-1])

@@ -205,6 +205,19 @@ class Filing(unittest.TestCase):
                 self.assertEqual({p.name for p in folder.iterdir()},
                                  FILES - {"problem.txt", "verdict.txt", "blocks.svg", "sheet.html"})
 
+    def test_a_manifest_that_does_not_fit(self) -> None:
+        """A factor below 1 would turn the bounds around, and so would a range from its upper to its lower end."""
+        for key, value in (("factor", -1), ("half", "-1"), ("variables", [])):
+            with tempfile.TemporaryDirectory() as kept:
+                folder = Path(kept) / "turned"
+                shutil.copytree(self.folders["two_decks"], folder)
+                manifest = json.loads((folder / "manifest.json").read_text())
+                (manifest["variables"][0] if key == "half" else manifest)[key] = value
+                (folder / "manifest.json").write_text(json.dumps(manifest))
+                with self.assertRaises(NotAccepted):
+                    file_folder(folder)
+                self.assertFalse((folder / "sheet.html").exists())
+
     def test_solve_writes_nothing_that_was_not_accepted(self) -> None:
         with tempfile.TemporaryDirectory() as kept, \
                 mock.patch.object(making, "gapcheck", lambda *_: pair_verdict(["refused 9 1 0 0"])):

@@ -15,9 +15,10 @@ from unittest import mock
 
 from gapfile import sheet as sheet_module
 from gapfile.commands import Monomial, ONE
-from gapfile.formulas import Scaled, formula, in_the_model, joined, letters, point_html, range_of, region, standing
+from gapfile.formulas import Scaled, formula, in_the_model, joined, letters, point_html, region, standing
 from gapfile.picture import as_svg
 from gapfile.polynomials import evaluate
+from gapfile.problem import range_of
 from gapfile.programs import Blocks, Verdict
 from gapfile.reading import Certificate, Condition, Problem, Row
 from gapfile.sheet import Sheet, page

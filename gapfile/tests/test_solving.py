@@ -113,6 +113,12 @@ class Statuses(unittest.TestCase):
         self.assertIn("; degree 18 is too large: a basis of degree 8 reaches 16",
                       self.sentence(1, "var x in [-1, 1]\nbound x\ndegree 16"))
 
+    def test_the_next_degree_is_too_large(self) -> None:
+        model = "var a b c d e f in [-1, 1]\nbound (a + b + c + d + e + f)^4"
+        self.assertEqual(self.sentence(1, model),
+                         f"no lower certificate of degree 4: {STATUS[1]}; degree 6 is too large: basis 0 of degree 3 "
+                         "has 84 monomials, more than 64; take fewer variables or a lower degree")
+
     def test_unreachable(self) -> None:
         self.assertEqual(self.sentence(0, "var x\nbound x"),
                          "no lower certificate of degree 2: the objective has a monomial that no product of the bases "
@@ -204,8 +210,9 @@ class WithCsdp(unittest.TestCase):
         text = "var a in [1, 3]\nvar b in [-1, 9]\nbound a*b"
         result = solve_model(parse(text), Csdp(), False, quiet)
         self.assertEqual(result.degree, 4)
-        self.assertEqual([side.attained and side.attained.value / result.posed.factor for side in result.sides], [-3, 27])
-        self.assertLess(max(side.off for side in result.sides) / result.posed.factor, Fraction(1, 1000))
+        factor = result.posed.factor
+        self.assertEqual([side.attained and side.attained.value / factor for side in result.sides], [-3, 27])
+        self.assertLess(max(side.off for side in result.sides) / factor, Fraction(1, 1000))
         self.assertEqual(solve_model(parse(text + "\ndegree 2"), Csdp(), False, quiet).degree, 2)
 
     def test_choices(self) -> None:
