@@ -63,6 +63,8 @@ class Reading(unittest.TestCase):
                 ("var x\nbound x\nbound x", 3, 1, "`bound` stands a second time, first in line 2"),
                 ("var x\nwhere x > 1\nbound x", 2, 9, "expected an operator, `<=`, `>=` or `==`, found `>`"),
                 ("var x\nwhere x\nbound x", 2, 8, "expected an operator, `<=`, `>=` or `==`"),
+                ("var x\nwhere x - x <= 1\nbound x", 2, 13, "the condition has no variable that is left"),
+                ("var x\nwhere 1 == 2\nbound x", 2, 9, "the condition has no variable that is left"),
                 ("var x\n  bond x", 2, 3, "expected title, var, bound, where or degree, found `bond`"),
                 ("var x\nbound x\ndegree 3", 3, 8, "expected auto or an even degree"),
                 ("var a b c d e f g h i\nbound a", 1, 21, "more than 8 variables"),

@@ -215,6 +215,20 @@ class WithCsdp(unittest.TestCase):
         self.assertLess(max(side.off for side in result.sides) / factor, Fraction(1, 1000))
         self.assertEqual(solve_model(parse(text + "\ndegree 2"), Csdp(), False, quiet).degree, 2)
 
+    def test_a_region_without_points(self) -> None:
+        """b^2 is at most -1: bounds that cross are filed as a proof of that, or nothing is."""
+        with tempfile.TemporaryDirectory() as folder:
+            model = Path(folder) / "m.gap"
+            model.write_text("var a in [-1, 1]\nvar b in [1, 11]\nbound 13*a^2 - b\nwhere -1*b^2 >= 1\n")
+            status, out, err = run("file", model, "-o", Path(folder) / "out")
+            if status == 3:
+                self.assertIn("so the region seems to have no points", err)
+            else:
+                self.assertEqual(status, 0)
+                self.assertEqual(out.splitlines()[2], "gap empty")
+                self.assertIn("the bounds cross: no rational point meets all the conditions", out)
+                self.assertIn("the region is empty", (Path(folder) / "out/sheet.html").read_text(encoding="utf-8"))
+
     def test_choices(self) -> None:
         """Variables that are 0 or 1."""
         result = solve_model(parse("var a b c in [0, 1]\nbound 3*a + 2*b*c - 4*a*c - b\nwhere a^2 == a\n"
