@@ -247,12 +247,12 @@ pub fn join(
         (now (labels .exit)))
         ⌝ }
 {
-    let n = seed(keys, sizes, table, index);
-    if 2048 < n {
+    let count = seed(keys, sizes, table, index);
+    if 2048 < count {
         return too_many();
     }
     let support = Support {
-        len: n,
+        len: count,
         rule: sizes[flat::RULE],
     };
     settle(
