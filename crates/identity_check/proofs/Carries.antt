@@ -4,19 +4,19 @@ use mathlib.Core.Path.{_≡_, refl, sym, ap, _∙_}
 use mathlib.Core.Bool.{Bool, true, false}
 use mathlib.Core.Logic.{_⊎_, inl, inr, ⊎-elim}
 use mathlib.Core.List.{List}
-use Prim.Native.Nat.{ℕ, _+_, _*_, _^_, _≤_, _<_}
+use Prim.Native.Nat.{ℕ, _+_, _*_, _≤_, _<_}
 use native.Mathlib.Nat.{eq-or-lt-of-le, mul-pos, eq-of-mul-eq-mul-left}
 use native.Mathlib.Omega.{arith}
 use borrow.Author.Tests.{eqb-true, eqb-false}
 use lib.Dec.{eqb}
 use lib.IntN.{ℤ, pos, negℤ, natAbs, _+ℤ_, _*ℤ_}
-use lib.ListN.{length, getD}
+use lib.ListN.{getD}
 use Rattle.integers.proofs.Ring.{view, diffs, ⊖-eq, ⊖-eq⁻¹}
 use Rattle.integers.proofs.Ranges.{abs-mul, abs-zero}
 use Rattle.accepting.specs.Judgement.{sameNumber}
 use Rattle.accepting.proofs.Difference.{same-equal, same-self}
 use Rattle.counting.proofs.Cases.{clash}
-use Rattle.wide_sums.specs.Sums.{step, carried, valueAt, Room, HasRoom, Uneven, Floor, Divided}
+use Rattle.wide_sums.specs.Sums.{carryMost, step, valueAt, Room, HasRoom, Uneven, Floor, Divided}
 use Rattle.wide_sums.proofs.Floors.{floor-uneven, floor-exact}
 use Rattle.wide_sums.proofs.Tables.{shrunk-none, shrunk-more}
 use Rattle.identity_check.specs.Compare.{Nonzero, Smaller, Smallest, DividedSums, Reached}
@@ -29,7 +29,7 @@ module _ {table : List ℕ} {n found : ℕ} {hi₀ lo₀ : List ℤ} where
 
   module _ {m r : ℕ} {hi₁ lo₁ : List ℤ} (h : DividedSums table n m found hi₀ lo₀ hi₁ lo₁ r) where
     -- a place that comes later is as it was
-    pub dividing-room : HasRoom n (2 ^ 36) hi₀ → m < n → Room hi₁ m carried
+    pub dividing-room : HasRoom n carryMost hi₀ → m < n → Room hi₁ m (pos carryMost)
     dividing-room r b =
         record {
           inside = omega (arith, r .long, h .high .long);

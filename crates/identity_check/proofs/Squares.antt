@@ -4,7 +4,7 @@ use mathlib.Core.List.{List}
 use Prim.Native.Nat.{ℕ, _+_, _*_, _^_, _≤_, _<_}
 use native.Mathlib.Omega.{arith}
 use lib.IntN.{ℤ, pos, _+ℤ_, _*ℤ_, +ℤ-assoc}
-use lib.ListN.{length, getD}
+use lib.ListN.{getD}
 use Rattle.integers.proofs.Ring.{view, diffs, ⊖-eq}
 use Rattle.polynomial.specs.Algebra.{coefficient}
 use Rattle.format.specs.ProblemRules.{Problem}
@@ -12,7 +12,7 @@ use Rattle.format.specs.CertificateRules.{Row}
 use Rattle.accepting.specs.Identity.{squares}
 use Rattle.flat.specs.Flat.{FlatProblem}
 use Rattle.certificate_reader.specs.Rows.{rowsBy}
-use Rattle.wide_sums.specs.Sums.{step, valueAt}
+use Rattle.wide_sums.specs.Sums.{carryMost, quotientMost, step, valueAt}
 use Rattle.wide_sums.proofs.Tables.{shrunk-room}
 use Rattle.row_products.specs.declared.Part.the-variants.{Low, Cross, High}
 use Rattle.identity_check.specs.Tables.{Ready}
@@ -26,7 +26,7 @@ use Rattle.identity_check.proofs.Untouched.{near-untouched, shrunk-unto
 
 -- after a division there is room again
 pub divided-ready : {table idx : List ℕ} {n c found r : ℕ} {hi₀ lo₀ hi₁ lo₁ : List ℤ} → Ready table idx n hi₀ lo₀ c
-    → DividedSums table n n found hi₀ lo₀ hi₁ lo₁ r → (d : ℕ) → d ≤ 2 ^ 62 + 2 ^ 61 → Ready table idx n hi₁ lo₁ d
+    → DividedSums table n n found hi₀ lo₀ hi₁ lo₁ r → (d : ℕ) → quotientMost + d < 2 ^ 63 → Ready table idx n hi₁ lo₁ d
 divided-ready r h d l =
     record {
       support = r .support;
@@ -37,8 +37,8 @@ divided-ready r h d l =
 
 -- and after the part that is added then, room for a carry
 pub summed-ready : {f : Problem → ℕ → ℤ} {keys : List ℕ} {coefficients : List ℤ} {sizes table idx : List ℕ} {n c found r : ℕ} {hi₀ lo₀ hi₁ lo₁ hi₂ lo₂ : List ℤ}
-    → Ready table idx n hi₀ lo₀ c → DividedSums table n n found hi₀ lo₀ hi₁ lo₁ r → Summed f keys coefficients sizes table n 9 hi₁ lo₁ hi₂ lo₂ → Ready table idx n hi₂ lo₂ (2 ^ 36)
-summed-ready r h m = ready-after (divided-ready r h (9 * tableUnit + 2 ^ 36) (omega arith)) (m .grown) (omega arith)
+    → Ready table idx n hi₀ lo₀ c → DividedSums table n n found hi₀ lo₀ hi₁ lo₁ r → Summed f keys coefficients sizes table n 9 hi₁ lo₁ hi₂ lo₂ → Ready table idx n hi₂ lo₂ carryMost
+summed-ready r h m = ready-after (divided-ready r h (9 * tableUnit + carryMost) (omega arith)) (m .grown) (omega arith)
 
 module _ {keys : List ℕ} {coefficients : List ℤ} {sizes table : List ℕ} {n : ℕ} where
   -- the sum at a place, for the problem that the arrays hold

@@ -17,7 +17,7 @@ use Rattle.format.specs.CertificateRules.{Row}
 use Rattle.format.proofs.All.{all-map}
 use Rattle.accepting.specs.Identity.{squares}
 use Rattle.flat.specs.TermArrays.{termsIn}
-use Rattle.flat.specs.Flat.{conditionsAt, basisIn, FlatLimits}
+use Rattle.flat.specs.Flat.{basisIn, FlatLimits}
 use Rattle.flat.proofs.Flat.{basis-size, multiplier-size, basis-long, exponents-long, coefficients-long, basis-low, multiplier-low, coefficients-small, terms-part}
 use Rattle.certificate_reader.specs.Rows.{rowsBy}
 use Rattle.wide_sums.specs.Sums.{step}

@@ -3,7 +3,7 @@ use mathlib.Core.Path.{_≡_}
 use mathlib.Core.Logic.{_⊎_}
 use mathlib.Core.List.{List}
 use mathlib.Core.Option.{Option, none, some}
-use Prim.Native.Nat.{ℕ, _^_, _≤_, _<_}
+use Prim.Native.Nat.{ℕ, _≤_, _<_}
 use lib.IntN.{ℤ, pos, _+ℤ_, _*ℤ_}
 use lib.ListN.{length, getD, drop}
 use Rattle.format.specs.ProblemRules.{Problem}
@@ -11,7 +11,7 @@ use Rattle.format.specs.CertificateRules.{Certificate}
 use Rattle.format.specs.declared.certificate.Header.{Header}
 use Rattle.accepting.specs.Judgement.{comparedKeys, differenceKey}
 use Rattle.key_set.specs.Table.{keysIn, Holds}
-use Rattle.wide_sums.specs.Sums.{base, valueAt, Shrunk, Uneven, Floor}
+use Rattle.wide_sums.specs.Sums.{base, quotientMost, valueAt, Shrunk, Uneven, Floor}
 use Rattle.flat.specs.Flat.{FlatProblem}
 use Rattle.certificate_reader.specs.Rows.{rowsBy}
 use Rattle.identity_check.specs.declared.Difference.{Difference}
@@ -52,7 +52,7 @@ Nonzero hi lo q = valueAt hi lo q ≡ pos 0 → ⊥
 pub record DividedSums (table : List ℕ) (n m found : ℕ) (hi₀ lo₀ hi₁ lo₁ : List ℤ) (r : ℕ) : Type 0 where
   pub floors : (q : ℕ) → q < m → Floor (valueAt hi₀ lo₀ q) (valueAt hi₁ lo₁ q)
   pub smallest : Smallest (λ q. Uneven (valueAt hi₀ lo₀ q)) table n m found r
-  pub high : Shrunk m (2 ^ 48) hi₀ hi₁
+  pub high : Shrunk m quotientMost hi₀ hi₁
   pub low : Shrunk m base lo₀ lo₁
 
 -- what is known of the differences D at the first n places when the numbers W are left to be tested for 0: r is a place

@@ -19,7 +19,7 @@ ghost use Rattle.format.specs.ProblemLimits.{mostBases};
 ghost use Rattle.accepting.specs.Identity.{squares, claimOf};
 ghost use Rattle.key_set.specs.Table.{divisor, Holds};
 ghost use Rattle.key_set.specs.Table as Support;
-ghost use Rattle.wide_sums.specs.Sums.{step, valueOf, HasRoom};
+ghost use Rattle.wide_sums.specs.Sums.{carryMost, step, valueOf, HasRoom};
 ghost use Rattle.flat.specs.TermArrays.{termsIn};
 ghost use Rattle.certificate_reader.specs.Rows.{rowsBy};
 ghost use Rattle.row_products.specs.Frame.{share, spreadAt, Framed, Entered};
@@ -456,7 +456,7 @@ fn smaller(table: &[u64], n: usize, a: usize, b: usize) -> usize
 // Divides the first n sums by 2^16, rounding down. A sum that is no multiple of 2^16 cannot become 0 by what is added
 // to it 2^16 times: the place with the smallest key of those and of `found`, which may be n.
 fn divide_sums(table: &[u64], n: usize, hi: &mut [i64], lo: &mut [i64], found: usize) -> usize
-    requires { ⌜ (n ≤ length (now table)) × HasRoom n (2 ^ 36) (now hi) × (n ≤ length (now lo)) ⌝ }
+    requires { ⌜ (n ≤ length (now table)) × HasRoom n carryMost (now hi) × (n ≤ length (now lo)) ⌝ }
     ensures { λ r. ⌜
         DividedSums (now (table .entry)) n n found (now (hi .entry)) (now (lo .entry)) (now (hi .exit))
         (now (lo .exit)) r
@@ -508,7 +508,7 @@ fn add_wide_parts(
     hi: &mut [i64],
     lo: &mut [i64],
 ) -> usize
-    requires { ⌜ Ready (now table) (now index) n (now hi) (now lo) (2 ^ 36) ⌝ }
+    requires { ⌜ Ready (now table) (now index) n (now hi) (now lo) carryMost ⌝ }
     requires { ⌜
         Comparable (now s) (now starts) rows (now keys) (now coefficients) (now sizes) × RoomFor (now sizes) (now g)
         ⌝ }
@@ -570,7 +570,7 @@ fn add_squares(
     hi: &mut [i64],
     lo: &mut [i64],
 ) -> usize
-    requires { ⌜ Ready (now table) (now index) n (now hi) (now lo) (9 * tableUnit + 2 ^ 36) ⌝ }
+    requires { ⌜ Ready (now table) (now index) n (now hi) (now lo) (9 * tableUnit + carryMost) ⌝ }
     requires { ⌜
         Comparable (now s) (now starts) rows (now keys) (now coefficients) (now sizes) × RoomFor (now sizes) (now g)
         ⌝ }

@@ -11,7 +11,7 @@ use mir.ValLaws.{sfits-le}
 use Rattle.integers.proofs.Ring.{view, ⊖-eq, ⊖-eq⁻¹, diffs}
 use Rattle.integers.proofs.Ranges.{abs-fits, fits-abs, abs-neg, abs-sum, abs-mul, abs-zero, modZ, floor-is, floor-lt, floor-rest, floor-fits, high-abs}
 use Rattle.wide_sums.specs.declared.Halves.{Halves}
-use Rattle.wide_sums.specs.Sums.{base, step, valueOf, cutAt, halvesOf, Uneven, Floor}
+use Rattle.wide_sums.specs.Sums.{base, quotientMost, step, valueOf, cutAt, halvesOf, Uneven, Floor}
 
 -- ---- a number cut at m
 -- the steps of a cut fit 64 bits
@@ -123,7 +123,7 @@ module _ (g a : ℤ) (f : SFits w64 a) (h : natAbs g + natAbs (halvesOf a .high)
   pub low-halved : CutFits step (halvesOf a .low)
   low-halved = step-fit (halvesOf a .low) (halves-fit a f .low)
 
-  pub quotient-high : natAbs (high .high) ≤ 2 ^ 48
+  pub quotient-high : natAbs (high .high) ≤ quotientMost
   quotient-high = let k = cut-high step (omega arith) (G g a) (2 ^ 47) (omega (arith, carried-abs)) in omega arith
 
   low-quotient : natAbs (low .high) ≤ 2 ^ 11

@@ -15,7 +15,7 @@ use mir.Syntax.{w64}
 use mir.Val.{SFits, ofZ}
 use Rattle.integers.proofs.Ring.{view, ⊖-eq, diffs}
 use Rattle.integers.proofs.Ranges.{abs-fits, fits-abs, abs-sum, zero-bits, modZ, floor-lt}
-use Rattle.wide_sums.specs.Sums.{carried, step, valueOf, valueAt, cutAt, halvesOf, Room, addedAt, HasRoom, Near, Shrunk, Replaced, Divided}
+use Rattle.wide_sums.specs.Sums.{carryMost, step, valueOf, valueAt, cutAt, halvesOf, Room, addedAt, HasRoom, Near, Shrunk, Replaced, Divided}
 use Rattle.wide_sums.proofs.Floors.{high-small, low-halved, rest-low, quotient-is, quotient-high, quotient-low}
 
 -- ---- one table
@@ -98,7 +98,7 @@ set-replaced t k z b h =
       long = length-set t k z;
     }
 
-module _ (hi lo : List ℤ) (k : ℕ) (f : SFits w64 (getD lo k (pos 0))) (r : Room hi k carried) (b : k < length lo) where
+module _ (hi lo : List ℤ) (k : ℕ) (f : SFits w64 (getD lo k (pos 0))) (r : Room hi k (pos carryMost)) (b : k < length lo) where
   abbrev g : ℤ
   g = getD hi k (pos 0)
 
@@ -115,7 +115,7 @@ module _ (hi lo : List ℤ) (k : ℕ) (f : SFits w64 (getD lo k (pos 0))) (r : R
   rest = modZ (halvesOf a .low) step
 
   pub carry-room : natAbs g + natAbs (halvesOf a .high) < 2 ^ 63
-  carry-room = omega (arith, r .small, high-small a (2 ^ 36) (omega (arith, fits-abs f)))
+  carry-room = omega (arith, r .small, high-small a carryMost (omega (arith, fits-abs f)))
 
   pub divided : Divided k hi lo (set hi k quotient) (set lo k moved) (eqb (ofZ w64 (cutAt step (halvesOf a .low) .low)) 0)
   divided =

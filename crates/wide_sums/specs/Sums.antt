@@ -69,8 +69,12 @@ pub record Replaced (k c : ℕ) (t₀ t₁ : List ℤ) : Type 0 where
 
 -- ---- division
 -- the most that the low half of a sum carries into the high one
-abbrev pub carried : ℤ
-carried = pos (2 ^ 36)
+abbrev pub carryMost : ℕ
+carryMost = 2 ^ 36
+
+-- the most that the high half is after a division
+abbrev pub quotientMost : ℕ
+quotientMost = 2 ^ 48
 
 -- what sums are divided by
 abbrev pub step : ℕ
@@ -92,5 +96,5 @@ pub record Divided (k : ℕ) (hi₀ lo₀ hi₁ lo₁ : List ℤ) (r : Bool) : T
   pub floor : Floor (valueAt hi₀ lo₀ k) (valueAt hi₁ lo₁ k)
   pub yes : r ≡ true → floor .rest ≡ 0
   pub no : r ≡ false → floor .rest ≡ 0 → ⊥
-  pub high : Replaced k (2 ^ 48) hi₀ hi₁
+  pub high : Replaced k quotientMost hi₀ hi₁
   pub low : Replaced k base lo₀ lo₁

@@ -8,9 +8,9 @@
 // (Room, addedAt, HasRoom, Near, Shrunk) is said of each.
 ghost use mathlib.Core.Path.{_≡_};
 ghost use Prim.Native.Nat.{_<_};
-ghost use lib.IntN.{_*ℤ_};
+ghost use lib.IntN.{pos, _*ℤ_};
 ghost use lib.ListN.{length};
-ghost use Rattle.wide_sums.specs.Sums.{carried, step, cutAt, halvesOf, Room, addedAt, ZeroAt, Divided};
+ghost use Rattle.wide_sums.specs.Sums.{carryMost, step, cutAt, halvesOf, Room, addedAt, ZeroAt, Divided};
 
 const BASE: i64 = 1 << 27;
 
@@ -76,7 +76,7 @@ fn cut_step(x: i64) -> Halves
 // Divides the sum at a place by 2^16, rounding down; whether it was a multiple of it. What the low half has above the
 // base is carried first, so that both halves are small after, and there is room again for as much as at the start.
 pub fn divide(hi: &mut [i64], lo: &mut [i64], at: usize) -> bool
-    requires { ⌜ Room (now hi) at carried × (at < length (now lo)) ⌝ }
+    requires { ⌜ Room (now hi) at (pos carryMost) × (at < length (now lo)) ⌝ }
     ensures { λ r. ⌜
         Divided at (now (hi .entry)) (now (lo .entry)) (now (hi .exit)) (now (lo .exit)) r
         ⌝ }

@@ -1,12 +1,13 @@
 -- `compare_with`: the sum at a key is the coefficient of the squares less that of the claim.
 use mathlib.Core.Path.{ap}
-use Prim.Native.Nat.{_+_, _*_, _^_, _≤_}
+use Prim.Native.Nat.{_+_, _*_, _≤_}
 use native.Mathlib.Omega.{arith}
 use borrow.Author.Needs.{needs}
 use lib.ListN.{length, getD}
 use Rattle.flat.specs.Flat.{FlatLimits}
 use Rattle.flat.proofs.Flat.{polynomial-counted, exponents-fit, coefficients-fit, exponents-long, coefficients-long}
 use Rattle.key_set.proofs.Keys.{inside}
+use Rattle.wide_sums.specs.Sums.{carryMost}
 use Rattle.identity_check.specs.Tables.{unit}
 use Rattle.identity_check.specs.Spread.{tableUnit}
 use Rattle.identity_check.proofs.Growth.{ready-after}
@@ -69,7 +70,7 @@ add-squares-requires c κs =
     let a = c .before .before .before .before .before in
     let p = s a .pre in
     let g = claim-most _ (lent-few a) (a .add-claim .ensures) in
-    (ready-after (zeroed-ready (p .0 .0) (p .0 .1) (257 * unit + (9 * tableUnit + 2 ^ 36)) (omega arith)) g (omega arith), (p .0 .2, p .1))
+    (ready-after (zeroed-ready (p .0 .0) (p .0 .1) (257 * unit + (9 * tableUnit + carryMost)) (omega arith)) g (omega arith), (p .0 .2, p .1))
 
 smallest-requires : tie.Need-smallest-requires
 smallest-requires c κs =
