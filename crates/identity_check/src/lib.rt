@@ -1,9 +1,10 @@
 // Refusal 9: whether the identity of a certificate that was read holds, key by key. Minus the claim and the weighted
 // squares of the rows are added up at each key that is compared; a sum that is not 0 is a difference.
 //
-// Where a row has a factor of 32 bits the squares are added in three parts, the second 2^16 times and the third 2^32
-// times. The sums are divided by 2^16 before the second and before the third. One that is no multiple of 2^16 is a
-// difference, whatever is added later, and the smallest key of such a sum is kept. So a sum holds no more than a part.
+// Where a row has a wide factor, one that leaves 16 bits, the squares are added in three parts, the second 2^16 times
+// and the third 2^32 times. The sums are divided by 2^16 before the second and before the third. One that is no
+// multiple of 2^16 is a difference, whatever is added later, and the place with the smallest key of those is kept. So a
+// sum never holds more than one part.
 //
 // Three bundles go through these functions, always in this order: the certificate (its bytes, the offsets of its rows
 // and their number), the problem (keys, coefficients and sizes, as in the crate flat) and the compared keys (a table,
