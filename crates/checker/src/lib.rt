@@ -1,5 +1,5 @@
-// The public calls: the blocks of a problem, the check of one certificate and the pair of two. What they share is in
-// `certificate_judge`.
+// The public calls: the blocks of a problem, the check of one certificate, the pair of two, and the check of two that
+// are compared with each other. What they share is in `certificate_judge`.
 ghost use mathlib.Core.Path.{_≡_};
 ghost use mathlib.Core.Bool.{false, _||_};
 ghost use mathlib.Core.List.{List, _++_};

@@ -1,7 +1,6 @@
 -- `tighter`: the part by what was chosen, and the clauses from the equations.
 use borrow.Author.Needs.{needs}
-use mathlib.Core.Path.{_≡_, refl, sym, _∙_}
-use Rattle.calls.specs.declared.Chosen.{Chosen}
+use mathlib.Core.Path.{refl, sym, _∙_}
 use Rattle.calls.specs.declared.Chosen.the-variants as Chosen
 use Rattle.calls.proofs.Superseded.{left-clauses}
 use Rattle.superseding.proofs.Parts.{part-by, not-both}
