@@ -33,9 +33,9 @@ pub struct CheckVerdict {
     pub rounds: usize,
 }
 
-// What the pair returns: the bounds p/q and P/Q that the certificates state, their gap, and the rounds. A gap below 0 is
-// marked as empty, with 0 over 0 in its place. With a refusal there is no mark, the rounds are 0 and the fractions 0
-// over 0.
+// What the pair returns: the bounds p/q and P/Q that the certificates state, their gap, and the rounds. A gap below 0
+// is marked as empty, with 0 over 0 in its place. With a refusal there is no mark, the rounds are 0 and the fractions
+// 0 over 0.
 pub struct PairVerdict {
     pub refusal: Refusal,
     pub lower: Fraction,

@@ -225,8 +225,8 @@ fn is_full(g: Progress, i: Instruction) -> bool
     }
 }
 
-// What the checks of a command found: the number of the refusal that it meets, or 0, and then what it says. Each command
-// is decoded once, for its checks and for what is kept of it.
+// What the checks of a command found: the number of the refusal that it meets, or 0, and then what it says. Each
+// command is decoded once, for its checks and for what is kept of it.
 pub struct Checked {
     pub number: u8,
     pub instruction: Instruction,

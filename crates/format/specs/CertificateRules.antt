@@ -15,8 +15,8 @@ use Rattle.format.specs.declared.certificate.Instruction.the-variants as
 use Rattle.format.specs.declared.certificate.Header.{Header}
 use Rattle.format.specs.CertificateLayout.{certificateCommand, certificateSize, certificateDecoded}
 
--- an entry: factor l on basis index i, and the offset of its command. 12 and 15 are two layouts of it, with one rule for
--- each check
+-- an entry: factor l on basis index i, and the offset of its command. 12 and 15 are two layouts of it, with one rule
+-- for each check
 pub record Entry : Type 0 where
   pub index : ℕ
   pub factor : ℤ
