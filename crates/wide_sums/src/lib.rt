@@ -4,8 +4,8 @@
 //
 // The halves meet at 2^27 because a number of at most 5 * 2^53 then has halves of at most 5 * 2^26, so that 800,000 of
 // their products with numbers of 16 bits may be added. A sum of wider products is made part by part, each 2^16 times
-// the one before: between the parts the sums are divided by 2^16, and so two tables are enough. What is said of one table
-// (Room, addedAt, HasRoom, Near, Shrunk) is said of each.
+// the one before: between the parts the sums are divided by 2^16, and so two tables are enough. What is said of one
+// table (Room, addedAt, HasRoom, Near, Shrunk) is said of each.
 ghost use mathlib.Core.Path.{_≡_};
 ghost use Prim.Native.Nat.{_<_};
 ghost use lib.IntN.{_*ℤ_};
