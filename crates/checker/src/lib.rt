@@ -113,6 +113,7 @@ fn blocks_of(keys: &[u64], sizes: &[usize], out: &mut [u8], table: &mut [u64]) -
         return refuse_blocks(7, 0);
     }
     copy(out, &labels);
+    let rule = sizes[RULE];
     BlocksVerdict {
         refusal: Refusal {
             number: 0,
@@ -122,7 +123,7 @@ fn blocks_of(keys: &[u64], sizes: &[usize], out: &mut [u8], table: &mut [u64]) -
         },
         blocks: j.blocks,
         rounds: j.rounds,
-        rule: sizes[RULE],
+        rule,
     }
 }
 
