@@ -34,8 +34,7 @@ class ModelError(Exception):
 class Variable:
     """A name and its range, if it has one."""
     name: str
-    low: Optional[Fraction] = None
-    high: Optional[Fraction] = None
+    range: Optional[tuple[Fraction, Fraction]] = None
 
 
 @dataclass
@@ -225,7 +224,7 @@ def _variables(model: Model, line: _Line) -> None:
         names.append(line.next())
     if not names:
         raise line.wrong("a name of a variable")
-    low = high = None
+    ends: Optional[tuple[Fraction, Fraction]] = None
     if line.take("in"):
         line.expect("[", "`[`")
         low = line.rational()
@@ -235,6 +234,7 @@ def _variables(model: Model, line: _Line) -> None:
         if high <= low:
             raise ModelError(line.number, column, f"the upper end {high} is not above the lower end {low}")
         line.expect("]", "`]`")
+        ends = low, high
     line.done("a name, `in` or the end of the line")
     for token in names:
         if not NAME.fullmatch(token.text):
@@ -244,4 +244,4 @@ def _variables(model: Model, line: _Line) -> None:
             raise ModelError(line.number, token.column, f"`{token.text}` stands twice")
         if len(model.variables) == 8:
             raise ModelError(line.number, token.column, "more than 8 variables")
-        model.variables.append(Variable(token.text, low, high))
+        model.variables.append(Variable(token.text, ends))

@@ -7,6 +7,7 @@ from __future__ import annotations
 
 from dataclasses import dataclass, field
 from fractions import Fraction
+from typing import TypeVar
 
 from .basis import inconsistent
 from .commands import Monomial, ONE, add, key
@@ -16,6 +17,7 @@ from .solver import Answer, Solver
 Position = tuple[int, int, int]              # block, and two places in it, the first not above the second
 Equation = dict[Position, Fraction]
 FreeVariable = tuple[int, Monomial]          # an equality and a monomial of its multiplier
+Name = TypeVar("Name")
 
 
 class Unreachable(Exception):
@@ -106,7 +108,7 @@ def _eliminate_free(program: Program) -> None:
     program.free = rows
 
 
-def _subtract(row: dict, other: dict, factor: Fraction) -> None:
+def _subtract(row: dict[Name, Fraction], other: dict[Name, Fraction], factor: Fraction) -> None:
     for x, c in other.items():
         value = row.get(x, Fraction(0)) - factor * c
         if value:
