@@ -7,3 +7,4 @@ pub mod RingBounds
 pub mod Empty
 pub mod Worked
 pub mod Rules
+pub mod RowOrder

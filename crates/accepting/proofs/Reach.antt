@@ -26,7 +26,8 @@ use Rattle.joining_rule.proofs.Full.{full-any}
 use Rattle.joining_rule.proofs.Closing.{closing-starts, closing-rising}
 use Rattle.joining_rule.proofs.Counted.{counted-full, counted-extends, counted-zero, counted-rising, products-nothing}
 use Rattle.joining_rule.proofs.Rounds.{adding-all}
-use Rattle.joining_rule.specs.Joining.{basesOf, multiples, startFrom, startSet, closing, closedSupport}
+use Rattle.joining_rule.proofs.Bound.{most-positive}
+use Rattle.joining_rule.specs.Joining.{basesOf, multiples, startFrom, startSet, closing, reachedSupport}
 use Rattle.joining_rule.proofs.Start.{insertAll-extends, start-rising}
 use Rattle.format.specs.CertificateRules.{Entry, Row}
 use Rattle.format.specs.declared.certificate.Header.{Header}
@@ -95,13 +96,13 @@ module _ (p : Problem) where
   start-rises = start-rising (keysOf (p .objective)) (basesOf p)
 
   -- "S starts as all exponents of the objective ..", and never loses one
-  objective-in : (k : ℕ) → In k (keysOf (p .objective)) → In k (closedSupport p)
+  objective-in : (k : ℕ) → In k (keysOf (p .objective)) → In k (reachedSupport p)
   unfolding closing startSet startFrom
   objective-in k m =
-      closing-starts (p .rule) (basesOf p) (startSet p) k (insertAll-extends (multiples 2 (basisOf p 0)) _ .keeps k
+      closing-starts (p .rule) _ (basesOf p) (startSet p) k (insertAll-extends (multiples 2 (basisOf p 0)) _ .keeps k
       (fromTo-extends (λ j. insertAll (multiplierOf p j)) (λ j X. insertAll-extends (multiplierOf p j) X) 1 9 (insertAll (keysOf (p .objective)) []) .keeps k (insertAll-in k (keysOf (p .objective)) [] m)))
 
-  -- the claim has no monomial but those of the closed S and the zero exponent
+  -- the claim has no monomial but those of the S reached and the zero exponent
   pub claim-reach : (h : Header) → Keys (λ k. In k (comparedKeys p)) (claim p h)
   unfolding claimOf comparedKeys
   claim-reach h =
@@ -114,7 +115,7 @@ module _ (p : Problem) where
   -- ---- outside the compared keys
   pub compared-rising : Rising (comparedKeys p)
   unfolding comparedKeys closing
-  compared-rising = counted-rising (basesOf p) (closing p .state) (closing-rising (p .rule) (basesOf p) (startSet p) start-rises)
+  compared-rising = counted-rising (basesOf p) (closing p .state) (closing-rising (p .rule) _ (basesOf p) (startSet p) start-rises)
 
   pub claim-outside : (h : Header) (k : ℕ) → (In k (comparedKeys p) → ⊥) → coefficient k (claim p h) ≡ pos 0
   claim-outside h k f = coefficient-none (λ k. In k (comparedKeys p)) k (claim p h) (claim-reach h) f
@@ -122,8 +123,8 @@ module _ (p : Problem) where
   pub squares-outside : Limits p → (rs : List Row) → All (SoundRow p) rs → KeepsBlocks p rs → (k : ℕ) → (In k (comparedKeys p) → ⊥) → coefficient k (squares p rs) ≡ pos 0
   squares-outside limits rs f o k g = coefficient-none (λ k. In k (comparedKeys p)) k (squares p rs) (squares-reach limits rs f o) g
 
-  -- under rule 1 the compared keys are the closed S with the zero exponent
-  pub compared-one : p .rule ≡ 1 → comparedKeys p ≡ insert 0 (closedSupport p)
+  -- under rule 1 the compared keys are the S reached with the zero exponent
+  pub compared-one : p .rule ≡ 1 → comparedKeys p ≡ insert 0 (reachedSupport p)
   unfolding comparedKeys closing
   compared-one e =
-      products-nothing (p .rule) (basesOf p) (startSet p) start-rises (adding-all (p .rule) (λ q. omega arith))
+      products-nothing (p .rule) _ (basesOf p) (startSet p) start-rises (most-positive (p .order)) (adding-all (p .rule) (λ q. omega arith))

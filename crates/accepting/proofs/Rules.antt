@@ -1,8 +1,8 @@
--- Two problems that are alike but for the joining rule: where the blocks of the first lie inside those of the second, what
--- is accepted for the first is accepted for the second.
+-- Two problems that are alike but for the joining rule and the sparse order: where the second joins no less, so that the
+-- blocks of the first lie inside its own, what is accepted for the first is accepted for the second.
 use mathlib.Core.Path.{_≡_, refl, sym, ap, ap₂, _∙_}
 use mathlib.Core.List.{List, [], _∷_, _++_}
-use Prim.Native.Nat.{ℕ, _≤_, _<_}
+use Prim.Native.Nat.{ℕ, _<_}
 use native.Mathlib.Omega.{arith}
 use lib.ListN.{length}
 use Rattle.polynomial.specs.Terms.{Term}
@@ -14,18 +14,15 @@ use Rattle.format.specs.CertificateRules.{Entry, Row, Certificate}
 use Rattle.format.proofs.WithinLimits.{Limits}
 use Rattle.format.proofs.CertificateLimits.{SoundRow, read-sound}
 use Rattle.format.proofs.Alike.{Alike, alike-basis, alike-multiplier, alike-certificate}
-use Rattle.joining_rule.specs.Rounds.{addingBases}
-use Rattle.joining_rule.proofs.Rules.{blocks-contained}
+use Rattle.joining_rule.proofs.Rules.{JoinsMore, problem-below}
 use Rattle.accepting.specs.Identity.{square, squares, claimOf, Identity, blockOf, OneBlock}
 use Rattle.accepting.specs.Judgement.{Accepted}
 use Rattle.accepting.proofs.Reach.{all-both}
 
--- the blocks of p lie inside those of q
-pub record Inside (p q : Problem) : Type 0 where
-  pub at : (j i k : ℕ) → j < 9 → i < length (basisOf p j) → k < length (basisOf p j)
-      → blockOf p j i ≡ blockOf p j k → blockOf q j i ≡ blockOf q j k
+module _ (p q : Problem) (more : JoinsMore p q) where
+  abbrev a : Alike p q
+  a = more .alike
 
-module _ (p q : Problem) (a : Alike p q) where
   -- ---- the identity is the same
   square-same : (w : Row) → square q w ≡ square p w
   unfolding square
@@ -44,7 +41,11 @@ module _ (p q : Problem) (a : Alike p q) where
       ∙ sym (ap (coefficient k) (squares-same (c .rows)))
 
   -- ---- a row in one block is in one block of the other
-  module _ (limits : Limits p) (inside : Inside p q) where
+  module _ (limits : Limits p) where
+    block-inside : (j i k : ℕ) → j < 9 → i < length (basisOf p j) → k < length (basisOf p j) → blockOf p j i ≡ blockOf p j k → blockOf q j i ≡ blockOf q j k
+    unfolding blockOf
+    block-inside = problem-below p q more .blocks
+
     row-inside : (w : Row) → SoundRow p w → OneBlock p w → OneBlock q w
     unfolding All
     row-inside w f o = go (w .entries) (f .indices) (o .entries)
@@ -54,7 +55,7 @@ module _ (p q : Problem) (a : Alike p q) where
 
         one : (i k : ℕ) → i < length (basisOf p j) → k < length (basisOf p j) → blockOf p j i ≡ o .block → blockOf p j k ≡ o .block
             → blockOf q j i ≡ blockOf q j k
-        one i k x y e f′ = inside .at j i k (omega (arith, limits .conditions, f .basis)) x y (e ∙ sym f′)
+        one i k x y e f′ = block-inside j i k (omega (arith, limits .conditions, f .basis)) x y (e ∙ sym f′)
 
         go : (es : List Entry) → All (λ (e : Entry). e .index < length (basisOf p j)) es → All (λ (e : Entry). blockOf p j (e .index) ≡ o .block) es
             → OneBlock q (record { basis = j; weight = w .weight; entries = es })
@@ -64,14 +65,10 @@ module _ (p q : Problem) (a : Alike p q) where
           entries = all-both _ _ _ (λ d u v. one (d .index) (e .index) u (x .0) v (y .0)) (e ∷ es) x y;
         }
 
-    -- ---- so what is accepted is accepted of the other
-    pub accepted-inside : (s : List ℕ) (c : Certificate) → Accepted p s c → Accepted q s c
-    accepted-inside s c h = record {
+    -- "what is accepted under 2 is accepted under 1", and what "at k .. at every larger k and at full closure"
+    pub accepted-other : (s : List ℕ) (c : Certificate) → Accepted p s c → Accepted q s c
+    accepted-other s c h = record {
       read = alike-certificate p q a s ∙ h .read;
       blocks = all-both (SoundRow p) (OneBlock p) (OneBlock q) row-inside (c .rows) (read-sound p s c (h .read) .rows) (h .blocks);
       identity = identity-same c (h .identity);
     }
-
-  -- "what is accepted under 2 is accepted under 1": of a rule under which no fewer bases add
-  pub accepted-other : Limits p → addingBases (p .rule) ≤ addingBases (q .rule) → (s : List ℕ) (c : Certificate) → Accepted p s c → Accepted q s c
-  accepted-other limits fewer = accepted-inside limits (record { at = unfold blockOf in blocks-contained p q a limits fewer })

@@ -62,6 +62,7 @@ abbrev pub problemWith : ℕ → Kind → Problem
 problemWith e k = record {
   variables = 1;
   rule = 1;
+  order = 0;
   objective = term e (pos 1) ∷ [];
   conditions = record { kind = k; terms = caseF } ∷ [];
   bases = (0 ∷ 1 ∷ []) ∷ (0 ∷ []) ∷ replicate 7 [];
@@ -72,6 +73,7 @@ unfolding All Distinct degree degreeOf within among keysOf
 limitsWith e k low one = record {
   variables = omega arith;
   rule = omega arith;
+  order = omega arith;
   objective = record {
     monomials = record { count = omega arith; degrees = (low, tt); variables = (one, tt); distinct = (refl, tt) };
     nonzero = (one-not, tt);

@@ -6,9 +6,8 @@ use mathlib.Core.Logic.{inl, inr}
 use Prim.Native.Nat.{ℕ, _≤_}
 use native.Mathlib.Omega.{arith}
 use Rattle.format.specs.Commands.{Outcome, given}
-use Rattle.format.specs.ProblemRules.{Problem, withRule, readProblem}
+use Rattle.format.specs.ProblemRules.{Problem, readProblem}
 use Rattle.format.proofs.ProblemRule.{read-rule}
-use Rattle.format.proofs.Alike.{ruled-alike}
 use Rattle.format.proofs.ProblemLimits.{read-limits}
 use Rattle.format.specs.CertificateRules.{Certificate, readCertificate}
 use Rattle.format.proofs.CertificateLimits.{read-sound}
@@ -23,11 +22,11 @@ use Rattle.calls.specs.declared.CheckVerdict.{CheckVerdict}
 use Rattle.calls.specs.Refusals.{problemRefusal, certificateRefusal}
 use Rattle.calls.specs.Check.{refusedCheck, acceptedCheck, checkJudged, checkOf, checkRead, checkVerdict}
 use Rattle.calls.specs.Promises.{NumberedTo, RoundsTaken, FewRounds, RuleUsed, Reads, DiffersAt, IdentityFalse, Within, AcceptedExactly, CheckDiffers, HoldsBelow, HoldsAbove, HoldsBySide}
-use Rattle.calls.specs.Rules.{UnlessSeven, CheckUnderOne}
+use Rattle.calls.specs.Rules.{UnderOne, AtLarger, UnlessSeven, CheckKept, CheckUnderOne, CheckAtLarger}
 use Rattle.calls.proofs.Promised.{promise-rounds, promise-few}
 use Rattle.calls.proofs.Judged.{Between, judge-number, judge-nine}
 use Rattle.calls.proofs.Ends.{reads-at, Ends, before, within, ends, opened, opens, too-large}
-use Rattle.calls.proofs.Rules.{Under, large, both, under}
+use Rattle.calls.proofs.Rules.{AllLead, under-leads, larger-leads, Under, large, both, under}
 
 -- two certificates that a stream gives are one
 pub given-once : (h : Problem) (s : List ℕ) (c d : Certificate) → readCertificate h s ≡ given c → readCertificate h s ≡ given d → c ≡ d
@@ -161,10 +160,10 @@ module _ (short : Bool) (s t : List ℕ) (v : CheckVerdict) (is : v ≡ checkVer
         refused = λ h. absurd (omega (arith, number-is _ (r .holds .verdict)));
       }
 
-  -- the same stream under rule 1
-  check-under : CheckUnderOne short s t v
+  -- the same stream under rule 1, or at a larger order: R s s′, where s′ joins no less
+  check-kept : (R : List ℕ → List ℕ → Type 0) → ((s′ : List ℕ) → R s s′ → AllLead s s′) → CheckKept R short s t v
   unfolding checkVerdict checkOf
-  check-under s′ u h = go (under short s s′ u (opens refusedCheck of reads (λ n place. refl) (λ p. refl) short s (λ w. w .refusal .number) (λ r. refl) (rw is at h)))
+  check-kept R leads s′ u h = go (under short s s′ (leads s′ u) (opens refusedCheck of reads (λ n place. refl) (λ p. refl) short s (λ w. w .refusal .number) (λ r. refl) (rw is at h)))
     where
       of : Problem → CheckVerdict
       of p = checkJudged p (judge p t)
@@ -173,14 +172,14 @@ module _ (short : Bool) (s t : List ℕ) (v : CheckVerdict) (is : v ≡ checkVer
       reads o = checkRead o t
 
       go : Under short s s′ → UnlessSeven (checkVerdict short s′ t .refusal) ((checkVerdict short s′ t .side ≡ v .side) × (checkVerdict short s′ t .bound ≡ v .bound))
-      go (large p f e l) =
-          inl (ap (λ (x : CheckVerdict). x .refusal) (too-large refusedCheck of reads (λ n place. refl) (λ p. refl) short s′ (withRule p 1) f e l))
+      go (large q f e l) =
+          inl (ap (λ (x : CheckVerdict). x .refusal) (too-large refusedCheck of reads (λ n place. refl) (λ p. refl) short s′ q f e l))
       go (both b) =
           let p = b .problem in
-          let q = withRule p 1 in
+          let q = b .other in
           let k = found-at p (b .first .read) h in
           let c = k .certificate in
-          let a = accepted-other p (withRule p 1) (ruled-alike p 1) (read-limits s p (b .first .read)) (b .fewer) t c (k .accepted) in
+          let a = accepted-other p q (b .more) (read-limits s p (b .first .read)) t c (k .accepted) in
           let e = opened refusedCheck of reads (λ n place. refl) (λ p. refl) short s′ q (b .second) ∙ ap (checkJudged q) (accepted-judge q t c a) in
           inr (
             ap (λ (x : CheckVerdict). x .refusal) e,
@@ -188,5 +187,5 @@ module _ (short : Bool) (s t : List ℕ) (v : CheckVerdict) (is : v ≡ checkVer
           )
 
   -- all of them
-  pub check-clauses : NumberedTo 9 (v .refusal .number) × (AcceptedExactly short s t (v .refusal .number) × (CheckDiffers short s t (v .refusal) × (HoldsBySide s v × (RoundsTaken s (v .refusal .number) (v .rounds) × (FewRounds s (v .refusal .number) (v .rounds) × (RuleUsed s (v .refusal .number) (v .rule) × CheckUnderOne short s t v))))))
-  check-clauses = (check-numbered, (check-exactly, (check-differs, (check-holds, (check-rounds, (check-few, (check-rule, check-under)))))))
+  pub check-clauses : NumberedTo 9 (v .refusal .number) × (AcceptedExactly short s t (v .refusal .number) × (CheckDiffers short s t (v .refusal) × (HoldsBySide s v × (RoundsTaken s (v .refusal .number) (v .rounds) × (FewRounds s (v .refusal .number) (v .rounds) × (RuleUsed s (v .refusal .number) (v .rule) × (CheckUnderOne short s t v × CheckAtLarger short s t v)))))))
+  check-clauses = (check-numbered, (check-exactly, (check-differs, (check-holds, (check-rounds, (check-few, (check-rule, (check-kept UnderOne (under-leads s), check-kept AtLarger (larger-leads s)))))))))

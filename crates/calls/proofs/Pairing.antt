@@ -12,9 +12,8 @@ use borrow.Author.Tests.{eqb-true, eq-eqb, ltb-true}
 use Rattle.counting.proofs.Cases.{clash}
 use Rattle.polynomial.specs.Point.{Point}
 use Rattle.format.specs.Commands.{Outcome, given}
-use Rattle.format.specs.ProblemRules.{Problem, withRule, readProblem}
+use Rattle.format.specs.ProblemRules.{Problem, readProblem}
 use Rattle.format.proofs.ProblemRule.{read-rule}
-use Rattle.format.proofs.Alike.{ruled-alike}
 use Rattle.format.proofs.ProblemLimits.{read-limits}
 use Rattle.format.specs.CertificateRules.{Certificate}
 use Rattle.joining_rule.specs.Joining.{closing}
@@ -31,11 +30,11 @@ use Rattle.calls.specs.Check.{boundOf}
 use Rattle.calls.specs.Refusals.{problemRefusal, certificateRefusal}
 use Rattle.calls.specs.Pair.{refusedPair, acceptedPair, pairSides, pairSecond, pairFirst, pairOf, pairRead, pairVerdict}
 use Rattle.calls.specs.Promises.{NumberedTo, RoundsTaken, FewRounds, RuleUsed, Reads, DiffersAt, Within, BothHold, Stated, PairExactly, SecondDiffers, PairDiffers, HoldsBelow, HoldsAbove, HoldsGap, NoPoints}
-use Rattle.calls.specs.Rules.{UnlessSeven, PairUnderOne}
+use Rattle.calls.specs.Rules.{UnderOne, AtLarger, UnlessSeven, PairKept, PairUnderOne, PairAtLarger}
 use Rattle.calls.proofs.Promised.{promise-rounds, promise-few}
 use Rattle.calls.proofs.Judged.{Between, judge-number, judge-nine}
 use Rattle.calls.proofs.Ends.{reads-at, Ends, before, within, ends, opened, opens, too-large}
-use Rattle.calls.proofs.Rules.{Under, large, both, under}
+use Rattle.calls.proofs.Rules.{AllLead, under-leads, larger-leads, Under, large, both, under}
 
 -- a gap below 0 is the distance of no two points
 no-point : (p : Problem) (z : ℤ) (y : ℕ) → ltZ z (pos 0) ≡ true → WithinGap p z y → (a : Point) → Allowed p a → ⊥
@@ -249,10 +248,10 @@ module _ (short : Bool) (s low high : List ℕ) (v : PairVerdict) (is : v ≡ pa
         refused = λ h. absurd (omega (arith, number-is _ (r .holds .verdict)));
       }
 
-  -- the same stream under rule 1
-  pair-under : PairUnderOne short s low high v
+  -- the same stream under rule 1, or at a larger order: R s s′, where s′ joins no less
+  pair-kept : (R : List ℕ → List ℕ → Type 0) → ((s′ : List ℕ) → R s s′ → AllLead s s′) → PairKept R short s low high v
   unfolding pairVerdict pairOf
-  pair-under s′ u h = go (under short s s′ u (opens refusedPair of reads (λ n place. refl) (λ p. refl) short s (λ w. w .refusal .number) (λ r. refl) (rw is at h)))
+  pair-kept R leads s′ u h = go (under short s s′ (leads s′ u) (opens refusedPair of reads (λ n place. refl) (λ p. refl) short s (λ w. w .refusal .number) (λ r. refl) (rw is at h)))
     where
       of : Problem → PairVerdict
       of p = pairFirst p (judge p low) high
@@ -264,20 +263,21 @@ module _ (short : Bool) (s low high : List ℕ) (v : PairVerdict) (is : v ≡ pa
       w = pairVerdict short s′ low high
 
       go : Under short s s′ → UnlessSeven (w .refusal) ((w .lower ≡ v .lower) × ((w .upper ≡ v .upper) × ((w .gap ≡ v .gap) × (w .empty ≡ v .empty))))
-      go (large p f e l) =
-          inl (ap (λ (x : PairVerdict). x .refusal) (too-large refusedPair of reads (λ n place. refl) (λ p. refl) short s′ (withRule p 1) f e l))
+      go (large q f e l) =
+          inl (ap (λ (x : PairVerdict). x .refusal) (too-large refusedPair of reads (λ n place. refl) (λ p. refl) short s′ q f e l))
       go (both b) =
           let p = b .problem in
+          let q = b .other in
           let k = found-at p (b .first .read) h in
           let limits = read-limits s p (b .first .read) in
-          let hold : BothHold (withRule p 1) low high (k .first) (k .second) =
+          let hold : BothHold q low high (k .first) (k .second) =
           record {
-            first = accepted-other p (withRule p 1) (ruled-alike p 1) limits (b .fewer) low (k .first) (k .hold .first);
-            second = accepted-other p (withRule p 1) (ruled-alike p 1) limits (b .fewer) high (k .second) (k .hold .second);
+            first = accepted-other p q (b .more) limits low (k .first) (k .hold .first);
+            second = accepted-other p q (b .more) limits high (k .second) (k .hold .second);
             lower = k .hold .lower;
             upper = k .hold .upper;
           } in
-          let e = both-verdict s′ (withRule p 1) (k .first) (k .second) (b .second) hold in
+          let e = both-verdict s′ q (k .first) (k .second) (b .second) hold in
           inr (
             ap (λ (x : PairVerdict). x .refusal) e,
             (
@@ -290,5 +290,5 @@ module _ (short : Bool) (s low high : List ℕ) (v : PairVerdict) (is : v ≡ pa
           )
 
   -- all of them
-  pub pair-clauses : NumberedTo 10 (v .refusal .number) × (PairExactly short s low high v × (PairDiffers short s low high (v .refusal) × (HoldsBelow s (v .refusal .number) (v .lower) × (HoldsAbove s (v .refusal .number) (v .upper) × (HoldsGap s (v .refusal .number) (v .empty) (v .gap) × (NoPoints s v × (RoundsTaken s (v .refusal .number) (v .rounds) × (FewRounds s (v .refusal .number) (v .rounds) × (RuleUsed s (v .refusal .number) (v .rule) × PairUnderOne short s low high v)))))))))
-  pair-clauses = (pair-numbered, (pair-exactly, (pair-differs, (below, (above, (gap, (empty, (pair-rounds, (pair-few, (pair-rule, pair-under))))))))))
+  pub pair-clauses : NumberedTo 10 (v .refusal .number) × (PairExactly short s low high v × (PairDiffers short s low high (v .refusal) × (HoldsBelow s (v .refusal .number) (v .lower) × (HoldsAbove s (v .refusal .number) (v .upper) × (HoldsGap s (v .refusal .number) (v .empty) (v .gap) × (NoPoints s v × (RoundsTaken s (v .refusal .number) (v .rounds) × (FewRounds s (v .refusal .number) (v .rounds) × (RuleUsed s (v .refusal .number) (v .rule) × (PairUnderOne short s low high v × PairAtLarger short s low high v))))))))))
+  pair-clauses = (pair-numbered, (pair-exactly, (pair-differs, (below, (above, (gap, (empty, (pair-rounds, (pair-few, (pair-rule, (pair-kept UnderOne (under-leads s), pair-kept AtLarger (larger-leads s))))))))))))

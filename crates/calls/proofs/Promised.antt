@@ -1,5 +1,5 @@
 -- What the definitions of the blocks call promise, in the buyer's terms: each clause of the contract, from the equations.
-use mathlib.Core.Path.{_≡_, refl, sym, ap, _∙_}
+use mathlib.Core.Path.{_≡_, refl, sym, ap, subst, _∙_}
 use mathlib.Core.Bool.{Bool, true, false, cond}
 use mathlib.Core.Logic.{inl, inr}
 use mathlib.Core.List.{List, [], _++_}
@@ -12,36 +12,36 @@ use Rattle.counting.specs.Counting.{listed, sumTo}
 use Rattle.counting.proofs.Listed.{listed-same, listed-all}
 use Rattle.counting.proofs.Sums.{sumTo-same}
 use Rattle.format.specs.Commands.{Outcome, refused, given}
-use Rattle.format.specs.ProblemRules.{Problem, withRule, readProblem}
+use Rattle.format.specs.ProblemRules.{Problem, readProblem}
+use Rattle.format.specs.ProblemOrder.{orderNamed}
 use Rattle.format.specs.ProblemBases.{basisOf}
 use Rattle.format.proofs.WithinLimits.{Limits}
 use Rattle.format.specs.ProblemCounts.{memberCommands, basesNamed}
 use Rattle.format.proofs.ProblemLimits.{read-limits, basis-few}
 use Rattle.format.proofs.ProblemCounts.{count-members, count-named}
-use Rattle.format.proofs.ProblemRule.{read-rule}
-use Rattle.format.proofs.Alike.{ruled-alike}
+use Rattle.format.proofs.ProblemRule.{read-rule, read-order}
 use Rattle.joining_rule.proofs.Rising.{Rising}
 use Rattle.joining_rule.specs.Sets.{different}
-use Rattle.joining_rule.specs.Rounds.{Bases, blocksIn, countedKeys}
+use Rattle.joining_rule.specs.Rounds.{Bases, State, start, after, mostRounds, blocksIn, countedKeys}
 use Rattle.joining_rule.proofs.Rounds.{monomials, nonempty}
 use Rattle.joining_rule.specs.Bytes.{blockByteCount, blockBytes, blockAt}
-use Rattle.joining_rule.specs.Meaning.{Pair, Closed, Least, Lowest, TakesRounds}
+use Rattle.joining_rule.specs.Meaning.{Pair, Closed, Least, Lowest, FullClosure, RoundsDone}
 use Rattle.joining_rule.proofs.Bytes.{bytes-long, byte-at}
-use Rattle.joining_rule.proofs.Closing.{closing-shaped}
-use Rattle.joining_rule.proofs.Bound.{few-rounds, closing-rounds}
-use Rattle.joining_rule.proofs.Meaning.{labelOf, closing-closed, closing-least, least-tests, closing-lowest}
-use Rattle.joining_rule.specs.Joining.{basesOf, startSet, closing, closedSupport, mostKeys, tooLarge, blockTotal}
+use Rattle.joining_rule.proofs.Closing.{closing-shaped, closing-state}
+use Rattle.joining_rule.proofs.Bound.{few-rounds, order-done}
+use Rattle.joining_rule.proofs.Meaning.{labelOf, full-closed, closing-least, least-tests, closing-lowest}
+use Rattle.joining_rule.specs.Joining.{basesOf, startSet, closing, reachedSupport, mostKeys, tooLarge, blockTotal}
 use Rattle.joining_rule.proofs.Start.{start-rising}
 use Rattle.joining_rule.proofs.Rules.{large-other}
 use Rattle.calls.specs.declared.Refusal.{Refusal}
 use Rattle.calls.specs.declared.BlocksVerdict.{BlocksVerdict}
 use Rattle.calls.specs.Refusals.{noRefusal, problemRefusal}
 use Rattle.calls.specs.Blocks.{refusedBlocks, blocksOf, blocksRead, blocksVerdict, bytesOf, bytesLeft}
-use Rattle.calls.specs.Promises.{NumberedTo, BlocksClosed, BlocksLeast, BlocksLowest, BlocksCounted, RoundsTaken, FewRounds, SevenExactly, RuleUsed, Within}
-use Rattle.calls.specs.Rules.{UnderOne, UnlessSeven, BlocksInside, BlocksUnderOne}
+use Rattle.calls.specs.Promises.{NumberedTo, BlocksClosed, BlocksLeast, BlocksLowest, BlocksAfter, BlocksCounted, RoundsTaken, FewRounds, SevenExactly, RuleUsed, Within}
+use Rattle.calls.specs.Rules.{UnderOne, AtLarger, UnlessSeven, BlocksInside, BlocksKept, BlocksUnderOne, BlocksAtLarger}
 use Rattle.calls.proofs.Judged.{problem-number}
 use Rattle.calls.proofs.Ends.{Ends, before, within, ends, opened, opens, too-large}
-use Rattle.calls.proofs.Rules.{BothWithin, Under, large, both, under, under-read, under-fewer, bytes-inside}
+use Rattle.calls.proofs.Rules.{AllLead, under-leads, larger-leads, BothWithin, Under, large, both, under, bytes-inside}
 
 -- ---- block numbers that agree at every index of a basis mean the same
 pub record Agree (g : Bases) (label label′ : ℕ → ℕ → ℕ) : Type 0 where
@@ -91,45 +91,61 @@ module _ (s : List ℕ) (p : Problem) (read : readProblem s ≡ given p) where
   unfolding startSet
   rising = start-rising _ (basesOf p)
 
-  bytes-agree : (rest : List ℕ) → Agree (basesOf p) (labelOf (p .rule) (basesOf p) (startSet p)) (blockAt (blockBytes (closing p .state .labels) ++ rest))
+  -- the order that the stream names
+  named : p .order ≡ orderNamed s
+  named = read-order s p read
+
+  pub bytes-agree : (rest : List ℕ) → Agree (basesOf p) (labelOf (p .rule) (mostRounds (p .order)) (basesOf p) (startSet p)) (blockAt (blockBytes (closing p .state .labels) ++ rest))
   unfolding closing
   bytes-agree rest = record {
     at = λ j i h b.
         let z = small j in
-        let n = closing-shaped (p .rule) (basesOf p) (startSet p) .long j h in
+        let n = closing-shaped (p .rule) (mostRounds (p .order)) (basesOf p) (startSet p) .long j h in
         byte-found _ rest j i h (omega arith) (omega arith);
   }
 
-  pub promise-closed : (rest : List ℕ) → Closed (p .rule) (basesOf p) (startSet p) (blockAt (blockBytes (closing p .state .labels) ++ rest)) (closedSupport p)
+  pub promise-closed : (rest : List ℕ) → FullClosure (p .rule) (orderNamed s) (basesOf p) (startSet p)
+      → Closed (p .rule) (basesOf p) (startSet p) (blockAt (blockBytes (closing p .state .labels) ++ rest)) (reachedSupport p)
   unfolding closing
-  promise-closed rest = closed-same _ _ _ _ _ (bytes-agree rest) _ (closing-closed (p .rule) (basesOf p) (startSet p) rising small)
+  promise-closed rest f =
+      let full = subst (λ (k : ℕ). FullClosure (p .rule) k (basesOf p) (startSet p)) (sym named) f in
+      closed-same _ _ _ _ _ (bytes-agree rest) _ (full-closed (p .rule) (p .order) (basesOf p) (startSet p) rising small full)
 
-  pub promise-least : (rest : List ℕ) → Least (p .rule) (basesOf p) (startSet p) (blockAt (blockBytes (closing p .state .labels) ++ rest)) (closedSupport p)
+  -- that every other closed blocks and set contain them holds at every order
+  pub promise-least : (rest : List ℕ) → Least (p .rule) (basesOf p) (startSet p) (blockAt (blockBytes (closing p .state .labels) ++ rest)) (reachedSupport p)
   unfolding closing
-  promise-least rest = least-same _ _ _ _ _ (bytes-agree rest) _ (least-tests _ _ _ _ _ (closing-least (p .rule) (basesOf p) (startSet p)))
+  promise-least rest = least-same _ _ _ _ _ (bytes-agree rest) _ (least-tests _ _ _ _ _ (closing-least (p .rule) _ (basesOf p) (startSet p)))
+
+  pub promise-after : (rest : List ℕ) (j i : ℕ) → j < 9 → i < length (basisOf p j)
+      → blockAt (blockBytes (closing p .state .labels) ++ rest) j i
+      ≡ getD (getD (after (p .rule) (basesOf p) (start (basesOf p) (startSet p)) (closing p .rounds) .labels) j []) i 0
+  unfolding closing
+  promise-after rest j i h b =
+      sym (bytes-agree rest .at j i h b)
+      ∙ ap (λ (x : State). getD (getD (x .labels) j []) i 0) (closing-state (p .rule) (mostRounds (p .order)) (basesOf p) (startSet p))
 
   pub promise-lowest : (rest : List ℕ) → Lowest (basesOf p) (blockAt (blockBytes (closing p .state .labels) ++ rest))
   unfolding closing
-  promise-lowest rest = lowest-same (p .rule) _ (startSet p) _ _ (bytes-agree rest) (closing-lowest (p .rule) (basesOf p) (startSet p))
+  promise-lowest rest = lowest-same (p .rule) _ (startSet p) _ _ (bytes-agree rest) (closing-lowest (p .rule) _ (basesOf p) (startSet p))
 
   -- the bytes of a basis tell its block numbers
   labels-told : (rest : List ℕ) (j : ℕ) → j < 9 → getD (closing p .state .labels) j [] ≡ listed (length (basisOf p j)) (blockAt (blockBytes (closing p .state .labels) ++ rest) j)
   unfolding closing
   labels-told rest j h =
-      let l = closing-shaped (p .rule) (basesOf p) (startSet p) .long j h in
+      let l = closing-shaped (p .rule) (mostRounds (p .order)) (basesOf p) (startSet p) .long j h in
       sym (listed-all (getD (closing p .state .labels) j []) 0) ∙ rw l (listed-same (length (basisOf p j)) _ _ (λ i b. bytes-agree rest .at j i h b))
 
   pub promise-counted : (rest : List ℕ) → blockTotal p ≡ sumTo 9 (λ j. different (listed (length (basisOf p j)) (blockAt (blockBytes (closing p .state .labels) ++ rest) j)))
   unfolding blockTotal blocksIn
   promise-counted rest = sumTo-same 9 _ _ (λ j h. ap different (labels-told rest j h))
 
-  pub promise-rounds : TakesRounds (p .rule) (basesOf p) (startSet p) (closing p .rounds)
+  pub promise-rounds : RoundsDone (p .rule) (orderNamed s) (basesOf p) (startSet p) (closing p .rounds)
   unfolding closing
-  promise-rounds = closing-rounds (p .rule) (basesOf p) (startSet p) rising small
+  promise-rounds = rw (← named) (order-done (p .rule) (basesOf p) (startSet p) rising small (p .order))
 
   pub promise-few : closing p .rounds + basesNamed s ≤ memberCommands s + 2
   unfolding closing monomials nonempty basisOf
-  promise-few = rw (count-members s p read, count-named s p read) (few-rounds (p .rule) (basesOf p) (startSet p) rising)
+  promise-few = rw (count-members s p read, count-named s p read) (few-rounds (p .rule) (basesOf p) (startSet p) rising _)
 
 -- ---- from the verdict and the bytes to the clauses
 abbrev refuse : Refusal → BlocksVerdict
@@ -174,7 +190,7 @@ module _ (short : Bool) (s out : List ℕ) (p : Problem) (read : readProblem s �
       go true n = absurd (n refl)
       go false n = rw (blocksOf, tooLarge, lt-ltb mostKeys (length (countedKeys (basesOf p) (closing p .state))) h)
 
--- ---- the same stream under rule 1
+-- ---- the same stream under rule 1, or at a larger order
 -- refusal 7 is given for a problem that is too large
 record Large (short : Bool) (s : List ℕ) : Type 0 where
   problem : Problem
@@ -197,7 +213,7 @@ seven-large short s h = go short refl (readProblem s) refl h
     go false f (refused n place) e h = absurd (omega (arith, problem-number s n place e .most))
     go false f (given p) e h = by-size p f e (tooLarge p) refl h
 
-module _ (short : Bool) (s out t : List ℕ) (u : UnderOne s t) where
+module _ (short : Bool) (s out t : List ℕ) (leads : AllLead s t) where
   large-under : (p : Problem) → short ≡ false → readProblem t ≡ given p → tooLarge p ≡ true → blocksVerdict short t .refusal ≡ problemRefusal 7 0
   unfolding blocksVerdict blocksOf
   large-under p f e l =
@@ -210,36 +226,47 @@ module _ (short : Bool) (s out t : List ℕ) (u : UnderOne s t) where
   within-under : BothWithin short s t → (blocksVerdict short t .refusal ≡ noRefusal) × BlocksInside (bytesLeft short s out) (bytesLeft short t out)
   unfolding blocksVerdict blocksOf
   within-under b =
-      let p = b .problem in (
-        ap (λ (v : BlocksVerdict). v .refusal) (opened refuse answer blocksRead (λ n place. refl) (λ p. refl) short t (withRule p 1) (b .second)),
-        rw (bytes-within s p (b .first), bytes-within t (withRule p 1) (b .second)) (bytes-inside p (read-limits s p (b .first .read)) (b .fewer) (drop blockByteCount out)),
+      let p = b .problem in
+      let q = b .other in (
+        ap (λ (v : BlocksVerdict). v .refusal) (opened refuse answer blocksRead (λ n place. refl) (λ p. refl) short t q (b .second)),
+        rw (bytes-within s p (b .first), bytes-within t q (b .second)) (bytes-inside p q (b .more) (drop blockByteCount out)),
       )
 
   under-inside : blocksVerdict short s .refusal .number ≡ 0 → UnlessSeven (blocksVerdict short t .refusal) (BlocksInside (bytesLeft short s out) (bytesLeft short t out))
-  under-inside h = go (under short s t u (unfold blocksVerdict blocksOf in opens refuse answer blocksRead (λ n place. refl) (λ p. refl) short s (λ v. v .refusal .number) (λ r. refl) h))
+  under-inside h = go (under short s t leads (unfold blocksVerdict blocksOf in opens refuse answer blocksRead (λ n place. refl) (λ p. refl) short s (λ v. v .refusal .number) (λ r. refl) h))
     where
       go : Under short s t → UnlessSeven (blocksVerdict short t .refusal) (BlocksInside (bytesLeft short s out) (bytesLeft short t out))
-      go (large p f e l) = inl (large-under (withRule p 1) f e l)
+      go (large q f e l) = inl (large-under q f e l)
       go (both b) = inr (within-under b)
 
   under-seven : blocksVerdict short s .refusal .number ≡ 7 → blocksVerdict short t .refusal ≡ problemRefusal 7 0
   under-seven h =
       let k = seven-large short s h in
-      let p = k .problem in
-      large-under (withRule p 1) (k .long) (under-read u p (k .read)) (large-other p (withRule p 1) (ruled-alike p 1) (read-limits s p (k .read)) (under-fewer u p (k .read)) (k .large))
+      let l = leads (k .problem) (k .read) in
+      large-under (l .problem) (k .long) (l .read) (large-other (k .problem) (l .problem) (l .more) (k .large))
 
 module _ (short : Bool) (s out : List ℕ) where
   abbrev number : ℕ
   number = blocksVerdict short s .refusal .number
 
+  -- R s t, where t joins no less
+  kept : (R : List ℕ → List ℕ → Type 0) → ((t : List ℕ) → R s t → AllLead s t) → BlocksKept R short s out number (bytesLeft short s out)
+  kept R leads = record { inside = λ t u. under-inside short s out t (leads t u); seven = λ t u. under-seven short s out t (leads t u) }
+
   clause-under : BlocksUnderOne short s out number (bytesLeft short s out)
-  clause-under = record { inside = λ t u. under-inside short s out t u; seven = λ t u. under-seven short s out t u }
+  clause-under = kept UnderOne (under-leads s)
+
+  clause-larger : BlocksAtLarger short s out number (bytesLeft short s out)
+  clause-larger = kept AtLarger (larger-leads s)
 
   clause-closed : BlocksClosed s number (bytesLeft short s out)
-  clause-closed p read h = rw (found short s out p read h .bytes) (promise-closed s p read (drop blockByteCount out))
+  clause-closed p read h f = rw (found short s out p read h .bytes) (promise-closed s p read (drop blockByteCount out) f)
 
   clause-least : BlocksLeast s number (bytesLeft short s out)
-  clause-least p read h = rw (found short s out p read h .bytes) (promise-least s p read (drop blockByteCount out))
+  clause-least p read h f = rw (found short s out p read h .bytes) (promise-least s p read (drop blockByteCount out))
+
+  clause-after : BlocksAfter s number (bytesLeft short s out) (blocksVerdict short s .rounds)
+  clause-after p read h = let f = found short s out p read h in rw (f .bytes, f .rounds) (promise-after s p read (drop blockByteCount out))
 
   clause-lowest : BlocksLowest s number (bytesLeft short s out)
   clause-lowest p read h = rw (found short s out p read h .bytes) (promise-lowest s p read (drop blockByteCount out))
@@ -274,5 +301,5 @@ module _ (short : Bool) (s out : List ℕ) where
 
   -- all of them, of a verdict and bytes that are the definitions'
   pub clauses : (v : BlocksVerdict) (bytes : List ℕ) → v ≡ blocksVerdict short s → bytes ≡ bytesLeft short s out
-      → NumberedTo 7 (v .refusal .number) × (BlocksClosed s (v .refusal .number) bytes × (BlocksLeast s (v .refusal .number) bytes × (BlocksLowest s (v .refusal .number) bytes × (BlocksCounted s (v .refusal .number) bytes (v .blocks) × (RoundsTaken s (v .refusal .number) (v .rounds) × (FewRounds s (v .refusal .number) (v .rounds) × (SevenExactly s (v .refusal .number) × (RuleUsed s (v .refusal .number) (v .rule) × BlocksUnderOne short s out (v .refusal .number) bytes))))))))
-  clauses v bytes e f = rw (e, f) (clause-numbered, (clause-closed, (clause-least, (clause-lowest, (clause-counted, (clause-rounds, (clause-few, (clause-seven, (clause-rule, clause-under)))))))))
+      → NumberedTo 7 (v .refusal .number) × (BlocksClosed s (v .refusal .number) bytes × (BlocksLeast s (v .refusal .number) bytes × (BlocksLowest s (v .refusal .number) bytes × (BlocksCounted s (v .refusal .number) bytes (v .blocks) × (RoundsTaken s (v .refusal .number) (v .rounds) × (FewRounds s (v .refusal .number) (v .rounds) × (SevenExactly s (v .refusal .number) × (RuleUsed s (v .refusal .number) (v .rule) × (BlocksUnderOne short s out (v .refusal .number) bytes × (BlocksAfter s (v .refusal .number) bytes (v .rounds) × BlocksAtLarger short s out (v .refusal .number) bytes))))))))))
+  clauses v bytes e f = rw (e, f) (clause-numbered, (clause-closed, (clause-least, (clause-lowest, (clause-counted, (clause-rounds, (clause-few, (clause-seven, (clause-rule, (clause-under, (clause-after, clause-larger)))))))))))

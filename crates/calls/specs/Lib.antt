@@ -9,3 +9,6 @@ pub mod Promises
 pub mod RingPromises
 pub mod Superseding
 pub mod Rules
+pub mod Symmetries
+pub mod Report
+pub mod BidTool

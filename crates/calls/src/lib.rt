@@ -35,9 +35,9 @@ pub struct CheckVerdict {
     pub rule: usize,
 }
 
-// What the pair returns: the bounds p/q and P/Q that the certificates state, their gap, the rounds and the rule used. A
-// gap below 0 is marked as empty, with 0 over 0 in its place. With a refusal there is no mark, rounds and rule are 0 and
-// the fractions 0 over 0.
+// What the pair returns: the bounds p/q and P/Q that the certificates state, their gap, the rounds and the rule used.
+// A gap below 0 is marked as empty, with 0 over 0 in its place. With a refusal there is no mark, rounds and rule are 0
+// and the fractions 0 over 0.
 pub struct PairVerdict {
     pub refusal: Refusal,
     pub lower: Fraction,
@@ -92,4 +92,19 @@ pub enum Chosen {
 pub struct SupersedingVerdict {
     pub refusal: Refusal,
     pub chosen: Chosen,
+}
+
+// What the symmetries call returns: the number of sign symmetries, 0 with a refusal.
+pub struct SymmetriesVerdict {
+    pub refusal: Refusal,
+    pub masks: usize,
+}
+
+// What the report returns: how many pairs were accepted, the smallest of their lower bounds and the largest of their
+// upper ones; 0 over 0 where none was. With a refusal all are 0.
+pub struct ReportVerdict {
+    pub refusal: Refusal,
+    pub accepted: usize,
+    pub lower: Fraction,
+    pub upper: Fraction,
 }

@@ -1,10 +1,8 @@
 // The public calls: the blocks of a problem, the check of one certificate and the pair of two. What they share is in
 // `certificate_judge`.
 ghost use mathlib.Core.Path.{_≡_};
-ghost use mathlib.Core.Bool.{false, _||_};
 ghost use mathlib.Core.List.{List, _++_};
 ghost use Prim.Native.Nat.{_≤_};
-ghost use lib.Dec.{ltb};
 ghost use lib.IntN.{ℤ};
 ghost use lib.ListN.{length, drop};
 ghost use Rattle.format.specs.ProblemRules.{Problem, readProblem};
@@ -19,15 +17,16 @@ ghost use Rattle.calls.specs.Blocks.{blocksShort, refusedBlocks, blocksOf, bloc
 ghost use Rattle.calls.specs.Blocks.{bytesOf, bytesRead, blocksVerdict, bytesLeft};
 ghost use Rattle.calls.specs.Check.{refusedCheck, checkJudged, checkOf, checkRead, checkVerdict};
 ghost use Rattle.calls.specs.Pair.{refusedPair, pairSides, pairFirst, pairOf, pairRead, pairVerdict};
-ghost use Rattle.calls.specs.Promises.{NumberedTo, BlocksClosed, BlocksLeast, BlocksLowest, BlocksCounted};
+ghost use Rattle.calls.specs.Promises.{NumberedTo, BlocksClosed, BlocksLeast, BlocksLowest, BlocksCounted, BlocksAfter};
 ghost use Rattle.calls.specs.Promises.{RoundsTaken, FewRounds, SevenExactly, RuleUsed};
 ghost use Rattle.calls.specs.Promises.{AcceptedExactly, CheckDiffers, HoldsBySide};
 ghost use Rattle.calls.specs.Promises.{PairExactly, PairDiffers, HoldsBelow, HoldsAbove, HoldsGap, NoPoints};
 ghost use Rattle.calls.specs.Rules.{BlocksUnderOne, CheckUnderOne, PairUnderOne};
+ghost use Rattle.calls.specs.Rules.{BlocksAtLarger, CheckAtLarger, PairAtLarger};
 ghost use Rattle.flat.specs.Flat.{FlatProblem};
 ghost use Rattle.fractions.specs.Ranges.{Bound};
 ghost use Rattle.certificate_judge.specs.Steps.{JoinedProblem, Judgeable, LongSums, SumsRest};
-ghost use Rattle.checker.specs.Tables.{Long, Rest};
+ghost use Rattle.work_tables.specs.Tables.{Long, Rest};
 ghost use Rattle.checker.specs.Steps.{Readable, ReadableKeys, checkFrom, pairFrom};
 use calls::BlocksVerdict;
 use calls::CheckVerdict;
@@ -50,31 +49,6 @@ fn copy(out: &mut [u8], labels: &[u8])
         out[i] = labels[i];
         i += 1;
     }
-}
-
-// Whether a work table is too short, by their lengths.
-fn is_short(keys: usize, high: usize, low: usize) -> bool
-    ensures { λ r. ⌜ r ≡ (ltb keys tableLength || (ltb high tableLength || ltb low tableLength)) ⌝ }
-{
-    if keys < 2048 {
-        return true;
-    }
-    if high < 2048 {
-        return true;
-    }
-    low < 2048
-}
-
-// The work tables as every call leaves them that has used them.
-fn clear_tables(keys: &mut [u64], high: &mut [i64], low: &mut [i64])
-    requires { ⌜ Long (tables (now keys) (now high) (now low)) ⌝ }
-    ensures { λ _.
-        let lent = tables (now (keys .entry)) (now (high .entry)) (now (low .entry)) in
-        ⌜ TablesLeft false lent (tables (now (keys .exit)) (now (high .exit)) (now (low .exit))) ⌝ }
-{
-    certificate_judge::clear(keys, 2048);
-    certificate_judge::clear_signed(high, 2048);
-    certificate_judge::clear_signed(low, 2048);
 }
 
 // A refusal of the blocks call: it is always the problem's, and has no key.
@@ -139,7 +113,7 @@ fn answer_blocks(problem: &[u8], out: &mut [u8], table: &mut [u64]) -> BlocksVer
 {
     let mut keys = [0u64; 1120];
     let mut coefficients = [0i32; 544];
-    let mut sizes = [0usize; 30];
+    let mut sizes = [0usize; 31];
     let r = problem_reader::read(problem, &mut keys, &mut coefficients, &mut sizes);
     let number = r.number;
     if 0 < number {
@@ -183,15 +157,23 @@ pub fn blocks(
         let before = now (out .entry) in
         ⌜ BlocksUnderOne (blocksShort before lent) (now (problem .entry)) before (r .refusal .number)
         (now (out .exit)) ⌝ }
+    ensures after { λ r. ⌜
+        BlocksAfter (now (problem .entry)) (r .refusal .number) (now (out .exit)) (r .rounds)
+        ⌝ }
+    ensures at_larger { λ r.
+        let lent = tables (now (keys .entry)) (now (high .entry)) (now (low .entry)) in
+        let before = now (out .entry) in
+        ⌜ BlocksAtLarger (blocksShort before lent) (now (problem .entry)) before (r .refusal .number)
+        (now (out .exit)) ⌝ }
 {
     if out.len() < 576 {
         return refuse_blocks(1, 0);
     }
-    if is_short(keys.len(), high.len(), low.len()) {
+    if work_tables::is_short(keys.len(), high.len(), low.len()) {
         return refuse_blocks(1, 0);
     }
     let v = answer_blocks(problem, out, keys);
-    clear_tables(keys, high, low);
+    work_tables::clear_tables(keys, high, low);
     v
 }
 
@@ -292,7 +274,7 @@ fn answer_check(
 {
     let mut keys = [0u64; 1120];
     let mut coefficients = [0i32; 544];
-    let mut sizes = [0usize; 30];
+    let mut sizes = [0usize; 31];
     let r = problem_reader::read(problem, &mut keys, &mut coefficients, &mut sizes);
     let number = r.number;
     if 0 < number {
@@ -330,12 +312,15 @@ pub fn check(
     ensures under_one { λ r.
         let lent = tables (now (keys .entry)) (now (high .entry)) (now (low .entry)) in
         ⌜ CheckUnderOne (tablesShort lent) (now (problem .entry)) (now (certificate .entry)) r ⌝ }
+    ensures at_larger { λ r.
+        let lent = tables (now (keys .entry)) (now (high .entry)) (now (low .entry)) in
+        ⌜ CheckAtLarger (tablesShort lent) (now (problem .entry)) (now (certificate .entry)) r ⌝ }
 {
-    if is_short(keys.len(), high.len(), low.len()) {
+    if work_tables::is_short(keys.len(), high.len(), low.len()) {
         return refuse_check(certificate_judge::problem_refusal(1, 0));
     }
     let v = answer_check(problem, certificate, keys, high, low);
-    clear_tables(keys, high, low);
+    work_tables::clear_tables(keys, high, low);
     v
 }
 
@@ -521,7 +506,7 @@ fn answer_pair(
 {
     let mut keys = [0u64; 1120];
     let mut coefficients = [0i32; 544];
-    let mut sizes = [0usize; 30];
+    let mut sizes = [0usize; 31];
     let r = problem_reader::read(problem, &mut keys, &mut coefficients, &mut sizes);
     let number = r.number;
     if 0 < number {
@@ -573,12 +558,15 @@ pub fn pair(
     ensures under_one { λ r.
         let lent = tables (now (keys .entry)) (now (high .entry)) (now (low .entry)) in
         ⌜ PairUnderOne (tablesShort lent) (now (problem .entry)) (now (first .entry)) (now (second .entry)) r ⌝ }
+    ensures at_larger { λ r.
+        let lent = tables (now (keys .entry)) (now (high .entry)) (now (low .entry)) in
+        ⌜ PairAtLarger (tablesShort lent) (now (problem .entry)) (now (first .entry)) (now (second .entry)) r ⌝ }
 {
-    if is_short(keys.len(), high.len(), low.len()) {
+    if work_tables::is_short(keys.len(), high.len(), low.len()) {
         return refuse_pair(certificate_judge::problem_refusal(1, 0));
     }
     let v = answer_pair(problem, first, second, keys, high, low);
-    clear_tables(keys, high, low);
+    work_tables::clear_tables(keys, high, low);
     v
 }
 
@@ -714,7 +702,7 @@ fn answer_two(
 {
     let mut keys = [0u64; 1120];
     let mut coefficients = [0i32; 544];
-    let mut sizes = [0usize; 30];
+    let mut sizes = [0usize; 31];
     let r = problem_reader::read(problem, &mut keys, &mut coefficients, &mut sizes);
     let number = r.number;
     if 0 < number {
@@ -752,10 +740,10 @@ pub fn check_two(
         let left = tables (now (keys .exit)) (now (high .exit)) (now (low .exit)) in
         ⌜ TablesLeft (tablesShort lent) lent left ⌝ }
 {
-    if is_short(keys.len(), high.len(), low.len()) {
+    if work_tables::is_short(keys.len(), high.len(), low.len()) {
         return refuse_two(certificate_judge::problem_refusal(1, 0));
     }
     let v = answer_two(problem, first, second, keys, high, low);
-    clear_tables(keys, high, low);
+    work_tables::clear_tables(keys, high, low);
     v
 }

@@ -32,14 +32,14 @@ use Rattle.closure.specs.declared.Joined.{Joined}
 abbrev large : Bases → Closing → Bool
 large g o = ltb 2048 (length (countedKeys g (o .state)))
 
-module _ (rule : ℕ) (g : Bases) (S₀ t : List ℕ) (n : ℕ) (t₁ : List ℕ) (grown : Grown S₀ t n t₁) where
+module _ (rule most : ℕ) (g : Bases) (S₀ t : List ℕ) (n : ℕ) (t₁ : List ℕ) (grown : Grown S₀ t n t₁) where
   -- the counted keys have all of the start
-  start-few : length S₀ ≤ length (countedKeys g (closingOf rule g S₀ .state))
+  start-few : length S₀ ≤ length (countedKeys g (closingOf rule most g S₀ .state))
   unfolding closingOf start
-  start-few = let m = close-extends rule g 578 (start g S₀) 0 .more in omega (arith, counted-extends g (closingOf rule g S₀ .state) .more)
+  start-few = let m = close-extends rule g most (start g S₀) 0 .more in omega (arith, counted-extends g (closingOf rule most g S₀ .state) .more)
 
-  pub start-large : 2048 < n → true ≡ large g (closingOf rule g S₀)
-  start-large h = sym (lt-ltb 2048 (length (countedKeys g (closingOf rule g S₀ .state))) (omega (arith, grown .count, start-few)))
+  pub start-large : 2048 < n → true ≡ large g (closingOf rule most g S₀)
+  start-large h = sym (lt-ltb 2048 (length (countedKeys g (closingOf rule most g S₀ .state))) (omega (arith, grown .count, start-few)))
 
 -- ---- the rounds, the products that may be missing, and the zero exponent, one growth after another
 module _ (g : Bases) (o : Closing) (n : ℕ) (t : List ℕ) (r : Closed) (t₁ idx₁ l₁ : List ℕ) (settled : Settled o n t r t₁ idx₁ l₁) where
@@ -87,18 +87,18 @@ module _ (g : Bases) (o : Closing) (n : ℕ) (t : List ℕ) (r : Closed) (t₁ i
       put-rest = last .rest ∙ products-rest
 
 -- ---- what the closing leaves in the arrays
-module _ (rule : ℕ) (keys sizes exponents counts : List ℕ) (a : Arrays keys sizes exponents counts) (S₀ : List ℕ) where
+module _ (rule most : ℕ) (keys sizes exponents counts : List ℕ) (a : Arrays keys sizes exponents counts) (S₀ : List ℕ) where
   abbrev g : Bases
   g = basesIn keys sizes exponents counts
 
   abbrev end : State
-  end = closingOf rule g S₀ .state
+  end = closingOf rule most g S₀ .state
 
   -- the blocks' lists are as long as the sizes say, so the bytes give them back
   shaped : Shaped sizes (end .labels)
   unfolding basesIn
   shaped =
-      let c = closing-shaped rule g S₀ in
+      let c = closing-shaped rule most g S₀ in
       record { nine = c .nine; long = λ j h. c .long j h ∙ part-long 64 sizes keys j (omega (arith, a .sized .small j, a .keys-long)) }
 
   module _ (l : List ℕ) (e : l ≡ blockBytes (end .labels)) where
@@ -111,11 +111,11 @@ module _ (rule : ℕ) (keys sizes exponents counts : List ℕ) (a : Arrays keys 
     -- their numbers are lowest indices, so counting these counts the blocks
     pub counted : lowestIn (labelsIn sizes l) ≡ blocksIn (end .labels)
     unfolding lowestIn blocksIn
-    counted = ap lowestIn labels-held ∙ sumTo-same 9 _ _ (λ j h. sym (different-lowest _ (closing-numbered rule g S₀ .at j h)))
+    counted = ap lowestIn labels-held ∙ sumTo-same 9 _ _ (λ j h. sym (different-lowest _ (closing-numbered rule most g S₀ .at j h)))
 
-  -- where all bases add, as under rule 1, no product is missing
-  pub none-missing : Rising S₀ → (rule ≡ 2 → ⊥) → extendTo 9 g (end .labels) (end .support) ≡ end .support
-  none-missing rising d = products-done 9 g (end .labels) (end .support) (closing-rising rule g S₀ rising) (rw (adding-all rule d) at (closing-full rule g S₀))
+  -- where all bases add, as under rule 1, no product is missing after a round
+  pub none-missing : 0 < most → Rising S₀ → (rule ≡ 2 → ⊥) → extendTo 9 g (end .labels) (end .support) ≡ end .support
+  none-missing some rising d = products-done 9 g (end .labels) (end .support) (closing-rising rule most g S₀ rising) (rw (adding-all rule d) at (closing-full rule most g S₀ some))
 
 -- a test that holds does not fail
 never : {b : Bool} {P : Type 0} → b ≡ true → b ≡ false → P

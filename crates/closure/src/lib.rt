@@ -1,16 +1,16 @@
 // The joining rule applied to a problem that stands in the arrays of the crate flat: from its start to the closed
-// support, what is counted with it, and the blocks. The first `len` numbers of `table` are the support, in the order in
-// which they came, with `index`.
+// support, or the one reached where a sparse order ends the rounds, what is counted with it, and the blocks. The first
+// `len` numbers of `table` are the support, in the order in which they came, with `index`.
 ghost use mathlib.Core.Path.{_≡_};
 ghost use mathlib.Core.Bool.{true};
 ghost use mathlib.Core.List.{List};
-ghost use Prim.Native.Nat.{_*_, _^_, _≤_};
+ghost use Prim.Native.Nat.{_*_, _^_, _≤_, _<_};
 ghost use lib.IntN.{ℤ};
 ghost use lib.ListN.{length};
 ghost use Rattle.counting.specs.Counting.{fromTo, Bounded};
 ghost use Rattle.format.specs.ProblemRules.{Problem};
 ghost use Rattle.joining_rule.specs.Sets.{insertAll};
-ghost use Rattle.joining_rule.specs.Rounds.{extendTo, closingOf};
+ghost use Rattle.joining_rule.specs.Rounds.{extendTo, mostRounds, closingOf};
 ghost use Rattle.joining_rule.specs.Joining.{multiples, basesOf, closing};
 ghost use Rattle.key_set.specs.Table.{keysIn, Holds, Indexed, Stored};
 ghost use Rattle.flat.specs.Flat.{FlatProblem};
@@ -136,8 +136,8 @@ fn too_many() -> Joined
     }
 }
 
-// The in-block products that the closed support may lack put in: those of every basis under rule 2, none under rule 1,
-// where it has them all. The arrays are those of the crate whole_rounds.
+// The in-block products that the support may lack after the rounds, put in: those of every basis under rule 2, none
+// under rule 1, where it has them all. The arrays are those of the crate whole_rounds.
 fn put_missing(
     table: &mut [u64],
     index: &mut [u16],
@@ -184,10 +184,11 @@ fn settle(
     requires { ⌜
         (Holds (now table) (support .len) × Indexed (now index) (now table) (support .len))
         × Arrays (now keys) (now sizes) (now exponents) (now counts)
+        × (0 < support .most)
         ⌝ }
     ensures { λ r. ⌜
         ClosureLeft (basesIn (now (keys .entry)) (now (sizes .entry)) (now (exponents .entry)) (now (counts .entry)))
-        (closingOf (support .rule)
+        (closingOf (support .rule) (support .most)
         (basesIn (now (keys .entry)) (now (sizes .entry)) (now (exponents .entry)) (now (counts .entry)))
         (keysIn (support .len) (now (table .entry)))) (now (table .entry)) r (now (table .exit)) (now (index .exit))
         (now (labels .exit))
@@ -212,6 +213,7 @@ fn settle(
     let closed = Support {
         len: m,
         rule: support.rule,
+        most: support.most,
     };
     let n = put_missing(table, index, closed, labels, keys, sizes, exponents, counts);
     if 2048 < n {
@@ -229,8 +231,15 @@ fn settle(
     }
 }
 
+// The most rounds at a sparse order: as many as it says, and enough for any problem where none is named.
+fn most_rounds(order: usize) -> usize
+    ensures { λ r. ⌜ r ≡ mostRounds order ⌝ }
+{
+    if order == 0 { 578 } else { order }
+}
+
 // The joining rule of the problem in the arrays, with an index that holds nothing. The table's first numbers are then
-// those that are counted: the closed support, all in-block products and the zero exponent. The index is theirs.
+// those that are counted: the support reached, all in-block products and the zero exponent. The index is theirs.
 pub fn join(
     keys: &[u64],
     sizes: &[usize],
@@ -254,6 +263,7 @@ pub fn join(
     let support = Support {
         len: n,
         rule: sizes[flat::RULE],
+        most: most_rounds(sizes[flat::ORDER]),
     };
     settle(
         &keys[..576],

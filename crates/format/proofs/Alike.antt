@@ -1,16 +1,16 @@
--- Two problems that are alike but for the joining rule: what does not depend on it are bases, multipliers and kinds, and
--- what a certificate stream gives.
+-- Two problems that are alike but for the joining rule and the sparse order: what does not depend on these are bases,
+-- multipliers and kinds, and what a certificate stream gives.
 use mathlib.Core.Path.{_≡_, refl, ap, fun-ext}
 use mathlib.Core.List.{List}
 use Prim.Native.Nat.{ℕ, zero, suc}
 use Rattle.format.specs.Commands.{readWhole}
 use Rattle.format.specs.declared.certificate.Instruction.{Instruction}
 use Rattle.format.specs.declared.certificate.Instruction.the-variants as I
-use Rattle.format.specs.ProblemRules.{Problem, withRule}
+use Rattle.format.specs.ProblemRules.{Problem, withRule, withOrder}
 use Rattle.format.specs.ProblemBases.{basisOf, multiplier, kindOf}
 use Rattle.format.specs.CertificateRules.{Certificate, noCertificate, certificateOperandsFit, certificateRefusalAt, certificateInstructionAt, certificateLanguage, readCertificate}
 
--- q is p, but for the rule
+-- q is p, but for the rule and the order
 pub record Alike (p q : Problem) : Type 0 where
   pub objective : q .objective ≡ p .objective
   pub conditions : q .conditions ≡ p .conditions
@@ -18,6 +18,9 @@ pub record Alike (p q : Problem) : Type 0 where
 
 pub ruled-alike : (p : Problem) (r : ℕ) → Alike p (withRule p r)
 ruled-alike p r = record { objective = refl; conditions = refl; bases = refl }
+
+pub ordered-alike : (p : Problem) (k : ℕ) → Alike p (withOrder p k)
+ordered-alike p k = record { objective = refl; conditions = refl; bases = refl }
 
 module _ (p q : Problem) (a : Alike p q) where
   pub alike-basis : (j : ℕ) → basisOf q j ≡ basisOf p j

@@ -8,6 +8,8 @@ pub mod Numbers
 pub mod Lengths
 pub mod ProblemCounts
 pub mod ProblemRule
-pub mod RuleExchanged
+pub mod Differing
+pub mod Exchanged
 pub mod Alike
 pub mod All
+pub mod ProblemVariables

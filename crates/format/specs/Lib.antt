@@ -8,5 +8,6 @@ pub mod ProblemRules
 pub mod ProblemBases
 pub mod ProblemCounts
 pub mod ProblemRule
+pub mod ProblemOrder
 pub mod CertificateLayout
 pub mod CertificateRules

@@ -26,10 +26,22 @@ problemLayout C.End = line 0x06 []
 problemLayout C.Equality = line 0x07 []
 -- "Problem command 08 rule(u8)"
 problemLayout C.Rule = line 0x08 (u8 ∷ [])
+-- "Problem command 09 k(u8)"
+problemLayout C.Order = line 0x09 (u8 ∷ [])
 problemLayout C.Unknown = none
 
 abbrev pub problemCommands : List Command
-problemCommands = C.Variables ∷ C.Objective ∷ C.Inequality ∷ C.Term ∷ C.Member ∷ C.End ∷ C.Equality ∷ C.Rule ∷ []
+problemCommands =
+    C.Variables
+    ∷ C.Objective
+    ∷ C.Inequality
+    ∷ C.Term
+    ∷ C.Member
+    ∷ C.End
+    ∷ C.Equality
+    ∷ C.Rule
+    ∷ C.Order
+    ∷ []
 
 -- the command that a byte names
 unfoldable pub problemCommand : ℕ → Command
@@ -56,4 +68,5 @@ problemDecoded C.Member s at = I.Member (problemUnsigned C.Member 0 s at) (probl
 problemDecoded C.End s at = I.End
 problemDecoded C.Equality s at = I.Equality
 problemDecoded C.Rule s at = I.Rule (problemUnsigned C.Rule 0 s at)
+problemDecoded C.Order s at = I.Order (problemUnsigned C.Order 0 s at)
 problemDecoded C.Unknown s at = I.End

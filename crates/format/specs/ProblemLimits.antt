@@ -9,6 +9,10 @@ mostVariables = 8
 abbrev pub latestRule : ℕ
 latestRule = 2
 
+-- "09 k(u8), from 1 to 255": the sparse order, a number of rounds
+abbrev pub mostOrder : ℕ
+mostOrder = 255
+
 -- "02 E c(i32): objective term, total degree at most 32, at most 256"
 abbrev pub mostObjectiveDegree : ℕ
 mostObjectiveDegree = 32

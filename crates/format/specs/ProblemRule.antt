@@ -1,13 +1,11 @@
 -- The joining rule that a problem stream names, and streams that differ in it alone.
 use mathlib.Core.Bool.{cond}
 use mathlib.Core.List.{List, _∷_}
-use Prim.Native.Nat.{ℕ, _-_}
+use Prim.Native.Nat.{ℕ}
 use lib.Dec.{eqb}
 use lib.ListN.{getD}
-use Rattle.format.specs.Commands.{Outcome, refused, given}
 use Rattle.format.specs.declared.problem.Command.the-variants as C
 use Rattle.format.specs.ProblemLayout.{problemUnsigned}
-use Rattle.format.specs.ProblemRules.{Problem, withRule}
 
 -- "Problem command 08 rule(u8), value 1 or 2, stands directly after 01 and only there; absent means 1". 01 has two
 -- bytes
@@ -20,8 +18,3 @@ ruled n r rest = 0x01 ∷ n ∷ 0x08 ∷ r ∷ rest
 
 abbrev pub unruled : ℕ → List ℕ → List ℕ
 unruled n rest = 0x01 ∷ n ∷ rest
-
--- what a stream gives, with rule r in place of its own and with places d lower
-abbrev pub underRule : ℕ → ℕ → Outcome Problem → Outcome Problem
-underRule r d (refused number place) = refused number (place - d)
-underRule r d (given p) = given (withRule p r)

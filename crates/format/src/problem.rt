@@ -10,6 +10,7 @@ pub enum Command {
     Unknown,
     Equality,
     Rule,
+    Order,
 }
 
 // A command with its operands. A monomial is its key.
@@ -22,6 +23,7 @@ pub enum Instruction {
     End,
     Equality,
     Rule(usize),
+    Order(usize),
 }
 
 // The kind of a condition: an inequality asks that its polynomial be at least 0, an equality that it be 0.

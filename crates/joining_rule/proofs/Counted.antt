@@ -1,13 +1,13 @@
--- The keys that are counted for refusal 7 and compared in the identity: the closed S, the zero exponent and all in-block
+-- The keys that are counted for refusal 7 and compared in the identity: the S reached, the zero exponent and all in-block
 -- products t + b + b'. These and no others, and under rule 1 the products are in S already.
 use mathlib.Core.Path.{_≡_, refl, sym, ap}
 use mathlib.Core.Logic.{_⊎_, inl, inr, ⊎-elim}
 use mathlib.Core.Bool.{Bool, true, false}
-use mathlib.Core.List.{List, []}
+use mathlib.Core.List.{List}
 use Prim.Native.Nat.{ℕ, _≤_, _<_}
 use native.Mathlib.Nat.{eq-or-lt-of-le}
 use native.Mathlib.Omega.{arith}
-use lib.ListN.{length, getD}
+use lib.ListN.{length}
 use Rattle.counting.proofs.Cases.{clash}
 use Rattle.joining_rule.specs.Sets.{In, member, insert}
 use Rattle.joining_rule.specs.Rounds.{Bases, State, start, addingBases, after, closingOf, countedKeys}
@@ -18,11 +18,8 @@ use Rattle.joining_rule.proofs.Extending.{Extends, extends-trans, inser
 use Rattle.joining_rule.proofs.Full.{full-any}
 use Rattle.joining_rule.proofs.Products.{AllFull, products-extend, products-full, products-within, products-done, products-same}
 use Rattle.joining_rule.proofs.Rounds.{Shaped, adding-all, after-extends}
+use Rattle.joining_rule.proofs.Monotone.{labelIn, Below}
 use Rattle.joining_rule.proofs.Closing.{closing-state, closing-full, closing-rising, after-rising}
-
--- the block number of index i of basis j
-abbrev labelIn : State → ℕ → ℕ → ℕ
-labelIn s j i = getD (getD (s .labels) j []) i 0
 
 -- x is a t + b + b' with b and b' in one block of the same j
 pub record Product (g : Bases) (label : ℕ → ℕ → ℕ) (x : ℕ) : Type 0 where
@@ -76,13 +73,11 @@ module _ (g : Bases) (s : State) where
   counted-rising r = counted-extends .rising r
 
 -- ---- a state within another one has all its counted keys among the other's
-pub counted-inside : (g : Bases) (s s′ : State) → Shaped g (s .labels)
-    → ((j i k : ℕ) → j < 9 → i < length (g .basis j) → k < length (g .basis j) → labelIn s j i ≡ labelIn s j k → labelIn s′ j i ≡ labelIn s′ j k)
-    → ((x : ℕ) → In x (s .support) → In x (s′ .support)) → (x : ℕ) → In x (countedKeys g s) → In x (countedKeys g s′)
-counted-inside g s s′ shaped blocks set x m =
+pub counted-inside : (g : Bases) (s s′ : State) → Shaped g (s .labels) → Below g s s′ → (x : ℕ) → In x (countedKeys g s) → In x (countedKeys g s′)
+counted-inside g s s′ shaped below x m =
     ⊎-elim
     (λ e. rw e (counted-zero g s′))
-    (λ n. ⊎-elim (λ q. counted-extends g s′ .keeps x (set x q)) (λ p. counted-product g s′ x (moved p)) n)
+    (λ n. ⊎-elim (λ q. counted-extends g s′ .keeps x (below .set x q)) (λ p. counted-product g s′ x (moved p)) n)
     (counted-from g s shaped x m)
   where
     moved : Product g (labelIn s) x → Product g (labelIn s′) x
@@ -92,7 +87,7 @@ counted-inside g s s′ shaped blocks set x m =
       second = p .second;
       exponent = p .exponent;
       pair = p .pair;
-      block = blocks (p .basis) (p .first) (p .second) (p .pair .basis) (p .pair .first) (p .pair .second) (p .block);
+      block = below .blocks (p .basis) (p .first) (p .second) (p .pair .basis) (p .pair .first) (p .pair .second) (p .block);
       sum = p .sum;
     }
 
@@ -102,13 +97,13 @@ pub counted-same : (g h : Bases) → ((j : ℕ) → j < 9 → g .basis j ≡ h .
 unfolding countedKeys
 counted-same g h b m s = ap (insert 0) (products-same 9 g h b m (s .labels) (s .support))
 
-module _ (rule : ℕ) (g : Bases) (S₀ : List ℕ) (rising : Rising S₀) where
-  -- where all bases add, as under rule 1, S has the products already, and they add nothing
-  pub products-nothing : addingBases rule ≡ 9 → countedKeys g (closingOf rule g S₀ .state) ≡ insert 0 (closingOf rule g S₀ .state .support)
+module _ (rule most : ℕ) (g : Bases) (S₀ : List ℕ) (rising : Rising S₀) where
+  -- where all bases add, as under rule 1, S has the products already after a round, and they add nothing
+  pub products-nothing : 0 < most → addingBases rule ≡ 9 → countedKeys g (closingOf rule most g S₀ .state) ≡ insert 0 (closingOf rule most g S₀ .state .support)
   unfolding countedKeys
-  products-nothing e =
-      ap (insert 0) (products-done 9 g (closingOf rule g S₀ .state .labels) (closingOf rule g S₀ .state .support)
-      (closing-rising rule g S₀ rising) (rw e at (closing-full rule g S₀)))
+  products-nothing b e =
+      ap (insert 0) (products-done 9 g (closingOf rule most g S₀ .state .labels) (closingOf rule most g S₀ .state .support)
+      (closing-rising rule most g S₀ rising) (rw e at (closing-full rule most g S₀ b)))
 
   -- ---- what is counted grows with the rounds
   -- a set that grows has no fewer members with k added
@@ -122,18 +117,19 @@ module _ (rule : ℕ) (g : Bases) (S₀ : List ℕ) (rising : Rising S₀) where
       go false e false f = omega (arith, length-insert-new k S e, length-insert-new k S′ f, x .more)
 
   -- with the zero exponent added, S has no more members after any of the rounds than are counted in the end
-  pub counted-more : (k : ℕ) → k ≤ closingOf rule g S₀ .rounds
-      → length (insert 0 (after rule g (start g S₀) k .support)) ≤ length (countedKeys g (closingOf rule g S₀ .state))
+  pub counted-more : (k : ℕ) → k ≤ closingOf rule most g S₀ .rounds
+      → length (insert 0 (after rule g (start g S₀) k .support)) ≤ length (countedKeys g (closingOf rule most g S₀ .state))
   unfolding countedKeys
   counted-more k h =
-      let x = after-extends rule g (start g S₀) k (closingOf rule g S₀ .rounds) h in
-      insert-more 0 _ _ (after-rising rule g S₀ rising k) (extends-trans _ _ _ (rw (← closing-state rule g S₀) at x) (products-extend 9 g (closingOf rule g S₀ .state .labels) (closingOf rule g S₀ .state .support)))
+      let x = after-extends rule g (start g S₀) k (closingOf rule most g S₀ .rounds) h in
+      insert-more 0 _ _ (after-rising rule g S₀ rising k) (extends-trans _ _ _ (rw (← closing-state rule most g S₀) at x) (products-extend 9 g (closingOf rule most g S₀ .state .labels) (closingOf rule most g S₀ .state .support)))
 
   -- so once it has more than 2,048, they are more than 2,048
-  pub counted-grows : (k : ℕ) → k ≤ closingOf rule g S₀ .rounds → 2048 < length (insert 0 (after rule g (start g S₀) k .support))
-      → 2048 < length (countedKeys g (closingOf rule g S₀ .state))
+  pub counted-grows : (k : ℕ) → k ≤ closingOf rule most g S₀ .rounds → 2048 < length (insert 0 (after rule g (start g S₀) k .support))
+      → 2048 < length (countedKeys g (closingOf rule most g S₀ .state))
   counted-grows k h b = omega (arith, counted-more k h)
 
--- under rule 1 what is counted is the closed S with the zero exponent
-pub one-nothing : (g : Bases) (S₀ : List ℕ) → Rising S₀ → countedKeys g (closingOf 1 g S₀ .state) ≡ insert 0 (closingOf 1 g S₀ .state .support)
-one-nothing g S₀ rising = products-nothing 1 g S₀ rising (adding-all 1 (λ e. omega arith))
+-- under rule 1 what is counted is the S reached with the zero exponent
+pub one-nothing : (most : ℕ) (g : Bases) (S₀ : List ℕ) → Rising S₀ → 0 < most
+    → countedKeys g (closingOf 1 most g S₀ .state) ≡ insert 0 (closingOf 1 most g S₀ .state .support)
+one-nothing most g S₀ rising b = products-nothing 1 most g S₀ rising b (adding-all 1 (λ e. omega arith))

@@ -15,6 +15,7 @@ pub mod Products
 pub mod Rounds
 pub mod Same
 pub mod Closing
+pub mod Monotone
 pub mod Bound
 pub mod Meaning
 pub mod Bytes

@@ -1,4 +1,4 @@
--- Closed, least and numbered by lowest indices: there is one such result, and the closing is it.
+-- Closed, least and numbered by lowest indices: there is one such result, and the full closing is it.
 use mathlib.Core.Path.{_≡_, refl, sym, _∙_}
 use mathlib.Core.Logic.{⊎-elim}
 use mathlib.Core.Bool.{true}
@@ -12,10 +12,10 @@ use Rattle.counting.proofs.Listed.{same-or-not}
 use Rattle.joining_rule.specs.Sets.{In, member}
 use Rattle.joining_rule.proofs.Rising.{Above, Rising}
 use Rattle.joining_rule.proofs.Elements.{above-in, not-nil, in-cons, in-here, in-there}
-use Rattle.joining_rule.specs.Rounds.{Bases, closingOf}
-use Rattle.joining_rule.specs.Meaning.{Closed, Other, Contained, Least, Lowest}
+use Rattle.joining_rule.specs.Rounds.{Bases, enoughRounds, mostRounds, closingOf}
+use Rattle.joining_rule.specs.Meaning.{Closed, Other, Contained, Least, Lowest, without}
 use Rattle.joining_rule.proofs.Closing.{closing-rising}
-use Rattle.joining_rule.proofs.Meaning.{LeastOfAny, least-tests, labelOf, closing-closed, closing-least, closing-lowest}
+use Rattle.joining_rule.proofs.Meaning.{LeastOfAny, least-tests, labelOf, full-closed, closing-least, closing-lowest}
 
 -- ---- rising lists with the same elements are the same
 
@@ -79,23 +79,27 @@ module _ (rule : ℕ) (g : Bases) (S₀ : List ℕ) where
         omega (arith, n′ .lowest j (label j i) h (n .within j i h b), least-contained .blocks j (label j i) i h (n .within j i h b) b (n .own j i h b))
 
   module _ (rising : Rising S₀) (sizes : (j : ℕ) → length (g .basis j) ≤ 64) (label : ℕ → ℕ → ℕ) (S : List ℕ) where
+    closed : Closed rule g S₀ (labelOf rule enoughRounds g S₀) (closingOf rule enoughRounds g S₀ .state .support)
+    unfolding mostRounds
+    closed = full-closed rule 0 g S₀ rising sizes (without refl)
+
     -- What is least among the blocks and sets that tests give is least among any: it is within the closing, which tests give.
     pub least-of-any : Least rule g S₀ label S → LeastOfAny rule g S₀ label S
     least-of-any l = record {
       within = λ R Q o.
-          let u = least-contained label (labelOf rule g S₀) S (closingOf rule g S₀ .state .support) l (closing-closed rule g S₀ rising sizes) in
-          let v = closing-least rule g S₀ .within R Q o in
+          let u = least-contained label (labelOf rule enoughRounds g S₀) S (closingOf rule enoughRounds g S₀ .state .support) l closed in
+          let v = closing-least rule enoughRounds g S₀ .within R Q o in
           record { blocks = λ j i k h a b e. v .blocks j i k h a b (u .blocks j i k h a b e); set = λ x m. v .set x (u .set x m) };
     }
 
-    -- The closing is the one result that is closed, least and numbered by lowest indices.
+    -- The full closing is the one result that is closed, least and numbered by lowest indices.
     pub closing-only : Closed rule g S₀ label S → Least rule g S₀ label S → Lowest g label → Rising S
-        → ((j i : ℕ) → j < 9 → i < length (g .basis j) → label j i ≡ labelOf rule g S₀ j i) × (S ≡ closingOf rule g S₀ .state .support)
+        → ((j i : ℕ) → j < 9 → i < length (g .basis j) → label j i ≡ labelOf rule enoughRounds g S₀ j i) × (S ≡ closingOf rule enoughRounds g S₀ .state .support)
     closing-only c l n r =
-        let c′ = closing-closed rule g S₀ rising sizes in
-        let l′ = least-tests _ _ _ _ _ (closing-least rule g S₀) in
-        let n′ = closing-lowest rule g S₀ in
-        let S′ = closingOf rule g S₀ .state .support in (
-          (λ j i h b. omega (arith, number-le label (labelOf rule g S₀) S S′ l c′ n n′ j i h b, number-le (labelOf rule g S₀) label S′ S l′ c n′ n j i h b)),
-          rising-same S S′ r (closing-rising rule g S₀ rising) (least-contained label (labelOf rule g S₀) S S′ l c′ .set) (least-contained (labelOf rule g S₀) label S′ S l′ c .set),
+        let c′ = closed in
+        let l′ = least-tests _ _ _ _ _ (closing-least rule enoughRounds g S₀) in
+        let n′ = closing-lowest rule enoughRounds g S₀ in
+        let S′ = closingOf rule enoughRounds g S₀ .state .support in (
+          (λ j i h b. omega (arith, number-le label (labelOf rule enoughRounds g S₀) S S′ l c′ n n′ j i h b, number-le (labelOf rule enoughRounds g S₀) label S′ S l′ c n′ n j i h b)),
+          rising-same S S′ r (closing-rising rule enoughRounds g S₀ rising) (least-contained label (labelOf rule enoughRounds g S₀) S S′ l c′ .set) (least-contained (labelOf rule enoughRounds g S₀) label S′ S l′ c .set),
         )

@@ -109,9 +109,9 @@ module _ (g g′ : Bases) (bases : (j : ℕ) → j < 9 → g .basis j ≡ g′ .
     close-same (suc m) s c = rw (close-next rule g m s c, close-next rule g′ m s c, round-same s, close-same m (round rule g′ s) (c + 1))
 
     -- the closing is the same for bases and multipliers that are the same for every j
-    pub closing-same : (S : List ℕ) → closingOf rule g S ≡ closingOf rule g′ S
+    pub closing-same : (most : ℕ) (S : List ℕ) → closingOf rule most g S ≡ closingOf rule most g′ S
     unfolding closingOf
-    closing-same S = rw (start-same S) (close-same 578 (start g′ S) 0)
+    closing-same most S = rw (start-same S) (close-same _ (start g′ S) 0)
 
 -- ---- a loop that compares two lists from the front
 

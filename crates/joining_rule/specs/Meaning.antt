@@ -1,8 +1,9 @@
--- What the joining rule's result means: closed, least, and the number of rounds, which "are judged by the named rule".
+-- What the joining rule's result means: closed, least, and the number of rounds, which "are judged by the named rule";
+-- and at a sparse order k how many rounds are done, and where the closure is full nevertheless.
 use mathlib.Core.Path.{_≡_}
 use mathlib.Core.Bool.{Bool, true}
 use mathlib.Core.List.{List}
-use Prim.Native.Nat.{ℕ, _+_, _-_, _≤_, _<_}
+use Prim.Native.Nat.{ℕ, _+_, _-_, _≤_, _<_, min}
 use lib.ListN.{length, getD}
 use Rattle.joining_rule.specs.Sets.{In}
 use Rattle.joining_rule.specs.Rounds.{Bases, addingBases, after, start}
@@ -60,3 +61,16 @@ pub record TakesRounds (rule : ℕ) (g : Bases) (S₀ : List ℕ) (r : ℕ) : Ty
   pub some : 1 ≤ r
   pub still : after rule g (start g S₀) r ≡ after rule g (start g S₀) (r - 1)
   pub first : (k : ℕ) → 1 ≤ k → k < r → after rule g (start g S₀) k ≡ after rule g (start g S₀) (k - 1) → ⊥
+
+-- "Leaving it out keeps full closure", and so does an order k that ends nothing: all rounds are made that the rule
+-- takes, or all but the last, which changes nothing. The order is 0 without 09
+pub data FullClosure (rule k : ℕ) (g : Bases) (S₀ : List ℕ) : Type 0 where
+  without : k ≡ 0 → FullClosure rule k g S₀
+  reached : (r : ℕ) → TakesRounds rule g S₀ r → r ≤ k + 1 → FullClosure rule k g S₀
+
+-- "Reported rounds are those done, so also at most k": the number that the rule takes, or k where that is smaller
+pub record RoundsDone (rule k : ℕ) (g : Bases) (S₀ : List ℕ) (done : ℕ) : Type 0 where
+  pub full : ℕ
+  pub takes : TakesRounds rule g S₀ full
+  pub all : k ≡ 0 → done ≡ full
+  pub smaller : 0 < k → done ≡ min k full

@@ -71,7 +71,8 @@ pub record Closing : Type 0 where
   pub state : State
   pub rounds : ℕ
 
--- "Rounds repeat until one changes neither a block nor S; that one counts too": at most m rounds, after c
+-- "Rounds repeat until one changes neither a block nor S; that one counts too"; command 09 "ends the rounds after k, if
+-- they haven't ended sooner": at most m rounds, after c
 unfoldable pub closeFrom : ℕ → Bases → ℕ → State → ℕ → Closing
 closeFrom rule g zero s c = record { state = s; rounds = c }
 closeFrom rule g (suc m) s c =
@@ -81,11 +82,20 @@ closeFrom rule g (suc m) s c =
     ]
 
 -- nine bases of at most 64 monomials take at most 578 rounds: proofs/Bound.antt
-unfoldable pub closingOf : ℕ → Bases → List ℕ → Closing
-closingOf rule g S = closeFrom rule g 578 (start g S) 0
+abbrev pub enoughRounds : ℕ
+enoughRounds = 578
 
--- "the closed S with the zero exponent and all in-block products t + b + b', under either": what is counted for refusal
--- 7, and the keys at which an identity is compared. Under rule 1 the products are in S already: proofs/Counted.antt
+-- the most rounds at the order k, which is 0 without 09: "Leaving it out keeps full closure"
+unfoldable pub mostRounds : ℕ → ℕ
+mostRounds k = cond (eqb k 0) enoughRounds k
+
+-- the rounds from the start
+unfoldable pub closingOf : ℕ → ℕ → Bases → List ℕ → Closing
+closingOf rule most g S = closeFrom rule g most (start g S) 0
+
+-- "the closed S with the zero exponent and all in-block products t + b + b', under either", and at the order k "the S
+-- reached, with zero and its in-block products": what is counted for refusal 7, and the keys at which an identity is
+-- compared. Under rule 1 the products are in S already: proofs/Counted.antt
 unfoldable pub countedKeys : Bases → State → List ℕ
 countedKeys g s = insert 0 (extendTo 9 g (s .labels) (s .support))
 

@@ -14,6 +14,7 @@ use Rattle.calls.specs.declared.BlocksVerdict.{BlocksVerdict}
 use Rattle.calls.specs.declared.CheckVerdict.{CheckVerdict}
 use Rattle.calls.specs.declared.PairVerdict.{PairVerdict}
 use Rattle.calls.specs.declared.WindowVerdict.{WindowVerdict}
+use Rattle.calls.specs.declared.SymmetriesVerdict.{SymmetriesVerdict}
 
 -- the bytes of a text, one for each character
 abbrev pub ascii : String → List ℕ
@@ -125,3 +126,9 @@ windowLine l = ascii "window" ++ (arrivalWords (ascii " ") l ++ ascii "\n")
 -- the bytes that came back of two certificates
 unfoldable pub tighterLine : Refusal → List ℕ → List ℕ
 tighterLine r part = unlessRefused r (ascii "tighter " ++ hexadecimal part ++ ascii "\n")
+
+-- the number of masks, and the 256 bytes
+unfoldable pub symmetriesLine : SymmetriesVerdict → List ℕ → List ℕ
+symmetriesLine v out =
+    unlessRefused (v .refusal)
+    (withNumber "symmetries " (v .masks) ++ ascii " " ++ hexadecimal out ++ ascii "\n")

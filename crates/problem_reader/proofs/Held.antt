@@ -17,7 +17,7 @@ use Rattle.polynomial.specs.Terms.{Term, term}
 use Rattle.format.specs.declared.problem.Instruction.the-variants as I
 use Rattle.format.specs.declared.problem.Kind.{Kind}
 use Rattle.format.specs.declared.problem.Kind.the-variants as K
-use Rattle.format.specs.ProblemRules.{Problem, withCondition, problemApplied, noProblem}
+use Rattle.format.specs.ProblemRules.{Problem, withRule, withOrder, withCondition, problemApplied, noProblem}
 use Rattle.format.proofs.ProblemLimits.{nothing-basis}
 use Rattle.format.specs.ProblemBases.{basisOf}
 use Rattle.flat.specs.TermArrays.{termsIn, FilledTerms}
@@ -47,6 +47,7 @@ pub record Held (p : Problem) (keys : List ℕ) (coefficients : List ℤ) (sizes
   pub empty : (j : ℕ) → n ≤ j → j < 9 → getD sizes (9 + j) 0 ≡ 0
   pub kinds : (j : ℕ) → j < 9 → getD sizes (20 + j) 0 ≡ kindNumber (conditionOf p j .kind)
   pub rule : getD sizes 29 0 ≡ p .rule
+  pub order : getD sizes 30 0 ≡ p .order
 
 module _ {p : Problem} {keys : List ℕ} {coefficients : List ℤ} {sizes : List ℕ} {v : ℕ} {last : Polynomial} {n : ℕ} (held : Held p keys coefficients sizes v last n) where
   abbrev limits : FlatLimits keys coefficients sizes
@@ -70,16 +71,18 @@ module _ {p : Problem} {keys : List ℕ} {coefficients : List ℤ} {sizes : List
     empty = held .empty;
     kinds = λ j l. held .kinds j l ∙ same-kind (condition-same p _ refl j);
     rule = held .rule;
+    order = held .order;
   }
 
-  -- ---- the joining rule
-  pub held-rule : (m : ℕ) → m ≤ 2 → Held (problemApplied p (I.Rule m)) keys coefficients (set sizes 29 m) v last n
-  unfolding problemApplied basisOf
-  held-rule m h =
-      let o = number-others limits 29 m in
+  -- ---- the joining rule and the sparse order: a number behind the kinds
+  held-number : (i m r k : ℕ) → 29 ≤ i → m ≤ mostAt i → getD (set sizes i m) 29 0 ≡ r → getD (set sizes i m) 30 0 ≡ k
+      → Held (withOrder (withRule p r) k) keys coefficients (set sizes i m) v last n
+  unfolding basisOf
+  held-number i m r k far few x y =
+      let o = number-others limits i m in
       let w = held .count-low in
       record {
-        limits = number-limits limits 29 m h;
+        limits = number-limits limits i m few;
         variables = held .variables;
         variables-low = held .variables-low;
         count = held .count;
@@ -92,8 +95,23 @@ module _ {p : Problem} {keys : List ℕ} {coefficients : List ℤ} {sizes : List
         filled = held .filled;
         empty = λ j q l. o .lengths (9 + j) (λ e. omega arith) ∙ held .empty j q l;
         kinds = λ j q. o .lengths (20 + j) (λ e. omega arith) ∙ held .kinds j q ∙ same-kind (condition-same p _ refl j);
-        rule = getD-set-same sizes 29 m 0 (let s = limits .sizes-length in omega arith);
+        rule = x;
+        order = y;
       }
+
+  pub held-rule : (m : ℕ) → m ≤ 2 → Held (problemApplied p (I.Rule m)) keys coefficients (set sizes 29 m) v last n
+  unfolding problemApplied
+  held-rule m h =
+      held-number 29 m m (p .order) (omega arith) h
+      (getD-set-same sizes 29 m 0 (let s = limits .sizes-length in omega arith))
+      (getD-set-other sizes 29 30 m 0 (λ e. omega arith) ∙ held .order)
+
+  pub held-order : (m : ℕ) → m ≤ 255 → Held (problemApplied p (I.Order m)) keys coefficients (set sizes 30 m) v last n
+  unfolding problemApplied
+  held-order m h =
+      held-number 30 m (p .rule) m (omega arith) h
+      (getD-set-other sizes 30 29 m 0 (λ e. omega arith) ∙ held .rule)
+      (getD-set-same sizes 30 m 0 (let s = limits .sizes-length in omega arith))
 
   -- ---- a monomial of basis j
   module _ (j k : ℕ) (h : j < 9) (r : getD sizes j 0 < 64) (low : k ≤ 8 * 2 ^ 56) where
@@ -150,6 +168,7 @@ module _ {p : Problem} {keys : List ℕ} {coefficients : List ℤ} {sizes : List
           empty = λ i q l. o .lengths (9 + i) (λ e. omega arith) ∙ held .empty i q l;
           kinds = λ i q. o .lengths (20 + i) (λ e. omega arith) ∙ held .kinds i q ∙ same-kind (condition-same p _ refl i);
           rule = o .lengths 29 (λ e. omega arith) ∙ held .rule;
+          order = o .lengths 30 (λ e. omega arith) ∙ held .order;
         }
 
   -- ---- a term of the objective
@@ -206,6 +225,7 @@ module _ {p : Problem} {keys : List ℕ} {coefficients : List ℤ} {sizes : List
           empty = λ i q l. o .lengths (9 + i) (λ e. omega arith) ∙ held .empty i q l;
           kinds = λ i q. o .lengths (20 + i) (λ e. omega arith) ∙ held .kinds i q ∙ same-kind (condition-same p _ refl i);
           rule = o .lengths 29 (λ e. omega arith) ∙ held .rule;
+          order = o .lengths 30 (λ e. omega arith) ∙ held .order;
         }
 
   -- ---- a term of the condition begun last
@@ -240,6 +260,7 @@ module _ {p : Problem} {keys : List ℕ} {coefficients : List ℤ} {sizes : List
             (λ d. same-kind (sym (other i d)))
             (same-or-not i n);
         rule = held .rule;
+        order = held .order;
       }
 
   -- ---- the condition begun last is laid out
@@ -364,6 +385,7 @@ module _ {p : Problem} {keys : List ℕ} {coefficients : List ℤ} {sizes : List
             (λ d. rw (other j d) (stored-other i _ far few (20 + j) (λ z. d (omega arith)) (λ z. omega arith) ∙ held .kinds j q))
             (same-or-not j (n + 1));
         rule = stored-other i _ far few 29 (λ z. omega arith) (λ z. omega arith) ∙ held .rule;
+        order = stored-other i _ far few 30 (λ z. omega arith) (λ z. omega arith) ∙ held .order;
       }
 
   -- the end of the stream
@@ -386,6 +408,7 @@ module _ {p : Problem} {keys : List ℕ} {coefficients : List ℤ} {sizes : List
         conditions = stored-here 19 n (omega arith) w (omega arith) ∙ sym (held .count);
         kinds = λ j q. rw (kind-is p j) (stored-other 19 n (omega arith) w (20 + j) (λ z. omega arith) (λ z. omega arith) ∙ held .kinds j q);
         rule = stored-other 19 n (omega arith) w 29 (λ z. omega arith) (λ z. omega arith) ∙ held .rule;
+        order = stored-other 19 n (omega arith) w 30 (λ z. omega arith) (λ z. omega arith) ∙ held .order;
       }
 
 -- ---- before the first command: all numbers are 0 but the rule
@@ -399,7 +422,7 @@ held-start keys coefficients sizes one z f e =
         keys-length = length-replicate {A = ℕ} 1120 0;
         coefficients-length = length-replicate {A = ℤ} 544 (pos 0);
         sizes-length = refl;
-        sizes-low = set-all (λ i m. m ≤ mostAt i) (replicate 30 0) 29 1 0 (λ i. bounded-zeros (mostAt i) 30 i) (omega arith);
+        sizes-low = set-all (λ i m. m ≤ mostAt i) (replicate 31 0) 29 1 0 (λ i. bounded-zeros (mostAt i) 31 i) (omega arith);
         keys-low = λ i. bounded-zeros (degreeAt i * 2 ^ 56) 1120 i;
         coefficients-low = λ i. small-zeros (largestAt i) 544 i;
       };
@@ -416,7 +439,8 @@ held-start keys coefficients sizes one z f e =
       empty = λ j _ h. none (9 + j) (λ e. omega arith);
       kinds = λ j h. rw (none (20 + j) (λ e. omega arith), nothing-kind noProblem refl j);
       rule = refl;
+      order = refl;
     })
   where
-    none : (i : ℕ) → i ≢ 29 → getD (set (replicate {A = ℕ} 30 0) 29 1) i 0 ≡ 0
-    none i d = let b = bounded-zeros 0 30 i in getD-set-other (replicate 30 0) 29 i 1 0 d ∙ omega arith
+    none : (i : ℕ) → i ≢ 29 → getD (set (replicate {A = ℕ} 31 0) 29 1) i 0 ≡ 0
+    none i d = let b = bounded-zeros 0 31 i in getD-set-other (replicate 31 0) 29 i 1 0 d ∙ omega arith

@@ -1,5 +1,5 @@
 -- The starred samples, started from their byte streams, as one table: each row's outcome is what the definitions compute.
--- The last rows have equalities, gaps of 0 and below, wide factors and joining rules, which are document 02's.
+-- The last rows have equalities, gaps of 0 and below, wide factors, joining rules and sparse orders, which are document 02's.
 use mathlib.Core.Path.{_≡_, refl}
 use mathlib.Core.List.{List, [], _∷_, _++_, map}
 use mathlib.Core.Bool.{true, false}
@@ -11,12 +11,12 @@ use Rattle.format.specs.Commands.{Outcome, refused, given, firstRefusal, run, r
 use Rattle.polynomial.specs.Monomial.{degreeOf, degree, within, among}
 use Rattle.polynomial.specs.Terms.{keysOf}
 use Rattle.format.specs.ProblemLayout.{problemCommand}
-use Rattle.format.specs.ProblemRules.{appendAt, fitting, problemApplied, problemRefusalAt, problemNext, readProblem, Problem}
+use Rattle.format.specs.ProblemRules.{appendAt, orderPlace, fitting, problemApplied, problemRefusalAt, problemNext, readProblem, Problem}
 use Rattle.format.specs.ProblemBases.{basisOf, multiplierOf, multiplier, kindOf}
 use Rattle.joining_rule.specs.Sets.{member, different, insert, insertAll}
 use Rattle.joining_rule.specs.Join.{linked, merged, joinPair, join}
 use Rattle.joining_rule.specs.Extend.{addTerms, addPair, extend}
-use Rattle.joining_rule.specs.Rounds.{State, singles, start, joinAll, extendTo, addingBases, round, after, same, sameAll, sameState, closeFrom, blocksIn, countedKeys}
+use Rattle.joining_rule.specs.Rounds.{State, singles, start, joinAll, extendTo, addingBases, round, after, same, sameAll, sameState, closeFrom, mostRounds, blocksIn, countedKeys}
 use Rattle.joining_rule.specs.Rounds as Rounds
 use Rattle.joining_rule.specs.Bytes.{blockBytes}
 use Rattle.joining_rule.specs.Joining.{basesOf, startFrom, startSet, closing, tooLarge, blockTotal}
@@ -34,7 +34,7 @@ use Rattle.calls.specs.Check.{refusedCheck, checkOf, checkVerdict}
 use Rattle.calls.specs.Pair.{refusedPair, pairSides, pairOf, pairVerdict}
 use Rattle.calls.specs.declared.CheckVerdict.{CheckVerdict}
 use lib.IntN.{ℤ, pos, negsuc}
-use Rattle.samples.specs.Streams.{problemA, problemC, problemD, problemE, problemF, certificateA, certificateB, certificateD, lowF, highF, certificateI, small, minus, row, equalityRow, entry, entryMinus, wideEntry, equality, inequality, problemEqual, nineConditions, lowEqual, highEqual, problemWide, certificateWide, certificateWideD, withEntries, withRow, problemCrossed, lowCrossed, highCrossed, rule, variables, end, objectiveTerm, exponents, problemEWith, certificateE, certificateBeside, certificateAcross}
+use Rattle.samples.specs.Streams.{problemA, problemC, problemD, problemE, problemF, certificateA, certificateB, certificateD, lowF, highF, certificateI, small, minus, row, equalityRow, entry, entryMinus, wideEntry, equality, inequality, problemEqual, nineConditions, lowEqual, highEqual, problemWide, certificateWide, certificateWideD, withEntries, withRow, problemCrossed, lowCrossed, highCrossed, rule, order, variables, end, objectiveTerm, exponents, problemEWith, problemZero, certificateE, certificateBeside, certificateAcross, certificateZero}
 
 -- a verdict, the first three bytes of basis 0 and the first of basis 1
 record Row : Type 0 where
@@ -61,7 +61,7 @@ pub samples :
     ∷ found 2 2 1 (0 ∷ 0 ∷ 255 ∷ []) (0 ∷ [])
     ∷ refusedRow 2 0
     ∷ []
-unfolding listed fromTo sumTo number signed firstRefusal run readWhole degreeOf degree within among keysOf problemCommand appendAt fitting problemApplied problemRefusalAt problemNext readProblem basisOf multiplier multiplierOf member insert linked merged joinPair join addTerms addPair extend different singles start joinAll extendTo addingBases round same sameAll sameState closeFrom blocksIn countedKeys Rounds.closingOf blockBytes insertAll startFrom startSet closing tooLarge blockTotal blocksOf blocksVerdict bytesOf bytesLeft
+unfolding listed fromTo sumTo number signed firstRefusal run readWhole degreeOf degree within among keysOf problemCommand appendAt fitting problemApplied problemRefusalAt problemNext readProblem basisOf multiplier multiplierOf member insert linked merged joinPair join addTerms addPair extend different singles start joinAll extendTo addingBases round same sameAll sameState closeFrom blocksIn countedKeys mostRounds Rounds.closingOf blockBytes insertAll startFrom startSet closing tooLarge blockTotal blocksOf blocksVerdict bytesOf bytesLeft
 samples = refl
 
 -- ---- the rounds of E
@@ -109,7 +109,7 @@ pub checks :
     ∷ refusedCheck (certificateRefusal 1 2 0 0)
     ∷ refusedCheck (problemRefusal 2 0)
     ∷ []
-unfolding listed fromTo sumTo number signed firstRefusal run readWhole degreeOf degree within among keysOf problemCommand appendAt fitting problemApplied problemRefusalAt problemNext readProblem basisOf multiplier multiplierOf kindOf member insert linked merged joinPair join addTerms addPair extend different singles start joinAll extendTo addingBases round same sameAll sameState closeFrom blocksIn countedKeys Rounds.closingOf insertAll startFrom startSet closing tooLarge CertificateLayout.certificateCommand Certificate.certificateRefusalAt Certificate.certificateApplied Certificate.certificateNext readCertificate coefficient square squares claimOf blockOf firstOutside rowSplit splitBy firstDifference comparedKeys differenceKey judgeRead judge checkOf checkVerdict
+unfolding listed fromTo sumTo number signed firstRefusal run readWhole degreeOf degree within among keysOf problemCommand appendAt fitting problemApplied problemRefusalAt problemNext readProblem basisOf multiplier multiplierOf kindOf member insert linked merged joinPair join addTerms addPair extend different singles start joinAll extendTo addingBases round same sameAll sameState closeFrom blocksIn countedKeys mostRounds Rounds.closingOf insertAll startFrom startSet closing tooLarge CertificateLayout.certificateCommand Certificate.certificateRefusalAt Certificate.certificateApplied Certificate.certificateNext readCertificate coefficient square squares claimOf blockOf firstOutside rowSplit splitBy firstDifference comparedKeys differenceKey judgeRead judge checkOf checkVerdict
 checks = refl
 
 -- F: bounds −1 and 1, gap 2, 2 rounds; two lower ones: 10 in the second stream; the certificates turned: 10 in the first
@@ -126,7 +126,7 @@ pub pairs :
     ∷ refusedPair (certificateRefusal 2 2 0 0)
     ∷ refusedPair (problemRefusal 1 0)
     ∷ []
-unfolding listed fromTo sumTo number signed firstRefusal run readWhole degreeOf degree within among keysOf problemCommand appendAt fitting problemApplied problemRefusalAt problemNext readProblem basisOf multiplier multiplierOf kindOf member insert linked merged joinPair join addTerms addPair extend different singles start joinAll extendTo addingBases round same sameAll sameState closeFrom blocksIn countedKeys Rounds.closingOf insertAll startFrom startSet closing tooLarge CertificateLayout.certificateCommand Certificate.certificateRefusalAt Certificate.certificateApplied Certificate.certificateNext readCertificate coefficient square squares claimOf blockOf firstOutside rowSplit splitBy firstDifference comparedKeys differenceKey judgeRead judge pairSides pairOf pairVerdict
+unfolding listed fromTo sumTo number signed firstRefusal run readWhole degreeOf degree within among keysOf problemCommand appendAt fitting problemApplied problemRefusalAt problemNext readProblem basisOf multiplier multiplierOf kindOf member insert linked merged joinPair join addTerms addPair extend different singles start joinAll extendTo addingBases round same sameAll sameState closeFrom blocksIn countedKeys mostRounds Rounds.closingOf insertAll startFrom startSet closing tooLarge CertificateLayout.certificateCommand Certificate.certificateRefusalAt Certificate.certificateApplied Certificate.certificateNext readCertificate coefficient square squares claimOf blockOf firstOutside rowSplit splitBy firstDifference comparedKeys differenceKey judgeRead judge pairSides pairOf pairVerdict
 pairs = refl
 
 -- ---- equalities
@@ -156,7 +156,7 @@ pub equalities :
     ∷ refusedCheck (problemRefusal 6 10)
     ∷ refusedCheck (problemRefusal 6 10)
     ∷ []
-unfolding listed fromTo sumTo number signed firstRefusal run readWhole degreeOf degree within among keysOf problemCommand appendAt fitting problemApplied problemRefusalAt problemNext readProblem basisOf multiplier multiplierOf kindOf member insert linked merged joinPair join addTerms addPair extend different singles start joinAll extendTo addingBases round same sameAll sameState closeFrom blocksIn countedKeys Rounds.closingOf insertAll startFrom startSet closing tooLarge CertificateLayout.certificateCommand Certificate.certificateRefusalAt Certificate.certificateApplied Certificate.certificateNext readCertificate coefficient square squares claimOf blockOf firstOutside rowSplit splitBy firstDifference comparedKeys differenceKey judgeRead judge checkOf checkVerdict
+unfolding listed fromTo sumTo number signed firstRefusal run readWhole degreeOf degree within among keysOf problemCommand appendAt fitting problemApplied problemRefusalAt problemNext readProblem basisOf multiplier multiplierOf kindOf member insert linked merged joinPair join addTerms addPair extend different singles start joinAll extendTo addingBases round same sameAll sameState closeFrom blocksIn countedKeys mostRounds Rounds.closingOf insertAll startFrom startSet closing tooLarge CertificateLayout.certificateCommand Certificate.certificateRefusalAt Certificate.certificateApplied Certificate.certificateNext readCertificate coefficient square squares claimOf blockOf firstOutside rowSplit splitBy firstDifference comparedKeys differenceKey judgeRead judge checkOf checkVerdict
 equalities = refl
 
 -- ---- gaps that are no distance
@@ -169,7 +169,7 @@ pub gaps :
     ≡ record { refusal = noRefusal; lower = fraction (pos 1) 1; upper = fraction (negsuc 0) 1; gap = none; empty = true; rounds = 1; rule = 1 }
     ∷ record { refusal = noRefusal; lower = fraction (pos 1) 1; upper = fraction (pos 1) 1; gap = fraction (pos 0) 1; empty = false; rounds = 1; rule = 1 }
     ∷ []
-unfolding listed fromTo sumTo number signed firstRefusal run readWhole degreeOf degree within among keysOf problemCommand appendAt fitting problemApplied problemRefusalAt problemNext readProblem basisOf multiplier multiplierOf kindOf member insert linked merged joinPair join addTerms addPair extend different singles start joinAll extendTo addingBases round same sameAll sameState closeFrom blocksIn countedKeys Rounds.closingOf insertAll startFrom startSet closing tooLarge CertificateLayout.certificateCommand Certificate.certificateRefusalAt Certificate.certificateApplied Certificate.certificateNext readCertificate coefficient square squares claimOf blockOf firstOutside rowSplit splitBy firstDifference comparedKeys differenceKey judgeRead judge pairSides pairOf pairVerdict
+unfolding listed fromTo sumTo number signed firstRefusal run readWhole degreeOf degree within among keysOf problemCommand appendAt fitting problemApplied problemRefusalAt problemNext readProblem basisOf multiplier multiplierOf kindOf member insert linked merged joinPair join addTerms addPair extend different singles start joinAll extendTo addingBases round same sameAll sameState closeFrom blocksIn countedKeys mostRounds Rounds.closingOf insertAll startFrom startSet closing tooLarge CertificateLayout.certificateCommand Certificate.certificateRefusalAt Certificate.certificateApplied Certificate.certificateNext readCertificate coefficient square squares claimOf blockOf firstOutside rowSplit splitBy firstDifference comparedKeys differenceKey judgeRead judge pairSides pairOf pairVerdict
 gaps = refl
 
 -- ---- wide factors
@@ -201,7 +201,7 @@ pub wide-factors :
     ∷ refusedCheck (certificateRefusal 1 5 20 0)
     ∷ refusedCheck (certificateRefusal 1 2 14 0)
     ∷ []
-unfolding listed fromTo sumTo number signed firstRefusal run readWhole degreeOf degree within among keysOf problemCommand appendAt fitting problemApplied problemRefusalAt problemNext readProblem basisOf multiplier multiplierOf kindOf member insert linked merged joinPair join addTerms addPair extend different singles start joinAll extendTo addingBases round same sameAll sameState closeFrom blocksIn countedKeys Rounds.closingOf insertAll startFrom startSet closing tooLarge CertificateLayout.certificateCommand Certificate.certificateRefusalAt Certificate.certificateApplied Certificate.certificateNext readCertificate coefficient square squares claimOf blockOf firstOutside rowSplit splitBy firstDifference comparedKeys differenceKey judgeRead judge checkOf checkVerdict
+unfolding listed fromTo sumTo number signed firstRefusal run readWhole degreeOf degree within among keysOf problemCommand appendAt fitting problemApplied problemRefusalAt problemNext readProblem basisOf multiplier multiplierOf kindOf member insert linked merged joinPair join addTerms addPair extend different singles start joinAll extendTo addingBases round same sameAll sameState closeFrom blocksIn countedKeys mostRounds Rounds.closingOf insertAll startFrom startSet closing tooLarge CertificateLayout.certificateCommand Certificate.certificateRefusalAt Certificate.certificateApplied Certificate.certificateNext readCertificate coefficient square squares claimOf blockOf firstOutside rowSplit splitBy firstDifference comparedKeys differenceKey judgeRead judge checkOf checkVerdict
 wide-factors = refl
 
 -- ---- joining rules
@@ -230,7 +230,7 @@ pub rules :
     ∷ refusedRow 2 2
     ∷ found 0 1 2 (255 ∷ 255 ∷ 255 ∷ []) (255 ∷ [])
     ∷ []
-unfolding listed fromTo sumTo number signed firstRefusal run readWhole degreeOf degree within among keysOf problemCommand appendAt fitting problemApplied problemRefusalAt problemNext readProblem basisOf multiplier multiplierOf member insert linked merged joinPair join addTerms addPair extend different singles start joinAll extendTo addingBases round same sameAll sameState closeFrom blocksIn countedKeys Rounds.closingOf blockBytes insertAll startFrom startSet closing tooLarge blockTotal blocksOf blocksVerdict bytesOf bytesLeft
+unfolding listed fromTo sumTo number signed firstRefusal run readWhole degreeOf degree within among keysOf problemCommand appendAt fitting problemApplied problemRefusalAt problemNext readProblem basisOf multiplier multiplierOf member insert linked merged joinPair join addTerms addPair extend different singles start joinAll extendTo addingBases round same sameAll sameState closeFrom blocksIn countedKeys mostRounds Rounds.closingOf blockBytes insertAll startFrom startSet closing tooLarge blockTotal blocksOf blocksVerdict bytesOf bytesLeft
 rules = refl
 
 -- under rule 2 the first round of E changes nothing
@@ -261,5 +261,73 @@ pub checks-E :
     ∷ refusedCheck (certificateRefusal 1 8 18 0)
     ∷ refusedCheck (certificateRefusal 1 9 0 0)
     ∷ []
-unfolding listed fromTo sumTo number signed firstRefusal run readWhole degreeOf degree within among keysOf problemCommand appendAt fitting problemApplied problemRefusalAt problemNext readProblem basisOf multiplier multiplierOf kindOf member insert linked merged joinPair join addTerms addPair extend different singles start joinAll extendTo addingBases round same sameAll sameState closeFrom blocksIn countedKeys Rounds.closingOf insertAll startFrom startSet closing tooLarge CertificateLayout.certificateCommand Certificate.certificateRefusalAt Certificate.certificateApplied Certificate.certificateNext readCertificate coefficient square squares claimOf blockOf firstOutside rowSplit splitBy firstDifference comparedKeys differenceKey judgeRead judge checkOf checkVerdict
+unfolding listed fromTo sumTo number signed firstRefusal run readWhole degreeOf degree within among keysOf problemCommand appendAt fitting problemApplied problemRefusalAt problemNext readProblem basisOf multiplier multiplierOf kindOf member insert linked merged joinPair join addTerms addPair extend different singles start joinAll extendTo addingBases round same sameAll sameState closeFrom blocksIn countedKeys mostRounds Rounds.closingOf insertAll startFrom startSet closing tooLarge CertificateLayout.certificateCommand Certificate.certificateRefusalAt Certificate.certificateApplied Certificate.certificateNext readCertificate coefficient square squares claimOf blockOf firstOutside rowSplit splitBy firstDifference comparedKeys differenceKey judgeRead judge checkOf checkVerdict
 checks-E = refl
+
+-- ---- sparse orders
+-- E at the orders 1 to 4: after one round 1 and x³ are two blocks still; at 2, one below the number of all rounds, the
+-- blocks are those of the closure already, and 2 rounds are reported; at 4 the rounds end sooner. Directly after an 08 of
+-- either rule. k = 0, after 01 and after 08; 09 as the first command, after an 02, after two conditions, a second time
+-- after 01 and after 08; 08 after 09; 09 cut, after 01 and after 08; a problem of nothing but its order
+pub orders :
+    map outcome
+    (problemEWith (order 1)
+    ∷ problemEWith (order 2)
+    ∷ problemEWith (order 3)
+    ∷ problemEWith (order 4)
+    ∷ problemEWith (rule 1 ++ order 1)
+    ∷ problemEWith (rule 2 ++ order 1)
+    ∷ problemEWith (rule 2 ++ order 255)
+    ∷ problemEWith (order 0)
+    ∷ problemEWith (rule 2 ++ order 0)
+    ∷ (order 1 ++ problemE)
+    ∷ (variables 1 ++ objectiveTerm (exponents 6 0) 1 ++ order 1 ++ end)
+    ∷ (variables 1 ++ inequality ++ equality ++ order 1 ++ end)
+    ∷ problemEWith (order 1 ++ order 1)
+    ∷ problemEWith (rule 2 ++ order 1 ++ order 1)
+    ∷ problemEWith (order 1 ++ rule 2)
+    ∷ (variables 1 ++ (9 ∷ []))
+    ∷ (variables 1 ++ rule 1 ++ (9 ∷ []))
+    ∷ (variables 1 ++ order 1 ++ end)
+    ∷ [])
+    ≡ found 3 1 1 (0 ∷ 1 ∷ 255 ∷ []) (0 ∷ [])
+    ∷ found 2 2 1 (0 ∷ 0 ∷ 255 ∷ []) (0 ∷ [])
+    ∷ found 2 3 1 (0 ∷ 0 ∷ 255 ∷ []) (0 ∷ [])
+    ∷ found 2 3 1 (0 ∷ 0 ∷ 255 ∷ []) (0 ∷ [])
+    ∷ found 3 1 1 (0 ∷ 1 ∷ 255 ∷ []) (0 ∷ [])
+    ∷ found 3 1 2 (0 ∷ 1 ∷ 255 ∷ []) (0 ∷ [])
+    ∷ found 3 1 2 (0 ∷ 1 ∷ 255 ∷ []) (0 ∷ [])
+    ∷ refusedRow 4 2
+    ∷ refusedRow 4 4
+    ∷ refusedRow 3 0
+    ∷ refusedRow 3 15
+    ∷ refusedRow 3 4
+    ∷ refusedRow 3 4
+    ∷ refusedRow 3 6
+    ∷ refusedRow 3 4
+    ∷ refusedRow 2 2
+    ∷ refusedRow 2 4
+    ∷ found 0 1 1 (255 ∷ 255 ∷ 255 ∷ []) (255 ∷ [])
+    ∷ []
+unfolding listed fromTo sumTo number signed firstRefusal run readWhole degreeOf degree within among keysOf problemCommand appendAt orderPlace fitting problemApplied problemRefusalAt problemNext readProblem basisOf multiplier multiplierOf member insert linked merged joinPair join addTerms addPair extend different singles start joinAll extendTo addingBases round same sameAll sameState closeFrom blocksIn countedKeys mostRounds Rounds.closingOf blockBytes insertAll startFrom startSet closing tooLarge blockTotal blocksOf blocksVerdict bytesOf bytesLeft
+orders = refl
+
+-- a row on 1 and x³ is in two blocks at the order 1, and in one at every larger k and at full closure; the rounds are those
+-- done. Under rule 2 the two are never joined
+pub checks-order :
+    checkVerdict false (problemZero (order 1)) certificateZero
+    ∷ checkVerdict false (problemZero (order 2)) certificateZero
+    ∷ checkVerdict false (problemZero (order 3)) certificateZero
+    ∷ checkVerdict false (problemZero (rule 1 ++ order 255)) certificateZero
+    ∷ checkVerdict false (problemZero []) certificateZero
+    ∷ checkVerdict false (problemZero (rule 2 ++ order 255)) certificateZero
+    ∷ []
+    ≡ refusedCheck (certificateRefusal 1 8 18 0)
+    ∷ accepted 0 (negsuc 0) 2 1
+    ∷ accepted 0 (negsuc 0) 3 1
+    ∷ accepted 0 (negsuc 0) 3 1
+    ∷ accepted 0 (negsuc 0) 3 1
+    ∷ refusedCheck (certificateRefusal 1 8 18 0)
+    ∷ []
+unfolding listed fromTo sumTo number signed firstRefusal run readWhole degreeOf degree within among keysOf problemCommand appendAt orderPlace fitting problemApplied problemRefusalAt problemNext readProblem basisOf multiplier multiplierOf kindOf member insert linked merged joinPair join addTerms addPair extend different singles start joinAll extendTo addingBases round same sameAll sameState closeFrom blocksIn countedKeys mostRounds Rounds.closingOf insertAll startFrom startSet closing tooLarge CertificateLayout.certificateCommand Certificate.certificateRefusalAt Certificate.certificateApplied Certificate.certificateNext readCertificate coefficient square squares claimOf blockOf firstOutside rowSplit splitBy firstDifference comparedKeys differenceKey judgeRead judge checkOf checkVerdict
+checks-order = refl

@@ -1,4 +1,6 @@
 // Verdicts as text: the lines that the programs write, made in a buffer first, each proved equal to its definition.
+pub mod reports;
+
 ghost use mathlib.Core.Path.{_≡_};
 ghost use mathlib.Core.List.{_++_};
 ghost use Prim.Native.Nat.{_+_, _*_, _≤_, _<_};
@@ -7,6 +9,7 @@ ghost use Rattle.io.specs.Digits.{glyph};
 ghost use Rattle.calls.specs.Superseding.{refusalIn};
 ghost use Rattle.lines.specs.Lines.{decimal, signedDecimal, ratio, hexadecimal, refusalLine, gapWord, pairWords};
 ghost use Rattle.lines.specs.Lines.{pairLines, blocksLine, checkLine, pairLine, arrivalWord, tighterLine};
+ghost use Rattle.lines.specs.Lines.{symmetriesLine};
 ghost use Rattle.lines.specs.Texts.{textOf};
 ghost use Rattle.text.specs.Appending.{Appended};
 use calls::BlocksVerdict;
@@ -14,6 +17,7 @@ use calls::CheckVerdict;
 use calls::Fraction;
 use calls::PairVerdict;
 use calls::Refusal;
+use calls::SymmetriesVerdict;
 use calls::WindowVerdict;
 use lines::Text;
 
@@ -302,4 +306,20 @@ pub fn cut(bytes: &[u8], n: usize) -> &[u8]
     ensures { λ r. ⌜ now r ≡ take n (now (bytes .entry)) ⌝ }
 {
     if n <= bytes.len() { &bytes[..n] } else { bytes }
+}
+
+// The line of the symmetries call, with the 256 bytes that it left, or that of the refusal.
+pub fn symmetries_line(v: SymmetriesVerdict, bytes: &[u8; 256]) -> Text
+    ensures { λ t. ⌜ textOf t ≡ symmetriesLine v (now (bytes .entry)) ⌝ }
+{
+    let r = v.refusal;
+    if 0 < r.number {
+        return refusal_line(r);
+    }
+    let mut out = [0u8; 1280];
+    let a = append_with_number(&mut out, 0, b"symmetries ", v.masks as u64);
+    let b = append(&mut out, a, b" ");
+    let c = append_hexadecimal(&mut out, b, bytes);
+    let len = append(&mut out, c, b"\n");
+    Text { bytes: out, len }
 }

@@ -64,15 +64,15 @@ module _ (few len : ℕ) (l l′ : List ℕ) where
   last-false : last ≡ false → len ≡ few → l ≡ l′ → ⊥
   last-false e p q = same-apart l l′ (rw (le-ltb 2048 len (last-small e), eq-eqb len few p) at e) q
 
--- ---- the loop: after c rounds, what is left of 578 leads to the outcome o
+-- ---- the loop: after c rounds, what is left of `most` leads to the outcome o
 
-module _ (rule : ℕ) (keys sizes exponents counts : List ℕ) where
+module _ (rule most : ℕ) (keys sizes exponents counts : List ℕ) where
   abbrev g : Bases
   g = basesIn keys sizes exponents counts
 
   -- a run begins
-  pub between-start : (l : List ℕ) (since n : ℕ) (t idx : List ℕ) (c : ℕ) → c ≤ 578 → RoundAsks rule (eqb c 0) t idx since n keys sizes exponents counts l l
-      → Between rule (closeAfter rule g c sizes l n t) n t keys sizes exponents counts l since n t idx c
+  pub between-start : (l : List ℕ) (since n : ℕ) (t idx : List ℕ) (c : ℕ) → c ≤ most → RoundAsks rule (eqb c 0) t idx since n keys sizes exponents counts l l
+      → Between rule most (closeAfter rule most g c sizes l n t) n t keys sizes exponents counts l since n t idx c
   between-start l since n t idx c h r = record { upto = h; asks = r; leads = refl; long = refl; rest = refl; more = omega arith; first = refl }
 
   -- what the first round asks, where every basis is single blocks
@@ -91,11 +91,11 @@ module _ (rule : ℕ) (keys sizes exponents counts : List ℕ) where
       }
 
   -- and what all rounds lead to from there
-  pub starting-leads : (t idx : List ℕ) (n : ℕ) (l : List ℕ) → Starting t idx n keys sizes exponents counts l → closeAfter rule g 0 sizes l n t ≡ closingOf rule g (keysIn n t)
+  pub starting-leads : (t idx : List ℕ) (n : ℕ) (l : List ℕ) → Starting t idx n keys sizes exponents counts l → closeAfter rule most g 0 sizes l n t ≡ closingOf rule most g (keysIn n t)
   unfolding closingOf start
-  starting-leads t idx n l s = rw (singles-labels keys sizes exponents counts (s .arrays) l (s .labels)) refl
+  starting-leads t idx n l s = let z : most - 0 ≡ most = omega arith in rw (z, singles-labels keys sizes exponents counts (s .arrays) l (s .labels)) refl
 
-  module _ (t₀ : List ℕ) (n₀ : ℕ) (o : Closing) (l : List ℕ) (since n : ℕ) (t idx : List ℕ) (c : ℕ) (r : Between rule o n₀ t₀ keys sizes exponents counts l since n t idx c) where
+  module _ (t₀ : List ℕ) (n₀ : ℕ) (o : Closing) (l : List ℕ) (since n : ℕ) (t idx : List ℕ) (c : ℕ) (r : Between rule most o n₀ t₀ keys sizes exponents counts l since n t idx c) where
     abbrev labelled : Labelled sizes l
     labelled = r .asks .extending .joining .labels
 
@@ -103,7 +103,7 @@ module _ (rule : ℕ) (keys sizes exponents counts : List ℕ) where
     sized = r .asks .extending .joining .arrays .sized
 
     -- the rounds that are left grow the support to that of o
-    growing : Growing t₀ n₀ (o .state .support) (λ S. closeFrom rule g (578 - c) (record { labels = labelsIn sizes l; support = S }) c .state .support) n t idx
+    growing : Growing t₀ n₀ (o .state .support) (λ S. closeFrom rule g (most - c) (record { labels = labelsIn sizes l; support = S }) c .state .support) n t idx
     growing = record {
       holds = r .asks .extending .joining .support;
       index = r .asks .extending .joining .index;
@@ -115,7 +115,7 @@ module _ (rule : ℕ) (keys sizes exponents counts : List ℕ) where
     }
 
     -- what another run from here leaves
-    pub between-then : (x : Closed) (t′ idx′ l′ : List ℕ) → Settled (closeAfter rule g c sizes l n t) n t x t′ idx′ l′ → Settled o n₀ t₀ x t′ idx′ l′
+    pub between-then : (x : Closed) (t′ idx′ l′ : List ℕ) → Settled (closeAfter rule most g c sizes l n t) n t x t′ idx′ l′ → Settled o n₀ t₀ x t′ idx′ l′
     between-then x t′ idx′ l′ w =
         let u : Settled o n t x t′ idx′ l′ = rw (r .leads) at w in
         record { stored = go u (ltb 2048 (x .len)) refl; rounds = u .rounds; labels = u .labels }
@@ -125,14 +125,14 @@ module _ (rule : ℕ) (keys sizes exponents counts : List ℕ) where
         go u false q =
             let b = ltb-false 2048 (x .len) q in
             growing-end t₀ n₀ (o .state .support) (λ X. X) (x .len) t′ idx′
-            (growing-step t₀ n₀ (o .state .support) _ n t idx growing (o .state .support) (x .len) t′ idx′ (u .stored) (λ X. X) (growing .todo) b (rw (r .leads) at (close-extends rule g (578 - c) (record { labels = labelsIn sizes l; support = keysIn n t }) c)))
+            (growing-step t₀ n₀ (o .state .support) _ n t idx growing (o .state .support) (x .len) t′ idx′ (u .stored) (λ X. X) (growing .todo) b (rw (r .leads) at (close-extends rule g (most - c) (record { labels = labelsIn sizes l; support = keysIn n t }) c)))
             refl
 
-    -- all 578 rounds are made
-    between-out : 578 ≤ c → Settled o n₀ t₀ (record { len = n; rounds = c }) t idx l
+    -- all rounds are made
+    pub between-out : most ≤ c → Settled o n₀ t₀ (record { len = n; rounds = c }) t idx l
     unfolding closeFrom
     between-out h =
-        let z : 578 - c ≡ 0 = omega (arith, r .upto) in
+        let z : most - c ≡ 0 = omega (arith, r .upto) in
         let e : record { state = record { labels = labelsIn sizes l; support = keysIn n t }; rounds = c } ≡ o = rw z at (r .leads) in
         record {
           stored = growing-end t₀ n₀ (o .state .support) _ n t idx growing (rw z refl);
@@ -143,7 +143,7 @@ module _ (rule : ℕ) (keys sizes exponents counts : List ℕ) where
     abbrev old : State
     old = record { labels = labelsIn sizes l; support = keysIn n t }
 
-    module _ (h : c < 578) (n′ : ℕ) (t′ idx′ l′ : List ℕ) (k : Rounded (roundFrom rule g (labelsIn sizes l) (keysIn n t)) n t n′ t′ idx′ l′) where
+    module _ (h : c < most) (n′ : ℕ) (t′ idx′ l′ : List ℕ) (k : Rounded (roundFrom rule g (labelsIn sizes l) (keysIn n t)) n t n′ t′ idx′ l′) where
       next-labelled : Labelled sizes l′
       unfolding round
       next-labelled = joined-labelled g (keysIn n t) (labelsIn sizes l) sizes l sized labelled refl l′ (k .labels)
@@ -152,8 +152,8 @@ module _ (rule : ℕ) (keys sizes exponents counts : List ℕ) where
       unfolding round
       next-labels = joined-labels g (keysIn n t) (labelsIn sizes l) sizes l sized labelled refl l′ (k .labels)
 
-      step : closeFrom rule g (578 - c) old c ≡ cond (sameState old (round rule g old)) (record { state = round rule g old; rounds = c + 1 }) (closeFrom rule g (578 - (c + 1)) (round rule g old) (c + 1))
-      step = let z : 578 - c ≡ suc (578 - (c + 1)) = omega arith in rw z (close-next rule g _ old c)
+      step : closeFrom rule g (most - c) old c ≡ cond (sameState old (round rule g old)) (record { state = round rule g old; rounds = c + 1 }) (closeFrom rule g (most - (c + 1)) (round rule g old) (c + 1))
+      step = let z : most - c ≡ suc (most - (c + 1)) = omega arith in rw z (close-next rule g _ old c)
 
       full : 2048 < n′ → Settled o n₀ t₀ (record { len = n′; rounds = c + 1 }) t′ idx′ l′
       full b = record {
@@ -163,11 +163,11 @@ module _ (rule : ℕ) (keys sizes exponents counts : List ℕ) where
       }
         where
           after : List ℕ → List ℕ
-          after X = cond (sameState old (round rule g old)) (record { state = record { labels = round rule g old .labels; support = X }; rounds = c + 1 }) (closeFrom rule g (578 - (c + 1)) (record { labels = round rule g old .labels; support = X }) (c + 1)) .state .support
+          after X = cond (sameState old (round rule g old)) (record { state = record { labels = round rule g old .labels; support = X }; rounds = c + 1 }) (closeFrom rule g (most - (c + 1)) (record { labels = round rule g old .labels; support = X }) (c + 1)) .state .support
 
-          more : (d : Bool) → Extends (round rule g old .support) (cond d (record { state = round rule g old; rounds = c + 1 }) (closeFrom rule g (578 - (c + 1)) (round rule g old) (c + 1)) .state .support)
+          more : (d : Bool) → Extends (round rule g old .support) (cond d (record { state = round rule g old; rounds = c + 1 }) (closeFrom rule g (most - (c + 1)) (round rule g old) (c + 1)) .state .support)
           more true = extends-refl _
-          more false = close-extends rule g (578 - (c + 1)) (round rule g old) (c + 1)
+          more false = close-extends rule g (most - (c + 1)) (round rule g old) (c + 1)
 
       size : length (keysIn n t) ≡ n
       size = growing .holds .apart
@@ -190,15 +190,15 @@ module _ (rule : ℕ) (keys sizes exponents counts : List ℕ) where
       pub between-last : cond (ltb 2048 n′) true (cond (eqb n′ n) (same l l′) false) ≡ true → Settled o n₀ t₀ (record { len = n′; rounds = c + 1 }) t′ idx′ l′
       between-last = last-true n n′ l l′ full done
 
-      pub between-more : cond (ltb 2048 n′) true (cond (eqb n′ n) (same l l′) false) ≡ false → Between rule o n₀ t₀ keys sizes exponents counts l′ n n′ t′ idx′ (c + 1)
+      pub between-more : cond (ltb 2048 n′) true (cond (eqb n′ n) (same l l′) false) ≡ false → Between rule most o n₀ t₀ keys sizes exponents counts l′ n n′ t′ idx′ (c + 1)
       between-more e =
           let b : n′ ≤ 2048 = last-small n n′ l l′ e in
           let q : keysIn n′ t′ ≡ round rule g old .support = k .support .grown .keys b in
           let u : sameState old (round rule g old) ≡ false =
           state-differs old (round rule g old)
           (λ x y. last-false n n′ l l′ e (sym (grown-length _ t n′ t′ (k .support .grown) b) ∙ ap length y ∙ size) (labelled-same labelled next-labelled (sym (next-labels ∙ x)))) in
-          let v : closeFrom rule g (578 - (c + 1)) (round rule g old) (c + 1) ≡ o = rw u at (sym step ∙ r .leads) in
-          let w = growing-step t₀ n₀ (o .state .support) _ n t idx growing _ n′ t′ idx′ (k .support) (λ X. closeFrom rule g (578 - (c + 1)) (record { labels = round rule g old .labels; support = X }) (c + 1) .state .support) (growing .todo ∙ ap (λ (y : Closing). y .state .support) (sym v)) b (round-extends rule g old) in
+          let v : closeFrom rule g (most - (c + 1)) (round rule g old) (c + 1) ≡ o = rw u at (sym step ∙ r .leads) in
+          let w = growing-step t₀ n₀ (o .state .support) _ n t idx growing _ n′ t′ idx′ (k .support) (λ X. closeFrom rule g (most - (c + 1)) (record { labels = round rule g old .labels; support = X }) (c + 1) .state .support) (growing .todo ∙ ap (λ (y : Closing). y .state .support) (sym v)) b (round-extends rule g old) in
           let m : n ≤ n′ = omega (arith, size, round-extends rule g old .more, grown-length _ t n′ t′ (k .support .grown) b) in
           record {
             upto = omega arith;
@@ -220,10 +220,10 @@ module _ (rule : ℕ) (keys sizes exponents counts : List ℕ) where
           }
 
   -- a run to the last round
-  pub advanced-out : (o : Closing) (n₀ : ℕ) (t₀ : List ℕ) (r : Progress) (t idx l : List ℕ) → Advanced rule o n₀ t₀ keys sizes exponents counts 578 r t idx l
+  pub advanced-out : (o : Closing) (n₀ : ℕ) (t₀ : List ℕ) (r : Progress) (t idx l : List ℕ) → Advanced rule most o n₀ t₀ keys sizes exponents counts most r t idx l
       → Settled o n₀ t₀ (record { len = r .len; rounds = r .rounds }) t idx l
   advanced-out o n₀ t₀ r t idx l a = go (r .ended) refl
     where
       go : (b : Bool) → r .ended ≡ b → Settled o n₀ t₀ (record { len = r .len; rounds = r .rounds }) t idx l
       go true e = a .done e
-      go false e = between-out t₀ n₀ o l (r .since) (r .len) t idx (r .rounds) (a .left e) (omega (arith, a .most e))
+      go false e = absurd (omega (arith, a .more e))

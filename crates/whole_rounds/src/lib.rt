@@ -3,7 +3,7 @@
 // numbers stand from place 64j on in `labels`. The first `len` numbers of `table` are the support, in the order in
 // which they came, with `index`.
 ghost use mathlib.Core.Path.{_≡_};
-ghost use Prim.Native.Nat.{_+_, _*_, _≤_, _<_};
+ghost use Prim.Native.Nat.{_+_, _*_, _≤_, _<_, min};
 ghost use lib.ListN.{length, getD, replicate};
 ghost use lib.Dec.{ltb, eqb};
 ghost use mathlib.Core.Bool.{true, false, cond};
@@ -488,10 +488,12 @@ fn is_last(few: usize, len: usize, old: &[u8], labels: &[u8]) -> bool
     }
 }
 
-// The support beside its table: how many keys it has, and the joining rule by which it grows.
+// The support beside its table: how many keys it has, the joining rule by which it grows, and in how many rounds at
+// most.
 pub struct Support {
     pub len: usize,
     pub rule: usize,
+    pub most: usize,
 }
 
 // What the rounds leave beside the block numbers: how many keys the support has (2,049 where it has too many), how many
@@ -501,8 +503,8 @@ pub struct Closed {
     pub rounds: usize,
 }
 
-// What some of the rounds leave beside them: `ended`, where one of them was the last; else the members after the first
-// `since` came in the last of them.
+// What some of the rounds leave beside them: `ended`, where one of them was the last, or all were made; else the
+// members after the first `since` came in the last of them.
 struct Progress {
     since: usize,
     len: usize,
@@ -510,9 +512,15 @@ struct Progress {
     ended: bool,
 }
 
-// Rounds after the first `done`, until one is the last, or `most` were made. `heads` and `next` have the pairs of all
-// bases, or are short. The rounds work on a copy of the block numbers: blocks are found some 2 % faster than through
-// the lent array.
+fn smaller(a: usize, b: usize) -> usize
+    ensures { λ r. ⌜ r ≡ min a b ⌝ }
+{
+    if a < b { a } else { b }
+}
+
+// Rounds after the first `done`, until one is the last, or `pause` were made, or all. `heads` and `next` have the pairs
+// of all bases, or are short. The rounds work on a copy of the block numbers: blocks are found some 2 % faster than
+// through the lent array.
 fn run(
     labels: &mut [u8; 576],
     keys: &[u64],
@@ -524,30 +532,31 @@ fn run(
     table: &mut [u64],
     index: &mut [u16],
     came: usize,
-    len: usize,
     done: usize,
-    most: usize,
-    rule: usize,
+    pause: usize,
+    support: Support,
 ) -> Progress
     requires { ⌜
-        Running rule (now keys) (now sizes) (now exponents) (now counts) (now labels) came len (now table) (now index)
-        done most
+        Running (support .rule) (support .most) (now keys) (now sizes) (now exponents) (now counts) (now labels) came
+        (support .len) (now table) (now index) done pause
         × Lookup (part 64 (now sizes) (now keys)) (now heads) (now next)
         ⌝ }
     ensures { λ r. ⌜
-        Advanced rule
-        (closeAfter rule
+        Advanced (support .rule) (support .most)
+        (closeAfter (support .rule) (support .most)
         (basesIn (now (keys .entry)) (now (sizes .entry)) (now (exponents .entry)) (now (counts .entry))) done
-        (now (sizes .entry)) (now (labels .entry)) len (now (table .entry))) len (now (table .entry))
-        (now (keys .entry)) (now (sizes .entry)) (now (exponents .entry)) (now (counts .entry)) most r
-        (now (table .exit)) (now (index .exit)) (now (labels .exit))
+        (now (sizes .entry)) (now (labels .entry)) (support .len) (now (table .entry))) (support .len)
+        (now (table .entry)) (now (keys .entry)) (now (sizes .entry)) (now (exponents .entry)) (now (counts .entry))
+        pause r (now (table .exit)) (now (index .exit)) (now (labels .exit))
         ⌝ }
 {
+    let stop = smaller(pause, support.most);
+    let rule = support.rule;
     let mut blocks = *labels;
-    let mut n = len;
+    let mut n = support.len;
     let mut since = came;
     let mut rounds = done;
-    while rounds < most {
+    while rounds < stop {
         let old = blocks;
         let few = n;
         n = round(
@@ -583,7 +592,7 @@ fn run(
         since,
         len: n,
         rounds,
-        ended: false,
+        ended: rounds == support.most,
     }
 }
 
@@ -647,20 +656,19 @@ fn finish(
     table: &mut [u64],
     index: &mut [u16],
     came: usize,
-    len: usize,
     done: usize,
-    rule: usize,
+    support: Support,
 ) -> Closed
     requires { ⌜
-        Running rule (now keys) (now sizes) (now exponents) (now counts) (now labels) came len (now table) (now index)
-        done 578
+        Running (support .rule) (support .most) (now keys) (now sizes) (now exponents) (now counts) (now labels) came
+        (support .len) (now table) (now index) done (support .most)
         ⌝ }
     ensures { λ r. ⌜
         Settled
-        (closeAfter rule
+        (closeAfter (support .rule) (support .most)
         (basesIn (now (keys .entry)) (now (sizes .entry)) (now (exponents .entry)) (now (counts .entry))) done
-        (now (sizes .entry)) (now (labels .entry)) len (now (table .entry))) len (now (table .entry)) r
-        (now (table .exit)) (now (index .exit)) (now (labels .exit))
+        (now (sizes .entry)) (now (labels .entry)) (support .len) (now (table .entry))) (support .len)
+        (now (table .entry)) r (now (table .exit)) (now (index .exit)) (now (labels .exit))
         ⌝ }
 {
     let mut heads = [0u16; 18432];
@@ -677,10 +685,9 @@ fn finish(
         table,
         index,
         came,
-        len,
         done,
-        578,
-        rule,
+        support.most,
+        support,
     );
     Closed {
         len: p.len,
@@ -698,20 +705,19 @@ fn go_on(
     table: &mut [u64],
     index: &mut [u16],
     came: usize,
-    len: usize,
     done: usize,
-    rule: usize,
+    support: Support,
 ) -> Closed
     requires { ⌜
-        Running rule (now keys) (now sizes) (now exponents) (now counts) (now labels) came len (now table) (now index)
-        done 8
+        Running (support .rule) (support .most) (now keys) (now sizes) (now exponents) (now counts) (now labels) came
+        (support .len) (now table) (now index) done 8
         ⌝ }
     ensures { λ r. ⌜
         Settled
-        (closeAfter rule
+        (closeAfter (support .rule) (support .most)
         (basesIn (now (keys .entry)) (now (sizes .entry)) (now (exponents .entry)) (now (counts .entry))) done
-        (now (sizes .entry)) (now (labels .entry)) len (now (table .entry))) len (now (table .entry)) r
-        (now (table .exit)) (now (index .exit)) (now (labels .exit))
+        (now (sizes .entry)) (now (labels .entry)) (support .len) (now (table .entry))) (support .len)
+        (now (table .entry)) r (now (table .exit)) (now (index .exit)) (now (labels .exit))
         ⌝ }
 {
     let none = [0u16; 1];
@@ -726,10 +732,9 @@ fn go_on(
         table,
         index,
         came,
-        len,
         done,
         8,
-        rule,
+        support,
     );
     if p.ended {
         return Closed {
@@ -746,14 +751,17 @@ fn go_on(
         table,
         index,
         p.since,
-        p.len,
         p.rounds,
-        rule,
+        Support {
+            len: p.len,
+            rule: support.rule,
+            most: support.most,
+        },
     )
 }
 
-// Rounds until one changes neither a block nor the support, or the support has too many keys. The
-// index of the pairs is made only after two rounds, or eight where the bases are small: most problems end before.
+// Rounds until one changes neither a block nor the support, or the support has too many keys, or the most were made.
+// The index of the pairs is made only after two rounds, or eight where the bases are small: most problems end before.
 pub fn close(
     labels: &mut [u8; 576],
     keys: &[u64],
@@ -770,7 +778,7 @@ pub fn close(
         ⌝ }
     ensures { λ r. ⌜
         Settled
-        (closingOf (support .rule)
+        (closingOf (support .rule) (support .most)
         (basesIn (now (keys .entry)) (now (sizes .entry)) (now (exponents .entry)) (now (counts .entry)))
         (keysIn (support .len) (now (table .entry)))) (support .len) (now (table .entry)) r (now (table .exit))
         (now (index .exit)) (now (labels .exit))
@@ -788,10 +796,9 @@ pub fn close(
         table,
         index,
         0,
-        support.len,
         0,
         2,
-        support.rule,
+        support,
     );
     if p.ended {
         return Closed {
@@ -799,6 +806,11 @@ pub fn close(
             rounds: p.rounds,
         };
     }
+    let left = Support {
+        len: p.len,
+        rule: support.rule,
+        most: support.most,
+    };
     if is_large(sizes) {
         finish(
             labels,
@@ -809,9 +821,8 @@ pub fn close(
             table,
             index,
             p.since,
-            p.len,
             p.rounds,
-            support.rule,
+            left,
         )
     } else {
         go_on(
@@ -823,9 +834,8 @@ pub fn close(
             table,
             index,
             p.since,
-            p.len,
             p.rounds,
-            support.rule,
+            left,
         )
     }
 }

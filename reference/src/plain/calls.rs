@@ -60,8 +60,8 @@ pub struct Pair {
 
 /// A problem that was read, with its blocks and S.
 pub struct Closed {
-    problem: Problem,
-    joined: Joined,
+    pub problem: Problem,
+    pub joined: Joined,
 }
 
 /// "the problem by commands, ..; 7"

@@ -15,7 +15,8 @@ pub struct Joined {
 }
 
 /// "The limit of 2,048 counts the closed S with the zero exponent and all in-block products
-/// t + b + b'" (Req 08). Under rule 1 these products are in S.
+/// t + b + b'" (Req 08), and at an order "the S reached, with zero and its in-block products" (Req 09).
+/// Under rule 1 these products are in S.
 const MEMBERS: usize = 2_048;
 
 impl Joined {
@@ -24,7 +25,8 @@ impl Joined {
         Joined::by(problem, Joined::round)
     }
 
-    /// "Rounds repeat until one changes neither a block nor S; that one counts too."
+    /// "Rounds repeat until one changes neither a block nor S; that one counts too"; an order k "ends
+    /// the rounds after k, if they haven't ended sooner" (Req 09).
     pub fn by(problem: &Problem, round: fn(&mut Joined, &Problem)) -> Joined {
         let mut joined = start(problem);
         loop {
@@ -32,7 +34,8 @@ impl Joined {
             round(&mut joined, problem);
             joined.rounds += 1;
             let after = (joined.blocks.clone(), joined.support.len());
-            if before == after || joined.support.len() > MEMBERS {
+            let ended = before == after || problem.order == Some(joined.rounds);
+            if ended || joined.support.len() > MEMBERS {
                 return joined;
             }
         }

@@ -49,12 +49,12 @@ put-missing-requires c κs =
         support = grown-holds (w .stored .grown) (s .pre .0 .0 .room) few;
         index = w .stored .index few;
         arrays = s .pre .1;
-        labels = labelled-held (s .args .support .rule) (s .args .keys .now) (s .args .sizes .now) (s .args .exponents .now) (s .args .counts .now) (s .pre .1) (keysIn (s .args .support .len) (s .args .table .now)) _ l;
+        labels = labelled-held (s .args .support .rule) (s .args .support .most) (s .args .keys .now) (s .args .sizes .now) (s .args .exponents .now) (s .args .counts .now) (s .pre .1) (keysIn (s .args .support .len) (s .args .table .now)) _ l;
       },
       record {
         none = λ d.
-            rw (labels-held (s .args .support .rule) (s .args .keys .now) (s .args .sizes .now) (s .args .exponents .now) (s .args .counts .now) (s .pre .1) (keysIn (s .args .support .len) (s .args .table .now)) _ l, w .stored .grown .keys few)
-            (none-missing (s .args .support .rule) (s .args .keys .now) (s .args .sizes .now) (s .args .exponents .now) (s .args .counts .now) (s .pre .1) (keysIn (s .args .support .len) (s .args .table .now)) (keys-rising _ _) d);
+            rw (labels-held (s .args .support .rule) (s .args .support .most) (s .args .keys .now) (s .args .sizes .now) (s .args .exponents .now) (s .args .counts .now) (s .pre .1) (keysIn (s .args .support .len) (s .args .table .now)) _ l, w .stored .grown .keys few)
+            (none-missing (s .args .support .rule) (s .args .support .most) (s .args .keys .now) (s .args .sizes .now) (s .args .exponents .now) (s .args .counts .now) (s .pre .1) (keysIn (s .args .support .len) (s .args .table .now)) (s .pre .2) (keys-rising _ _) d);
       },
     )
 
@@ -73,7 +73,7 @@ returns-2 c =
     let w = c .before .before .before .before .before .before .before .before .before .before .before .before .before .before .before .before .close .ensures in
     let few = c .before .before .before .before .before .before .before .before .before .before .before .if1 .left in
     let k = c .before .before .before .before .before .before .put-missing .ensures in
-    let e = labels-held (s .args .support .rule) (s .args .keys .now) (s .args .sizes .now) (s .args .exponents .now) (s .args .counts .now) (s .pre .1) (keysIn (s .args .support .len) (s .args .table .now)) _ (w .labels few) in
+    let e = labels-held (s .args .support .rule) (s .args .support .most) (s .args .keys .now) (s .args .sizes .now) (s .args .exponents .now) (s .args .counts .now) (s .pre .1) (keysIn (s .args .support .len) (s .args .table .now)) _ (w .labels few) in
     left-full _ _ _ _ _ _ _ (c .too-many2 .ensures) (products-large _ _ _ _ _ _ _ _ w few _ e _ _ _ k (c .before .if2 .taken)) (products-long _ _ _ _ _ _ _ _ w few _ e _ _ _ k) (products-rest _ _ _ _ _ _ _ _ w few _ e _ _ _ k)
 
 put-requires : tie.Need-put-requires
@@ -99,7 +99,7 @@ returns-3 c =
     let w = c .before .before .before .before .before .before .before .before .before .before .before .before .before .before .before .before .before .before .before .before .before .before .before .before .close .ensures in
     let few = c .before .before .before .before .before .before .before .before .before .before .before .before .before .before .before .before .before .before .before .if1 .left in
     let k = c .before .before .before .before .before .before .before .before .before .before .before .before .before .before .put-missing .ensures in
-    let e = labels-held (s .args .support .rule) (s .args .keys .now) (s .args .sizes .now) (s .args .exponents .now) (s .args .counts .now) (s .pre .1) (keysIn (s .args .support .len) (s .args .table .now)) _ (w .labels few) in
+    let e = labels-held (s .args .support .rule) (s .args .support .most) (s .args .keys .now) (s .args .sizes .now) (s .args .exponents .now) (s .args .counts .now) (s .pre .1) (keysIn (s .args .support .len) (s .args .table .now)) _ (w .labels few) in
     let some = c .before .before .before .before .before .before .before .before .before .if2 .left in
     let p = c .before .before .before .before .before .before .put .ensures in
     left-full _ _ _ _ _ _ _ (c .too-many3 .ensures) (put-large _ _ _ _ _ _ _ _ w few _ e _ _ _ k some _ _ _ p (c .before .if3 .taken)) (put-long _ _ _ _ _ _ _ _ w few _ e _ _ _ k some _ _ _ p) (put-rest _ _ _ _ _ _ _ _ w few _ e _ _ _ k some _ _ _ p)
@@ -120,7 +120,7 @@ returns-4 c =
     let few = c .before .before .before .before .before .before .before .before .before .before .before .before .before .before .before .before .before .before .before .before .before .if1 .left in
     let l = w .labels few in
     let k = c .before .before .before .before .before .before .before .before .before .before .before .before .before .before .before .before .put-missing .ensures in
-    let e = labels-held (s .args .support .rule) (s .args .keys .now) (s .args .sizes .now) (s .args .exponents .now) (s .args .counts .now) (s .pre .1) (keysIn (s .args .support .len) (s .args .table .now)) _ l in
+    let e = labels-held (s .args .support .rule) (s .args .support .most) (s .args .keys .now) (s .args .sizes .now) (s .args .exponents .now) (s .args .counts .now) (s .pre .1) (keysIn (s .args .support .len) (s .args .table .now)) _ l in
     let some = c .before .before .before .before .before .before .before .before .before .before .before .if2 .left in
     let p = c .before .before .before .before .before .before .before .before .put .ensures in
     let small = c .before .before .before .if3 .left in
@@ -128,7 +128,7 @@ returns-4 c =
       full = put-small _ _ _ _ _ _ _ _ w few _ e _ _ _ k some _ _ _ p small;
       labels = λ _. l;
       rounds = λ _. w .rounds few;
-      blocks = λ _. c .count .ensures ∙ counted (s .args .support .rule) (s .args .keys .now) (s .args .sizes .now) (s .args .exponents .now) (s .args .counts .now) (s .pre .1) (keysIn (s .args .support .len) (s .args .table .now)) _ l;
+      blocks = λ _. c .count .ensures ∙ counted (s .args .support .rule) (s .args .support .most) (s .args .keys .now) (s .args .sizes .now) (s .args .exponents .now) (s .args .counts .now) (s .pre .1) (keysIn (s .args .support .len) (s .args .table .now)) _ l;
       len = λ _. len-is _ _ _ _ _ _ _ _ w few _ e _ _ _ k some _ _ _ p small;
       keys = λ _. put-keys _ _ _ _ _ _ _ _ w few _ e _ _ _ k some _ _ _ p small;
       index = λ _. p .index small;

@@ -89,6 +89,15 @@ add-number-at-8 c = search needs
 number-at-requires-8 : tie.Need-number-at-requires-8
 number-at-requires-8 c κs = let e = ap problemSize (c .enum-told9 .given .1) in omega arith
 
+enum-told-10 : tie.Need-enum-told-10
+enum-told-10 c = search needs
+
+add-number-at-9 : tie.Need-add-number-at-9
+add-number-at-9 c = search needs
+
+number-at-requires-9 : tie.Need-number-at-requires-9
+number-at-requires-9 c κs = let e = ap problemSize (c .enum-told10 .given .1) in omega arith
+
 returns : tie.Need-returns
 returns c = rw (c .before .enum-told .given .1, c .number-at .ensures .0)
 
@@ -130,6 +139,9 @@ returns-8 c = search needs
 returns-9 : tie.Need-returns-9
 returns-9 c = rw (c .before .enum-told9 .given .1, c .number-at8 .ensures .0)
 
+returns-10 : tie.Need-returns-10
+returns-10 c = rw (c .before .enum-told10 .given .1, c .number-at9 .ensures .0)
+
 pub decode-at-spec : {M : Type 1} → statement M
 decode-at-spec =
     tie.close
@@ -161,6 +173,9 @@ decode-at-spec =
     enum-told-9
     add-number-at-8
     number-at-requires-8
+    enum-told-10
+    add-number-at-9
+    number-at-requires-9
     returns
     returns-2
     returns-3
@@ -169,4 +184,5 @@ decode-at-spec =
     returns-6
     returns-7
     returns-8
-    returns-9)
+    returns-9
+    returns-10)

@@ -46,6 +46,9 @@ enum-told-3 c = search needs
 enum-known-i-5 : tie.Need-enum-known-i-5
 enum-known-i-5 c = search needs
 
+enum-known-i-6 : tie.Need-enum-known-i-6
+enum-known-i-6 c = search needs
+
 returns : tie.Need-returns
 returns c = λ p e h. rw (c .before .before .i .given .1, le-leb 1 (c .before .before .i .given .0 .0) (c .if1 .taken))
 
@@ -99,6 +102,12 @@ returns-12 c = λ p e h. rw (c .before .before .i5 .given .1, le-leb 1 (c .befor
 returns-13 : tie.Need-returns-13
 returns-13 c = λ p e h. rw (c .before .before .i5 .given .1, lt-leb 1 (c .before .before .i5 .given .0 .0) (c .if5 .left))
 
+returns-14 : tie.Need-returns-14
+returns-14 c = λ p e h. rw (c .before .before .i6 .given .1, le-leb 1 (c .before .before .i6 .given .0 .0) (c .if6 .taken))
+
+returns-15 : tie.Need-returns-15
+returns-15 c = λ p e h. rw (c .before .before .i6 .given .1, lt-leb 1 (c .before .before .i6 .given .0 .0) (c .if6 .left))
+
 pub is-allowed-spec : {M : Type 1} → statement M
 is-allowed-spec =
     tie.close
@@ -116,6 +125,7 @@ is-allowed-spec =
     enum-told-2
     enum-told-3
     enum-known-i-5
+    enum-known-i-6
     returns
     returns-2
     returns-3
@@ -128,4 +138,6 @@ is-allowed-spec =
     returns-10
     returns-11
     returns-12
-    returns-13)
+    returns-13
+    returns-14
+    returns-15)

@@ -21,7 +21,7 @@ use Rattle.problem_reader.specs.Checks.{early}
 use Rattle.problem_reader.proofs.Checks.{Passes, passes, early-refusal, early-whole, operands-refusal, passes-longer, space}
 use Rattle.problem_reader.proofs.Problems.{begins}
 use Rattle.problem_reader.proofs.Held.{Held}
-use Rattle.problem_reader.proofs.Steps.{Going, Stepped, stepped-as, starting, ended, first-refusing, late-refusing, going-on, extra, complete, stepped-variables, stepped-rule, stepped-objective, stepped-full, stepped-begun, stepped-refused, stepped-term, named, stepped-member}
+use Rattle.problem_reader.proofs.Steps.{Going, Stepped, stepped-as, starting, ended, first-refusing, late-refusing, going-on, extra, complete, stepped-variables, stepped-rule, stepped-order, stepped-objective, stepped-full, stepped-begun, stepped-refused, stepped-term, named, stepped-member}
 use Rattle.problem_reader.proofs.read.Statement.{statement}
 use Rattle.problem_reader.proofs.read.Tie as tie
 
@@ -232,6 +232,12 @@ enum-known-told-5 c = search needs
 element-write-sizes-6 : tie.Need-element-write-sizes-6 Inv-loop μ-loop
 element-write-sizes-6 c = search needs
 
+enum-known-told-6 : tie.Need-enum-known-told-6 Inv-loop μ-loop
+enum-known-told-6 c = search needs
+
+element-write-sizes-7 : tie.Need-element-write-sizes-7 Inv-loop μ-loop
+element-write-sizes-7 c = search needs
+
 -- ---- what the arms leave, where they meet
 -- a coefficient is what its bits stand for
 objective-told : (c : tie.After-known-told2 Inv-loop μ-loop) → told (c .before .before .before) ≡ I.Objective (c .before .told2 .given .0 .0) (toZ w32 (ofZ w32 (c .before .told2 .given .0 .1 .0)))
@@ -279,7 +285,11 @@ stepped c =
     (λ x.
     ⊎-elim
     (λ w. stepped-as (w .1 .given .1) (w .6) (w .7) (w .8) (w .9) (w .10) (w .11) (w .12) (stepped-member (kept (head d)) (passed d _ (w .1 .given .1)) _ (w .5 .last .0) (w .5 .last .1 .0) (w .5 .ensures .0) (w .5 .ensures .1) (w .5 .ensures .2)))
+    (λ x.
+    ⊎-elim
     (λ w. stepped-as (w .1 .given .1) (w .3) (w .4) (w .5) (w .6) (w .7) (w .8) (w .9) (stepped-rule (kept (head d)) (passed d _ (w .1 .given .1)) _ z))
+    (λ w. stepped-as (w .1 .given .1) (w .3) (w .4) (w .5) (w .6) (w .7) (w .8) (w .9) (stepped-order (kept (head d)) (passed d _ (w .1 .given .1)) _ z))
+    x)
     x)
     x)
     x)
@@ -372,6 +382,8 @@ read-spec =
     element-write-sizes-5
     enum-known-told-5
     element-write-sizes-6
+    enum-known-told-6
+    element-write-sizes-7
     loop-less
     loop-again
     returns
