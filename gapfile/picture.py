@@ -1,5 +1,5 @@
-"""The picture of the blocks, in SVG: for each basis a matrix ordered by block, with a filled square for two monomials of one
-block and the monomials as labels."""
+"""The picture of the blocks, in SVG: for each basis a matrix ordered by block, with a filled square for two monomials
+of one block and the monomials as labels."""
 from __future__ import annotations
 
 from dataclasses import dataclass
@@ -76,7 +76,8 @@ def placed(drawn: list[Matrix], width: float) -> tuple[list[tuple[float, float]]
 def as_svg(problem: Problem, found: Blocks, names: list[str], aspect: float = 1.6) -> str:
     """The whole picture; its rows are broken so that it fills a frame of this aspect (width over height) best."""
     drawn = matrices(problem, found, names)
-    widths = [sum(matrix.width for matrix in drawn[a:b]) for a in range(len(drawn)) for b in range(a + 1, len(drawn) + 1)]
+    ends = range(len(drawn) + 1)
+    widths = [sum(matrix.width for matrix in drawn[a:b]) for b in ends for a in range(b)]
     ways = [placed(drawn, width) for width in sorted(set(widths))] or [([], 60.0, 20.0)]
     places, width, height = min(ways, key=lambda way: max(way[1], aspect * way[2]))
     body = "".join(_matrix(matrix, x, y) for matrix, (x, y) in zip(drawn, places))

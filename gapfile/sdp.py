@@ -131,7 +131,11 @@ def solve(program: Program, solver: Solver, slack: float = 0.0) -> Solution:
             posed.append(m)
     cost = {p: -float(c) for p, c in _combination(program, ONE).items()}
     sizes = [len(ix) for _, ix in program.blocks]
-    answer = solver.solve(sizes, cost, equations, sides)
+    if equations:
+        answer = solver.solve(sizes, cost, equations, sides)
+    else:                                                        # csdp reads no program without equations
+        nothing = [[[0.0] * n for _ in range(n)] for n in sizes]
+        answer = Answer(2 if any(c > 0 for c in cost.values()) else 0, nothing, [])
     scale = float(program.scale)
     value = target[ONE] + sum(c * answer.matrices[k][a][b] * (1 if a == b else 2) for (k, a, b), c in cost.items())
     free = _free_values(program, answer, slack)

@@ -17,7 +17,7 @@ RECORDED = ROOT / "gapfile/recorded"
 CASE_F = ROOT / "crates/gapcheck/data"
 BUILT = (ROOT / "target/bin/gapcheck").exists() and (ROOT / "target/bin/replay").exists()
 _beside = Path(os.environ.get("GAPFILE_SHARED", ROOT.parent / "shared"))
-SHARED: Optional[Path] = _beside if (_beside / "vectors").is_dir() else None       # vectors and examples of another hand
+SHARED: Optional[Path] = _beside if (_beside / "vectors").is_dir() else None       # vectors of another hand
 LENGTHS = {"d": 6, "x": 4}          # how many runs a record has, where they are not 3
 
 needs_programs = unittest.skipUnless(BUILT, "gapcheck and replay are not built (rt check gapcheck replay)")

@@ -75,11 +75,22 @@ class BlocksOfAProblem(unittest.TestCase):
         self.assertEqual(self.blocks(stream, "--names", "load")[0], 2)
 
     def test_case_e_by_both_rules(self) -> None:
-        """Under rule 1 x times x^2 puts x^3 into S, and 1 and x^3 join; under rule 2 it is counted and joins nothing. Counted are
-        1, x, x^3 and x^6 under both."""
+        """Under rule 1 x times x^2 puts x^3 into S, and 1 and x^3 join; under rule 2 it is counted and joins nothing.
+        Counted are 1, x, x^3 and x^6 under both."""
         for rule, blocks, rounds in (("", 2, 3), ("rule 1\n", 2, 3), ("rule 2\n", 3, 1)):
             lines = self.blocks(encode(CASE_E.format(rule))[0])[1].splitlines()
-            self.assertEqual(lines[:4], [f"blocks {blocks}", f"rounds {rounds}", f"rule {rule[5:6] or 1}", "keys 4 of 2048"])
+            self.assertEqual(lines[:4], [f"blocks {blocks}", f"rounds {rounds}", f"rule {rule[5:6] or 1}",
+                                         "keys 4 of 2048"])
+
+    def test_chosen_order(self) -> None:
+        """Case E after one round: x^3 is in S, and nothing has joined. A checker that knows no 09 refuses it, and that
+        is said."""
+        status, out = self.blocks(encode(CASE_E.format("order 1\n"))[0])
+        if status == 1:
+            self.assertEqual(out.splitlines()[2:], ["line 2, byte 2: order 1",
+                                                    "why: this gapcheck does not read command 09 (`order`) here"])
+        else:
+            self.assertEqual(out.splitlines()[:4], ["blocks 3", "rounds 1 (at most 1)", "rule 1", "keys 4 of 2048"])
 
     def test_rule_2_counts_other_keys(self) -> None:
         """The closed support of two_decks_rule2 has 17 monomials and 21 are compared; under rule 1 it has 26."""
