@@ -14,7 +14,7 @@ from .reading import Problem
 COLOURS = ("#1f5a86", "#b0601a", "#2f7547", "#7d4672", "#806112", "#4857a0", "#9c3b37", "#2f7480")
 ALONE = "#8d939c"                # a block of one monomial
 FAINT = ' fill-opacity=".5"'     # off the diagonal
-CELL, LETTER, TITLE, SPACE = 12, 5.9, 18, 16
+CELL, LETTER, TITLE, SPACE, EDGE = 12, 5.9, 18, 16, 4
 RAISED = str.maketrans("0123456789", "⁰¹²³⁴⁵⁶⁷⁸⁹")
 STYLE = ("text{font:10px 'DejaVu Sans',Helvetica,Arial,sans-serif;fill:#222}.t{font-weight:bold;font-size:11.5px}"
          ".g{fill:#f4f5f7;stroke:#9aa0a8;stroke-width:.6}")
@@ -81,8 +81,9 @@ def as_svg(problem: Problem, found: Blocks, names: list[str], aspect: float = 1.
     ways = [placed(drawn, width) for width in sorted(set(widths))] or [([], 60.0, 20.0)]
     places, width, height = min(ways, key=lambda way: max(way[1], aspect * way[2]))
     body = "".join(_matrix(matrix, x, y) for matrix, (x, y) in zip(drawn, places))
-    return (f'<svg xmlns="http://www.w3.org/2000/svg" viewBox="0 0 {width:.0f} {height:.0f}" width="{width:.0f}" '
-            f'height="{height:.0f}" role="img" aria-label="blocks by basis"><style>{STYLE}</style>{body}</svg>\n')
+    wide, high = f"{width + EDGE:.0f}", f"{height + EDGE:.0f}"
+    return (f'<svg xmlns="http://www.w3.org/2000/svg" viewBox="-{EDGE} -{EDGE} {wide} {high}" width="{wide}" '
+            f'height="{high}" role="img" aria-label="blocks by basis"><style>{STYLE}</style>{body}</svg>\n')
 
 
 def _matrix(matrix: Matrix, x: float, y: float) -> str:

@@ -24,6 +24,7 @@ SLACKS = tuple(m * 10.0 ** -k for k in range(10, 1, -1) for m in (1, 3))      # 
 LARGEST_DEGREE = 16
 FAR = Fraction(1, 1000)          # from here on a bound is called far from the attained value
 ANY_BOUND = 2                    # csdp's status where the program is unbounded
+CROSSING = 1.0                   # what is then proved: at least this, and at most its negative
 
 
 class NoCertificate(Exception):
@@ -137,6 +138,9 @@ def _at_degree(posed: Posed, total: int, solver: Solver, narrow: bool, say: Say)
     parts = by_basis(problem, found)
     for side in (0, 1):
         solved.sides.append(_one_side(solved, parts, side, solver, narrow, say))
+    low, high = solved.sides
+    if ANY_BOUND in (low.status, high.status) and low.bound <= high.bound:
+        raise NoCertificate(f"{STATUS[ANY_BOUND]}, and no proof of that of degree {total} was found", False)
     return solved
 
 
@@ -151,18 +155,24 @@ def _one_side(solved: Solved, parts: Parts, side: int, solver: Solver, narrow: b
                             "variable a range", bool(problem.conditions)) from None
     say(f"{word}: asking the solver for the best bound")
     best = solve(program, solver)
-    if best.status not in USABLE:
-        raise NoCertificate(f"{none}: {STATUS[best.status]}", best.status != ANY_BOUND)
-    say(f"{word}: {STATUS[best.status]}, {program.sign * best.bound:.9g}; searching for a point that attains it")
-    attained = attain(problem, side, best.moments)
+    fixed = CROSSING if best.status == ANY_BOUND else None
+    if best.status not in USABLE and fixed is None:
+        raise NoCertificate(f"{none}: {STATUS[best.status]}")
+    then = "proving that" if fixed else f"{program.sign * best.bound:.9g}; searching for a point that attains it"
+    say(f"{word}: {STATUS[best.status]}; {then}")
+    attained = None if fixed else attain(problem, side, best.moments)
     try:
-        found = _least_slack(solved.problem, program, parts, solver, narrow, say)
+        found = _least_slack(solved.problem, program, parts, solver, narrow, say, fixed)
     except RoundingError as error:
+        if fixed:
+            raise NoCertificate(f"{STATUS[ANY_BOUND]}, and no proof of that of degree {solved.degree} could be rounded "
+                                f"({error})", False) from None
         more = "; without --narrow there is more room" if narrow else ""
         raise NoCertificate(f"{none} could be rounded ({error}){more}") from None
     rounded = found.rounded
     say(f"{word}: rounded to {rounded.p}/{rounded.q} with {counted(len(rounded.rows), 'row')}")
-    return Side(side, found.stream, Fraction(rounded.p, rounded.q), program.sign * best.bound, best.status, found.slack,
+    relaxation = program.sign * (fixed or best.bound)
+    return Side(side, found.stream, Fraction(rounded.p, rounded.q), relaxation, best.status, found.slack,
                 len(rounded.rows), wide_entries(rounded), attained)
 
 
@@ -174,7 +184,8 @@ class Found:
     stream: bytes
 
 
-def _least_slack(stream: bytes, program: Program, parts: Parts, solver: Solver, narrow: bool, say: Say) -> Found:
+def _least_slack(stream: bytes, program: Program, parts: Parts, solver: Solver, narrow: bool, say: Say,
+                 fixed: Optional[float]) -> Found:
     """The certificate with the least slack that can be rounded and that the checker accepts. Raises RoundingError.
 
     One with wide factors is kept only if it gains: at a larger slack with the same bound narrow ones may do.
@@ -184,7 +195,7 @@ def _least_slack(stream: bytes, program: Program, parts: Parts, solver: Solver, 
     for slack in SLACKS:
         absolute = slack * float(program.scale)
         say(f"{WORDS[program.sign < 0]}: solving and rounding with a slack of {slack:.0e}")
-        solution = solve(program, solver, absolute)
+        solution = solve(program, solver, absolute, fixed)
         usable = solution.status in USABLE
         if found and not (usable and bound_of(program, solution) == Fraction(found.rounded.p, found.rounded.q)):
             break

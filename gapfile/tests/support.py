@@ -75,10 +75,10 @@ def corpus() -> Iterator[tuple[str, list[bytes], str]]:
     return answered(ROOT / "crates/replay/stdin", ROOT / "crates/replay/stdout")
 
 
-def vectors(kind: str) -> Iterator[tuple[str, list[bytes], str]]:
+def vectors(kind: str, part: str = "core") -> Iterator[tuple[str, list[bytes], str]]:
     """The vectors of document 02 for a kind of record; none where they are not beside the repository."""
     if SHARED:
-        file = SHARED / f"vectors/02/core-{kind}.records"
+        file = SHARED / f"vectors/02/{part}-{kind}.records"
         yield from answered(file, file.with_suffix(".lines"))
 
 

@@ -8,7 +8,7 @@ from pathlib import Path
 from gapfile.blocks import symmetries
 from gapfile.picture import label
 from gapfile.reading import read_problem
-from gapfile.tests.support import EXAMPLES, needs_programs, run
+from gapfile.tests.support import EXAMPLES, corpus, needs_programs, run, vectors
 from gapfile.tests.test_explain import case_h
 from gapfile.text import encode
 
@@ -27,6 +27,17 @@ class Symmetries(unittest.TestCase):
         self.assertEqual(self.masks("variables a b c\nobjective 1 a*b\nconstraint\nterm 1 b*c\nend"), [0, 7])
         self.assertEqual(self.masks("variables a b c\nobjective 1 a\nequality\nterm 1 b^3*c\nend"), [0, 6])
         self.assertEqual(len(self.masks("variables a b c d e f g h\nend")), 256)
+
+    def test_as_the_checker(self) -> None:
+        """The masks of the stored corpus, and of the vectors where they are."""
+        seen = 0
+        for kind, runs, answer in (*corpus(), *vectors("s", "calls")):
+            words = answer.split()
+            if kind == "s" and words[0] == "symmetries":
+                masks = symmetries(read_problem(runs[0]))
+                self.assertEqual((len(masks), bytes(masks)), (int(words[1]), bytes.fromhex(words[2])[:len(masks)]))
+                seen += 1
+        self.assertGreater(seen, 20)
 
     def test_none(self) -> None:
         self.assertEqual(self.masks("variables a b\nobjective 1 a\nobjective 1 b\nend"), [0])
@@ -83,14 +94,13 @@ class BlocksOfAProblem(unittest.TestCase):
                                          "keys 4 of 2048"])
 
     def test_chosen_order(self) -> None:
-        """Case E after one round: x^3 is in S, and nothing has joined. A checker that knows no 09 refuses it, and that
-        is said."""
-        status, out = self.blocks(encode(CASE_E.format("order 1\n"))[0])
-        if status == 1:
-            self.assertEqual(out.splitlines()[2:], ["line 2, byte 2: order 1",
-                                                    "why: this gapcheck does not read command 09 (`order`) here"])
-        else:
-            self.assertEqual(out.splitlines()[:4], ["blocks 3", "rounds 1 (at most 1)", "rule 1", "keys 4 of 2048"])
+        """Case E after one round: x^3 is in S, and nothing has joined. After two 1 and x^3 are one block."""
+        for order, blocks in ((1, 3), (2, 2)):
+            lines = self.blocks(encode(CASE_E.format(f"order {order}\n"))[0])[1].splitlines()
+            self.assertEqual(lines[:4], [f"blocks {blocks}", f"rounds {order} (at most {order})", "rule 1",
+                                         "keys 4 of 2048"])
+        lines = self.blocks(encode(CASE_E.format("rule 2\norder 9\n"))[0])[1].splitlines()
+        self.assertEqual(lines[:4], ["blocks 3", "rounds 1 (at most 9)", "rule 2", "keys 4 of 2048"])
 
     def test_rule_2_counts_other_keys(self) -> None:
         """The closed support of two_decks_rule2 has 17 monomials and 21 are compared; under rule 1 it has 26."""

@@ -156,17 +156,19 @@ class Check(unittest.TestCase):
 
 
 class Steps(unittest.TestCase):
-    def said(self, patience: float, wait: float) -> str:
-        err = io.StringIO()
+    def said(self, patience: float, most: float) -> str:
+        """What is said of two steps, the first of which goes on until something is said, or for so long."""
+        err, start = io.StringIO(), time.monotonic()
         with contextlib.redirect_stderr(err), Progress(patience) as say:
             say("first")
-            time.sleep(wait)
+            while not err.getvalue() and time.monotonic() - start < most:
+                time.sleep(0.01)
             say("second")
         return err.getvalue()
 
     def test_only_what_takes_long(self) -> None:
         self.assertEqual(self.said(60, 0), "")
-        self.assertEqual(self.said(0.01, 0.5), "gapfile: first\ngapfile: second\n")
+        self.assertEqual(self.said(0.01, 60), "gapfile: first\ngapfile: second\n")
 
 
 if __name__ == "__main__":

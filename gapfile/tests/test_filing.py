@@ -64,16 +64,18 @@ class Page(HTMLParser):
 class Filing(unittest.TestCase):
     kept: tempfile.TemporaryDirectory[str]
     folders: dict[str, Path]
+    said: dict[str, str]
 
     @classmethod
     def setUpClass(cls) -> None:
         cls.kept = tempfile.TemporaryDirectory()
         cls.folders = {}
+        cls.said = {}
         for name in ("two_decks", "chained_wood", "crosstalk"):
             folder = Path(cls.kept.name) / name
-            status, _, err = run("file", EXAMPLES / f"{name}.gap", "-o", folder, "--answers", RECORDED / name)
+            status, out, err = run("file", EXAMPLES / f"{name}.gap", "-o", folder, "--answers", RECORDED / name)
             assert status == 0, err
-            cls.folders[name] = folder
+            cls.folders[name], cls.said[name] = folder, out.replace(str(folder), name)
 
     @classmethod
     def tearDownClass(cls) -> None:
@@ -86,6 +88,14 @@ class Filing(unittest.TestCase):
         """The text of the sheet without tags."""
         text = html.unescape(re.sub(r"<style>.*?</style>|<.*?>", "", self.sheet(name), flags=re.DOTALL))
         return text.replace("\u2002", " ")
+
+    def test_readme(self) -> None:
+        """What the README says that the two commands print is what they print."""
+        readme = (ROOT / "gapfile/README.md").read_text(encoding="utf-8")
+        for name in ("two_decks", "crosstalk"):
+            self.assertIn("".join(f"    {line}\n" for line in self.said[name].splitlines()), readme)
+        model = (EXAMPLES / "crosstalk.gap").read_text()
+        self.assertIn("".join(f"    {line}\n" for line in model.splitlines()), readme)
 
     def test_figures(self) -> None:
         """The three figures from the bytes of the certificates, divided by the factor."""

@@ -144,8 +144,6 @@ class Damage(unittest.TestCase):
             if kind not in "bcp" or words[0] != "refused" or not 2 <= int(words[1]) <= 6:
                 continue
             number, stream, place = map(int, words[1:4])
-            if number == 3 and runs[stream][place:place + 1] == b"\x09":
-                continue                      # 09, unknown to an answer of before request 09
             try:
                 problem = read_problem(runs[0])
                 for k in range(1, stream + 1):
