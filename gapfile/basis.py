@@ -6,10 +6,10 @@ from typing import Iterable
 
 from .blocks import by_basis, compared_keys
 from .commands import Monomial, ONE, add
-from .judge import Judge
+from .decimals import counted
 from .polynomials import degree
 from .problem import LimitError, encode_problem
-from .programs import Blocks
+from .programs import Blocks, blocks_call
 from .reading import KEYS, LIMITS, Problem, Refusal
 
 Pruned = set[tuple[int, int]]        # pairs of a basis and an index
@@ -90,11 +90,9 @@ def _signs(problem: Problem, blocks: list[list[list[int]]], sign: int, lost: Pru
     return signs
 
 
-def find_blocks(problem: Problem, judge: Judge) -> Blocks:
+def find_blocks(problem: Problem) -> Blocks:
     """The blocks by the checker itself; raises LimitError where the support is too large."""
-    if any(c.equality for c in problem.conditions) and not judge.reads(0x07):
-        raise LimitError("this gapcheck does not read equalities (command 07)")
-    found = judge.blocks(encode_problem(problem))
+    found = blocks_call(encode_problem(problem))
     if isinstance(found, Refusal):
         if found.number == 7:
             raise LimitError(f"the closed support has more than {KEYS:,} monomials; take a lower degree "
@@ -109,13 +107,12 @@ def rows_needed(sizes: Iterable[int]) -> int:
 
 
 def check_limits(problem: Problem, found: Blocks) -> str:
-    """The sentence on sizes; raises LimitError where the rows cannot suffice."""
-    blocks = by_basis(problem, found)
-    sizes = [len(ix) for ix in blocks[0]]
+    """The sentence on sizes; raises LimitError where the rows are estimated not to suffice."""
+    sizes = [len(ix) for ix in by_basis(problem, found)[0]]
     rows = rows_needed(sizes)
     if rows > LIMITS["rows"]:
         raise LimitError(f"basis 0 alone needs about {rows} rows of {LIMITS['rows']} (blocks of "
                          f"{', '.join(map(str, sorted(sizes, reverse=True)))}); take fewer variables or a lower degree")
-    return (f"basis 0 has {len(problem.bases[0])} monomials in {len(sizes)} blocks, the largest "
-            f"{max(sizes, default=0)}; {compared_keys(problem, found)} of {KEYS} keys; "
+    return (f"basis 0 has {counted(sum(sizes), 'monomial')} in {counted(len(sizes), 'block')}, the largest of "
+            f"{max(sizes, default=0)}; {compared_keys(problem, found)} of {KEYS:,} keys; "
             f"at least {rows} of {LIMITS['rows']} rows")

@@ -7,11 +7,12 @@ from __future__ import annotations
 from dataclasses import dataclass
 from enum import Enum
 from functools import cached_property
-from typing import Union
+from struct import Struct
+from typing import Mapping, NamedTuple, Optional
 
 Monomial = tuple[int, ...]          # eight exponents
-Value = Union[int, Monomial, bytes]
 ONE: Monomial = (0,) * 8
+FORMAT = {"u8": "B", "u16": "H", "i16": "h", "i32": "i", "E": "8B", "note": "8s"}
 
 
 class Kind(Enum):
@@ -28,23 +29,32 @@ class Layout:
     widths: tuple[str, ...]
 
     @cached_property
+    def form(self) -> Struct:
+        return Struct("<" + "".join(FORMAT[width] for width in self.widths))
+
+    @cached_property
     def length(self) -> int:
-        return 1 + sum(WIDTH[w] for w in self.widths)
+        return 1 + self.form.size
+
+    @cached_property
+    def numbers(self) -> tuple[str, ...]:
+        """The widths of the operands that are numbers."""
+        return tuple(width for width in self.widths if width not in ("E", "note"))
+
+    @cached_property
+    def exponents(self) -> Optional[int]:
+        """How many operands stand before the eight exponents, None where there are none."""
+        return self.widths.index("E") if "E" in self.widths else None
 
 
-@dataclass(frozen=True)
-class Command:
-    """A whole command at its place in a stream."""
+class Command(NamedTuple):
+    """A whole command at its place in a stream: its numbers in their order, its monomial, its note."""
     place: int
     layout: Layout
-    values: tuple[Value, ...]
+    numbers: tuple[int, ...]
+    monomial: Monomial = ONE
+    note: bytes = b""
 
-    @property
-    def byte(self) -> int:
-        return self.layout.byte
-
-
-WIDTH = {"u8": 1, "u16": 2, "i16": 2, "i32": 4, "E": 8, "note": 8}
 
 PROBLEM = {layout.byte: layout for layout in (
     Layout(0x01, "variables", ("u8",)),
@@ -67,46 +77,38 @@ CERTIFICATE = {layout.byte: layout for layout in (
     Layout(0x40, "note", ("note",)),
 )}
 TABLE = {Kind.PROBLEM: PROBLEM, Kind.CERTIFICATE: CERTIFICATE}
+BOTH = {**PROBLEM, **CERTIFICATE}       # no byte is a command of both
 
 
 def kind_of(stream: bytes) -> Kind:
     """The kind of a stream by its first byte; what is no certificate is taken for a problem."""
-    return Kind.CERTIFICATE if stream[:1] in (b"\x10", b"\x11", b"\x12", b"\x13", b"\x14", b"\x15", b"\x40") \
-        else Kind.PROBLEM
+    return Kind.CERTIFICATE if stream[:1] and stream[0] in CERTIFICATE else Kind.PROBLEM
 
 
 def fits(width: str, value: int) -> bool:
     """Whether a number fits an operand of this width."""
-    bits = 8 * WIDTH[width]
+    bits = int(width[1:])
     return -(1 << bits - 1) <= value < 1 << bits - 1 if width[0] == "i" else 0 <= value < 1 << bits
 
 
 def read_command(stream: bytes, place: int, layout: Layout) -> Command:
     """The command at the place; the caller knows that it is whole."""
-    at, values = place + 1, []
-    for width in layout.widths:
-        run = stream[at:at + WIDTH[width]]
-        at += WIDTH[width]
-        value: Value
-        if width == "E":
-            value = tuple(run)
-        elif width == "note":
-            value = run
-        else:
-            value = int.from_bytes(run, "little", signed=width[0] == "i")
-        values.append(value)
-    return Command(place, layout, tuple(values))
+    values = layout.form.unpack_from(stream, place + 1)
+    at = layout.exponents
+    if at is not None:
+        return Command(place, layout, values[:at] + values[at + 8:], values[at:at + 8])
+    if layout.widths == ("note",):
+        return Command(place, layout, (), ONE, values[0])
+    return Command(place, layout, values)
 
 
-def write_command(layout: Layout, values: tuple[Value, ...]) -> bytes:
+def write_command(layout: Layout, numbers: tuple[int, ...] = (), monomial: Monomial = ONE, note: bytes = b"") -> bytes:
     """The bytes of a command whose operands fit their widths."""
-    out = bytearray([layout.byte])
-    for width, value in zip(layout.widths, values):
-        if isinstance(value, int):
-            out += value.to_bytes(WIDTH[width], "little", signed=width[0] == "i")
-        else:
-            out += bytes(value)
-    return bytes(out)
+    if layout.widths == ("note",):
+        return bytes([layout.byte]) + note
+    at = layout.exponents
+    values = numbers if at is None else numbers[:at] + monomial + numbers[at:]
+    return bytes([layout.byte]) + layout.form.pack(*values)
 
 
 def key(monomial: Monomial) -> int:
@@ -121,7 +123,7 @@ def monomial_of_key(number: int) -> Monomial:
 
 def add(a: Monomial, b: Monomial) -> Monomial:
     """The product of two monomials."""
-    return tuple(x + y for x, y in zip(a, b))
+    return tuple([x + y for x, y in zip(a, b)])
 
 
 def monomial_text(monomial: Monomial, names: list[str]) -> str:
@@ -134,14 +136,14 @@ def monomial_text(monomial: Monomial, names: list[str]) -> str:
     return "*".join(parts) or "1"
 
 
-def polynomial_text(terms: dict[Monomial, int], names: list[str]) -> str:
-    """A polynomial as a formula."""
+def polynomial_text(terms: Mapping[Monomial, object], names: list[str]) -> str:
+    """A polynomial with whole or rational coefficients as a formula."""
     out = ""
     for monomial, coefficient in terms.items():
-        text = monomial_text(monomial, names)
-        size = abs(coefficient)
-        shown = str(size) if text == "1" else text if size == 1 else f"{size}*{text}"
-        out += (" - " if coefficient < 0 else " + ") + shown
+        text, said = monomial_text(monomial, names), str(coefficient)
+        size = said.lstrip("-")
+        shown = size if text == "1" else text if size == "1" else f"{size}*{text}"
+        out += (" - " if said[0] == "-" else " + ") + shown
     if not out:
         return "0"
     return out[3:] if out.startswith(" + ") else "-" + out[3:]

@@ -1,4 +1,4 @@
-"""Fractions as decimals, rounded outward: a lower bound down, an upper bound and a gap up."""
+"""Numbers as text: decimals rounded outward (a lower bound down, an upper bound and a gap up), and counts."""
 from __future__ import annotations
 
 from fractions import Fraction
@@ -17,9 +17,23 @@ def decimal(value: Fraction, up: bool, digits: int = DIGITS) -> str:
 
 def is_exact(value: Fraction, digits: int = DIGITS) -> bool:
     """Whether so many digits say the value exactly."""
-    return (value * 10 ** digits).denominator == 1
+    return Fraction(value * 10 ** digits).denominator == 1
+
+
+def digits_for(gap: Fraction) -> int:
+    """How many digits the figures need: six, and more where the gap is small, so that it keeps four of them."""
+    digits = DIGITS
+    while 0 < gap * 10 ** (digits - 3) < 1:
+        digits += 1
+    return digits
 
 
 def fraction(value: Fraction) -> str:
     """A reduced fraction, a whole number without its denominator."""
     return str(value)
+
+
+def counted(number: int, word: str) -> str:
+    """A number with its word: 1 block, 2 blocks, 3 symmetries."""
+    many = word[:-1] + "ies" if word.endswith("ry") else word + "s"
+    return f"{number:,} {word if number == 1 else many}"

@@ -5,34 +5,19 @@ import argparse
 import re
 import subprocess
 import sys
-import time
 from pathlib import Path
 from typing import Callable
 
 from .filing import NotAccepted, file_folder, write_streams
-from .judge import Checker
 from .model import ModelError, parse
 from .problem import LimitError
 from .programs import ProgramError, gapcheck
+from .progress import Say
 from .report import manifest, report_lines
 from .solver import Csdp, NoSolver, Recorded, Solver
 from .solving import NoCertificate, solve_model
 
 DONE, REFUSED, USAGE, NOT_FOUND = 0, 1, 2, 3
-
-
-class Progress:
-    """Says on standard error what is being done, from the first second on."""
-
-    def __init__(self) -> None:
-        self.start, self.kept = time.monotonic(), list[str]()
-
-    def __call__(self, text: str) -> None:
-        self.kept.append(text)
-        if time.monotonic() - self.start > 1:
-            for line in self.kept:
-                print(f"gapfile: {line}", file=sys.stderr)
-            self.kept.clear()
 
 
 def solver_of(arguments: argparse.Namespace) -> tuple[Solver, str]:
@@ -45,22 +30,24 @@ def solver_of(arguments: argparse.Namespace) -> tuple[Solver, str]:
     return solver, f"csdp {version.group(1)}" if version else "csdp"
 
 
-def run_solve(arguments: argparse.Namespace) -> int:
+def run_solve(arguments: argparse.Namespace, say: Say) -> int:
     folder = Path(arguments.output)
     try:
         text = Path(arguments.model).read_text(encoding="utf-8")
         model = parse(text)
         solver, name = solver_of(arguments)
-        solved = solve_model(model, solver, Checker(), arguments.narrow, Progress())
+        solved = solve_model(model, solver, arguments.narrow, say)
         streams = [solved.problem] + [side.certificate for side in solved.sides]
         verdict = gapcheck(*streams)
         if not verdict.accepted:
             raise NotAccepted(verdict)
         write_streams(folder, streams, manifest(solved, model, name), text)
-    except (OSError, UnicodeDecodeError) as error:
-        return _say(USAGE, f"{arguments.model}: {error}")
     except ModelError as error:
         return _say(USAGE, f"{arguments.model}: {error}")
+    except UnicodeDecodeError:
+        return _say(USAGE, f"{arguments.model} is no text in UTF-8")
+    except OSError as error:
+        return _say(USAGE, f"{error.filename}: {error.strerror}")
     except (LimitError, NoSolver, ProgramError) as error:
         return _say(USAGE, str(error))
     except NoCertificate as error:
@@ -68,19 +55,23 @@ def run_solve(arguments: argparse.Namespace) -> int:
     except NotAccepted as error:
         return _say(REFUSED, f"gapcheck refused what was made, and nothing is written: {error}")
     print("\n".join(verdict.lines + report_lines(solved, model)))
+    if verdict.empty:
+        print("the bounds cross: no rational point meets all the conditions, so there is no figure to quote")
     print(f"written: {folder}/problem.bin, low.bin, high.bin, manifest.json, model.gap")
     return DONE
 
 
-def run_file(arguments: argparse.Namespace) -> int:
-    status = run_solve(arguments)
+def run_file(arguments: argparse.Namespace, say: Say) -> int:
+    status = run_solve(arguments, say)
     if status != DONE:
         return status
     try:
         file_folder(Path(arguments.output))
     except NotAccepted as error:
         return _say(REFUSED, f"gapcheck refused the files, and nothing is filed: {error}")
-    print(f"filed: {arguments.output}/sheet.html, verdict.txt, problem.txt, SUMS")
+    except OSError as error:
+        return _say(USAGE, f"{error.filename}: {error.strerror}")
+    print(f"filed: {arguments.output}/sheet.html, verdict.txt, problem.txt, blocks.svg, SUMS")
     return DONE
 
 
@@ -94,7 +85,7 @@ def add_commands(command: Callable[[str, str], argparse.ArgumentParser]) -> None
     for name, said, run in (("solve", "make a problem and both certificates from a model", run_solve),
                             ("file", "solve a model and write the filing sheet and SUMS", run_file)):
         made = command(name, said)
-        made.add_argument("model", metavar="MODEL")
+        made.add_argument("model", metavar="MODEL", help="a model, as examples/two_decks.gap")
         made.add_argument("-o", "--output", metavar="DIR", required=True, help="the folder to write")
         made.add_argument("--narrow", action="store_true", help="factors of 16 bits only")
         made.add_argument("--answers", metavar="DIR", help="take csdp's answers from this folder")

@@ -34,8 +34,7 @@ class ModelError(Exception):
 class Variable:
     """A name and its range, if it has one."""
     name: str
-    low: Optional[Fraction] = None
-    high: Optional[Fraction] = None
+    range: Optional[tuple[Fraction, Fraction]] = None
 
 
 @dataclass
@@ -210,6 +209,8 @@ def _statement(model: Model, word: str, line: _Line, text: str) -> None:
         right = line.sum()
         line.done("an operator or the end of the line")
         difference = plus(right, left, Fraction(-1)) if sign.text == "<=" else plus(left, right, Fraction(-1))
+        if not any(any(e) for e in difference):
+            raise ModelError(line.number, sign.column, "the condition has no variable that is left")
         model.conditions.append(Where(difference, sign.text == "==", text, line.number))
     elif word == "degree":
         token = line.next()
@@ -225,7 +226,7 @@ def _variables(model: Model, line: _Line) -> None:
         names.append(line.next())
     if not names:
         raise line.wrong("a name of a variable")
-    low = high = None
+    ends: Optional[tuple[Fraction, Fraction]] = None
     if line.take("in"):
         line.expect("[", "`[`")
         low = line.rational()
@@ -235,6 +236,7 @@ def _variables(model: Model, line: _Line) -> None:
         if high <= low:
             raise ModelError(line.number, column, f"the upper end {high} is not above the lower end {low}")
         line.expect("]", "`]`")
+        ends = low, high
     line.done("a name, `in` or the end of the line")
     for token in names:
         if not NAME.fullmatch(token.text):
@@ -244,4 +246,4 @@ def _variables(model: Model, line: _Line) -> None:
             raise ModelError(line.number, token.column, f"`{token.text}` stands twice")
         if len(model.variables) == 8:
             raise ModelError(line.number, token.column, "more than 8 variables")
-        model.variables.append(Variable(token.text, low, high))
+        model.variables.append(Variable(token.text, ends))

@@ -8,6 +8,7 @@ from .reading import Problem
 from .squares import LARGEST_WEIGHT, Factors, Limits, RoundingError, single
 
 SIGNED_WEIGHT = 32767
+LARGEST_STEP = 8000              # the factor of an equality's one monomial; the other factors leave room for it
 
 
 def inequality_rows(gram: list[list[float]], tolerance: float, limits: Limits, even: bool,
@@ -115,12 +116,17 @@ def equality_rows(problem: Problem, j: int, blocks: list[list[int]], wanted: dic
     return rows
 
 
+def largest_multiplier(limits: Limits) -> float:
+    """The largest coefficient of an equality's multiplier that one pair of rows can give."""
+    return 4.0 * SIGNED_WEIGHT * LARGEST_STEP * (limits.factor - LARGEST_STEP - 1000)
+
+
 def _stages(largest: float, limits: Limits) -> list[tuple[int, int]]:
     """Weights and factors of the pairs of rows, coarse to fine; the last has step 4."""
-    top, out = limits.factor - 9000, []
+    top, out = limits.factor - LARGEST_STEP - 1000, []
     while True:
         need = largest / 4 / top
-        factor = min(int(need) + 1, 8000)
+        factor = min(int(need) + 1, LARGEST_STEP)
         weight = int(need / factor) + 1 if need > 1 else 1
         if weight > SIGNED_WEIGHT:
             raise RoundingError("the weight of an equality is beyond 16 bits")

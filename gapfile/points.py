@@ -8,15 +8,15 @@ from __future__ import annotations
 import random
 from dataclasses import dataclass
 from fractions import Fraction
-from typing import Callable, Optional
+from typing import Optional
 
-from .commands import Monomial, ONE
+from .equalities import Equalities, Function
 from .polynomials import evaluate
-from .problem import allowed
+from .problem import allowed, range_of
 from .reading import Problem
 
 Point = list[float]
-STARTS, HALVINGS = 24, 44
+STARTS, HALVINGS = 24, 46
 DENOMINATORS = (1, 2, 3, 4, 5, 6, 8, 10, 12, 16, 20, 25, 50, 100, 1000, 10 ** 4, 10 ** 5, 10 ** 6, 10 ** 7)
 
 
@@ -27,65 +27,22 @@ class Attained:
     value: Fraction
 
 
-def compiled(terms: dict[Monomial, int]) -> Callable[[Point], float]:
-    """A polynomial as a function of floats."""
-    flat = [(float(c), [(i, e) for i, e in enumerate(m) if e]) for m, c in terms.items()]
-
-    def value(x: Point) -> float:
-        total = 0.0
-        for c, factors in flat:
-            for i, e in factors:
-                c *= x[i] ** e
-            total += c
-        return total
-    return value
-
-
 class Search:
-    """The search for one problem. Equalities are solved for a variable in which they are linear, from `prefer` on."""
+    """The search for one problem. Some variables follow from the others by the equalities, from `prefer` on."""
 
     def __init__(self, problem: Problem, prefer: int = 0) -> None:
         self.problem = problem
-        self.objective = compiled(problem.objective)
-        self.inequalities = [compiled(c.terms) for c in problem.conditions if not c.equality]
-        self.boxed = [any(c.terms == {ONE: 1, tuple(2 * int(k == i) for k in range(8)): -1} for c in problem.conditions)
-                      for i in range(problem.variables)]
-        self.solved: list[tuple[int, dict[Monomial, int], dict[Monomial, int]]] = []
-        self.possible = True
+        self.objective = Function(problem.objective)
+        self.inequalities = [Function(c.terms) for c in problem.conditions if not c.equality]
+        ranges = {range_of(condition) for condition in problem.conditions}
+        self.boxed = [i in ranges for i in range(problem.variables)]
+        self.equalities = Equalities(problem, prefer)
+        self.open = [i for i in range(problem.variables) if i not in self.equalities.followers]
         self.interior: Optional[Point] = None
-        for condition in problem.conditions:
-            if condition.equality:
-                self.possible = self._solve_for(condition.terms, prefer) and self.possible
-        taken = {i for i, _, _ in self.solved}
-        self.open = [i for i in range(problem.variables) if i not in taken]
-
-    def _solve_for(self, terms: dict[Monomial, int], prefer: int) -> bool:
-        """Finds x_i with terms = rest + x_i x factor, neither with x_i nor with a variable solved before."""
-        taken = {i for i, _, _ in self.solved}
-        count = self.problem.variables
-        for i in ((prefer + k) % count for k in range(count)):
-            if i in taken or any(m[i] > 1 for m in terms) or not any(m[i] for m in terms):
-                continue
-            factor = {m[:i] + (0,) + m[i + 1:]: c for m, c in terms.items() if m[i]}
-            rest = {m: c for m, c in terms.items() if not m[i]}
-            if not any(m[k] for m in terms for k in taken):
-                self.solved.append((i, rest, factor))
-                return True
-        return False
-
-    def complete(self, x: list) -> bool:
-        """Sets the solved variables from the others; false where a factor is 0."""
-        for i, rest, factor in self.solved:
-            below = evaluate(factor, x) if isinstance(x[0], Fraction) else compiled(factor)(x)
-            if not below:
-                return False
-            above = evaluate(rest, x) if isinstance(x[0], Fraction) else compiled(rest)(x)
-            x[i] = -above / below
-        return True
 
     def inside(self, x: Point) -> float:
         """The least inequality; below 0 outside the region."""
-        return min((g(x) for g in self.inequalities), default=1.0) if self.complete(x) else -1.0
+        return min((g(x) for g in self.inequalities), default=1.0) if self.equalities.complete(x) else -1.0
 
     def pulled(self, x: Point) -> Point:
         """The point clipped to the box, and drawn to an interior point as far as the region needs it."""
@@ -109,7 +66,7 @@ class Search:
     def descend(self, x: Point, sign: int) -> tuple[float, Point]:
         """Steps along the axes and on along the last success, halved where none helps."""
         x = self.pulled(x)
-        best, step = self.rate(x, sign), 0.5
+        best, step = self.rate(x, sign), 2.0                     # the whole range of a variable
         for _ in range(HALVINGS):
             for _ in range(12):
                 start, before = list(x), best
@@ -144,7 +101,8 @@ def attain(problem: Problem, side: int, hint: Optional[Point] = None, seed: int 
 
 
 def _attain(search: Search, sign: int, hint: Optional[Point], chance: random.Random) -> Optional[Attained]:
-    if not search.possible:
+    """The best point of one search: from the best of many starts, the hint among them, made rational."""
+    if not search.equalities.possible:
         return None
     count = search.problem.variables
     starts = [list(hint)] if hint else []
@@ -168,7 +126,7 @@ def _rational(search: Search, x: Point, interior: Point, sign: int, best: Option
         for pull in (0.0, 1e-7, 1e-5, 1e-3):
             moved = [a + pull * (b - a) for a, b in zip(x, interior)]
             point = [Fraction(round(v * denominator), denominator) for v in moved]
-            if search.complete(point) and allowed(search.problem, point):
+            if search.equalities.complete(point) and allowed(search.problem, point):
                 value = evaluate(search.problem.objective, point)
                 best = _better(best, Attained(point, value), sign)
                 break

@@ -3,6 +3,7 @@ from __future__ import annotations
 
 from dataclasses import dataclass
 from fractions import Fraction
+from typing import Optional
 
 from .commands import PROBLEM, Monomial, ONE, write_command
 from .model import Model
@@ -43,9 +44,9 @@ def pose(model: Model) -> Posed:
     """The problem of a model. Raises LimitError."""
     middle, half = [], []
     for v in model.variables:
-        ranged = v.low is not None and v.high is not None
-        middle.append((v.low + v.high) / 2 if ranged else Fraction(0))
-        half.append((v.high - v.low) / 2 if ranged else Fraction(1))
+        low, high = v.range or (Fraction(-1), Fraction(1))
+        middle.append((low + high) / 2)
+        half.append((high - low) / 2)
     values: list[Polynomial] = [plus(constant(m), variable(i), h) for i, (m, h) in enumerate(zip(middle, half))]
     assert model.bound is not None
     objective, factor = cleared(substitute(model.bound, values))
@@ -57,10 +58,10 @@ def pose(model: Model) -> Posed:
     problem = Problem(len(model.variables), {e: objective[e] for e in ordered(objective)})
     origins = []
     for i, v in enumerate(model.variables):
-        if v.low is not None:
+        if v.range:
             square = tuple(2 * int(k == i) for k in range(8))
             problem.conditions.append(Condition(False, {ONE: 1, square: -1}))
-            origins.append(f"{v.name} in [{v.low}, {v.high}]")
+            origins.append(f"{v.name} in [{v.range[0]}, {v.range[1]}]")
     for where in model.conditions:
         terms, _ = whole(substitute(where.polynomial, values))
         _coefficients(terms, 1 << 15, f"the condition of line {where.line} (`{where.text}`), in whole numbers")
@@ -70,9 +71,19 @@ def pose(model: Model) -> Posed:
         problem.conditions.append(Condition(where.equality, {e: terms[e] for e in ordered(terms)}))
         origins.append(where.text)
     if len(problem.conditions) > LIMITS["conditions"]:
-        raise LimitError(f"{len(problem.conditions)} conditions with the ranges, more than {LIMITS['conditions']}")
+        ranges = sum(v.range is not None for v in model.variables)
+        raise LimitError(f"{len(problem.conditions)} conditions, of which {ranges} are ranges; at most "
+                         f"{LIMITS['conditions']} are allowed. A variable that other conditions bound needs no range")
     problem.bases = [[] for _ in range(len(problem.conditions) + 1)]
     return Posed(problem, factor, middle, half, origins)
+
+
+def range_of(condition: Condition) -> Optional[int]:
+    """The variable, from 0, of which the condition is 1 - u^2 >= 0."""
+    if condition.equality or len(condition.terms) != 2 or condition.terms.get(ONE) != 1:
+        return None
+    (square, c), = [(e, c) for e, c in condition.terms.items() if e != ONE]
+    return square.index(2) if c == -1 and sum(square) == max(square) == 2 else None
 
 
 def _coefficients(terms: dict[Monomial, int], limit: int, what: str) -> None:
@@ -91,14 +102,14 @@ def encode_problem(problem: Problem) -> bytes:
     if problem.order is not None:
         out += bytes([0x09, problem.order])
     for e, c in problem.objective.items():
-        out += write_command(PROBLEM[0x02], (e, c))
+        out += write_command(PROBLEM[0x02], (c,), e)
     for condition in problem.conditions:
         out.append(0x07 if condition.equality else 0x03)
         for e, c in condition.terms.items():
-            out += write_command(PROBLEM[0x04], (e, c))
+            out += write_command(PROBLEM[0x04], (c,), e)
     for j, basis in enumerate(problem.bases):
         for e in basis:
-            out += write_command(PROBLEM[0x05], (j, e))
+            out += write_command(PROBLEM[0x05], (j,), e)
     out.append(0x06)
     return bytes(out)
 

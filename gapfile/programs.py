@@ -45,7 +45,7 @@ class Verdict:
 
 @dataclass(frozen=True)
 class Blocks:
-    """The blocks call: for each basis the block number of each index; rounds, and the rule where the line says it."""
+    """The blocks call: for each basis the block number of each index; rounds and rule."""
     count: int
     rounds: int
     rule: int
@@ -58,7 +58,9 @@ def program(name: str) -> Path:
     built = ROOT / "target" / "bin" / name
     found = named or (str(built) if built.exists() else shutil.which(name))
     if not found or not Path(found).exists():
-        raise ProgramError(f"{name} is not there; build it (`./example two_decks` does) or name it in {name.upper()}")
+        where = f"{named} is not there" if named else f"{name} is not built"
+        raise ProgramError(f"{where}; in the repository's folder `rt check gapcheck replay` builds it, "
+                           f"or name one in {name.upper()}")
     return Path(found)
 
 
@@ -68,14 +70,22 @@ def reference() -> Optional[Path]:
     return Path(built) if Path(built).exists() else None
 
 
+def _run(command: list[str], data: bytes) -> list[str]:
+    """The lines that a program prints."""
+    try:
+        return subprocess.run(command, input=data, capture_output=True, check=False).stdout.decode().splitlines()
+    except (OSError, UnicodeDecodeError) as error:
+        raise ProgramError(f"{command[0]}: {error}") from None
+
+
 def gapcheck(problem: bytes, low: bytes, high: bytes) -> Verdict:
     """Runs gapcheck on these very bytes."""
     with tempfile.TemporaryDirectory(prefix="gapfile") as folder:
         files = [Path(folder) / name for name in ("problem.bin", "low.bin", "high.bin")]
         for file, run in zip(files, (problem, low, high)):
             file.write_bytes(run)
-        ran = subprocess.run([program("gapcheck"), *files], capture_output=True, text=True, check=False)
-    return pair_verdict(ran.stdout.splitlines())
+        ran = _run([str(program("gapcheck")), *map(str, files)], b"")
+    return pair_verdict(ran)
 
 
 def pair_verdict(lines: list[str]) -> Verdict:
@@ -92,7 +102,10 @@ def pair_verdict(lines: list[str]) -> Verdict:
 
 def _refusal(lines: list[str]) -> Optional[Refusal]:
     words = lines[0].split() if lines else []
-    return Refusal(*map(int, words[1:5])) if words[:1] == ["refused"] else None
+    if words[:1] != ["refused"]:
+        return None
+    number, stream, place, key = map(int, words[1:5])
+    return Refusal(number, stream, place, key)
 
 
 def record(kind: str, *runs: bytes) -> bytes:
@@ -101,10 +114,8 @@ def record(kind: str, *runs: bytes) -> bytes:
 
 
 def replay(data: bytes, command: Optional[list[str]] = None) -> list[str]:
-    """The lines for the records."""
-    command = command or [str(program("replay"))]
-    ran = subprocess.run(command, input=data, capture_output=True, check=False)
-    return ran.stdout.decode().splitlines()
+    """The lines for the records, by `replay` or by another program that answers them."""
+    return _run(command or [str(program("replay"))], data)
 
 
 def check_one(problem: bytes, certificate: bytes, command: Optional[list[str]] = None) -> Verdict:
@@ -131,30 +142,14 @@ def check_pair(problem: bytes, low: bytes, high: bytes, command: Optional[list[s
 
 
 def blocks_call(problem: bytes) -> Blocks | Refusal:
-    """The blocks of a problem, by the checker itself; both forms of the line are read."""
+    """The blocks of a problem, by the checker itself."""
     lines = replay(record("b", problem, b"", b""))
     refusal = _refusal(lines)
     if refusal:
         return refusal
     words = lines[0].split() if lines else []
-    if words[:1] != ["blocks"]:
+    if len(words) != 7 or words[0] != "blocks":
         raise ProgramError(f"replay answered {lines!r}")
-    rule = int(words[5]) if words[4] == "rule" else 1
-    table = bytes.fromhex(words[-1])
+    table = bytes.fromhex(words[6])
     numbers = [[x for x in table[64 * j:64 * j + 64] if x != 255] for j in range(9)]
-    return Blocks(int(words[1]), int(words[3]), rule, numbers)
-
-
-def reads(byte: int) -> bool:
-    """Whether this checker reads a command of document 02: 07, 08, 09 of problems, 14, 15 of certificates."""
-    if byte in (0x07, 0x08, 0x09):
-        probe = bytes([1, 1, byte]) + (b"\x01" if byte != 0x07 else b"") + b"\x06"
-        lines = replay(record("b", probe, b"", b""))
-    else:
-        one = bytes(8)
-        problem = b"\x01\x01\x02" + one + b"\x01\0\0\0\x05\0" + one + b"\x06"
-        head = b"\x10\0\x01\0\0\0\0\0\x01\0"
-        body = b"\x11\0\x01\0\x15\0\x01\0\0\0" if byte == 0x15 else b"\x14\0\x01\0"
-        lines = replay(record("c", problem, head + body + b"\x13", b""))
-    words = lines[0].split() if lines else []
-    return words[:2] != ["refused", "3"]
+    return Blocks(int(words[1]), int(words[3]), int(words[5]), numbers)

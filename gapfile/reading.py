@@ -7,7 +7,7 @@ from __future__ import annotations
 from dataclasses import dataclass, field
 from typing import Callable, Iterator, Optional
 
-from .commands import (TABLE, Command, Kind, Monomial, ONE, monomial_text, read_command)
+from .commands import TABLE, Command, Kind, Monomial, ONE, read_command
 
 LIMITS = {"objective": 256, "conditions": 8, "terms": 32, "basis": 64, "rows": 128}
 KEYS = 2048
@@ -110,13 +110,14 @@ class _Checks:
     def __init__(self, stream: int) -> None:
         self.stream, self.place = stream, 0
 
-    def need(self, number: int, holds: bool, why: str) -> None:
-        if not holds:
+    def refuse(self, number: int, when: bool, why: str) -> None:
+        if when:
             raise Refused(Refusal(number, self.stream, self.place, why=why))
 
     def monomial(self, e: Monomial, variables: int, degree: int) -> None:
-        self.need(4, not any(e[variables:]), f"an exponent of a variable above {variables} is not 0")
-        self.need(4, sum(e) <= degree, f"the degree {sum(e)} is above {degree}")
+        self.refuse(4, any(e[variables:]), "an exponent of a variable that the problem does not have is not 0")
+        total = sum(e)
+        self.refuse(4, total > degree, f"the degree {total} is above {degree}")
 
 
 def read_problem(stream: bytes) -> Problem:
@@ -135,44 +136,44 @@ def read_problem(stream: bytes) -> Problem:
         return None
 
     for command in walk(stream, Kind.PROBLEM, 0, misplaced):
-        before[0], checks.place = command.byte, command.place
+        before[0], checks.place = command.layout.byte, command.place
         _problem_command(problem, checks, command)
     return problem
 
 
 def _problem_command(problem: Problem, checks: _Checks, command: Command) -> None:
     """Takes one command in; raises 4, 5 or 6."""
-    byte, values = command.byte, command.values
+    byte, monomial = command.layout.byte, command.monomial
+    number = command.numbers[0] if command.numbers else 0
     if byte == 0x01:
-        checks.need(4, 1 <= values[0] <= 8, "the number of variables is from 1 to 8")
-        problem.variables = values[0]
+        checks.refuse(4, not 1 <= number <= 8, "the number of variables is from 1 to 8")
+        problem.variables = number
     elif byte in (0x02, 0x04):
         objective = byte == 0x02
         terms = problem.objective if objective else problem.conditions[-1].terms
         room = LIMITS["objective"] if objective else LIMITS["terms"]
-        checks.monomial(values[0], problem.variables, 32 if objective else 16)
-        checks.need(4, values[1] != 0, "a coefficient is never 0")
-        checks.need(5, values[0] not in terms, f"the monomial {monomial_text(values[0], [])} stands twice")
-        checks.need(6, len(terms) < room, f"more than {room} terms")
-        terms[values[0]] = values[1]
+        checks.monomial(monomial, problem.variables, 32 if objective else 16)
+        checks.refuse(4, number == 0, "a coefficient is never 0")
+        checks.refuse(5, monomial in terms, "the monomial stands twice in the polynomial")
+        checks.refuse(6, len(terms) == room, f"more than {room} terms")
+        terms[monomial] = number
     elif byte in (0x03, 0x07):
-        checks.need(6, len(problem.conditions) < LIMITS["conditions"], "more than 8 constraints and equalities")
+        checks.refuse(6, len(problem.conditions) == LIMITS["conditions"], "more than 8 constraints and equalities")
         problem.conditions.append(Condition(byte == 0x07))
         problem.bases.append([])
     elif byte == 0x05:
-        checks.need(4, values[0] < len(problem.bases), f"constraint {values[0]} has not begun")
-        basis = problem.bases[values[0]]
-        checks.monomial(values[1], problem.variables, 8)
-        checks.need(5, values[1] not in basis,
-                    f"the monomial {monomial_text(values[1], [])} stands twice in basis {values[0]}")
-        checks.need(6, len(basis) < LIMITS["basis"], f"more than {LIMITS['basis']} monomials in basis {values[0]}")
-        basis.append(values[1])
+        checks.refuse(4, number >= len(problem.bases), f"condition {number} has not begun")
+        basis = problem.bases[number]
+        checks.monomial(monomial, problem.variables, 8)
+        checks.refuse(5, monomial in basis, f"the monomial stands twice in basis {number}")
+        checks.refuse(6, len(basis) == LIMITS["basis"], f"more than 64 monomials in basis {number}")
+        basis.append(monomial)
     elif byte == 0x08:
-        checks.need(4, values[0] in (1, 2), "the rule is 1 or 2")
-        problem.rule = values[0]
+        checks.refuse(4, number not in (1, 2), "the rule is 1 or 2")
+        problem.rule = number
     elif byte == 0x09:
-        checks.need(4, values[0] >= 1, "the order is at least 1")
-        problem.order = values[0]
+        checks.refuse(4, number == 0, "the order is at least 1")
+        problem.order = number
 
 
 def read_certificate(stream: bytes, problem: Optional[Problem], number: int = 1, notes: bool = False) -> Certificate:
@@ -192,7 +193,7 @@ def read_certificate(stream: bytes, problem: Optional[Problem], number: int = 1,
         return None
 
     for command in walk(stream, Kind.CERTIFICATE, number, misplaced):
-        before[0], checks.place = command.byte, command.place
+        before[0], checks.place = command.layout.byte, command.place
         _certificate_command(certificate, problem, checks, command)
     return certificate
 
@@ -200,28 +201,31 @@ def read_certificate(stream: bytes, problem: Optional[Problem], number: int = 1,
 def _certificate_command(certificate: Certificate, problem: Optional[Problem], checks: _Checks,
                          command: Command) -> None:
     """Takes one command in; raises 4, 5 or 6."""
-    byte, values = command.byte, command.values
+    byte, numbers = command.layout.byte, command.numbers
     if byte == 0x10:
-        checks.need(4, values[0] <= 1, "the side is 0 or 1")
-        checks.need(4, values[1] >= 1, "D is at least 1")
-        checks.need(4, values[3] >= 1, "q is at least 1")
-        certificate.side, certificate.scale, certificate.p, certificate.q = values
+        checks.refuse(4, numbers[0] > 1, "the side is 0 or 1")
+        checks.refuse(4, numbers[1] == 0, "D is at least 1")
+        checks.refuse(4, numbers[3] == 0, "q is at least 1")
+        certificate.side, certificate.scale, certificate.p, certificate.q = numbers
     elif byte in (0x11, 0x14):
+        basis, weight = numbers
         equality = byte == 0x14
-        checks.need(4, problem is None or values[0] < len(problem.bases), f"the problem has no constraint {values[0]}")
-        checks.need(4, problem is None or problem.is_equality(values[0]) == equality,
-                    "14 is for equalities alone" if equality else "11 is not for equalities")
-        checks.need(4, not (equality and values[0] == 0), "14 is for equalities alone")
-        checks.need(4, values[1] != 0, "a weight is never 0")
-        checks.need(6, len(certificate.rows) < LIMITS["rows"], f"more than {LIMITS['rows']} rows")
-        certificate.rows.append(Row(values[0], values[1], command.place))
+        if problem:
+            checks.refuse(4, basis >= len(problem.bases), f"the problem has no condition {basis}")
+            checks.refuse(4, problem.is_equality(basis) and not equality, f"11 on condition {basis}, an equality")
+        checks.refuse(4, equality and (basis == 0 or problem is not None and not problem.is_equality(basis)),
+                      f"14 on basis {basis}, which is not that of an equality")
+        checks.refuse(4, weight == 0, "a weight is never 0")
+        checks.refuse(6, len(certificate.rows) == LIMITS["rows"], "more than 128 rows")
+        certificate.rows.append(Row(basis, weight, command.place))
     elif byte in (0x12, 0x15):
+        index, factor = numbers
         row = certificate.rows[-1]
-        size = 64 if problem is None else len(problem.bases[row.basis])
-        checks.need(4, values[0] < size, f"the index {values[0]} is not below the length {size} of basis {row.basis}")
-        checks.need(4, values[1] != 0, "a factor is never 0")
-        checks.need(5, all(i < values[0] for i in row.entries), f"the index {values[0]} does not rise")
-        row.entries[values[0]] = values[1]
-        row.places[values[0]] = command.place
+        size = LIMITS["basis"] if problem is None else len(problem.bases[row.basis])
+        checks.refuse(4, index >= size, f"the index {index} is not below the length {size} of basis {row.basis}")
+        checks.refuse(4, factor == 0, "a factor is never 0")
+        checks.refuse(5, next(reversed(row.entries), -1) >= index, f"the index {index} does not rise")
+        row.entries[index] = factor
+        row.places[index] = command.place
     elif byte == 0x40:
-        certificate.notes.append(values[0])
+        certificate.notes.append(command.note)

@@ -2,18 +2,17 @@
 from __future__ import annotations
 
 import json
-from fractions import Fraction
 from typing import Any, Optional
 
 from . import VERSION
-from .decimals import decimal, fraction
+from .decimals import counted, decimal, digits_for, fraction
 from .model import Model
 from .points import Attained
 from .problem import stream_names
 from .solver import STATUS
-from .solving import Side, Solved
+from .solving import WORDS, Side, Solved, far, far_off, higher
 
-WORDS = ("lower", "upper")
+HEADS = ("", "relaxation", "filed", "lost", "attained", "off by", "rows", "wide entries")
 
 
 def point_text(solved: Solved, model: Model, attained: Attained) -> str:
@@ -23,30 +22,46 @@ def point_text(solved: Solved, model: Model, attained: Attained) -> str:
 
 
 def report_lines(solved: Solved, model: Model) -> list[str]:
-    """Relaxation, filed, lost and attained for both sides, in the model's units."""
+    """Relaxation, filed, lost and attained for both sides, in the model's units; rows and blocks."""
     factor = solved.posed.factor
-    lines = [f"degree {solved.degree}; {solved.blocks.count} blocks, {solved.blocks.rounds} rounds; {solved.sizes}"]
+    blocks, rounds = counted(solved.blocks.count, "block"), counted(solved.blocks.rounds, "round")
+    lines = [f"degree {solved.degree}; {blocks}, {rounds}; {solved.sizes}"]
     if factor != 1:
         lines.append(f"the objective was multiplied by {factor} to whole numbers; the figures below are divided by it")
+    digits = max(digits_for((solved.sides[1].bound - solved.sides[0].bound) / factor), 9)
+    table = [HEADS] + [_row(side, factor, digits) for side in solved.sides]
+    wide = [max(len(row[k]) for row in table) for k in range(len(HEADS))]
+    lines += ["  ".join(f"{cell:<{width}}" for cell, width in zip(row, wide)).rstrip() for row in table]
     for side in solved.sides:
-        word = WORDS[side.side]
-        bound = side.bound / factor
-        lines.append(f"{word}: filed {decimal(bound, side.side == 1, 9)}, relaxation {side.relaxation / factor:.9g}, "
-                     f"lost {abs(float(side.bound) - side.relaxation) / factor:.2g}; {side.rows} rows, "
-                     f"{side.wide} wide entries; {STATUS[side.status]}")
-        if side.attained:
-            value = side.attained.value / factor
-            lines.append(f"{word}: attained {float(value):.9g} at {point_text(solved, model, side.attained)}; "
-                         f"off by at most {decimal(off_by(side, factor), True, 9)}")
-        else:
-            lines.append(f"{word}: no allowed point was found by search")
+        lines += _remarks(solved, model, side)
+    if far(solved):
+        lines.append(f"either better points were not found, or degree {solved.degree} gives no more; "
+                     f"{higher(solved.posed, solved.degree + 2)}")
     return lines
 
 
-def off_by(side: Side, factor: int) -> Fraction:
-    """How far the bound is from the attained value, in the model's units."""
-    assert side.attained
-    return abs(side.bound - side.attained.value) / factor
+def _row(side: Side, factor: int, digits: int) -> tuple[str, ...]:
+    attained = side.attained
+    return (WORDS[side.side], f"{side.relaxation / factor:.9g}", decimal(side.bound / factor, side.side == 1, digits),
+            f"{_lost(side, factor):.2g}", f"{float(attained.value / factor):.9g}" if attained else "none found",
+            decimal(side.off / factor, True, digits) if attained else "", str(side.rows), str(side.wide))
+
+
+def _remarks(solved: Solved, model: Model, side: Side) -> list[str]:
+    """What csdp said, the attained point, and whether the relaxation itself is far from it."""
+    word, factor = WORDS[side.side], solved.posed.factor
+    if side.attained is None:
+        return [f"{word}: {STATUS[side.status]}; no allowed point was found by search"]
+    lines = [f"{word}: {STATUS[side.status]}; attained at {point_text(solved, model, side.attained)}"]
+    if far_off(side, factor):
+        distance = abs(side.relaxation - float(side.attained.value)) / factor
+        lines.append(f"{word}: the relaxation itself is {distance:.2g} from the attained value")
+    return lines
+
+
+def _lost(side: Side, factor: int) -> float:
+    """What rounding lost of the relaxation."""
+    return abs(float(side.bound) - side.relaxation) / factor
 
 
 def manifest(solved: Solved, model: Model, solver: str) -> str:
@@ -74,7 +89,7 @@ def manifest(solved: Solved, model: Model, solver: str) -> str:
 def _side(side: Side, factor: int) -> dict[str, Any]:
     return {
         "side": WORDS[side.side], "filed": fraction(side.bound / factor), "relaxation": repr(side.relaxation / factor),
-        "lost": f"{abs(float(side.bound) - side.relaxation) / factor:.3g}", "slack": side.slack,
+        "lost": f"{_lost(side, factor):.3g}", "slack": side.slack,
         "status": STATUS[side.status], "rows": side.rows, "wide entries": side.wide,
         "attained": _attained(side.attained, factor),
     }

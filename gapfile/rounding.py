@@ -7,13 +7,14 @@ from __future__ import annotations
 
 import random
 from dataclasses import dataclass
+from fractions import Fraction
 from math import floor
 
-from .commands import CERTIFICATE, Monomial, ONE, add, write_command
-from .multipliers import equality_rows, inequality_rows
+from .commands import CERTIFICATE, Monomial, ONE, add, fits, write_command
+from .multipliers import equality_rows, inequality_rows, largest_multiplier
 from .reading import LIMITS, Problem
 from .sdp import Program, Solution
-from .squares import LARGEST_WEIGHT, Factors, Limits, Matrix, RoundingError, TooManyRows, rows_of
+from .squares import LARGEST_WEIGHT, Factors, Limits, Matrix, RoundingError, rows_of
 
 SignedRow = tuple[int, int, Factors]         # basis, weight, factors
 
@@ -37,10 +38,24 @@ def denominator_for(bound: float) -> int:
 
 
 def scale_for(solution: Solution, q: int, limits: Limits) -> int:
-    """D: even, so that coefficients are, and as large as factors and weights allow for the largest diagonal."""
+    """D: even, so that coefficients are, and as large as factors and weights allow for the largest diagonal and for the
+    largest coefficient of an equality's multiplier."""
     largest = max((row[a] for gram in solution.grams for a, row in enumerate(gram)), default=1.0)
     room = 0.6 * LARGEST_WEIGHT * float(limits.factor) ** 2 / (q * max(largest, 1e-9))
+    free = max((abs(v) for v in solution.free.values()), default=0.0)
+    room = min(room, 0.9 * largest_multiplier(limits) / (q * max(free, 1e-9)))
     return max(2, min(65534, 2 * int(room / 2)))
+
+
+def bound_of(program: Program, solution: Solution) -> Fraction:
+    """The bound that a solution is rounded to, in the problem's units."""
+    q = denominator_for(solution.bound)
+    return Fraction(program.sign * floor(solution.bound * q), q)
+
+
+def wide_entries(rounded: Rounded) -> int:
+    """How many factors 16 bits do not hold."""
+    return sum(not fits("i16", v) for _, _, row in rounded.rows for v in row.values())
 
 
 @dataclass(frozen=True)
@@ -57,10 +72,9 @@ def round_solution(program: Program, blocks: list[list[list[int]]], solution: So
                    effort: Effort) -> Rounded:
     """The certificate for the solver's bound, a little less. Raises RoundingError."""
     problem, limits, chance = program.problem, Limits.of(wide), random.Random(1)
-    q = denominator_for(solution.bound)
+    bound, q = bound_of(program, solution), denominator_for(solution.bound)
     scale = scale_for(solution, q, limits)
-    unit = scale * q
-    p = floor(solution.bound * q)
+    unit, p = scale * q, int(program.sign * bound * q)
     target: dict[Monomial, int] = {e: unit * program.sign * c for e, c in problem.objective.items()}
     target[ONE] = target.get(ONE, 0) - scale * p
     rows: list[SignedRow] = []
@@ -76,13 +90,9 @@ def round_solution(program: Program, blocks: list[list[list[int]]], solution: So
             wanted = {s: unit * v for (k, s), v in solution.free.items() if k == j}
             for weight, row in equality_rows(problem, j, parts, wanted, limits):
                 _take(problem, target, rows, j, weight, row)
-    if len(rows) >= LIMITS["rows"]:
-        raise TooManyRows(f"{len(rows)} rows of multipliers")
     for order, matrix in _whole_grams(program, solution, target, unit):
-        for weight, row in rows_of(matrix, order, effort.pivot_rows, limits, chance):
-            rows.append((0, weight, row))
-            if len(rows) > LIMITS["rows"]:
-                raise TooManyRows(f"more than {LIMITS['rows']} rows")
+        made = rows_of(matrix, order, effort.pivot_rows, limits, chance, LIMITS["rows"] - len(rows))
+        rows += [(0, weight, row) for weight, row in made]
     return Rounded(0 if program.sign == 1 else 1, scale, program.sign * p, q, rows)
 
 
@@ -145,7 +155,6 @@ def encode_certificate(problem: Problem, rounded: Rounded) -> bytes:
     for j, weight, row in rounded.rows:
         out += write_command(CERTIFICATE[0x14 if problem.is_equality(j) else 0x11], (j, weight))
         for i in sorted(row):
-            narrow = -(1 << 15) <= row[i] < 1 << 15
-            out += write_command(CERTIFICATE[0x12 if narrow else 0x15], (i, row[i]))
-    out += write_command(CERTIFICATE[0x13], ())
+            out += write_command(CERTIFICATE[0x12 if fits("i16", row[i]) else 0x15], (i, row[i]))
+    out += write_command(CERTIFICATE[0x13])
     return bytes(out)

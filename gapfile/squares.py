@@ -9,12 +9,14 @@ from __future__ import annotations
 
 import random
 from dataclasses import dataclass
+from functools import lru_cache
 from math import isqrt, sqrt
 
 Matrix = dict[tuple[int, int], int]
 Factors = dict[int, int]
 
 FOUND_ENOUGH, TRIES, LARGEST_WEIGHT, MOST_ROWS = 12, 4000, 65535, 7
+SMALL_WEIGHT, FEW = 24, 1 << 22
 
 
 class RoundingError(Exception):
@@ -67,20 +69,20 @@ def pivot_of(d: int, count: int, limits: Limits, largest: int, chance: random.Ra
         raise RoundingError(f"a pivot of {d}")
     if d == 1:
         return Pivot([(1, 1)])
-    largest = max(d, largest)
-    cap = max(1, int(0.9 * limits.factor * sqrt(d / largest)))     # the factors of the largest diagonal fit too
+    cap = max(1, int(0.9 * limits.factor * sqrt(d / max(d, largest))))     # the factors of the largest diagonal fit too
     weight = max(1, -(-d // (cap * cap)))
     if weight > LARGEST_WEIGHT:
         raise RoundingError("a weight beyond 16 bits")
-    first = weight * max(1, isqrt(d // weight))
-    best: Pivot | None = None
-    found = 0
+    first, stages = float(weight * max(1, isqrt(d // weight))), count - 1
+    steps = [first ** ((stages - stage) / stages) for stage in range(1, stages)]       # of the row after each stage
+    shares = [step * min(step, cap) for step in steps]
+    best, cost, found = None, 0.0, 0
     for tried in range(TRIES):
-        pivot = _try(d, count, first, cap, 3.0 + tried / 20, chance)
+        pivot = _try(d, shares, cap, 3.0 + tried / 20, chance)
         if pivot:
             found += 1
-            if best is None or pivot.cost() < best.cost():
-                best = pivot
+            if best is None or pivot.cost() < cost:
+                best, cost = pivot, pivot.cost()
             if found == FOUND_ENOUGH:
                 break
     if best is None:
@@ -92,26 +94,43 @@ def pivot_of(d: int, count: int, limits: Limits, largest: int, chance: random.Ra
     return best
 
 
-def _try(d: int, count: int, first: int, cap: int, spread: float, chance: random.Random) -> Pivot | None:
-    """One try: what each row leaves is drawn around the ideal, and the last but one must come out even."""
-    rest, rows, stages = d - 1, [], count - 1
-    for stage in range(1, stages):
-        step = float(first) ** ((stages - stage) / stages)          # the next row's
-        left = int(step * min(step, cap) * chance.uniform(0.2, spread))
-        w = max(1, -(-rest // (cap * cap)))
-        l = isqrt(max(rest - left, 0) // w)
-        if l < 1 or w > LARGEST_WEIGHT:
+def _try(d: int, shares: list[float], cap: int, spread: float, chance: random.Random) -> Pivot | None:
+    """One try: what each row leaves is drawn around its share, and the last but one must come out even."""
+    rest, rows = d - 1, []
+    for share in shares:
+        left = int(share * chance.uniform(0.2, spread))
+        w = -(-rest // (cap * cap)) or 1
+        if rest <= left or w > LARGEST_WEIGHT:
+            return None
+        l = isqrt((rest - left) // w)
+        if l < 1:
             return None
         rows.append((w, l))
         rest -= w * l * l
     if rest == 0:
         return Pivot(rows + [(1, 1)])
-    for w in range(1, 25):
+    last = _few().get(rest) if rest < FEW else _as_square(rest)
+    return Pivot(rows + [last, (1, 1)]) if last and last[1] <= cap else None
+
+
+def _as_square(rest: int) -> tuple[int, int] | None:
+    """A number as a small weight times a square, with the least weight."""
+    for w in range(1, SMALL_WEIGHT + 1):
         if rest % w == 0:
             l = isqrt(rest // w)
-            if l * l * w == rest and l <= cap:
-                return Pivot(rows + [(w, l), (1, 1)])
+            if l * l * w == rest:
+                return w, l
     return None
+
+
+@lru_cache(maxsize=1)
+def _few() -> dict[int, tuple[int, int]]:
+    """The numbers below FEW that are a small weight times a square, each with the least weight."""
+    out: dict[int, tuple[int, int]] = {}
+    for w in range(1, SMALL_WEIGHT + 1):
+        for l in range(1, isqrt((FEW - 1) // w) + 1):
+            out.setdefault(w * l * l, (w, l))
+    return out
 
 
 def single(value: int, limits: Limits, unit: int = 1) -> list[tuple[int, int]]:
@@ -132,12 +151,15 @@ def single(value: int, limits: Limits, unit: int = 1) -> list[tuple[int, int]]:
     return out
 
 
-def rows_of(matrix: Matrix, order: list[int], count: int, limits: Limits,
-            chance: random.Random) -> list[tuple[int, Factors]]:
-    """Rows (weight, factors) whose weighted squares sum to the matrix exactly. Raises RoundingError."""
+def rows_of(matrix: Matrix, order: list[int], count: int, limits: Limits, chance: random.Random,
+            room: int = 128) -> list[tuple[int, Factors]]:
+    """Rows (weight, factors), as many as there is room for, whose weighted squares sum to the matrix exactly. Raises
+    RoundingError, and TooManyRows as soon as one row for each pivot that is left would be too many."""
     left = dict(matrix)
     rows: list[tuple[int, Factors]] = []
     for at, k in enumerate(order):
+        if len(rows) + len(order) - at > room:
+            raise TooManyRows(f"more than {room} rows of basis 0")
         d = left.get((k, k), 0)
         beside = {i: left.get(_pair(k, i), 0) for i in order[at + 1:]}
         beside = {i: h for i, h in beside.items() if h}
@@ -160,6 +182,8 @@ def rows_of(matrix: Matrix, order: list[int], count: int, limits: Limits,
             subtract(left, w, row)
     if any(left.values()):
         raise RoundingError("a rest is left")
+    if len(rows) > room:
+        raise TooManyRows(f"more than {room} rows of basis 0")
     return rows
 
 

@@ -10,7 +10,7 @@ from dataclasses import dataclass
 from functools import lru_cache
 from typing import Optional
 
-from .commands import (PROBLEM, CERTIFICATE, TABLE, Command, Kind, Layout, Monomial, fits, kind_of, monomial_text,
+from .commands import (BOTH, CERTIFICATE, ONE, TABLE, Kind, Layout, Monomial, fits, kind_of, monomial_text,
                        read_command, write_command)
 from .reading import Problem, Refusal, Refused, read_certificate, read_problem
 
@@ -69,26 +69,19 @@ def decode(stream: bytes, names: Optional[list[str]] = None, problem: Optional[P
            kind: Optional[Kind] = None) -> Decoded:
     """The text form; with a problem, entries of a certificate say their monomials."""
     kind = kind or kind_of(stream)
-    refusal = refusal_of(stream, kind, problem)
     lines: list[Line] = []
-    state = _Names(names or DEFAULT_NAMES, problem)
+    state = _State(names or DEFAULT_NAMES, problem)
     place, table, ended = 0, TABLE[kind], False
     while place < len(stream):
         layout = table.get(stream[place])
         if ended or layout is None or place + layout.length > len(stream):
             lines.append(Line(place, "bytes " + stream[place:].hex(" ")))
             break
-        command = read_command(stream, place, layout)
         run = stream[place:place + layout.length]
-        text = _render(command, state)
-        if text is None or _encoded(text, state) != run:
-            text = "bytes " + run.hex(" ")
-        comment = state.comment(command)
-        if command.byte == 0x01 and text.startswith("variables"):
-            state.shown = state.names[:command.values[0]]
-        lines.append(Line(place, text, comment))
+        lines.append(Line(place, *state.take(run)))
         place += layout.length
         ended = layout.byte in (0x06, 0x13)
+    refusal = refusal_of(stream, kind, problem)
     return Decoded(_marked(lines, refusal), refusal)
 
 
@@ -103,135 +96,150 @@ def _marked(lines: list[Line], refusal: Optional[Refusal]) -> list[Line]:
     return lines + [Line(refusal.place, "", said)]
 
 
-class _Names:
-    """Names of variables and what a line's comment needs: counters of conditions, indices and the row's basis."""
+class _State:
+    """What a line needs of those before it: the names, counters of conditions and indices, the row's basis."""
 
     def __init__(self, names: list[str], problem: Optional[Problem]) -> None:
-        self.names, self.shown, self.problem = names, DEFAULT_NAMES, problem
+        self.names, self.problem = tuple(names), problem
+        self.shown = tuple(names[:problem.variables] if problem else DEFAULT_NAMES)
         self.conditions, self.indices, self.row = 0, dict[int, int](), 0
-        if problem:
-            self.shown = names[:problem.variables]
 
-    def comment(self, command: Command) -> str:
-        """What the line does not say by itself: numbers of conditions and indices, monomials of entries."""
-        byte, values = command.byte, command.values
+    def take(self, run: bytes) -> tuple[str, str]:
+        """The text of a command, and as a comment what it does not say by itself."""
+        byte = run[0]
+        if byte == 0x01:
+            text = _shown(run, self.names)
+            self.shown = tuple(text.split()[1:]) if text.startswith("variables") else self.shown
+            return text, ""
+        return _shown(run, self.shown), self._comment(byte, run[1] if len(run) > 1 else 0)
+
+    def _comment(self, byte: int, number: int) -> str:
+        """Numbers of conditions and indices, monomials of entries; the number is the first operand."""
         if byte in (0x03, 0x07):
             self.conditions += 1
             return f"condition {self.conditions}"
         if byte == 0x05:
-            index = self.indices.get(values[0], 0)
-            self.indices[values[0]] = index + 1
+            index = self.indices.get(number, 0)
+            self.indices[number] = index + 1
             return f"index {index}"
         if byte in (0x11, 0x14):
-            self.row = values[0]
+            self.row = number
         if byte in (0x12, 0x15) and self.problem and self.row < len(self.problem.bases):
             basis = self.problem.bases[self.row]
-            if values[0] < len(basis):
-                return monomial_text(basis[values[0]], self.shown)
+            if number < len(basis):
+                return monomial_text(basis[number], list(self.shown))
         return ""
 
 
-def _render(command: Command, state: _Names) -> Optional[str]:
-    """The words of a command, None where there are none for its values."""
-    byte, values, word = command.byte, command.values, command.layout.word
-    if byte == 0x01:
-        return f"{word} {' '.join(state.names[:values[0]])}" if 1 <= values[0] <= len(state.names) else None
-    if byte in (0x02, 0x04):
-        return f"{word} {values[1]} {monomial_text(values[0], state.shown)}"
-    if byte == 0x05:
-        return f"{word} {values[0]} {monomial_text(values[1], state.shown)}"
-    if byte == 0x10:
-        side = {0: "lower", 1: "upper"}.get(values[0])
-        return f"{side} {values[2]}/{values[3]} scale {values[1]}" if side else None
-    if byte in (0x11, 0x14):
-        return f"{word} {values[0]} weight {values[1]}"
-    if byte == 0x40:
-        return f"{word} {values[0].hex(' ')}"
-    return " ".join([word] + [str(value) for value in values])
-
-
-def _encoded(text: str, state: _Names) -> Optional[bytes]:
-    """The bytes of one line, None where it is wrong: a line is shown only if it says the same bytes."""
+@lru_cache(maxsize=1 << 16)
+def _shown(run: bytes, names: tuple[str, ...]) -> str:
+    """The words of a whole command, if they say these very bytes, and else the bytes."""
     try:
-        return _line(text, tuple(state.shown))[0]
+        text = _words(run, names)
+        if _line(text, names)[0] == run:
+            return text
     except ValueError:
-        return None
+        pass
+    return "bytes " + run.hex(" ")
+
+
+def _words(run: bytes, names: tuple[str, ...]) -> str:
+    """The words of a command. Raises ValueError where there are none for its operands."""
+    command = read_command(run, 0, BOTH[run[0]])
+    byte, word, numbers = command.layout.byte, command.layout.word, command.numbers
+    if byte == 0x01:
+        return " ".join([word, *names[:numbers[0]]])
+    if byte in (0x02, 0x04, 0x05):
+        return f"{word} {numbers[0]} {monomial_text(command.monomial, list(names))}"
+    if byte == 0x10:
+        side, scale, p, q = numbers
+        if side > 1:
+            raise ValueError("no word for this side")
+        return f"{'upper' if side else 'lower'} {p}/{q} scale {scale}"
+    if byte in (0x11, 0x14):
+        return f"{word} {numbers[0]} weight {numbers[1]}"
+    if byte == 0x40:
+        return f"{word} {command.note.hex(' ')}"
+    return " ".join([word, *map(str, numbers)])
 
 
 def encode(text: str) -> tuple[bytes, list[int]]:
     """The stream of a text, and for each command the number of its line. Raises TextError."""
-    out, numbers, names = bytearray(), [], DEFAULT_NAMES
+    out, numbers, names = bytearray(), [], tuple(DEFAULT_NAMES)
     for number, raw in enumerate(text.splitlines(), 1):
         line = raw.split("#")[0].strip()
         if not line:
             continue
         try:
-            run, named = _line(line, tuple(names))
+            run, names = _line(line, names)
         except ValueError as error:
             raise TextError(number, str(error)) from None
-        names = named or names
         numbers.append(number)
         out += run
     return bytes(out), numbers
 
 
-BY_WORD: dict[str, Layout] = {layout.word: layout for layout in (*PROBLEM.values(), *CERTIFICATE.values())
-                              if layout.word != "bound"}
+BY_WORD: dict[str, Layout] = {layout.word: layout for layout in BOTH.values() if layout.word != "bound"}
 FORMS = {
     "variables": "variables NAME ..", "objective": "objective COEFFICIENT MONOMIAL",
-    "term": "term COEFFICIENT MONOMIAL", "basis": "basis NUMBER MONOMIAL", "rule": "rule NUMBER", "order": "order NUMBER",
+    "term": "term COEFFICIENT MONOMIAL", "basis": "basis NUMBER MONOMIAL",
+    "rule": "rule NUMBER", "order": "order NUMBER",
     "lower": "lower P/Q scale D", "upper": "upper P/Q scale D", "row": "row BASIS weight NUMBER",
     "signed": "signed BASIS weight NUMBER", "entry": "entry INDEX FACTOR", "wide": "wide INDEX FACTOR",
     "note": "note with 8 bytes in hexadecimal", "bytes": "bytes in hexadecimal",
 }
+OPERANDS = {
+    "objective": ("coefficient",), "term": ("coefficient",), "basis": ("basis",),
+    "rule": ("rule",), "order": ("order",),
+    "bound": ("side", "D", "p", "q"), "row": ("basis", "weight"), "signed": ("basis", "weight"),
+    "entry": ("index", "factor"), "wide": ("index", "factor"),
+}
 
 
 @lru_cache(maxsize=1 << 16)
-def _line(line: str, names: tuple[str, ...]) -> tuple[bytes, Optional[list[str]]]:
-    """The bytes of one line, and the names that it gives to the variables. Raises ValueError."""
+def _line(line: str, names: tuple[str, ...]) -> tuple[bytes, tuple[str, ...]]:
+    """The bytes of one line, and the names from there on. Raises ValueError."""
     word, *rest = line.split()
-    form = FORMS.get(word, word)
     if word == "bytes":
-        return _hexadecimal(rest, None), None
+        return _hexadecimal(rest, None), names
     if word == "variables":
-        _names(rest)
-        return bytes([0x01, len(rest)]), rest
+        return bytes([0x01, len(rest)]), _names(rest)
+    if word == "note":
+        return write_command(BY_WORD[word], note=_hexadecimal(rest, 8)), names
     if word in ("lower", "upper"):
         if len(rest) != 3 or rest[1] != "scale" or rest[0].count("/") != 1:
-            raise ValueError(f"expected `{form}`")
+            raise ValueError(f"expected `{FORMS[word]}`")
         p, q = rest[0].split("/")
-        layout = CERTIFICATE[0x10]
-        values = (int(word == "upper"), _whole(rest[2]), _whole(p), _whole(q))
-        return _written(layout, values, ("side", "D", "p", "q")), None
+        return _written(CERTIFICATE[0x10], [str(int(word == "upper")), rest[2], p, q]), names
     if word not in BY_WORD:
         raise ValueError(f"unknown word `{word}`; expected one of {', '.join(sorted({*FORMS, *BY_WORD}))}")
     layout = BY_WORD[word]
-    if word == "note":
-        return bytes([0x40]) + _hexadecimal(rest, 8), None
-    if word in ("row", "signed") and len(rest) == 3 and rest[1] == "weight":
-        return _written(layout, (_whole(rest[0]), _whole(rest[2])), ("basis", "weight")), None
-    if len(rest) != len(layout.widths) or word in ("row", "signed"):
-        raise ValueError(f"expected `{form}`")
-    if word in ("objective", "term"):
-        return _written(layout, (_monomial(rest[1], names), _whole(rest[0])), ("monomial", "coefficient")), None
-    if word == "basis":
-        return _written(layout, (_whole(rest[0]), _monomial(rest[1], names)), ("basis", "monomial")), None
-    return _written(layout, tuple(_whole(x) for x in rest), ("number", "factor")), None
+    if word in ("row", "signed") and rest[1:2] == ["weight"]:
+        del rest[1]
+    elif word in ("row", "signed"):
+        raise ValueError(f"expected `{FORMS[word]}`")
+    if len(rest) != len(layout.widths):
+        raise ValueError(f"expected `{FORMS.get(word, word)}`")
+    if layout.exponents is not None:
+        return _written(layout, rest[:1], _monomial(rest[1], names)), names
+    return _written(layout, rest), names
 
 
-def _names(words: list[str]) -> None:
+def _names(words: list[str]) -> tuple[str, ...]:
     for name in words:
         if not NAME.fullmatch(name):
             raise ValueError(f"`{name}` is no name of a variable; expected a letter, then letters and digits")
     if not 1 <= len(words) <= 8 or len(set(words)) != len(words):
         raise ValueError("expected 1 to 8 different names of variables")
+    return tuple(words)
 
 
-def _written(layout: Layout, values: tuple, operands: tuple[str, ...]) -> bytes:
-    for width, value, operand in zip(layout.widths, values, operands):
-        if isinstance(value, int) and not fits(width, value):
-            raise ValueError(f"the {operand} {value} does not fit {width}")
-    return write_command(layout, values)
+def _written(layout: Layout, words: list[str], monomial: Monomial = ONE) -> bytes:
+    numbers = tuple(_whole(word) for word in words)
+    for width, number, operand in zip(layout.numbers, numbers, OPERANDS.get(layout.word, ())):
+        if not fits(width, number):
+            raise ValueError(f"the {operand} {number} does not fit {width}")
+    return write_command(layout, numbers, monomial)
 
 
 def _whole(word: str) -> int:

@@ -29,6 +29,19 @@ extern "C" {
         low_length: usize,
     ) -> u64;
 
+    fn zamiachisel_symmetries(
+        problem: *const u8,
+        problem_length: usize,
+        out: *mut u8,
+        out_length: usize,
+        keys: *mut u64,
+        keys_length: usize,
+        high: *mut i64,
+        high_length: usize,
+        low: *mut i64,
+        low_length: usize,
+    ) -> u64;
+
     fn zamiachisel_pair(
         problem: *const u8,
         problem_length: usize,
@@ -62,6 +75,19 @@ extern "C" {
         low: *mut i64,
         low_length: usize,
     ) -> u64;
+
+    fn zamiachisel_report(
+        records: *const u8,
+        records_length: usize,
+        out: *mut u8,
+        out_length: usize,
+        keys: *mut u64,
+        keys_length: usize,
+        high: *mut i64,
+        high_length: usize,
+        low: *mut i64,
+        low_length: usize,
+    ) -> u64;
 }
 
 /// A record: its kind and its three byte runs.
@@ -80,10 +106,10 @@ pub struct Lent {
 }
 
 impl Lent {
-    /// Just the lengths that the calls ask for.
-    pub fn new() -> Self {
+    /// Just the lengths that the calls ask for; the symmetries call asks for fewer bytes than the blocks call.
+    pub fn new(kind: u8) -> Self {
         Lent {
-            out: vec![0; 576],
+            out: vec![0; if kind == b's' { 256 } else { 576 }],
             keys: vec![0; 2_048],
             high: vec![0; 2_048],
             low: vec![0; 2_048],
@@ -131,8 +157,15 @@ pub fn answer(record: &Record, lent: &mut Lent) -> u64 {
         b'c' => call!(zamiachisel_check, problem, first; lent.keys, lent.high, lent.low),
         b'p' => call!(zamiachisel_pair, problem, first, second; lent.keys, lent.high, lent.low),
         b't' => tighter(&record.runs, lent)[0],
+        b's' => call!(zamiachisel_symmetries, problem; lent.out, lent.keys, lent.high, lent.low),
+        b'r' => report(problem, &mut first.clone(), lent),
         _ => 0,
     }
+}
+
+/// The report on these records, which writes to this output: the number of the refusal, or 0.
+pub fn report(records: &[u8], output: &mut [u8], lent: &mut Lent) -> u64 {
+    call!(zamiachisel_report, records; output, lent.keys, lent.high, lent.low)
 }
 
 /// The four numbers that the call on two certificates leaves. They are lent with other numbers in them; where the number of

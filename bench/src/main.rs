@@ -1,5 +1,5 @@
 //! Runs the proved calls from outside: `bench numbers`, `bench time` and `bench stack` on the records of the standard input,
-//! `bench short` with tables that are too short.
+//! `bench week` on pairs, by themselves and in reports, and `bench short` with tables that are too short.
 
 mod calls;
 mod short;
@@ -11,10 +11,11 @@ fn main() {
     match command.as_deref() {
         Some("numbers") => numbers(),
         Some("time") => time::run(),
+        Some("week") => time::week(),
         Some("stack") => stack::run(),
         Some("short") => short::run(),
         _ => {
-            eprintln!("usage: bench numbers | time | stack | short");
+            eprintln!("usage: bench numbers | time | week | stack | short");
             std::process::exit(2);
         }
     }
@@ -24,6 +25,7 @@ fn main() {
 /// memory checker sees any step outside.
 fn numbers() {
     for record in calls::records() {
-        println!("{}", calls::answer(&record, &mut calls::Lent::new()));
+        let mut lent = calls::Lent::new(record.kind);
+        println!("{}", calls::answer(&record, &mut lent));
     }
 }

@@ -1,6 +1,6 @@
 //! Refusal 1: each call with each of the lent tables one short.
 
-use crate::calls::{answer, tighter, Lent, Record};
+use crate::calls::{answer, report, tighter, Lent, Record};
 
 /// Case F: a problem and its two certificates, all of which hold.
 const PROBLEM: [&[u8]; 9] = [
@@ -49,10 +49,8 @@ fn filled() -> Lent {
     }
 }
 
-/// With full tables case F is accepted, the first 2,048 numbers come back zero and the rest untouched.
-fn full(kind: u8) {
-    let (before, mut lent) = (filled(), filled());
-    assert_eq!(answer(&case_f(kind), &mut lent), 0);
+/// The first 2,048 numbers of each table are zero and the rest is untouched.
+fn assert_cleared(lent: &Lent, before: &Lent) {
     assert!(
         lent.keys[..2_048].iter().all(|&key| key == 0)
             && lent.keys[2_048..] == before.keys[2_048..]
@@ -64,11 +62,22 @@ fn full(kind: u8) {
     assert!(
         lent.low[..2_048].iter().all(|&low| low == 0) && lent.low[2_048..] == before.low[2_048..]
     );
-    let written = if kind == b'b' { 576 } else { 0 };
+}
+
+/// With full tables case F is accepted and the tables come back cleared.
+fn full(kind: u8) {
+    let (before, mut lent) = (filled(), filled());
+    assert_eq!(answer(&case_f(kind), &mut lent), 0);
+    assert_cleared(&lent, &before);
+    let written = match kind {
+        b'b' => 576,
+        b's' => 256,
+        _ => 0,
+    };
     assert_eq!(lent.out[written..], before.out[written..]);
     assert!(lent.out[..written]
         .iter()
-        .all(|&block| [0, 255].contains(&block)));
+        .all(|&byte| [0, 255].contains(&byte)));
 }
 
 /// One table shortened: refusal 1, and nothing that was lent is written.
@@ -80,23 +89,59 @@ fn shortened(kind: u8, shorten: fn(&mut Lent)) {
     assert_eq!(lent, before);
 }
 
+/// Each of the work tables one short, and one empty.
+const TABLES: [fn(&mut Lent); 4] = [
+    |lent| lent.keys.truncate(2_047),
+    |lent| lent.high.truncate(2_047),
+    |lent| lent.low.truncate(2_047),
+    |lent| lent.keys.clear(),
+];
+
+/// Reports on case F: its record is written and no byte past it; with a short table or output nothing is, and with a record
+/// that is cut the tables alone.
+fn reports() {
+    let runs = case_f(b'p').runs;
+    let lengths = runs.iter().flat_map(|run| (run.len() as u16).to_le_bytes());
+    let records: Vec<u8> = lengths.chain(runs.concat()).collect();
+    let (before, mut lent) = (filled(), filled());
+    let mut output = [7; 35];
+    assert_eq!(report(&records, &mut output, &mut lent), 0);
+    assert_eq!(output[..4], [0; 4]);
+    assert_eq!(output[4..8], [255; 4]);
+    assert_eq!(output[8..20], [1, 0, 0, 0, 1, 0, 0, 0, 1, 0, 0, 0]);
+    assert_eq!(output[20..], [&[0; 12][..], &[7; 3]].concat());
+    assert_cleared(&lent, &before);
+    let mut output = [7; 31];
+    let mut lent = filled();
+    assert_eq!(report(&records, &mut output, &mut lent), 1);
+    assert!(output == [7; 31] && lent == before);
+    let cut = &records[..records.len() - 1];
+    assert_eq!(report(cut, &mut output, &mut lent), 12);
+    assert!(output == [7; 31]);
+    assert_cleared(&lent, &before);
+    for shorten in TABLES {
+        let mut before = filled();
+        shorten(&mut before);
+        let mut lent = before.clone();
+        assert_eq!(report(cut, &mut output, &mut lent), 1);
+        assert!(output == [7; 31] && lent == before);
+    }
+}
+
 /// Ends with status 101 where a call does otherwise.
 pub fn run() {
-    let tables: [fn(&mut Lent); 4] = [
-        |lent| lent.keys.truncate(2_047),
-        |lent| lent.high.truncate(2_047),
-        |lent| lent.low.truncate(2_047),
-        |lent| lent.keys.clear(),
-    ];
-    for kind in *b"bcpt" {
+    for kind in *b"bcpts" {
         full(kind);
-        for shorten in tables {
+        for shorten in TABLES {
             shortened(kind, shorten);
         }
     }
+    reports();
     let mut lent = filled();
     lent.low.truncate(2_047);
     assert_eq!(tighter(&case_f(b't').runs, &mut lent), [1, 0, 0, 0]);
     shortened(b'b', |lent| lent.out.truncate(575));
+    shortened(b's', |lent| lent.out.truncate(255));
     println!("refusal 1 for each short table of each call, and nothing written but the four numbers of the call on two");
+    println!("reports: refusal 1 for each short table, then 12, then 1 for the output, and no byte of it written");
 }

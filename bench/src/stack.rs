@@ -34,13 +34,15 @@ fn used(record: &Record, lent: &mut Lent) -> usize {
 }
 
 fn run_all(records: &[Record]) {
-    let mut lent = Lent::new();
+    let mut lent = Lent::new(b'b');
     println!("call\trecords\tbytes");
     let calls = [
         (b'b', "blocks"),
         (b'c', "check"),
         (b'p', "pair"),
         (b't', "tighter"),
+        (b's', "symmetries"),
+        (b'r', "report"),
     ];
     for (kind, name) in calls {
         let records = records.iter().filter(|record| record.kind == kind);

@@ -1,33 +1,32 @@
-"""From models to certificates: recorded answers replayed, equalities and wide factors against the plain check, csdp itself."""
+"""From models to certificates: recorded answers replayed, limits, and csdp itself on every model of the examples."""
 import shutil
+import tempfile
 import unittest
 from fractions import Fraction
 from pathlib import Path
 
-from gapfile import exact
 from gapfile.basis import by_degree, check_limits, find_blocks, inconsistent, least_degree, monomials
-from gapfile.judge import Checker, Plain
 from gapfile.model import parse
-from gapfile.points import attain
-from gapfile.polynomials import evaluate
-from gapfile.problem import LimitError, allowed, encode_problem, pose
-from gapfile.programs import gapcheck
+from gapfile.problem import LimitError, pose
+from gapfile.programs import Verdict, gapcheck
+from gapfile.progress import quiet
 from gapfile.reading import read_certificate, read_problem
-from gapfile.solver import Csdp, NoSolver, Recorded, sparse_format
+from gapfile.report import report_lines
+from gapfile.solver import STATUS, Answer, Cost, Csdp, NoSolver, Recorded, Solver, read_answer, sparse_format
 from gapfile.solving import NoCertificate, Solved, solve_model
-from gapfile.tests.streams import EXAMPLES, ROOT
+from gapfile.tests.support import EXAMPLES, RECORDED, needs_programs, run
 
-RECORDED = ROOT / "gapfile/recorded"
-MODELS = Path(__file__).parent / "models"
-BUILT = (ROOT / "target/bin/gapcheck").exists() and (ROOT / "target/bin/replay").exists()
+needs_csdp = unittest.skipUnless(shutil.which("csdp"), "csdp is not installed (Debian: coinor-csdp)")
 
 
-def quiet(_: str) -> None:
-    pass
+def solved(name: str, solver: Solver, narrow: bool = False) -> Solved:
+    return solve_model(parse((EXAMPLES / f"{name}.gap").read_text()), solver, narrow, quiet)
 
 
-def solved(path: Path, solver, judge, narrow: bool = True) -> Solved:
-    return solve_model(parse(path.read_text()), solver, judge, narrow, quiet)
+def judged(result: Solved) -> Verdict:
+    """What gapcheck says of the three streams."""
+    low, high = [side.certificate for side in result.sides]
+    return gapcheck(result.problem, low, high)
 
 
 class Bases(unittest.TestCase):
@@ -48,32 +47,21 @@ class Bases(unittest.TestCase):
         names = [problem.bases[0][i][:2] for i in range(6) if (0, i) not in lost]
         self.assertEqual(names, [(0, 0), (1, 0), (1, 1)])
 
-    def test_too_large(self) -> None:
+    def test_too_many_monomials(self) -> None:
         problem = pose(parse("var a b c d e f in [0, 1]\nbound a^6 + b*c*d*e*f")).problem
         with self.assertRaises(LimitError) as caught:
             by_degree(problem, 6)
         self.assertIn("84 monomials, more than 64", str(caught.exception))
+
+    @needs_programs
+    def test_too_many_rows(self) -> None:
+        """Estimated before anything is solved."""
         problem = pose(parse("var a b c d e f g h in [-1, 1]\nbound (a + b + c + d)^4 + (e + f + g + h)^4 "
                              "+ (a + b + c + d + e + f + g + h)^3")).problem
         by_degree(problem, 4)
         with self.assertRaises(LimitError) as caught:
-            check_limits(problem, find_blocks(problem, Plain()))
+            check_limits(problem, find_blocks(problem))
         self.assertIn("rows of 128", str(caught.exception))
-
-
-class Points(unittest.TestCase):
-    def test_attained(self) -> None:
-        for text, side, value in (("var x in [0, 4]\nbound (x - 1)^2", 0, 0), ("var x in [0, 4]\nbound (x - 1)^2", 1, 9),
-                                  ("var a b in [0, 1]\nbound a + b\nwhere a + b <= 1/2", 1, Fraction(1, 2)),
-                                  ("var a b in [-1, 1]\nbound a\nwhere a == 1/2*b", 1, Fraction(1, 2))):
-            posed = pose(parse(text))
-            found = attain(posed.problem, side)
-            self.assertTrue(allowed(posed.problem, found.point))
-            self.assertEqual(evaluate(posed.problem.objective, found.point), found.value)
-            self.assertAlmostEqual(float(found.value) / posed.factor, float(value), places=5)
-
-    def test_empty(self) -> None:
-        self.assertIsNone(attain(pose(parse("var x in [0, 1]\nbound x\nwhere x >= 2")).problem, 0))
 
 
 class Format(unittest.TestCase):
@@ -81,104 +69,176 @@ class Format(unittest.TestCase):
         text = sparse_format([2], {(0, 0, 0): -1.0}, [{(0, 0, 1): 1.0, (0, 1, 1): 0.5}], [3.0])
         self.assertEqual(text, "1\n1\n2\n3\n0 1 1 1 -1\n1 1 1 2 1\n1 1 2 2 0.5\n")
 
+    def test_answer(self) -> None:
+        answer = read_answer(3, "1.5 -2\n2 1 1 2 0.25\n2 1 2 2 4\n", [2])
+        self.assertEqual((answer.status, answer.matrices, answer.dual), (3, [[[0.0, 0.25], [0.25, 4.0]]], [1.5, -2.0]))
+
     def test_no_answer(self) -> None:
         with self.assertRaises(NoSolver):
             Recorded(RECORDED / "two_decks").solve([1], {}, [], [])
 
 
+class Fixed:
+    """A solver that always ends with one status."""
+
+    def __init__(self, status: int) -> None:
+        self.status = status
+
+    def solve(self, sizes: list[int], cost: Cost, equations: list[Cost], sides: list[float]) -> Answer:
+        return Answer(self.status, [[[0.0] * n for _ in range(n)] for n in sizes], [0.0] * len(sides))
+
+
+@needs_programs
+class Statuses(unittest.TestCase):
+    def sentence(self, status: int, model: str) -> str:
+        with self.assertRaises(NoCertificate) as caught:
+            solve_model(parse(model), Fixed(status), False, quiet)
+        return str(caught.exception)
+
+    def test_sentences(self) -> None:
+        """Every status that csdp has is a sentence; those that leave nothing to round end the way."""
+        self.assertEqual(sorted(STATUS), list(range(11)))
+        model, none = "var x in [-1, 1]\nbound x\ndegree 4", "no lower certificate of degree 4"
+        for status in (1, 8, 9, 10):
+            self.assertEqual(self.sentence(status, model), f"{none}: {STATUS[status]}; try degree 6")
+        self.assertIn(f"{STATUS[2]}, and no proof of that of degree 4 could be rounded", self.sentence(2, model))
+
+    def test_no_higher_degree(self) -> None:
+        """Advice is given only for a degree that the limits leave room for."""
+        model = "var a b c d e f g h in [-1, 1]\nbound a*b + c*d + e*f + g*h + a + c + e + g\ndegree 2"
+        self.assertIn("; degree 4 is too large: basis 0 alone needs about 134 rows of 128", self.sentence(1, model))
+        model = "var a b c d e f in [-1, 1]\nbound (a + b + c + d + e + f)^4\ndegree 4"
+        self.assertIn("; degree 6 is too large: basis 0 of degree 3 has 84 monomials, more than 64",
+                      self.sentence(1, model))
+        self.assertIn("; degree 18 is too large: a basis of degree 8 reaches 16",
+                      self.sentence(1, "var x in [-1, 1]\nbound x\ndegree 16"))
+
+    def test_the_next_degree_is_too_large(self) -> None:
+        model = "var a b c d e f in [-1, 1]\nbound (a + b + c + d + e + f)^4"
+        self.assertEqual(self.sentence(1, model),
+                         f"no lower certificate of degree 4: {STATUS[1]}; degree 6 is too large: basis 0 of degree 3 "
+                         "has 84 monomials, more than 64; take fewer variables or a lower degree")
+
+    def test_unreachable(self) -> None:
+        self.assertEqual(self.sentence(0, "var x\nbound x"),
+                         "no lower certificate of degree 2: the objective has a monomial that no product of the bases "
+                         "has; give every variable a range")
+
+
+@needs_programs
 class Replayed(unittest.TestCase):
     """Answers that csdp once gave, so that nothing here needs csdp."""
 
-    def tight(self, result: Solved) -> None:
-        for side in result.sides:
-            off = abs(side.bound - side.attained.value) / result.posed.factor
-            value = abs(side.attained.value) / result.posed.factor
-            self.assertLessEqual(off, Fraction(1, 1000) * max(1, value))
-
-    @unittest.skipUnless(BUILT, "gapcheck and replay are not built")
     def test_two_decks(self) -> None:
-        result = solved(EXAMPLES / "two_decks.gap", Recorded(RECORDED / "two_decks"), Checker())
-        verdict = gapcheck(result.problem, *(side.certificate for side in result.sides))
+        result = solved("two_decks", Recorded(RECORDED / "two_decks"))
+        verdict = judged(result)
         self.assertEqual((verdict.lower, verdict.upper), (Fraction(-4700001, 50000), Fraction(2600001, 50000)))
-        self.assertEqual([side.attained.value for side in result.sides], [-94, 52])
-        self.assertEqual(read_problem(result.problem).objective, read_problem((EXAMPLES / "two_decks/problem.bin").read_bytes()).objective)
+        self.assertEqual([side.attained and side.attained.value for side in result.sides], [-94, 52])
+        self.assertEqual([side.wide for side in result.sides], [0, 0])           # 15 would gain nothing
+        sent = (EXAMPLES / "two_decks/problem.bin").read_bytes()
+        self.assertEqual(read_problem(result.problem).objective, read_problem(sent).objective)
 
-    @unittest.skipUnless(BUILT, "gapcheck and replay are not built")
     def test_chained_wood(self) -> None:
-        """0.1 in the objective: the factor is recorded, and the figures are those of the model."""
-        result = solved(MODELS / "chained_wood.gap", Recorded(RECORDED / "chained_wood"), Checker())
-        self.assertEqual(result.posed.factor, 5)
-        self.assertTrue(gapcheck(result.problem, *(side.certificate for side in result.sides)).accepted)
-        self.assertEqual(result.sides[0].attained.value / result.posed.factor, 1)
-        self.tight(result)
-
-    @unittest.skipUnless(BUILT, "gapcheck and replay are not built")
-    def test_bolted_decks(self) -> None:
-        """An equality: the checker reads 07, and accepts rows of both signs by 14."""
-        result = solved(EXAMPLES / "bolted_decks.gap", Recorded(RECORDED / "bolted_decks"), Checker())
-        verdict = gapcheck(result.problem, *(side.certificate for side in result.sides))
-        self.assertEqual((verdict.lower, verdict.upper), (Fraction(-1334495, 50000), Fraction(1677784, 50000)))
-        problem = read_problem(result.problem)
-        for side in result.sides:
-            weights = [row.weight for row in read_certificate(side.certificate, problem).rows if row.basis == 5]
-            self.assertTrue(min(weights) < 0 < max(weights))
-        self.tight(result)
+        """0.1 in the objective, ranges from 0 to 1: the factor is recorded, and the figures are those of the model."""
+        result = solved("chained_wood", Recorded(RECORDED / "chained_wood"))
+        self.assertEqual(result.posed.factor, 40)
+        self.assertTrue(judged(result).accepted)
+        low, high = result.sides
+        assert low.attained and high.attained
+        self.assertEqual(high.attained.value / 40, 141)           # at (1, 0, 0, 0): 100 + 0 + 1 + 40
+        self.assertLess(abs(low.bound - low.attained.value) / 40, Fraction(1, 10 ** 5))
+        self.assertLess(abs(high.bound - high.attained.value) / 40, Fraction(1, 10 ** 5))
+        self.assertIn("the objective was multiplied by 40 to whole numbers; the figures below are divided by it",
+                      report_lines(result, parse((EXAMPLES / "chained_wood.gap").read_text())))
 
     def test_equality_narrow_and_wide(self) -> None:
-        """15 where it gains, by this tool's plain check until gapcheck reads it."""
+        """The model of the README: rows of both signs by 14; entries by 15 where they gain."""
         bounds = []
         for narrow in (True, False):
-            result = solved(EXAMPLES / "bolted_decks.gap", Recorded(RECORDED / "bolted_decks"), Plain(), narrow)
-            lines = exact.pair(result.problem, *(side.certificate for side in result.sides))
-            self.assertTrue(lines[0].startswith("lower "), lines)
-            self.assertEqual(any(side.wide for side in result.sides), not narrow)
-            bounds.append(result.sides[1].bound - result.sides[0].bound)
-            self.tight(result)
-        self.assertLess(bounds[1], bounds[0])
+            result = solved("crosstalk", Recorded(RECORDED / "crosstalk"), narrow)
+            verdict = judged(result)
+            assert verdict.lower is not None and verdict.upper is not None
+            problem = read_problem(result.problem)
+            self.assertEqual([c.equality for c in problem.conditions], [False, False, False, True])
+            for side in result.sides:
+                weights = [row.weight for row in read_certificate(side.certificate, problem).rows if row.basis == 4]
+                self.assertTrue(min(weights) < 0 < max(weights))
+            self.assertEqual([side.wide > 0 for side in result.sides], [not narrow, False])
+            self.assertEqual([side.attained and side.attained.value for side in result.sides], [0, 250440])
+            bounds.append(verdict)
+        assert bounds[0].lower is not None and bounds[1].lower is not None
+        self.assertLess(bounds[0].lower, bounds[1].lower)
+        self.assertEqual(bounds[0].upper, bounds[1].upper)
 
-    def test_equality_without_a_checker_that_reads_it(self) -> None:
-        """An older gapcheck: the model is refused, and nothing is solved."""
-        class Older(Plain):
-            def reads(self, byte: int) -> bool:
-                return byte != 0x07
+    def test_report(self) -> None:
+        """Relaxation, filed, lost, attained, rows and blocks."""
+        model = parse((EXAMPLES / "two_decks.gap").read_text())
+        lines = report_lines(solve_model(model, Recorded(RECORDED / "two_decks"), False, quiet), model)
+        self.assertTrue(lines[0].startswith("degree 4; 5 blocks, 2 rounds; basis 0 has 15 monomials in 1 block"))
+        self.assertEqual(lines[1].split(), "relaxation filed lost attained off by rows wide entries".split())
+        self.assertEqual(lines[2].split(), "lower -94 -94.00002 2e-05 -94 0.00002 115 0".split())
+        self.assertEqual(lines[4], "lower: csdp found an optimum; attained at x1 = -1, x2 = -1, x3 = 1, x4 = -1")
 
-        with self.assertRaises(LimitError) as caught:
-            solved(EXAMPLES / "bolted_decks.gap", Recorded(RECORDED / "bolted_decks"), Older())
-        self.assertIn("does not read equalities", str(caught.exception))
 
-
-@unittest.skipUnless(shutil.which("csdp") and BUILT, "csdp is not installed (Debian: coinor-csdp), or gapcheck is not built")
+@needs_csdp
+@needs_programs
 class WithCsdp(unittest.TestCase):
-    """csdp itself, on the published benchmarks."""
+    """csdp itself, on the models of the examples, the published benchmarks among them."""
 
-    def solve(self, path: Path) -> None:
-        result = solved(path, Csdp(), Checker())
-        verdict = gapcheck(result.problem, *(side.certificate for side in result.sides))
-        self.assertTrue(verdict.accepted)
-        Replayed.tight(self, result)                    # type: ignore[arg-type]
+    def close(self, name: str, narrow: bool = False) -> None:
+        """Accepted, and each bound within 1e-3 of a value that is attained."""
+        result = solved(name, Csdp(), narrow)
+        self.assertTrue(judged(result).accepted)
+        for side in result.sides:
+            assert side.attained, name
+            self.assertLessEqual(abs(side.bound - side.attained.value) / result.posed.factor, Fraction(1, 1000))
 
-    def test_two_decks(self) -> None:
-        self.solve(EXAMPLES / "two_decks.gap")
+    def test_every_model(self) -> None:
+        names = {file.stem for file in EXAMPLES.glob("*.gap")} - {"contradictory"}
+        self.assertLess({"chained_wood", "rosenbrock", "chained_singular", "two_decks", "bolted_decks"}, names)
+        for name in sorted(names):
+            with self.subTest(model=name):
+                self.close(name)
 
-    def test_chained_wood(self) -> None:
-        self.solve(MODELS / "chained_wood.gap")
+    def test_narrow(self) -> None:
+        for name in ("crosstalk", "bolted_decks", "chained_wood", "rosenbrock", "chained_singular"):
+            with self.subTest(model=name):
+                self.close(name, True)
 
-    def test_rosenbrock(self) -> None:
-        self.solve(MODELS / "rosenbrock.gap")
+    def test_the_next_degree(self) -> None:
+        """a*b on a box that is not centred: degree 2 is far from what is attained, so `auto` takes degree 4."""
+        text = "var a in [1, 3]\nvar b in [-1, 9]\nbound a*b"
+        result = solve_model(parse(text), Csdp(), False, quiet)
+        self.assertEqual(result.degree, 4)
+        factor = result.posed.factor
+        self.assertEqual([side.attained and side.attained.value / factor for side in result.sides], [-3, 27])
+        self.assertLess(max(side.off for side in result.sides) / factor, Fraction(1, 1000))
+        self.assertEqual(solve_model(parse(text + "\ndegree 2"), Csdp(), False, quiet).degree, 2)
 
-    def test_chained_singular(self) -> None:
-        self.solve(MODELS / "chained_singular.gap")
+    def test_choices(self) -> None:
+        """Variables that are 0 or 1."""
+        result = solve_model(parse("var a b c in [0, 1]\nbound 3*a + 2*b*c - 4*a*c - b\nwhere a^2 == a\n"
+                                   "where b^2 == b\nwhere c^2 == c"), Csdp(), False, quiet)
+        self.assertTrue(judged(result).accepted)
+        self.assertLess(max(side.off for side in result.sides) / result.posed.factor, Fraction(1, 1000))
 
-    def test_no_certificate(self) -> None:
-        with self.assertRaises(NoCertificate) as caught:
-            solve_model(parse("var x\nbound x\ndegree 2"), Csdp(), Checker(), True, quiet)
-        self.assertIn("no lower certificate of degree 2", str(caught.exception))
-        self.assertIn("try degree 4", str(caught.exception))
+    def test_contradictory_limits(self) -> None:
+        """Where the region has no points, bounds that cross are proved, and filed without a figure."""
+        with tempfile.TemporaryDirectory() as folder:
+            status, out, _ = run("file", EXAMPLES / "contradictory.gap", "-o", folder)
+            self.assertEqual((status, out.splitlines()[2]), (0, "gap empty"))
+            self.assertIn("the bounds cross: no rational point meets all the conditions, so there is no figure", out)
+            self.assertIn("the region is empty", (Path(folder) / "sheet.html").read_text(encoding="utf-8"))
 
-    def test_empty_region(self) -> None:
-        with self.assertRaises(NoCertificate) as caught:
-            solve_model(parse("var x in [0, 1]\nbound x\nwhere x >= 2"), Csdp(), Checker(), True, quiet)
-        self.assertTrue(str(caught.exception).endswith("the region seems to have no points"), caught.exception)
+    def test_unbounded_region(self) -> None:
+        """x^3 is bounded by no certificate where x has no range: the status is a sentence, and the exit status 3."""
+        with tempfile.TemporaryDirectory() as folder:
+            model = Path(folder) / "m.gap"
+            model.write_text("var x y\nbound x*y\nwhere x >= 0\n")
+            status, _, err = run("solve", model, "-o", Path(folder) / "out")
+            self.assertEqual(status, 3)
+            self.assertRegex(err, r"gapfile: no lower certificate of degree 4: .*; try degree 6\n$")
+            self.assertFalse((Path(folder) / "out").exists())
 
 
 if __name__ == "__main__":

@@ -1,11 +1,11 @@
 """The text form: lossless both ways, damage named, wrong text named."""
-import os
 import unittest
+from typing import Iterable
 
 from gapfile.commands import Kind, kind_of
-from gapfile.reading import Refused, read_certificate, read_problem
+from gapfile.reading import Refusal, Refused, read_certificate, read_problem
 from gapfile.text import TextError, decode, encode
-from gapfile.tests.streams import EXAMPLES, ROOT, SHARED, folders, records, stored_streams
+from gapfile.tests.support import CASE_F, EXAMPLES, corpus, folders, needs_vectors, stored_runs, vectors
 
 F_PROBLEM = """\
 variables x1
@@ -38,12 +38,11 @@ class RoundTrip(unittest.TestCase):
                 self.assertEqual(encode(decode(stream).text())[0], stream, file)
 
     def test_records(self) -> None:
-        """All short streams of the corpora and a sixth of those above 300 bytes; all of them where GAPFILE_ALL is set."""
-        streams = stored_streams()
-        self.assertGreater(len(streams), 3000)
-        for k, stream in enumerate(sorted(streams)):
-            if len(stream) <= 300 or k % 6 == 0 or "GAPFILE_ALL" in os.environ:
-                self.assertEqual(encode(decode(stream).text())[0], stream)
+        """Every run of the stored corpus and of the vectors, also damaged ones and those that are no stream."""
+        runs = stored_runs()
+        self.assertGreater(len(runs), 10000)
+        for run in runs:
+            self.assertEqual(encode(decode(run).text())[0], run)
 
     def test_one_line_a_command(self) -> None:
         stream = (EXAMPLES / "two_decks/problem.bin").read_bytes()
@@ -51,10 +50,9 @@ class RoundTrip(unittest.TestCase):
         self.assertEqual(encode("\n".join(lines))[1], list(range(1, len(lines) + 1)))
 
     def test_case_f(self) -> None:
-        folder = ROOT / "crates/gapcheck/data"
-        problem = (folder / "problem.bin").read_bytes()
+        problem = (CASE_F / "problem.bin").read_bytes()
         self.assertEqual(decode(problem).text(), F_PROBLEM)
-        low = (folder / "low.bin").read_bytes()
+        low = (CASE_F / "low.bin").read_bytes()
         self.assertEqual(decode(low, problem=read_problem(problem)).text(), F_LOW)
         self.assertEqual(encode(F_LOW)[0], low)
 
@@ -68,7 +66,8 @@ class RoundTrip(unittest.TestCase):
         text = ("variables a b\nrule 2\norder 1\nequality\nterm 2 a*b\nbasis 1 1\nend\n",
                 "lower 1/2 scale 3\nsigned 1 weight -32768\nentry 0 5\nwide 1 -2147483648\n"
                 "note 00 11 22 33 44 55 66 77\ndone\n")
-        self.assertEqual(encode(text[0])[0].hex(), "0102080209010704" "0101000000000000" "0200" "0501" + "00" * 8 + "06")
+        self.assertEqual(encode(text[0])[0].hex(),
+                         "0102080209010704" "0101000000000000" "0200" "0501" + "00" * 8 + "06")
         self.assertEqual(encode(text[1])[0].hex(), "1000030001000000" "0200" "14010080" "12000500" "150100000080"
                          "4000112233445566771" "3")
         for part in text:
@@ -81,54 +80,66 @@ class RoundTrip(unittest.TestCase):
 
 
 class Damage(unittest.TestCase):
-    def refusal(self, stream: bytes):
-        return decode(stream).refusal
+    def refusal(self, stream: bytes) -> Refusal:
+        found = decode(stream).refusal
+        assert found
+        return found
 
     def test_cut(self) -> None:
         stream = encode(F_PROBLEM)[0][:20]
-        decoded = decode(stream)
-        self.assertEqual((decoded.refusal.number, decoded.refusal.place), (2, 16))
-        last = decoded.text().splitlines()[-1]
-        self.assertTrue(last.startswith("bytes 04 00 00 00"))
-        self.assertIn("refusal 2 at byte 16: the command is cut: it has 11 bytes, 4 are there", last)
-        self.assertEqual(len(decoded.lines), 4)
+        refusal = self.refusal(stream)
+        self.assertEqual((refusal.number, refusal.place), (2, 16))
+        lines = decode(stream).text().splitlines()
+        self.assertTrue(lines[-1].startswith("bytes 04 00 00 00"))
+        self.assertIn("refusal 2 at byte 16: the command is cut: it has 11 bytes, 4 are there", lines[-1])
+        self.assertEqual(len(lines), 4)
 
     def test_no_end_and_extra_bytes(self) -> None:
         stream = encode(F_PROBLEM)[0]
-        self.assertIn("# refusal 2 at byte 68: the problem has no end command", decode(stream[:-1]).text().splitlines()[-1])
-        extra = decode(stream + b"\x06\x01")
-        self.assertEqual(extra.lines[-1].text, "bytes 06 01")
-        self.assertEqual((extra.refusal.number, extra.refusal.place), (2, 69))
+        last = decode(stream[:-1]).text().splitlines()[-1]
+        self.assertIn("# refusal 2 at byte 68: the problem has no end command", last)
+        extra = stream + b"\x06\x01"
+        self.assertEqual(decode(extra).lines[-1].text, "bytes 06 01")
+        self.assertEqual((self.refusal(extra).number, self.refusal(extra).place), (2, 69))
 
     def test_operands(self) -> None:
-        for text, number in (("variables a\nobjective 0 a\nend", 4), ("variables a\nterm 1 a\nend", 3),
-                             ("variables a\nbasis 0 a\nbasis 0 a\nend", 5), ("variables a\nbasis 1 a\nend", 4)):
+        for text, number, line in (
+                ("variables a\nobjective 0 a\nend", 4, 2), ("variables a\nterm 1 a\nend", 3, 2),
+                ("variables a\nbasis 0 a\nbasis 0 a\nend", 5, 3), ("variables a\nbasis 1 a\nend", 4, 2),
+                ("variables a\norder 0\nend", 4, 2), ("variables a\nrule 3\nend", 4, 2),
+                ("lower 1/1 scale 1\nsigned 0 weight 1\ndone", 4, 2), ("lower 1/1 scale 1\nwide 0 1\ndone", 3, 2),
+                ("lower 1/1 scale 1\nrow 0 weight 1\nentry 1 1\nwide 1 1\ndone", 5, 4)):
             stream = encode(text)[0]
             decoded = decode(stream, ["a"])
-            self.assertEqual(decoded.refusal.number, number)
+            refusal = self.refusal(stream)
+            self.assertEqual((refusal.number, decoded.line_at(refusal.place)[0]), (number, line), text)
             self.assertEqual(encode(decoded.text())[0], stream)
+
+    def test_places_of_rule_and_order(self) -> None:
+        """08 directly after 01, 09 directly after 01 or 08, and nowhere else."""
+        for lines, number in (("rule 2", 0), ("order 1", 0), ("rule 1|order 255", 0), ("order 1|rule 1", 3),
+                              ("equality|order 1", 3), ("order 1|order 1", 3), ("rule 1|rule 1", 3)):
+            stream = encode("variables a|".replace("|", "\n") + lines.replace("|", "\n") + "\nend")[0]
+            refusal = decode(stream).refusal
+            self.assertEqual(refusal.number if refusal else 0, number, lines)
 
     def test_a_side_without_a_word(self) -> None:
         stream = bytes.fromhex("10070100000000000100" "13")
         self.assertEqual(decode(stream).lines[0].text, "bytes 10 07 01 00 00 00 00 00 01 00")
-        self.assertEqual(decode(stream).refusal.number, 4)
+        self.assertEqual(self.refusal(stream).number, 4)
 
     def test_reading_refuses_as_the_stored_answers(self) -> None:
-        """2 to 6 of this reader are those of the corpus, up to the commands of document 02."""
-        answers = (ROOT / "crates/replay/stdout").read_text().splitlines()
-        seen = self.compare(zip(records(ROOT / "crates/replay/stdin"), answers), "070809", "1415")
-        self.assertGreater(seen, 2500)
+        """2 to 6 of this reader are those of the corpus."""
+        self.assertGreater(self.compare(corpus()), 3000)
 
-    @unittest.skipUnless(SHARED, "no vectors of document 02 beside the repository")
+    @needs_vectors
     def test_reading_refuses_as_the_vectors(self) -> None:
         for kind in "bcp":
-            file = SHARED / f"vectors/02/core-{kind}.records"
-            answers = file.with_suffix(".lines").read_text().splitlines()
-            self.assertGreater(self.compare(zip(records(file), answers), "", ""), 40)
+            self.assertGreater(self.compare(vectors(kind)), 40)
 
-    def compare(self, cases, problem_skips: str, certificate_skips: str) -> int:
+    def compare(self, cases: Iterable[tuple[str, list[bytes], str]]) -> int:
         seen = 0
-        for (kind, runs), answer in cases:
+        for kind, runs, answer in cases:
             words = answer.split()
             if kind not in "bcp" or words[0] != "refused" or not 2 <= int(words[1]) <= 6:
                 continue
@@ -137,13 +148,9 @@ class Damage(unittest.TestCase):
                 problem = read_problem(runs[0])
                 for k in range(1, stream + 1):
                     read_certificate(runs[k], problem, k)
-                found = None
+                self.fail(f"not refused: {answer}")
             except Refused as refused:
                 found = refused.refusal
-            new = bytes.fromhex(certificate_skips if stream else problem_skips)
-            if number == 3 and runs[stream][place:place + 1] and runs[stream][place] in new:
-                continue                      # a command of document 02, unknown to the stored answer
-            self.assertIsNotNone(found, answer)
             self.assertEqual((found.number, found.stream, found.place), (number, stream, place), found.why)
             seen += 1
         return seen

@@ -11,16 +11,17 @@ pub const RUN: usize = 65_536;
 pub const BLOCKS: u8 = b'b';
 pub const CHECK: u8 = b'c';
 pub const PAIR: u8 = b'p';
-/// That of request 11.
+/// Those of the requests: 11, 02, 07.
 pub const WINDOW: u8 = b'w';
-/// That of request 02.
 pub const TIGHTER: u8 = b't';
+pub const SYMMETRIES: u8 = b's';
+pub const REPORT: u8 = b'r';
 
 /// The number of runs of a kind: problem, first certificate and second certificate for the calls of
-/// document 01 and of request 02. There is none for a byte that is no kind.
+/// document 01 and of the requests 01 and 02. There is none for a byte that is no kind.
 pub fn run_count(kind: u8) -> Option<usize> {
     match kind {
-        BLOCKS | CHECK | PAIR | WINDOW | TIGHTER => Some(3),
+        BLOCKS | CHECK | PAIR | WINDOW | TIGHTER | SYMMETRIES | REPORT => Some(3),
         _ => None,
     }
 }
@@ -75,6 +76,14 @@ impl Record {
                 Vec::new(),
                 Vec::new(),
             ],
+        }
+    }
+
+    /// A symmetries call.
+    pub fn symmetries(problem: Vec<u8>) -> Self {
+        Record {
+            kind: SYMMETRIES,
+            ..Record::blocks(problem)
         }
     }
 

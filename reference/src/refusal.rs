@@ -9,6 +9,8 @@ pub const FIRST: u8 = 1;
 /// The second certificate.
 pub const SECOND: u8 = 2;
 
+/// A lent table or output is too short.
+pub const SHORT: u8 = 1;
 /// Stream ends in a command or without its end, or goes on after it.
 pub const CUT: u8 = 2;
 /// Command unknown in this stream or misplaced.
@@ -29,6 +31,8 @@ pub const IDENTITY: u8 = 9;
 pub const SIDES: u8 = 10;
 /// Request 02: both certificates are accepted and their sides differ.
 pub const DIFFERENT_SIDES: u8 = 11;
+/// Request 07: a record is cut short, or a byte comes after the 64th.
+pub const RECORDS: u8 = 12;
 
 /// The four fields of a refusal.
 #[derive(Clone, Copy, Debug, PartialEq, Eq)]

@@ -16,7 +16,7 @@ use Rattle.ordered_rings.proofs.Numbers.{Numbers, whole-minus}
 use Rattle.ordered_rings.proofs.AtLeastZero.{Nonneg, ≤-of-minus, minus-of-≤, nonneg-zero, nonneg-+, nonneg-square, nonneg-multiple, nonneg-whole, nonneg-cancel}
 use Rattle.ordered_rings.proofs.Integers.{integerRing, integerNumbers, integerOrder, integers}
 use Rattle.polynomial.specs.Monomial.{degreeOf, degree}
-use Rattle.polynomial.specs.Terms.{Term}
+use Rattle.polynomial.specs.Terms.{Term, keysOf}
 use Rattle.polynomial.specs.Algebra.{_⊗_}
 use Rattle.polynomial.specs.Point.{Point, monomialValue, value}
 use Rattle.polynomial.proofs.Products.{Degree, degree-⊗}
@@ -26,7 +26,7 @@ use Rattle.polynomial.proofs.Values.{constant-scaled, multiplies}
 use Rattle.format.specs.declared.problem.Kind.{Kind}
 use Rattle.format.specs.declared.problem.Kind.the-variants as K
 use Rattle.format.specs.ProblemRules.{Condition, Problem, noCondition}
-use Rattle.format.specs.ProblemBases.{basisOf, multiplier, kindOf}
+use Rattle.format.specs.ProblemBases.{basisOf, multiplier, multiplierOf, kindOf}
 use Rattle.format.specs.All.{All}
 use Rattle.format.proofs.All.{all-map}
 use Rattle.format.proofs.WithinLimits.{ConditionTerms, Limits}
@@ -52,16 +52,21 @@ Weighted p rs = All (RowWeighted p) rs
 
 module _ (p : Problem) (limits : Limits p) where
   -- ---- degrees: at most 8 in each basis, and 16 in each multiplier
-  row-degree : (j : ℕ) (es : List Entry) → Degree 8 (combination (basisOf p j) es)
+  pub basis-degrees : (j : ℕ) → All (λ k. degree k ≤ℕ 8) (basisOf p j)
   unfolding basisOf
-  row-degree j es = combination-degree _ (all-at _ (p .bases) j [] (limits .members) (monomials-none _ _ _) .degrees) es
+  basis-degrees j = all-at _ (p .bases) j [] (limits .members) (monomials-none _ _ _) .degrees
+
+  row-degree : (j : ℕ) (es : List Entry) → Degree 8 (combination (basisOf p j) es)
+  row-degree j es = combination-degree _ (basis-degrees j) es
+
+  pub multiplier-degrees : (j : ℕ) → All (λ k. degree k ≤ℕ 16) (multiplierOf p j)
+  unfolding multiplierOf multiplier keysOf All
+  multiplier-degrees zero = unfold degree degreeOf in (lit≤ tt, tt)
+  multiplier-degrees (suc j) = all-at (ConditionTerms _) (p .conditions) j noCondition (limits .terms) (terms-none _ 16 32) .monomials .degrees
 
   multiplier-degree : (j : ℕ) → Degree 16 (multiplier p j)
-  unfolding multiplier All
-  multiplier-degree zero = unfold degree degreeOf in (lit≤ tt, tt)
-  multiplier-degree (suc j) =
-      let g = all-at (ConditionTerms _) (p .conditions) j noCondition (limits .terms) (terms-none _ 16 32) in
-      keys-all _ _ (g .monomials .degrees)
+  unfolding multiplierOf
+  multiplier-degree j = keys-all _ _ (multiplier-degrees j)
 
 -- ---- in an ordered ring with the whole numbers in it
 module _ {A : Type 0} (N : Numbers A) (O : Order (N .ring)) where

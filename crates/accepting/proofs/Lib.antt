@@ -6,3 +6,5 @@ pub mod Accepted
 pub mod RingBounds
 pub mod Empty
 pub mod Worked
+pub mod Rules
+pub mod RowOrder

@@ -61,6 +61,8 @@ origin = refl
 abbrev pub problemWith : ℕ → Kind → Problem
 problemWith e k = record {
   variables = 1;
+  rule = 1;
+  order = 0;
   objective = term e (pos 1) ∷ [];
   conditions = record { kind = k; terms = caseF } ∷ [];
   bases = (0 ∷ 1 ∷ []) ∷ (0 ∷ []) ∷ replicate 7 [];
@@ -70,6 +72,8 @@ limitsWith : (e : ℕ) (k : Kind) → degree e ≤ 32 → within 1 e ≡ true �
 unfolding All Distinct degree degreeOf within among keysOf
 limitsWith e k low one = record {
   variables = omega arith;
+  rule = omega arith;
+  order = omega arith;
   objective = record {
     monomials = record { count = omega arith; degrees = (low, tt); variables = (one, tt); distinct = (refl, tt) };
     nonzero = (one-not, tt);

@@ -47,7 +47,8 @@ claim p h = claimOf (p .objective) h
 unfoldable pub Identity : Problem → Certificate → Type 0
 Identity p c = (k : ℕ) → coefficient k (claim p (c .header)) ≡ coefficient k (squares p (c .rows))
 
--- the block number of index i of basis j, when the joining rule has ended
+-- the block number of index i of basis j, when the joining rule has ended, or the order has ended it: "the blocks
+-- reported and used are those after the last round"
 unfoldable pub blockOf : Problem → ℕ → ℕ → ℕ
 blockOf p j i = getD (getD (closing p .state .labels) j []) i 0
 

@@ -11,10 +11,10 @@ use Rattle.format.specs.Commands as Stream
 use Rattle.polynomial.specs.Terms.{Term}
 use Rattle.polynomial.specs.Algebra.{coefficient}
 use Rattle.format.specs.ProblemRules.{Problem}
-use Rattle.joining_rule.specs.Joining.{closing}
+use Rattle.joining_rule.specs.Joining.{basesOf, closing}
 use Rattle.format.specs.CertificateRules.{Entry, Row, Certificate, readCertificate}
 use Rattle.accepting.specs.Identity.{squares, claim, blockOf, Identity, KeepsBlocks}
-use Rattle.joining_rule.specs.Rounds.{closedWithZero}
+use Rattle.joining_rule.specs.Rounds.{countedKeys}
 
 -- ---- refusal 8: "first entry outside the row's first block", and its place; b is the block number of an index
 unfoldable pub firstOutside : (ℕ → ℕ) → ℕ → List Entry → Option ℕ
@@ -50,10 +50,10 @@ unfoldable pub firstDifference : List Term → List Term → List ℕ → Option
 firstDifference P Q [] = none
 firstDifference P Q (k ∷ ks) = cond (sameNumber (coefficient k P) (coefficient k Q)) (firstDifference P Q ks) (some k)
 
--- the keys of the closed S with the zero exponent, from the smallest on. Outside them neither side has a term:
--- proofs/Reach.antt
+-- the keys that are counted for refusal 7, from the smallest on. Outside them neither side has a term
+-- (proofs/Reach.antt)
 unfoldable pub comparedKeys : Problem → List ℕ
-comparedKeys p = closedWithZero (closing p)
+comparedKeys p = countedKeys (basesOf p) (closing p .state)
 
 unfoldable pub differenceKey : Problem → Certificate → Option ℕ
 differenceKey p c = firstDifference (claim p (c .header)) (squares p (c .rows)) (comparedKeys p)

@@ -2,3 +2,4 @@ pub mod Identity
 pub mod Judgement
 pub mod Bounds
 pub mod RingBounds
+pub mod RowOrder

@@ -6,6 +6,8 @@ ghost use Rattle.calls.specs.Blocks.{blocksShort, blocksVerdict, bytesLeft};
 ghost use Rattle.calls.specs.Check.{checkVerdict};
 ghost use Rattle.calls.specs.Pair.{pairVerdict};
 ghost use Rattle.calls.specs.Superseding.{supersedingVerdict, streamOf, refusalIn};
+ghost use Rattle.calls.specs.Symmetries.{symmetriesShort, symmetriesVerdict, masksLeft};
+ghost use Rattle.calls.specs.Report.{checkedRecords, reportVerdict, outputLeft, isShort};
 use calls::Chosen;
 use calls::Refusal;
 
@@ -17,7 +19,7 @@ fn number_of(r: Refusal) -> u64
 }
 
 // The blocks call: the number of the refusal, or 0.
-// stack: see docs/measured/stack-bound.tsv (at most 205,312 bytes)
+// stack: see docs/measured/stack-bound.tsv
 #[no_mangle]
 pub extern "C" fn zamiachisel_blocks(
     problem: &[u8],
@@ -43,7 +45,7 @@ pub extern "C" fn zamiachisel_blocks(
 }
 
 // The check: the number of the refusal, or 0.
-// stack: see docs/measured/stack-bound.tsv (at most 205,312 bytes)
+// stack: see docs/measured/stack-bound.tsv
 #[no_mangle]
 pub extern "C" fn zamiachisel_check(
     problem: &[u8],
@@ -66,7 +68,7 @@ pub extern "C" fn zamiachisel_check(
 }
 
 // The pair: the number of the refusal, or 0.
-// stack: see docs/measured/stack-bound.tsv (at most 205,312 bytes)
+// stack: see docs/measured/stack-bound.tsv
 #[no_mangle]
 pub extern "C" fn zamiachisel_pair(
     problem: &[u8],
@@ -91,7 +93,7 @@ pub extern "C" fn zamiachisel_pair(
 
 // The call on two certificates for one problem. C gets no part of a run, so what comes back is the number of the stream
 // that does, 1 for the first certificate and 2 for the second, and 0 for neither.
-// stack: see docs/measured/stack-bound.tsv (at most 205,312 bytes)
+// stack: see docs/measured/stack-bound.tsv
 #[no_mangle]
 pub extern "C" fn zamiachisel_tighter(
     problem: &[u8],
@@ -137,4 +139,60 @@ pub extern "C" fn zamiachisel_tighter(
         Chosen::Second => 2,
         Chosen::Neither => 0,
     }
+}
+
+// The symmetries call: the number of the refusal, or 0. Mask 0 stands first and is the only 0 among the masks, so they
+// are one more than the bytes that are not 0.
+// stack: see docs/measured/stack-bound.tsv
+#[no_mangle]
+pub extern "C" fn zamiachisel_symmetries(
+    problem: &[u8],
+    out: &mut [u8],
+    keys: &mut [u64],
+    high: &mut [i64],
+    low: &mut [i64],
+) -> u64
+    ensures verdict { λ r.
+        let lent = tables (now (keys .entry)) (now (high .entry)) (now (low .entry)) in
+        ⌜ r ≡ symmetriesVerdict (symmetriesShort (now (out .entry)) lent) (now (problem .entry)) .refusal .number ⌝ }
+    ensures bytes { λ _.
+        let lent = tables (now (keys .entry)) (now (high .entry)) (now (low .entry)) in
+        let before = now (out .entry) in
+        ⌜ now (out .exit) ≡ masksLeft (symmetriesShort before lent) (now (problem .entry)) before ⌝ }
+    ensures tables { λ _.
+        let lent = tables (now (keys .entry)) (now (high .entry)) (now (low .entry)) in
+        let left = tables (now (keys .exit)) (now (high .exit)) (now (low .exit)) in
+        ⌜ TablesLeft (symmetriesShort (now (out .entry)) lent) lent left ⌝ }
+{
+    let v = sign_symmetries::symmetries(problem, out, keys, high, low);
+    number_of(v.refusal)
+}
+
+// The report on a week's pairs: the number of the refusal, or 0. Its bounds and how many were accepted are told by the
+// records in `out`.
+// stack: see docs/measured/stack-bound.tsv
+#[no_mangle]
+pub extern "C" fn zamiachisel_report(
+    records: &[u8],
+    out: &mut [u8],
+    keys: &mut [u64],
+    high: &mut [i64],
+    low: &mut [i64],
+) -> u64
+    ensures verdict { λ r.
+        let lent = tables (now (keys .entry)) (now (high .entry)) (now (low .entry)) in
+        let o = checkedRecords (tablesShort lent) (now (records .entry)) (now (out .entry)) in
+        ⌜ r ≡ reportVerdict o .refusal .number ⌝ }
+    ensures output { λ _.
+        let lent = tables (now (keys .entry)) (now (high .entry)) (now (low .entry)) in
+        let before = now (out .entry) in
+        ⌜ now (out .exit) ≡ outputLeft (checkedRecords (tablesShort lent) (now (records .entry)) before) before ⌝ }
+    ensures tables { λ _.
+        let lent = tables (now (keys .entry)) (now (high .entry)) (now (low .entry)) in
+        let left = tables (now (keys .exit)) (now (high .exit)) (now (low .exit)) in
+        let o = checkedRecords (tablesShort lent) (now (records .entry)) (now (out .entry)) in
+        ⌜ TablesLeft (isShort o) lent left ⌝ }
+{
+    let v = weekly_report::report(records, out, keys, high, low);
+    number_of(v.refusal)
 }

@@ -2,10 +2,12 @@
 use mathlib.Core.Path.{_≡_, refl, sym, ap, _∙_, subst}
 use mathlib.Core.Bool.{Bool}
 use mathlib.Core.List.{List}
+use mathlib.Core.Logic.{inl, inr}
 use Prim.Native.Nat.{ℕ, _≤_}
 use native.Mathlib.Omega.{arith}
-use Rattle.format.specs.Commands.{given}
+use Rattle.format.specs.Commands.{Outcome, given}
 use Rattle.format.specs.ProblemRules.{Problem, readProblem}
+use Rattle.format.proofs.ProblemRule.{read-rule}
 use Rattle.format.proofs.ProblemLimits.{read-limits}
 use Rattle.format.specs.CertificateRules.{Certificate, readCertificate}
 use Rattle.format.proofs.CertificateLimits.{read-sound}
@@ -15,13 +17,16 @@ use Rattle.accepting.specs.Judgement.{Judgement, judge}
 use Rattle.accepting.specs.Judgement as J
 use Rattle.accepting.specs.Bounds.{BoundedBelow, BoundedAbove}
 use Rattle.accepting.proofs.Accepted.{judge-accepted, accepted-judge, judge-differs, accepted-below, accepted-above}
+use Rattle.accepting.proofs.Rules.{accepted-other}
 use Rattle.calls.specs.declared.CheckVerdict.{CheckVerdict}
 use Rattle.calls.specs.Refusals.{problemRefusal, certificateRefusal}
 use Rattle.calls.specs.Check.{refusedCheck, acceptedCheck, checkJudged, checkOf, checkRead, checkVerdict}
-use Rattle.calls.specs.Promises.{NumberedTo, RoundsTaken, FewRounds, Reads, DiffersAt, IdentityFalse, Within, AcceptedExactly, CheckDiffers, HoldsBelow, HoldsAbove, HoldsBySide}
+use Rattle.calls.specs.Promises.{NumberedTo, RoundsTaken, FewRounds, RuleUsed, Reads, DiffersAt, IdentityFalse, Within, AcceptedExactly, CheckDiffers, HoldsBelow, HoldsAbove, HoldsBySide}
+use Rattle.calls.specs.Rules.{UnderOne, AtLarger, UnlessSeven, CheckKept, CheckUnderOne, CheckAtLarger}
 use Rattle.calls.proofs.Promised.{promise-rounds, promise-few}
 use Rattle.calls.proofs.Judged.{Between, judge-number, judge-nine}
-use Rattle.calls.proofs.Ends.{reads-at, Ends, before, within, ends, opened}
+use Rattle.calls.proofs.Ends.{reads-at, Ends, before, within, ends, opened, opens, too-large}
+use Rattle.calls.proofs.Rules.{AllLead, under-leads, larger-leads, Under, large, both, under}
 
 -- two certificates that a stream gives are one
 pub given-once : (h : Problem) (s : List ℕ) (c d : Certificate) → readCertificate h s ≡ given c → readCertificate h s ≡ given d → c ≡ d
@@ -31,7 +36,7 @@ given-once h s c d e f = cc
 pub record Checked (p : Problem) (t : List ℕ) (v : CheckVerdict) : Type 0 where
   pub certificate : Certificate
   pub accepted : J.Accepted p t certificate
-  pub verdict : v ≡ acceptedCheck (certificate .header) (closing p .rounds)
+  pub verdict : v ≡ acceptedCheck (certificate .header) (closing p .rounds) (p .rule)
 
 -- how the check ends
 data Ended (s t : List ℕ) (v : CheckVerdict) : Type 0 where
@@ -138,6 +143,49 @@ module _ (short : Bool) (s t : List ℕ) (v : CheckVerdict) (is : v ≡ checkVer
           let a = k .accepted in
           rw (k .verdict) (accepted-above p (read-limits s p read) t c a (sym (side-is _ (k .verdict)) ∙ z))
 
+  -- ---- the rule
+  check-rule : RuleUsed s (v .refusal .number) (v .rule)
+  check-rule = go ended
+    where
+      rule-is : (w : CheckVerdict) → v ≡ w → v .rule ≡ w .rule
+      rule-is w e = ap (λ (x : CheckVerdict). x .rule) e
+
+      go : Ended s t v → RuleUsed s (v .refusal .number) (v .rule)
+      go (unjudged n place b e) =
+          record { named = λ h. absurd (omega (arith, number-is _ e, b .least)); refused = λ _. rule-is _ e }
+      go (refused p r n place key f e) =
+          record { named = λ h. absurd (omega (arith, number-is _ e, judge-number p t n place key f .least)); refused = λ _. rule-is _ e }
+      go (accepted r) = record {
+        named = λ _. rule-is _ (r .holds .verdict) ∙ read-rule s (r .problem) (r .read);
+        refused = λ h. absurd (omega (arith, number-is _ (r .holds .verdict)));
+      }
+
+  -- the same stream under rule 1, or at a larger order: R s s′, where s′ joins no less
+  check-kept : (R : List ℕ → List ℕ → Type 0) → ((s′ : List ℕ) → R s s′ → AllLead s s′) → CheckKept R short s t v
+  unfolding checkVerdict checkOf
+  check-kept R leads s′ u h = go (under short s s′ (leads s′ u) (opens refusedCheck of reads (λ n place. refl) (λ p. refl) short s (λ w. w .refusal .number) (λ r. refl) (rw is at h)))
+    where
+      of : Problem → CheckVerdict
+      of p = checkJudged p (judge p t)
+
+      reads : Outcome Problem → CheckVerdict
+      reads o = checkRead o t
+
+      go : Under short s s′ → UnlessSeven (checkVerdict short s′ t .refusal) ((checkVerdict short s′ t .side ≡ v .side) × (checkVerdict short s′ t .bound ≡ v .bound))
+      go (large q f e l) =
+          inl (ap (λ (x : CheckVerdict). x .refusal) (too-large refusedCheck of reads (λ n place. refl) (λ p. refl) short s′ q f e l))
+      go (both b) =
+          let p = b .problem in
+          let q = b .other in
+          let k = found-at p (b .first .read) h in
+          let c = k .certificate in
+          let a = accepted-other p q (b .more) (read-limits s p (b .first .read)) t c (k .accepted) in
+          let e = opened refusedCheck of reads (λ n place. refl) (λ p. refl) short s′ q (b .second) ∙ ap (checkJudged q) (accepted-judge q t c a) in
+          inr (
+            ap (λ (x : CheckVerdict). x .refusal) e,
+            (ap (λ (x : CheckVerdict). x .side) e ∙ sym (ap (λ (x : CheckVerdict). x .side) (k .verdict)), ap (λ (x : CheckVerdict). x .bound) e ∙ sym (ap (λ (x : CheckVerdict). x .bound) (k .verdict))),
+          )
+
   -- all of them
-  pub check-clauses : NumberedTo 9 (v .refusal .number) × (AcceptedExactly short s t (v .refusal .number) × (CheckDiffers short s t (v .refusal) × (HoldsBySide s v × (RoundsTaken s (v .refusal .number) (v .rounds) × FewRounds s (v .refusal .number) (v .rounds)))))
-  check-clauses = (check-numbered, (check-exactly, (check-differs, (check-holds, (check-rounds, check-few)))))
+  pub check-clauses : NumberedTo 9 (v .refusal .number) × (AcceptedExactly short s t (v .refusal .number) × (CheckDiffers short s t (v .refusal) × (HoldsBySide s v × (RoundsTaken s (v .refusal .number) (v .rounds) × (FewRounds s (v .refusal .number) (v .rounds) × (RuleUsed s (v .refusal .number) (v .rule) × (CheckUnderOne short s t v × CheckAtLarger short s t v)))))))
+  check-clauses = (check-numbered, (check-exactly, (check-differs, (check-holds, (check-rounds, (check-few, (check-rule, (check-kept UnderOne (under-leads s), check-kept AtLarger (larger-leads s)))))))))

@@ -41,3 +41,24 @@ module _ {A : Type 0} (refuse : Refusal → A) (of : Problem → A) (read : Outc
 
   pub opened : (p : Problem) → Within short s p → verdict ≡ of p
   opened p w = rw (w .long, w .read, by-problem p, w .few)
+
+  pub too-large : (p : Problem) → short ≡ false → readProblem s ≡ given p → tooLarge p ≡ true → verdict ≡ refuse (problemRefusal 7 0)
+  too-large p long read large = rw (long, read, by-problem p, large)
+
+  -- where nothing is refused the problem is within its limits
+  module _ (number : A → ℕ) (by-number : (r : Refusal) → number (refuse r) ≡ r .number) where
+    pub opens : number verdict ≡ 0 → Reads s (Within short s)
+    opens h = go short refl (readProblem s) refl h
+      where
+        by-size : (p : Problem) → short ≡ false → readProblem s ≡ given p → (l : Bool) → tooLarge p ≡ l
+            → number (cond l (refuse (problemRefusal 7 0)) (of p)) ≡ 0 → Reads s (Within short s)
+        by-size p long e true f h = absurd (omega (arith, by-number (problemRefusal 7 0)))
+        by-size p long e false f h = record { problem = p; read = e; holds = record { long = long; read = e; few = f } }
+
+        go : (b : Bool) → short ≡ b → (o : Outcome Problem) → readProblem s ≡ o
+            → number (cond b (refuse (problemRefusal 1 0)) (read o)) ≡ 0 → Reads s (Within short s)
+        go true f o e h = absurd (omega (arith, by-number (problemRefusal 1 0)))
+        go false f (refused n place) e h =
+            let z : number (refuse (problemRefusal n place)) ≡ 0 = rw (by-refusal n place) at h in
+            absurd (omega (arith, by-number (problemRefusal n place), problem-number s n place e .least))
+        go false f (given p) e h = by-size p f e (tooLarge p) refl (rw (by-problem p) at h)

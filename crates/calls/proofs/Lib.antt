@@ -1,5 +1,6 @@
 pub mod Judged
 pub mod Ends
+pub mod Rules
 pub mod Promised
 pub mod Checking
 pub mod Pairing
@@ -8,3 +9,17 @@ pub mod Windows
 pub mod WidestGap
 pub mod RingPairs
 pub mod Superseded
+pub mod Evenness
+pub mod EvenBlocks
+pub mod Doubling
+pub mod Masks
+pub mod SymmetryClauses
+pub mod RowOrder
+pub mod FractionOrder
+pub mod Pieces
+pub mod Records
+pub mod Packed
+pub mod RecordFields
+pub mod Told
+pub mod Reports
+pub mod BidTools

@@ -11,8 +11,9 @@ use lib.Signed.{ltZ}
 use borrow.Author.Tests.{eqb-true, eq-eqb, ltb-true}
 use Rattle.counting.proofs.Cases.{clash}
 use Rattle.polynomial.specs.Point.{Point}
-use Rattle.format.specs.Commands.{given}
+use Rattle.format.specs.Commands.{Outcome, given}
 use Rattle.format.specs.ProblemRules.{Problem, readProblem}
+use Rattle.format.proofs.ProblemRule.{read-rule}
 use Rattle.format.proofs.ProblemLimits.{read-limits}
 use Rattle.format.specs.CertificateRules.{Certificate}
 use Rattle.joining_rule.specs.Joining.{closing}
@@ -22,15 +23,18 @@ use Rattle.accepting.proofs.Accepted.{judge-accepted, accepted-judge, judge-dif
 use Rattle.accepting.proofs.Bounds.{bounds-gap}
 use Rattle.accepting.proofs.Empty.{below-zero-empty}
 use Rattle.accepting.specs.Bounds.{Allowed, WithinGap}
+use Rattle.accepting.proofs.Rules.{accepted-other}
 use Rattle.calls.specs.declared.PairVerdict.{PairVerdict}
 use Rattle.calls.specs.Fractions.{gapOf}
 use Rattle.calls.specs.Check.{boundOf}
 use Rattle.calls.specs.Refusals.{problemRefusal, certificateRefusal}
 use Rattle.calls.specs.Pair.{refusedPair, acceptedPair, pairSides, pairSecond, pairFirst, pairOf, pairRead, pairVerdict}
-use Rattle.calls.specs.Promises.{NumberedTo, RoundsTaken, FewRounds, Reads, DiffersAt, Within, BothHold, Stated, PairExactly, SecondDiffers, PairDiffers, HoldsBelow, HoldsAbove, HoldsGap, NoPoints}
+use Rattle.calls.specs.Promises.{NumberedTo, RoundsTaken, FewRounds, RuleUsed, Reads, DiffersAt, Within, BothHold, Stated, PairExactly, SecondDiffers, PairDiffers, HoldsBelow, HoldsAbove, HoldsGap, NoPoints}
+use Rattle.calls.specs.Rules.{UnderOne, AtLarger, UnlessSeven, PairKept, PairUnderOne, PairAtLarger}
 use Rattle.calls.proofs.Promised.{promise-rounds, promise-few}
 use Rattle.calls.proofs.Judged.{Between, judge-number, judge-nine}
-use Rattle.calls.proofs.Ends.{reads-at, Ends, before, within, ends, opened}
+use Rattle.calls.proofs.Ends.{reads-at, Ends, before, within, ends, opened, opens, too-large}
+use Rattle.calls.proofs.Rules.{AllLead, under-leads, larger-leads, Under, large, both, under}
 
 -- a gap below 0 is the distance of no two points
 no-point : (p : Problem) (z : ℤ) (y : ℕ) → ltZ z (pos 0) ≡ true → WithinGap p z y → (a : Point) → Allowed p a → ⊥
@@ -42,7 +46,7 @@ record Paired (p : Problem) (low high : List ℕ) (v : PairVerdict) : Type 0 whe
   first : Certificate
   second : Certificate
   hold : BothHold p low high first second
-  verdict : v ≡ acceptedPair (first .header) (second .header) (closing p .rounds)
+  verdict : v ≡ acceptedPair (first .header) (second .header) (closing p .rounds) (p .rule)
 
 -- how the pair ends
 data Ended (s low high : List ℕ) (v : PairVerdict) : Type 0 where
@@ -57,7 +61,7 @@ data Ended (s low high : List ℕ) (v : PairVerdict) : Type 0 where
 module _ (short : Bool) (s low high : List ℕ) (v : PairVerdict) (is : v ≡ pairVerdict short s low high) where
   module _ (p : Problem) (r : readProblem s ≡ given p) where
     sides : (c d : Certificate) → J.Accepted p low c → J.Accepted p high d → (x y : Bool) → eqb (c .header .side) 0 ≡ x → eqb (d .header .side) 1 ≡ y
-        → v ≡ cond x (cond y (acceptedPair (c .header) (d .header) (closing p .rounds)) (refusedPair (certificateRefusal 2 10 0 0))) (refusedPair (certificateRefusal 1 10 0 0)) → Ended s low high v
+        → v ≡ cond x (cond y (acceptedPair (c .header) (d .header) (closing p .rounds) (p .rule)) (refusedPair (certificateRefusal 2 10 0 0))) (refusedPair (certificateRefusal 1 10 0 0)) → Ended s low high v
     sides c d a b true true x y e =
         let hold : BothHold p low high c d = record { first = a; second = b; lower = eqb-true _ _ x; upper = eqb-true _ _ y } in
         accepted (record { problem = p; read = r; holds = record { first = c; second = d; hold = hold; verdict = e } })
@@ -118,8 +122,15 @@ module _ (short : Bool) (s low high : List ℕ) (v : PairVerdict) (is : v ≡ pa
   found-at : (p : Problem) → readProblem s ≡ given p → v .refusal .number ≡ 0 → Paired p low high v
   found-at p r h = reads-at s (λ p. Paired p low high v) (pair-found h) p r
 
+  -- two certificates that hold give their verdict
+  both-verdict : (s : List ℕ) (p : Problem) (c d : Certificate) → Within short s p → BothHold p low high c d
+      → pairVerdict short s low high ≡ acceptedPair (c .header) (d .header) (closing p .rounds) (p .rule)
+  unfolding pairVerdict pairOf pairSides
+  both-verdict s p c d w b =
+      opened refusedPair (λ p. pairFirst p (judge p low) high) (λ o. pairRead o low high) (λ n place. refl) (λ p. refl) short s p w
+      ∙ rw (accepted-judge p low c (b .first), accepted-judge p high d (b .second), pairSides, eq-eqb (c .header .side) 0 (b .lower), eq-eqb (d .header .side) 1 (b .upper))
+
   pair-exactly : PairExactly short s low high v
-  unfolding pairSides
   pair-exactly = record {
     only = λ h.
         let r = pair-found h in
@@ -135,9 +146,7 @@ module _ (short : Bool) (s low high : List ℕ) (v : PairVerdict) (is : v ≡ pa
           gap = ap (λ (x : PairVerdict). x .gap) (k .verdict);
           empty = empty-is _ (k .verdict);
         };
-    always = λ p c d w b.
-        number-is _ (is-judged p w)
-        ∙ rw (accepted-judge p low c (b .first), accepted-judge p high d (b .second), pairSides, eq-eqb (c .header .side) 0 (b .lower), eq-eqb (d .header .side) 1 (b .upper));
+    always = λ p c d w b. number-is _ (is ∙ both-verdict s p c d w b);
   }
 
   below : HoldsBelow s (v .refusal .number) (v .lower)
@@ -219,6 +228,67 @@ module _ (short : Bool) (s low high : List ℕ) (v : PairVerdict) (is : v ≡ pa
       go h (wrong-side i e) = absurd (omega (arith, number-is _ e))
       go h (accepted r) = absurd (omega (arith, number-is _ (r .holds .verdict)))
 
+  -- ---- the rule
+  pair-rule : RuleUsed s (v .refusal .number) (v .rule)
+  pair-rule = go ended
+    where
+      rule-is : (w : PairVerdict) → v ≡ w → v .rule ≡ w .rule
+      rule-is w e = ap (λ (x : PairVerdict). x .rule) e
+
+      go : Ended s low high v → RuleUsed s (v .refusal .number) (v .rule)
+      go (unjudged n place b e) =
+          record { named = λ h. absurd (omega (arith, number-is _ e, b .least)); refused = λ _. rule-is _ e }
+      go (first-refused p r n place key f e) =
+          record { named = λ h. absurd (omega (arith, number-is _ e, judge-number p low n place key f .least)); refused = λ _. rule-is _ e }
+      go (second-refused p r c a n place key f e) =
+          record { named = λ h. absurd (omega (arith, number-is _ e, judge-number p high n place key f .least)); refused = λ _. rule-is _ e }
+      go (wrong-side i e) = record { named = λ h. absurd (omega (arith, number-is _ e)); refused = λ _. rule-is _ e }
+      go (accepted r) = record {
+        named = λ _. rule-is _ (r .holds .verdict) ∙ read-rule s (r .problem) (r .read);
+        refused = λ h. absurd (omega (arith, number-is _ (r .holds .verdict)));
+      }
+
+  -- the same stream under rule 1, or at a larger order: R s s′, where s′ joins no less
+  pair-kept : (R : List ℕ → List ℕ → Type 0) → ((s′ : List ℕ) → R s s′ → AllLead s s′) → PairKept R short s low high v
+  unfolding pairVerdict pairOf
+  pair-kept R leads s′ u h = go (under short s s′ (leads s′ u) (opens refusedPair of reads (λ n place. refl) (λ p. refl) short s (λ w. w .refusal .number) (λ r. refl) (rw is at h)))
+    where
+      of : Problem → PairVerdict
+      of p = pairFirst p (judge p low) high
+
+      reads : Outcome Problem → PairVerdict
+      reads o = pairRead o low high
+
+      w : PairVerdict
+      w = pairVerdict short s′ low high
+
+      go : Under short s s′ → UnlessSeven (w .refusal) ((w .lower ≡ v .lower) × ((w .upper ≡ v .upper) × ((w .gap ≡ v .gap) × (w .empty ≡ v .empty))))
+      go (large q f e l) =
+          inl (ap (λ (x : PairVerdict). x .refusal) (too-large refusedPair of reads (λ n place. refl) (λ p. refl) short s′ q f e l))
+      go (both b) =
+          let p = b .problem in
+          let q = b .other in
+          let k = found-at p (b .first .read) h in
+          let limits = read-limits s p (b .first .read) in
+          let hold : BothHold q low high (k .first) (k .second) =
+          record {
+            first = accepted-other p q (b .more) limits low (k .first) (k .hold .first);
+            second = accepted-other p q (b .more) limits high (k .second) (k .hold .second);
+            lower = k .hold .lower;
+            upper = k .hold .upper;
+          } in
+          let e = both-verdict s′ q (k .first) (k .second) (b .second) hold in
+          inr (
+            ap (λ (x : PairVerdict). x .refusal) e,
+            (
+              ap (λ (x : PairVerdict). x .lower) e ∙ sym (ap (λ (x : PairVerdict). x .lower) (k .verdict)),
+              (
+                ap (λ (x : PairVerdict). x .upper) e ∙ sym (ap (λ (x : PairVerdict). x .upper) (k .verdict)),
+                (ap (λ (x : PairVerdict). x .gap) e ∙ sym (ap (λ (x : PairVerdict). x .gap) (k .verdict)), ap (λ (x : PairVerdict). x .empty) e ∙ sym (ap (λ (x : PairVerdict). x .empty) (k .verdict))),
+              ),
+            ),
+          )
+
   -- all of them
-  pub pair-clauses : NumberedTo 10 (v .refusal .number) × (PairExactly short s low high v × (PairDiffers short s low high (v .refusal) × (HoldsBelow s (v .refusal .number) (v .lower) × (HoldsAbove s (v .refusal .number) (v .upper) × (HoldsGap s (v .refusal .number) (v .empty) (v .gap) × (NoPoints s v × (RoundsTaken s (v .refusal .number) (v .rounds) × FewRounds s (v .refusal .number) (v .rounds))))))))
-  pair-clauses = (pair-numbered, (pair-exactly, (pair-differs, (below, (above, (gap, (empty, (pair-rounds, pair-few))))))))
+  pub pair-clauses : NumberedTo 10 (v .refusal .number) × (PairExactly short s low high v × (PairDiffers short s low high (v .refusal) × (HoldsBelow s (v .refusal .number) (v .lower) × (HoldsAbove s (v .refusal .number) (v .upper) × (HoldsGap s (v .refusal .number) (v .empty) (v .gap) × (NoPoints s v × (RoundsTaken s (v .refusal .number) (v .rounds) × (FewRounds s (v .refusal .number) (v .rounds) × (RuleUsed s (v .refusal .number) (v .rule) × (PairUnderOne short s low high v × PairAtLarger short s low high v))))))))))
+  pair-clauses = (pair-numbered, (pair-exactly, (pair-differs, (below, (above, (gap, (empty, (pair-rounds, (pair-few, (pair-rule, (pair-kept UnderOne (under-leads s), pair-kept AtLarger (larger-leads s))))))))))))

@@ -1,6 +1,7 @@
 -- What the definitions of the blocks call promise, in the buyer's terms: each clause of the contract, from the equations.
-use mathlib.Core.Path.{_≡_, refl, sym, ap, _∙_}
+use mathlib.Core.Path.{_≡_, refl, sym, ap, subst, _∙_}
 use mathlib.Core.Bool.{Bool, true, false, cond}
+use mathlib.Core.Logic.{inl, inr}
 use mathlib.Core.List.{List, [], _++_}
 use Prim.Native.Nat.{ℕ, suc, _+_, _-_, _*_, _≤_, _<_}
 use native.Mathlib.Omega.{arith}
@@ -10,51 +11,57 @@ use borrow.Author.Tests.{ltb-true, lt-ltb}
 use Rattle.counting.specs.Counting.{listed, sumTo}
 use Rattle.counting.proofs.Listed.{listed-same, listed-all}
 use Rattle.counting.proofs.Sums.{sumTo-same}
-use Rattle.format.specs.Commands.{given}
+use Rattle.format.specs.Commands.{Outcome, refused, given}
 use Rattle.format.specs.ProblemRules.{Problem, readProblem}
+use Rattle.format.specs.ProblemOrder.{orderNamed}
 use Rattle.format.specs.ProblemBases.{basisOf}
-use Rattle.format.proofs.WithinLimits.{Limits, Monomials}
+use Rattle.format.proofs.WithinLimits.{Limits}
 use Rattle.format.specs.ProblemCounts.{memberCommands, basesNamed}
-use Rattle.format.proofs.ProblemLimits.{read-limits, all-at, monomials-none}
+use Rattle.format.proofs.ProblemLimits.{read-limits, basis-few}
 use Rattle.format.proofs.ProblemCounts.{count-members, count-named}
+use Rattle.format.proofs.ProblemRule.{read-rule, read-order}
 use Rattle.joining_rule.proofs.Rising.{Rising}
 use Rattle.joining_rule.specs.Sets.{different}
-use Rattle.joining_rule.specs.Rounds.{Bases, blocksIn, closedWithZero}
+use Rattle.joining_rule.specs.Rounds.{Bases, State, start, after, mostRounds, blocksIn, countedKeys}
 use Rattle.joining_rule.proofs.Rounds.{monomials, nonempty}
 use Rattle.joining_rule.specs.Bytes.{blockByteCount, blockBytes, blockAt}
-use Rattle.joining_rule.specs.Meaning.{Pair, Closed, Least, Lowest, TakesRounds}
+use Rattle.joining_rule.specs.Meaning.{Pair, Closed, Least, Lowest, FullClosure, RoundsDone}
 use Rattle.joining_rule.proofs.Bytes.{bytes-long, byte-at}
-use Rattle.joining_rule.proofs.Closing.{closing-shaped}
-use Rattle.joining_rule.proofs.Bound.{few-rounds, closing-rounds}
-use Rattle.joining_rule.proofs.Meaning.{labelOf, closing-closed, closing-least, least-tests, closing-lowest}
-use Rattle.joining_rule.specs.Joining.{basesOf, startSet, closing, closedSupport, mostKeys, tooLarge, blockTotal}
+use Rattle.joining_rule.proofs.Closing.{closing-shaped, closing-state}
+use Rattle.joining_rule.proofs.Bound.{few-rounds, order-done}
+use Rattle.joining_rule.proofs.Meaning.{labelOf, full-closed, closing-least, least-tests, closing-lowest}
+use Rattle.joining_rule.specs.Joining.{basesOf, startSet, closing, reachedSupport, mostKeys, tooLarge, blockTotal}
 use Rattle.joining_rule.proofs.Start.{start-rising}
+use Rattle.joining_rule.proofs.Rules.{large-other}
 use Rattle.calls.specs.declared.Refusal.{Refusal}
 use Rattle.calls.specs.declared.BlocksVerdict.{BlocksVerdict}
-use Rattle.calls.specs.Refusals.{noRefusal}
+use Rattle.calls.specs.Refusals.{noRefusal, problemRefusal}
 use Rattle.calls.specs.Blocks.{refusedBlocks, blocksOf, blocksRead, blocksVerdict, bytesOf, bytesLeft}
-use Rattle.calls.specs.Promises.{NumberedTo, BlocksClosed, BlocksLeast, BlocksLowest, BlocksCounted, RoundsTaken, FewRounds, SevenExactly}
-use Rattle.calls.proofs.Ends.{Ends, before, within, ends}
+use Rattle.calls.specs.Promises.{NumberedTo, BlocksClosed, BlocksLeast, BlocksLowest, BlocksAfter, BlocksCounted, RoundsTaken, FewRounds, SevenExactly, RuleUsed, Within}
+use Rattle.calls.specs.Rules.{UnderOne, AtLarger, UnlessSeven, BlocksInside, BlocksKept, BlocksUnderOne, BlocksAtLarger}
+use Rattle.calls.proofs.Judged.{problem-number}
+use Rattle.calls.proofs.Ends.{Ends, before, within, ends, opened, opens, too-large}
+use Rattle.calls.proofs.Rules.{AllLead, under-leads, larger-leads, BothWithin, Under, large, both, under, bytes-inside}
 
 -- ---- block numbers that agree at every index of a basis mean the same
 pub record Agree (g : Bases) (label label′ : ℕ → ℕ → ℕ) : Type 0 where
   pub at : (j i : ℕ) → j < 9 → i < length (g .basis j) → label j i ≡ label′ j i
 
-module _ (g : Bases) (S₀ : List ℕ) (label label′ : ℕ → ℕ → ℕ) (a : Agree g label label′) where
+module _ (rule : ℕ) (g : Bases) (S₀ : List ℕ) (label label′ : ℕ → ℕ → ℕ) (a : Agree g label label′) where
   first-same : (j i k t : ℕ) → Pair g j i k t → label j i ≡ label′ j i
   first-same j i k t p = a .at j i (p .basis) (p .first)
 
   second-same : (j i k t : ℕ) → Pair g j i k t → label j k ≡ label′ j k
   second-same j i k t p = a .at j k (p .basis) (p .second)
 
-  pub closed-same : (S : List ℕ) → Closed g S₀ label S → Closed g S₀ label′ S
+  pub closed-same : (S : List ℕ) → Closed rule g S₀ label S → Closed rule g S₀ label′ S
   closed-same S c = record {
     starts = c .starts;
     joins = λ j i k t p m. sym (first-same j i k t p) ∙ c .joins j i k t p m ∙ second-same j i k t p;
-    adds = λ j i k t p e. c .adds j i k t p (first-same j i k t p ∙ e ∙ sym (second-same j i k t p));
+    adds = λ j i k t n p e. c .adds j i k t n p (first-same j i k t p ∙ e ∙ sym (second-same j i k t p));
   }
 
-  pub least-same : (S : List ℕ) → Least g S₀ label S → Least g S₀ label′ S
+  pub least-same : (S : List ℕ) → Least rule g S₀ label S → Least rule g S₀ label′ S
   least-same S l = record {
     within = λ R Q o. record {
       blocks = λ j i k h x y e. l .within R Q o .blocks j i k h x y (a .at j i h x ∙ e ∙ sym (a .at j k h y));
@@ -78,59 +85,74 @@ module _ (s : List ℕ) (p : Problem) (read : readProblem s ≡ given p) where
   limits = read-limits s p read
 
   small : (j : ℕ) → length (basisOf p j) ≤ 64
-  unfolding basisOf
-  small j = all-at (Monomials (p .variables) 8 64) (p .bases) j [] (limits .members) (monomials-none (p .variables) 8 64) .count
+  small = basis-few p limits
 
   rising : Rising (startSet p)
   unfolding startSet
   rising = start-rising _ (basesOf p)
 
-  bytes-agree : (rest : List ℕ) → Agree (basesOf p) (labelOf (basesOf p) (startSet p)) (blockAt (blockBytes (closing p .state .labels) ++ rest))
+  -- the order that the stream names
+  named : p .order ≡ orderNamed s
+  named = read-order s p read
+
+  pub bytes-agree : (rest : List ℕ) → Agree (basesOf p) (labelOf (p .rule) (mostRounds (p .order)) (basesOf p) (startSet p)) (blockAt (blockBytes (closing p .state .labels) ++ rest))
   unfolding closing
   bytes-agree rest = record {
     at = λ j i h b.
         let z = small j in
-        let n = closing-shaped (basesOf p) (startSet p) .long j h in
+        let n = closing-shaped (p .rule) (mostRounds (p .order)) (basesOf p) (startSet p) .long j h in
         byte-found _ rest j i h (omega arith) (omega arith);
   }
 
-  pub promise-closed : (rest : List ℕ) → Closed (basesOf p) (startSet p) (blockAt (blockBytes (closing p .state .labels) ++ rest)) (closedSupport p)
+  pub promise-closed : (rest : List ℕ) → FullClosure (p .rule) (orderNamed s) (basesOf p) (startSet p)
+      → Closed (p .rule) (basesOf p) (startSet p) (blockAt (blockBytes (closing p .state .labels) ++ rest)) (reachedSupport p)
   unfolding closing
-  promise-closed rest = closed-same _ _ _ _ (bytes-agree rest) _ (closing-closed (basesOf p) (startSet p) rising small)
+  promise-closed rest f =
+      let full = subst (λ (k : ℕ). FullClosure (p .rule) k (basesOf p) (startSet p)) (sym named) f in
+      closed-same _ _ _ _ _ (bytes-agree rest) _ (full-closed (p .rule) (p .order) (basesOf p) (startSet p) rising small full)
 
-  pub promise-least : (rest : List ℕ) → Least (basesOf p) (startSet p) (blockAt (blockBytes (closing p .state .labels) ++ rest)) (closedSupport p)
+  -- that every other closed blocks and set contain them holds at every order
+  pub promise-least : (rest : List ℕ) → Least (p .rule) (basesOf p) (startSet p) (blockAt (blockBytes (closing p .state .labels) ++ rest)) (reachedSupport p)
   unfolding closing
-  promise-least rest = least-same _ _ _ _ (bytes-agree rest) _ (least-tests _ _ _ _ (closing-least (basesOf p) (startSet p)))
+  promise-least rest = least-same _ _ _ _ _ (bytes-agree rest) _ (least-tests _ _ _ _ _ (closing-least (p .rule) _ (basesOf p) (startSet p)))
+
+  pub promise-after : (rest : List ℕ) (j i : ℕ) → j < 9 → i < length (basisOf p j)
+      → blockAt (blockBytes (closing p .state .labels) ++ rest) j i
+      ≡ getD (getD (after (p .rule) (basesOf p) (start (basesOf p) (startSet p)) (closing p .rounds) .labels) j []) i 0
+  unfolding closing
+  promise-after rest j i h b =
+      sym (bytes-agree rest .at j i h b)
+      ∙ ap (λ (x : State). getD (getD (x .labels) j []) i 0) (closing-state (p .rule) (mostRounds (p .order)) (basesOf p) (startSet p))
 
   pub promise-lowest : (rest : List ℕ) → Lowest (basesOf p) (blockAt (blockBytes (closing p .state .labels) ++ rest))
   unfolding closing
-  promise-lowest rest = lowest-same _ (startSet p) _ _ (bytes-agree rest) (closing-lowest (basesOf p) (startSet p))
+  promise-lowest rest = lowest-same (p .rule) _ (startSet p) _ _ (bytes-agree rest) (closing-lowest (p .rule) _ (basesOf p) (startSet p))
 
   -- the bytes of a basis tell its block numbers
   labels-told : (rest : List ℕ) (j : ℕ) → j < 9 → getD (closing p .state .labels) j [] ≡ listed (length (basisOf p j)) (blockAt (blockBytes (closing p .state .labels) ++ rest) j)
   unfolding closing
   labels-told rest j h =
-      let l = closing-shaped (basesOf p) (startSet p) .long j h in
+      let l = closing-shaped (p .rule) (mostRounds (p .order)) (basesOf p) (startSet p) .long j h in
       sym (listed-all (getD (closing p .state .labels) j []) 0) ∙ rw l (listed-same (length (basisOf p j)) _ _ (λ i b. bytes-agree rest .at j i h b))
 
   pub promise-counted : (rest : List ℕ) → blockTotal p ≡ sumTo 9 (λ j. different (listed (length (basisOf p j)) (blockAt (blockBytes (closing p .state .labels) ++ rest) j)))
   unfolding blockTotal blocksIn
   promise-counted rest = sumTo-same 9 _ _ (λ j h. ap different (labels-told rest j h))
 
-  pub promise-rounds : TakesRounds (basesOf p) (startSet p) (closing p .rounds)
+  pub promise-rounds : RoundsDone (p .rule) (orderNamed s) (basesOf p) (startSet p) (closing p .rounds)
   unfolding closing
-  promise-rounds = closing-rounds (basesOf p) (startSet p) rising small
+  promise-rounds = rw (← named) (order-done (p .rule) (basesOf p) (startSet p) rising small (p .order))
 
   pub promise-few : closing p .rounds + basesNamed s ≤ memberCommands s + 2
   unfolding closing monomials nonempty basisOf
-  promise-few = rw (count-members s p read, count-named s p read) (few-rounds (basesOf p) (startSet p) rising)
+  promise-few = rw (count-members s p read, count-named s p read) (few-rounds (p .rule) (basesOf p) (startSet p) rising _)
 
 -- ---- from the verdict and the bytes to the clauses
 abbrev refuse : Refusal → BlocksVerdict
-refuse r = record { refusal = r; blocks = 0; rounds = 0 }
+refuse r = record { refusal = r; blocks = 0; rounds = 0; rule = 0 }
 
 abbrev answer : Problem → BlocksVerdict
-answer p = record { refusal = noRefusal; blocks = blockTotal p; rounds = closing p .rounds }
+answer p = record { refusal = noRefusal; blocks = blockTotal p; rounds = closing p .rounds; rule = p .rule }
 
 -- what is found where nothing is refused
 record Found (short : Bool) (s out : List ℕ) (p : Problem) : Type 0 where
@@ -151,32 +173,100 @@ module _ (short : Bool) (s out : List ℕ) (p : Problem) (read : readProblem s �
       go false true e h = never 6 h
       go false false e h = record { blocks = rw (read, blocksOf, e); rounds = rw (read, blocksOf, e); bytes = rw (read, bytesOf, e) }
 
-  seven-only : blocksVerdict short s .refusal .number ≡ 7 → mostKeys < length (closedWithZero (closing p))
+  seven-only : blocksVerdict short s .refusal .number ≡ 7 → mostKeys < length (countedKeys (basesOf p) (closing p .state))
   unfolding blocksVerdict blocksOf tooLarge
-  seven-only h = go short (ltb mostKeys (length (closedWithZero (closing p)))) refl (rw read at h)
+  seven-only h = go short (ltb mostKeys (length (countedKeys (basesOf p) (closing p .state)))) refl (rw read at h)
     where
-      go : (b t : Bool) → ltb mostKeys (length (closedWithZero (closing p))) ≡ t → cond b (refusedBlocks 1 0) (cond t (refusedBlocks 7 0) (answer p)) .refusal .number ≡ 7 → mostKeys < length (closedWithZero (closing p))
+      go : (b t : Bool) → ltb mostKeys (length (countedKeys (basesOf p) (closing p .state))) ≡ t → cond b (refusedBlocks 1 0) (cond t (refusedBlocks 7 0) (answer p)) .refusal .number ≡ 7 → mostKeys < length (countedKeys (basesOf p) (closing p .state))
       go true t e h = absurd (omega arith)
       go false true e h = ltb-true _ _ e
       go false false e h = absurd (omega arith)
 
-  seven-always : (blocksVerdict short s .refusal .number ≡ 1 → ⊥) → mostKeys < length (closedWithZero (closing p)) → blocksVerdict short s .refusal .number ≡ 7
+  seven-always : (blocksVerdict short s .refusal .number ≡ 1 → ⊥) → mostKeys < length (countedKeys (basesOf p) (closing p .state)) → blocksVerdict short s .refusal .number ≡ 7
   unfolding blocksVerdict blocksOf tooLarge
   seven-always n h = rw read (go short (rw read at n))
     where
       go : (b : Bool) → (cond b (refusedBlocks 1 0) (blocksOf p) .refusal .number ≡ 1 → ⊥) → cond b (refusedBlocks 1 0) (blocksOf p) .refusal .number ≡ 7
       go true n = absurd (n refl)
-      go false n = rw (blocksOf, tooLarge, lt-ltb mostKeys (length (closedWithZero (closing p))) h)
+      go false n = rw (blocksOf, tooLarge, lt-ltb mostKeys (length (countedKeys (basesOf p) (closing p .state))) h)
+
+-- ---- the same stream under rule 1, or at a larger order
+-- refusal 7 is given for a problem that is too large
+record Large (short : Bool) (s : List ℕ) : Type 0 where
+  problem : Problem
+  long : short ≡ false
+  read : readProblem s ≡ given problem
+  large : tooLarge problem ≡ true
+
+seven-large : (short : Bool) (s : List ℕ) → blocksVerdict short s .refusal .number ≡ 7 → Large short s
+unfolding blocksVerdict blocksOf
+seven-large short s h = go short refl (readProblem s) refl h
+  where
+    by-size : (p : Problem) → short ≡ false → readProblem s ≡ given p → (l : Bool) → tooLarge p ≡ l
+        → cond l (refusedBlocks 7 0) (answer p) .refusal .number ≡ 7 → Large short s
+    by-size p f e true q h = record { problem = p; long = f; read = e; large = q }
+    by-size p f e false q h = absurd (omega arith)
+
+    go : (b : Bool) → short ≡ b → (o : Outcome Problem) → readProblem s ≡ o
+        → cond b (refusedBlocks 1 0) (blocksRead o) .refusal .number ≡ 7 → Large short s
+    go true f o e h = absurd (omega arith)
+    go false f (refused n place) e h = absurd (omega (arith, problem-number s n place e .most))
+    go false f (given p) e h = by-size p f e (tooLarge p) refl h
+
+module _ (short : Bool) (s out t : List ℕ) (leads : AllLead s t) where
+  large-under : (p : Problem) → short ≡ false → readProblem t ≡ given p → tooLarge p ≡ true → blocksVerdict short t .refusal ≡ problemRefusal 7 0
+  unfolding blocksVerdict blocksOf
+  large-under p f e l =
+      ap (λ (v : BlocksVerdict). v .refusal) (too-large refuse answer blocksRead (λ n place. refl) (λ p. refl) short t p f e l)
+
+  bytes-within : (s : List ℕ) (p : Problem) → Within short s p → bytesLeft short s out ≡ blockBytes (closing p .state .labels) ++ drop blockByteCount out
+  unfolding bytesLeft bytesOf
+  bytes-within s p w = rw (w .long, w .read, bytesOf, w .few)
+
+  within-under : BothWithin short s t → (blocksVerdict short t .refusal ≡ noRefusal) × BlocksInside (bytesLeft short s out) (bytesLeft short t out)
+  unfolding blocksVerdict blocksOf
+  within-under b =
+      let p = b .problem in
+      let q = b .other in (
+        ap (λ (v : BlocksVerdict). v .refusal) (opened refuse answer blocksRead (λ n place. refl) (λ p. refl) short t q (b .second)),
+        rw (bytes-within s p (b .first), bytes-within t q (b .second)) (bytes-inside p q (b .more) (drop blockByteCount out)),
+      )
+
+  under-inside : blocksVerdict short s .refusal .number ≡ 0 → UnlessSeven (blocksVerdict short t .refusal) (BlocksInside (bytesLeft short s out) (bytesLeft short t out))
+  under-inside h = go (under short s t leads (unfold blocksVerdict blocksOf in opens refuse answer blocksRead (λ n place. refl) (λ p. refl) short s (λ v. v .refusal .number) (λ r. refl) h))
+    where
+      go : Under short s t → UnlessSeven (blocksVerdict short t .refusal) (BlocksInside (bytesLeft short s out) (bytesLeft short t out))
+      go (large q f e l) = inl (large-under q f e l)
+      go (both b) = inr (within-under b)
+
+  under-seven : blocksVerdict short s .refusal .number ≡ 7 → blocksVerdict short t .refusal ≡ problemRefusal 7 0
+  under-seven h =
+      let k = seven-large short s h in
+      let l = leads (k .problem) (k .read) in
+      large-under (l .problem) (k .long) (l .read) (large-other (k .problem) (l .problem) (l .more) (k .large))
 
 module _ (short : Bool) (s out : List ℕ) where
   abbrev number : ℕ
   number = blocksVerdict short s .refusal .number
 
+  -- R s t, where t joins no less
+  kept : (R : List ℕ → List ℕ → Type 0) → ((t : List ℕ) → R s t → AllLead s t) → BlocksKept R short s out number (bytesLeft short s out)
+  kept R leads = record { inside = λ t u. under-inside short s out t (leads t u); seven = λ t u. under-seven short s out t (leads t u) }
+
+  clause-under : BlocksUnderOne short s out number (bytesLeft short s out)
+  clause-under = kept UnderOne (under-leads s)
+
+  clause-larger : BlocksAtLarger short s out number (bytesLeft short s out)
+  clause-larger = kept AtLarger (larger-leads s)
+
   clause-closed : BlocksClosed s number (bytesLeft short s out)
-  clause-closed p read h = rw (found short s out p read h .bytes) (promise-closed s p read (drop blockByteCount out))
+  clause-closed p read h f = rw (found short s out p read h .bytes) (promise-closed s p read (drop blockByteCount out) f)
 
   clause-least : BlocksLeast s number (bytesLeft short s out)
-  clause-least p read h = rw (found short s out p read h .bytes) (promise-least s p read (drop blockByteCount out))
+  clause-least p read h f = rw (found short s out p read h .bytes) (promise-least s p read (drop blockByteCount out))
+
+  clause-after : BlocksAfter s number (bytesLeft short s out) (blocksVerdict short s .rounds)
+  clause-after p read h = let f = found short s out p read h in rw (f .bytes, f .rounds) (promise-after s p read (drop blockByteCount out))
 
   clause-lowest : BlocksLowest s number (bytesLeft short s out)
   clause-lowest p read h = rw (found short s out p read h .bytes) (promise-lowest s p read (drop blockByteCount out))
@@ -201,7 +291,15 @@ module _ (short : Bool) (s out : List ℕ) where
       go (before n place b e) = rw e (b .most)
       go (within p r e) = rw e (omega arith)
 
+  clause-rule : RuleUsed s number (blocksVerdict short s .rule)
+  unfolding blocksVerdict blocksOf
+  clause-rule = go (ends refuse answer blocksRead (λ n place. refl) (λ p. refl) short s)
+    where
+      go : {v : BlocksVerdict} → Ends refuse answer blocksRead (λ n place. refl) (λ p. refl) short s v → RuleUsed s (v .refusal .number) (v .rule)
+      go (before n place b e) = rw e (record { named = λ h. absurd (omega (arith, b .least)); refused = λ _. refl })
+      go (within p r e) = rw e (record { named = λ _. read-rule s p r; refused = λ h. absurd (omega arith) })
+
   -- all of them, of a verdict and bytes that are the definitions'
   pub clauses : (v : BlocksVerdict) (bytes : List ℕ) → v ≡ blocksVerdict short s → bytes ≡ bytesLeft short s out
-      → NumberedTo 7 (v .refusal .number) × (BlocksClosed s (v .refusal .number) bytes × (BlocksLeast s (v .refusal .number) bytes × (BlocksLowest s (v .refusal .number) bytes × (BlocksCounted s (v .refusal .number) bytes (v .blocks) × (RoundsTaken s (v .refusal .number) (v .rounds) × (FewRounds s (v .refusal .number) (v .rounds) × SevenExactly s (v .refusal .number)))))))
-  clauses v bytes e f = rw (e, f) (clause-numbered, (clause-closed, (clause-least, (clause-lowest, (clause-counted, (clause-rounds, (clause-few, clause-seven)))))))
+      → NumberedTo 7 (v .refusal .number) × (BlocksClosed s (v .refusal .number) bytes × (BlocksLeast s (v .refusal .number) bytes × (BlocksLowest s (v .refusal .number) bytes × (BlocksCounted s (v .refusal .number) bytes (v .blocks) × (RoundsTaken s (v .refusal .number) (v .rounds) × (FewRounds s (v .refusal .number) (v .rounds) × (SevenExactly s (v .refusal .number) × (RuleUsed s (v .refusal .number) (v .rule) × (BlocksUnderOne short s out (v .refusal .number) bytes × (BlocksAfter s (v .refusal .number) bytes (v .rounds) × BlocksAtLarger short s out (v .refusal .number) bytes))))))))))
+  clauses v bytes e f = rw (e, f) (clause-numbered, (clause-closed, (clause-least, (clause-lowest, (clause-counted, (clause-rounds, (clause-few, (clause-seven, (clause-rule, (clause-under, (clause-after, clause-larger)))))))))))

@@ -14,7 +14,7 @@ use Rattle.calls.specs.declared.BlocksVerdict.{BlocksVerdict}
 use Rattle.calls.specs.Blocks.{refusedBlocks, blocksOf, blocksRead, bytesOf, bytesRead, blocksVerdict, bytesLeft}
 
 module _ (out : List ℕ) where
-  by-size : (p : Problem) (t : Bool) → 0 < cond {A = BlocksVerdict} t (refusedBlocks 7 0) (record { refusal = noRefusal; blocks = blockTotal p; rounds = closing p .rounds }) .refusal .number → cond t out (blockBytes (closing p .state .labels) ++ drop 576 out) ≡ out
+  by-size : (p : Problem) (t : Bool) → 0 < cond {A = BlocksVerdict} t (refusedBlocks 7 0) (record { refusal = noRefusal; blocks = blockTotal p; rounds = closing p .rounds; rule = p .rule }) .refusal .number → cond t out (blockBytes (closing p .state .labels) ++ drop 576 out) ≡ out
   by-size p true h = refl
   by-size p false h = absurd (omega arith)
 

@@ -2,18 +2,18 @@
 -- their denominators are not 0.
 use native.Mathlib.Omega.{arith}
 use native.Mathlib.Numerals.{add-one}
-use native.Mathlib.Nat.{mul-zero, zero-mul, mul-le-mul-right, le-of-mul-le-mul-right}
+use native.Mathlib.Nat.{mul-zero, zero-mul}
 use mathlib.Core.Path.{_≡_, refl, sym, ap, _∙_}
 use mathlib.Core.Bool.{Bool, true, false, cond, _||_}
 use mathlib.Core.List.{List, [], _∷_}
 use Prim.Native.Nat.{ℕ, zero, suc, _+_, _*_, _^_, _≤_, _<_}
-use lib.Dec.{ltb, eqb, leb}
+use lib.Dec.{eqb, leb}
 use lib.IntN.{ℤ, pos, negsuc, _*ℤ_}
 use lib.ListN.{length, getD, take, length-take}
 use lib.Seq.{getD-take}
 use lib.Signed.{ltZ, leZ}
-use borrow.Author.Tests.{ltb-true, ltb-false, lt-ltb, le-ltb, eqb-false}
-use Rattle.counting.proofs.Cases.{clash}
+use borrow.Author.Tests.{eqb-false}
+use Rattle.counting.proofs.Cases.{clash, never}
 use Rattle.calls.specs.Fractions.{none, isLess}
 use Rattle.calls.specs.declared.Fraction.{Fraction}
 use Rattle.calls.specs.declared.AgedGap.{AgedGap}
@@ -22,6 +22,7 @@ use Rattle.calls.specs.declared.WindowVerdict.{WindowVerdict}
 use Rattle.calls.specs.declared.Pushed.{Pushed}
 use Rattle.calls.specs.Window.{isRefused, acceptedOf, aged, widestOf, refusedArrival, foundWidest, arrivalVerdict}
 use Rattle.calls.specs.Window.{pushVerdict, Widest, FindsWidest}
+use Rattle.calls.proofs.FractionOrder.{one-way, not-itself, less-at-most}
 use Rattle.calls.proofs.Windows.{verdict-is}
 
 -- ---- what an accepted arrival is: 0 or more, over 1 or more
@@ -65,23 +66,12 @@ gaps-accepted [] j h = absurd (omega arith)
 gaps-accepted (a ∷ past) j h = one-more-gap a (acceptedOf past) (gaps-accepted past) (isRefused a) refl j h
 
 -- ---- the order of gaps
-less-is : (f g : Fraction) (p : Gap f) (q : Gap g) → isLess f g ≡ ltb (p .size * g .den) (q .size * f .den)
-less-is f g p q = rw (p .num, q .num) refl
-
-not-itself : (f : Fraction) → Gap f → isLess f f ≡ false
-not-itself f p = less-is f f p p ∙ le-ltb (p .size * f .den) (p .size * f .den) (omega arith)
-
-one-way : (f g : Fraction) → Gap f → Gap g → isLess f g ≡ true → isLess g f ≡ false
-one-way f g p q e =
-    let h = ltb-true (p .size * g .den) (q .size * f .den) (sym (less-is f g p q) ∙ e) in
-    less-is g f q p ∙ le-ltb (q .size * f .den) (p .size * g .den) (omega arith)
-
-through : (f g h : Fraction) → Gap f → Gap g → Gap h → isLess f g ≡ false → isLess g h ≡ false → isLess f h ≡ false
-through f g h p q r d e =
-    let u = mul-le-mul-right (h .den) (ltb-false (p .size * g .den) (q .size * f .den) (sym (less-is f g p q) ∙ d)) in
-    let v = mul-le-mul-right (f .den) (ltb-false (q .size * h .den) (r .size * g .den) (sym (less-is g h q r) ∙ e)) in
-    let k : r .size * f .den * g .den ≤ p .size * h .den * g .den = omega arith in
-    less-is f h p r ∙ le-ltb (p .size * h .den) (r .size * f .den) (le-of-mul-le-mul-right k (q .den))
+through : (f g h : Fraction) → Gap g → isLess f g ≡ false → isLess g h ≡ false → isLess f h ≡ false
+through f g h q d e = go (isLess f h) refl
+  where
+    go : (t : Bool) → isLess f h ≡ t → t ≡ false
+    go true x = let y = less-at-most f h g (q .den) x e in never (sym d ∙ y)
+    go false x = refl
 
 not-none : (f : Fraction) → Gap f → isLess f none ≡ false
 not-none f p = rw (p .num, mul-zero, zero-mul) refl
@@ -92,7 +82,7 @@ module _ (x : Fraction) (l : List Fraction) (g : Gaps (x ∷ l)) where
   newest-wins h = record { within = omega arith; there = refl; widest = at; newest = λ j i. absurd (omega arith) }
     where
       at : (j : ℕ) → j < suc (length l) → isLess x (getD (x ∷ l) j none) ≡ false
-      at zero i = not-itself x (g 0 (omega arith))
+      at zero i = not-itself x
       at (suc j) i = h j (omega arith)
 
   module _ (w : AgedGap) (p : Widest l (w .gap) (w .age)) where
@@ -108,7 +98,7 @@ module _ (x : Fraction) (l : List Fraction) (g : Gaps (x ∷ l)) where
     }
       where
         at : (j : ℕ) → j < suc (length l) → isLess (w .gap) (getD (x ∷ l) j none) ≡ false
-        at zero i = one-way x (w .gap) (g 0 (omega arith)) found e
+        at zero i = one-way x (w .gap) e
         at (suc j) i = p .widest j (omega arith)
 
         before : (j : ℕ) → j < w .age + 1 → isLess (getD (x ∷ l) j none) (w .gap) ≡ true
@@ -120,7 +110,7 @@ module _ (x : Fraction) (l : List Fraction) (g : Gaps (x ∷ l)) where
     wider-is true e = older-wins e
     wider-is false e =
         newest-wins λ j i.
-        through x (w .gap) (getD l j none) (g 0 (omega arith)) found (g (suc j) (omega arith)) e (p .widest j i)
+        through x (w .gap) (getD l j none) found e (p .widest j i)
 
 pub widest-is : (x : Fraction) (l : List Fraction) → Gaps (x ∷ l)
     → let r = widestOf (x ∷ l) in Widest (x ∷ l) (r .gap) (r .age)

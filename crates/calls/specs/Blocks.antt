@@ -18,13 +18,13 @@ blocksShort out t = ltb (length out) blockByteCount || tablesShort t
 
 -- ---- the verdict: "A refusal .. returns number, stream .., place and key; all other fields are 0"
 abbrev pub refusedBlocks : ℕ → ℕ → BlocksVerdict
-refusedBlocks number place = record { refusal = problemRefusal number place; blocks = 0; rounds = 0 }
+refusedBlocks number place = record { refusal = problemRefusal number place; blocks = 0; rounds = 0; rule = 0 }
 
--- for a problem that is read: refusal 7, or the number of blocks and of rounds
+-- for a problem that is read: refusal 7, or the number of blocks and of rounds; "Each verdict .. says the rule used"
 unfoldable pub blocksOf : Problem → BlocksVerdict
 blocksOf p =
     cond (tooLarge p) (refusedBlocks 7 0)
-    (record { refusal = noRefusal; blocks = blockTotal p; rounds = closing p .rounds })
+    (record { refusal = noRefusal; blocks = blockTotal p; rounds = closing p .rounds; rule = p .rule })
 
 abbrev pub blocksRead : Outcome Problem → BlocksVerdict
 blocksRead (refused number place) = refusedBlocks number place

@@ -16,19 +16,20 @@ use Rattle.calls.specs.Refusals.{noRefusal, problemRefusal, certificateR
 
 -- "A refusal .. returns number, stream .., place and key; all other fields are 0"
 abbrev pub refusedCheck : Refusal → CheckVerdict
-refusedCheck r = record { refusal = r; side = 0; bound = none; rounds = 0 }
+refusedCheck r = record { refusal = r; side = 0; bound = none; rounds = 0; rule = 0 }
 
 -- the bound that a certificate states, p/q
 abbrev pub boundOf : Header → Fraction
 boundOf t = fraction (t .p) (t .q)
 
--- "Check (problem, certificate): side, p, q, rounds"
-abbrev pub acceptedCheck : Header → ℕ → CheckVerdict
-acceptedCheck t rounds = record { refusal = noRefusal; side = t .side; bound = boundOf t; rounds = rounds }
+-- "Check (problem, certificate): side, p, q, rounds", and "the rule used"
+abbrev pub acceptedCheck : Header → ℕ → ℕ → CheckVerdict
+acceptedCheck t rounds rule =
+    record { refusal = noRefusal; side = t .side; bound = boundOf t; rounds = rounds; rule = rule }
 
 abbrev pub checkJudged : Problem → Judgement → CheckVerdict
 checkJudged p (J.refused number place key) = refusedCheck (certificateRefusal 1 number place key)
-checkJudged p (J.accepted c) = acceptedCheck (c .header) (closing p .rounds)
+checkJudged p (J.accepted c) = acceptedCheck (c .header) (closing p .rounds) (p .rule)
 
 -- "7; the first certificate by commands likewise; 8 by rows; 9"
 unfoldable pub checkOf : Problem → List ℕ → CheckVerdict

@@ -18,12 +18,12 @@ use Rattle.calls.specs.Check.{boundOf}
 
 -- "all other fields are 0": there is no mark
 abbrev pub refusedPair : Refusal → PairVerdict
-refusedPair r = record { refusal = r; lower = none; upper = none; gap = none; empty = false; rounds = 0 }
+refusedPair r = record { refusal = r; lower = none; upper = none; gap = none; empty = false; rounds = 0; rule = 0 }
 
--- "Pair: both bounds, gap, rounds"; "The pair now marks a negative gap as "empty", with 0 in both gap fields in place
--- of document 01's gap"
-abbrev pub acceptedPair : Header → Header → ℕ → PairVerdict
-acceptedPair t u rounds =
+-- "Pair: both bounds, gap, rounds", and "the rule used"; "The pair now marks a negative gap as "empty", with 0 in both
+-- gap fields in place of document 01's gap"
+abbrev pub acceptedPair : Header → Header → ℕ → ℕ → PairVerdict
+acceptedPair t u rounds rule =
     let gap = gapOf (boundOf t) (boundOf u) in
     record {
       refusal = noRefusal;
@@ -32,19 +32,20 @@ acceptedPair t u rounds =
       gap = unlessNegative gap;
       empty = isNegative gap;
       rounds = rounds;
+      rule = rule;
     }
 
 -- refusal 10: "first side not 0 or second not 1"; "the first wrong stream"
-unfoldable pub pairSides : Header → Header → ℕ → PairVerdict
-pairSides t u rounds =
+unfoldable pub pairSides : Header → Header → ℕ → ℕ → PairVerdict
+pairSides t u rounds rule =
     cond (eqb (t .side) 0)
-    (cond (eqb (u .side) 1) (acceptedPair t u rounds) (refusedPair (certificateRefusal 2 10 0 0)))
+    (cond (eqb (u .side) 1) (acceptedPair t u rounds rule) (refusedPair (certificateRefusal 2 10 0 0)))
     (refusedPair (certificateRefusal 1 10 0 0))
 
 -- "the second certificate the same; 10"
 abbrev pub pairSecond : Problem → Certificate → Judgement → PairVerdict
 pairSecond p c (J.refused number place key) = refusedPair (certificateRefusal 2 number place key)
-pairSecond p c (J.accepted d) = pairSides (c .header) (d .header) (closing p .rounds)
+pairSecond p c (J.accepted d) = pairSides (c .header) (d .header) (closing p .rounds) (p .rule)
 
 -- "the first certificate by commands likewise; 8 by rows; 9"
 abbrev pub pairFirst : Problem → Judgement → List ℕ → PairVerdict

@@ -1,21 +1,23 @@
 -- What the calls promise, in the buyer's terms. s is the problem stream, and t, low and high are certificate streams;
--- number, blocks and rounds are what the call returns, and bytes the 576 bytes at exit; short is true where something
--- lent is too short.
+-- number, blocks, rounds and rule are what the call returns, and bytes the 576 bytes at exit; short is true where
+-- something lent is too short.
 use mathlib.Core.Path.{_≡_}
 use mathlib.Core.Bool.{Bool, true, false}
-use mathlib.Core.List.{List}
+use mathlib.Core.List.{List, []}
 use mathlib.Core.Logic.{_⊎_}
 use Prim.Native.Nat.{ℕ, _+_, _≤_, _<_}
-use lib.ListN.{length}
+use lib.ListN.{length, getD}
 use Rattle.counting.specs.Counting.{listed, sumTo}
 use Rattle.format.specs.Commands.{given}
 use Rattle.format.specs.ProblemRules.{Problem, readProblem}
 use Rattle.format.specs.ProblemCounts.{memberCommands, basesNamed}
+use Rattle.format.specs.ProblemRule.{ruleNamed}
+use Rattle.format.specs.ProblemOrder.{orderNamed}
 use Rattle.format.specs.ProblemBases.{basisOf}
 use Rattle.joining_rule.specs.Sets.{different}
 use Rattle.joining_rule.specs.Bytes.{blockAt}
-use Rattle.joining_rule.specs.Meaning.{Closed, Least, Lowest, TakesRounds}
-use Rattle.joining_rule.specs.Joining.{basesOf, startSet, closing, closedSupport, mostKeys, tooLarge}
+use Rattle.joining_rule.specs.Meaning.{Closed, Least, Lowest, FullClosure, RoundsDone}
+use Rattle.joining_rule.specs.Joining.{basesOf, startSet, closing, reachedSupport, mostKeys, tooLarge}
 use Rattle.calls.specs.Fractions.{gapOf, isNegative, unlessNegative}
 use Rattle.calls.specs.declared.Fraction.{Fraction}
 use Rattle.format.specs.CertificateRules.{Certificate, readCertificate}
@@ -27,7 +29,7 @@ use Rattle.calls.specs.Check.{boundOf}
 use Rattle.calls.specs.declared.Refusal.{Refusal}
 use Rattle.calls.specs.declared.CheckVerdict.{CheckVerdict}
 use Rattle.calls.specs.declared.PairVerdict.{PairVerdict}
-use Rattle.joining_rule.specs.Rounds.{closedWithZero}
+use Rattle.joining_rule.specs.Rounds.{start, after, countedKeys}
 
 -- ---- every call
 -- the number is 0, where nothing is refused, or one of the refusals 1 to last of document 01's ten. The last of the
@@ -40,16 +42,37 @@ NumberedTo last number = number ≤ last
 abbrev pub WhereAccepted : List ℕ → ℕ → (Problem → Type 0) → Type 0
 WhereAccepted s number P = (p : Problem) → readProblem s ≡ given p → number ≡ 0 → P p
 
+-- "Each verdict of the blocks call, the check and the pair says the rule used ..; refusals say 0": the rule that the
+-- stream names
+pub record RuleUsed (s : List ℕ) (number rule : ℕ) : Type 0 where
+  pub named : number ≡ 0 → rule ≡ ruleNamed s
+  pub refused : 0 < number → rule ≡ 0
+
 -- ---- the blocks
+-- P holds of the problem where the closure is full besides, as it is without 09: "with it, the blocks reported and used
+-- are those after the last round, in place of the least ones"
+abbrev pub WhereFull : List ℕ → ℕ → (Problem → Type 0) → Type 0
+WhereFull s number P =
+    WhereAccepted s number (λ p. FullClosure (p .rule) (orderNamed s) (basesOf p) (startSet p) → P p)
+
 -- they contain the start and are closed under the joining rule's steps
 abbrev pub BlocksClosed : List ℕ → ℕ → List ℕ → Type 0
 BlocksClosed s number bytes =
-    WhereAccepted s number (λ p. Closed (basesOf p) (startSet p) (blockAt bytes) (closedSupport p))
+    WhereFull s number (λ p. Closed (p .rule) (basesOf p) (startSet p) (blockAt bytes) (reachedSupport p))
 
 -- they are the least such
 abbrev pub BlocksLeast : List ℕ → ℕ → List ℕ → Type 0
 BlocksLeast s number bytes =
-    WhereAccepted s number (λ p. Least (basesOf p) (startSet p) (blockAt bytes) (closedSupport p))
+    WhereFull s number (λ p. Least (p .rule) (basesOf p) (startSet p) (blockAt bytes) (reachedSupport p))
+
+-- and in every case they are those that the rule has after the rounds that are reported
+abbrev pub BlocksAfter : List ℕ → ℕ → List ℕ → ℕ → Type 0
+BlocksAfter s number bytes rounds =
+    WhereAccepted s number
+    (λ p.
+    (j i : ℕ) → j < 9 → i < length (basisOf p j)
+    → blockAt bytes j i
+    ≡ getD (getD (after (p .rule) (basesOf p) (start (basesOf p) (startSet p)) rounds .labels) j []) i 0)
 
 -- "A block's number is its lowest index"
 abbrev pub BlocksLowest : List ℕ → ℕ → List ℕ → Type 0
@@ -61,19 +84,22 @@ BlocksCounted s number bytes blocks =
     WhereAccepted s number
     (λ p. blocks ≡ sumTo 9 (λ j. different (listed (length (basisOf p j)) (blockAt bytes j))))
 
--- the rounds are exactly those that the joining rule takes
+-- the rounds are exactly those that the joining rule takes, or k where 09 names a smaller one
 abbrev pub RoundsTaken : List ℕ → ℕ → ℕ → Type 0
-RoundsTaken s number rounds = WhereAccepted s number (λ p. TakesRounds (basesOf p) (startSet p) rounds)
+RoundsTaken s number rounds =
+    WhereAccepted s number (λ p. RoundsDone (p .rule) (orderNamed s) (basesOf p) (startSet p) rounds)
 
 -- "at most N − B + 2": N the number of 05 commands, B the number of different j that they name
 abbrev pub FewRounds : List ℕ → ℕ → ℕ → Type 0
 FewRounds s number rounds = WhereAccepted s number (λ p. rounds + basesNamed s ≤ memberCommands s + 2)
 
--- with tables that are long enough, refusal 7 is given exactly when "closed S with zero" is "above 2,048"
+-- with tables that are long enough, refusal 7 is given exactly when "closed S with zero" is "above 2,048"; "The limit
+-- of 2,048 counts the closed S with the zero exponent and all in-block products"; at an order it "counts the S reached"
 pub record SevenExactly (s : List ℕ) (number : ℕ) : Type 0 where
-  pub only : (p : Problem) → readProblem s ≡ given p → number ≡ 7 → mostKeys < length (closedWithZero (closing p))
+  pub only : (p : Problem) → readProblem s ≡ given p → number ≡ 7
+      → mostKeys < length (countedKeys (basesOf p) (closing p .state))
   pub always : (p : Problem) → readProblem s ≡ given p → (number ≡ 1 → ⊥)
-      → mostKeys < length (closedWithZero (closing p)) → number ≡ 7
+      → mostKeys < length (countedKeys (basesOf p) (closing p .state)) → number ≡ 7
 
 -- ---- bounds and gap
 -- "at every rational point where all constraints are at least 0, p/q ≤ value ≤ P/Q"; such a point "is from here on one

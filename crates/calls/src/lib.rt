@@ -16,26 +16,28 @@ pub struct Fraction {
     pub den: u64,
 }
 
-// What the blocks call returns: the number of blocks over all bases, and the rounds of the joining rule. Both are 0
-// with a refusal.
+// What the blocks call returns: the number of blocks over all bases, the rounds of the joining rule, and the rule used,
+// 1 or 2. All three are 0 with a refusal.
 pub struct BlocksVerdict {
     pub refusal: Refusal,
     pub blocks: usize,
     pub rounds: usize,
+    pub rule: usize,
 }
 
-// What the check returns: the side, the bound p/q that the certificate states, and the rounds. With a refusal side and
-// rounds are 0 and the bound is 0 over 0.
+// What the check returns: the side, the bound p/q that the certificate states, the rounds and the rule used. With a
+// refusal side, rounds and rule are 0 and the bound is 0 over 0.
 pub struct CheckVerdict {
     pub refusal: Refusal,
     pub side: usize,
     pub bound: Fraction,
     pub rounds: usize,
+    pub rule: usize,
 }
 
-// What the pair returns: the bounds p/q and P/Q that the certificates state, their gap, and the rounds. A gap below 0
-// is marked as empty, with 0 over 0 in its place. With a refusal there is no mark, the rounds are 0 and the fractions
-// 0 over 0.
+// What the pair returns: the bounds p/q and P/Q that the certificates state, their gap, the rounds and the rule used.
+// A gap below 0 is marked as empty, with 0 over 0 in its place. With a refusal there is no mark, rounds and rule are 0
+// and the fractions 0 over 0.
 pub struct PairVerdict {
     pub refusal: Refusal,
     pub lower: Fraction,
@@ -43,6 +45,7 @@ pub struct PairVerdict {
     pub gap: Fraction,
     pub empty: bool,
     pub rounds: usize,
+    pub rule: usize,
 }
 
 // The latest gaps of a test line, the newest first: the gap of age j stands at place j, for the first `count` places,
@@ -89,4 +92,19 @@ pub enum Chosen {
 pub struct SupersedingVerdict {
     pub refusal: Refusal,
     pub chosen: Chosen,
+}
+
+// What the symmetries call returns: the number of sign symmetries, 0 with a refusal.
+pub struct SymmetriesVerdict {
+    pub refusal: Refusal,
+    pub masks: usize,
+}
+
+// What the report returns: how many pairs were accepted, the smallest of their lower bounds and the largest of their
+// upper ones; 0 over 0 where none was. With a refusal all are 0.
+pub struct ReportVerdict {
+    pub refusal: Refusal,
+    pub accepted: usize,
+    pub lower: Fraction,
+    pub upper: Fraction,
 }

@@ -1,3 +1,2 @@
-pub mod Fills
 pub mod Judging
 pub mod Comparing

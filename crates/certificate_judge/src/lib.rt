@@ -1,10 +1,5 @@
-// What the public calls share: one certificate that is judged against a problem with its blocks, and the work tables
-// that are cleared.
+// What the public calls share: one certificate that is judged against a problem with its blocks.
 ghost use mathlib.Core.Path.{_≡_};
-ghost use mathlib.Core.List.{_++_};
-ghost use Prim.Native.Nat.{_≤_};
-ghost use lib.ListN.{length, drop, replicate};
-ghost use lib.IntN.{pos};
 ghost use Rattle.format.specs.ProblemRules.{Problem};
 ghost use Rattle.accepting.specs.Judgement as J;
 ghost use Rattle.calls.specs.Refusals.{problemRefusal, certificateRefusal};
@@ -23,30 +18,6 @@ use row_blocks::Place;
 pub enum Judged {
     Refused(Refusal),
     Accepted(Header),
-}
-
-// A work table's first n numbers set to zero.
-pub fn clear(t: &mut [u64], n: usize)
-    requires { ⌜ n ≤ length (now t) ⌝ }
-    ensures { λ _. ⌜ now (t .exit) ≡ replicate n 0 ++ drop n (now (t .entry)) ⌝ }
-{
-    let mut i = 0;
-    while i < n {
-        t[i] = 0;
-        i += 1;
-    }
-}
-
-// The same of the table of signed numbers.
-pub fn clear_signed(t: &mut [i64], n: usize)
-    requires { ⌜ n ≤ length (now t) ⌝ }
-    ensures { λ _. ⌜ now (t .exit) ≡ replicate n (pos 0) ++ drop n (now (t .entry)) ⌝ }
-{
-    let mut i = 0;
-    while i < n {
-        t[i] = 0;
-        i += 1;
-    }
 }
 
 // A refusal of a certificate.
@@ -97,8 +68,8 @@ fn difference(
         (now (low .exit))
         ⌝ }
 {
-    clear_signed(high, n);
-    clear_signed(low, n);
+    work_tables::clear_signed(high, n);
+    work_tables::clear_signed(low, n);
     identity_check::compare(
         s,
         starts,

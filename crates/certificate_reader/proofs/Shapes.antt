@@ -11,18 +11,11 @@ use borrow.Author.Tests.{le-leb, leb-true, leb-false, lt-ltb, le-ltb}
 use Rattle.format.specs.ProblemRules.{Problem}
 use Rattle.format.specs.ProblemLimits.{mostConditions}
 use Rattle.format.specs.ProblemBases.{basisOf, isEquality, kindOf}
-use Rattle.format.proofs.WithinLimits.{Monomials, Limits}
-use Rattle.format.proofs.ProblemLimits.{all-at, monomials-none}
 use Rattle.format.specs.CertificateRules.{Entry, Certificate, lastRow, rises, indexRepeated}
 use Rattle.flat.specs.Flat.{conditionsAt, equalityIn, FlatProblem}
 use Rattle.flat.proofs.Flat.{basis-long, kind-part}
 use Rattle.certificate_reader.specs.declared.Progress.{Progress}
 use Rattle.certificate_reader.specs.Kept.{Sized, ProblemSizes, floorOf, progressOf}
-
--- ---- the bases of a problem within its limits
-pub basis-few : (p : Problem) → Limits p → (j : ℕ) → length (basisOf p j) ≤ 64
-unfolding basisOf
-basis-few p l j = all-at (Monomials (p .variables) 8 64) (p .bases) j [] (l .members) (monomials-none (p .variables) 8 64) .count
 
 -- the sizes that stand beside a problem are its own
 pub flat-sized : {p : Problem} {keys : List ℕ} {coefficients : List ℤ} {sizes : List ℕ} → FlatProblem p keys coefficients sizes → Sized p sizes

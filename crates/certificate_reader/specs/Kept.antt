@@ -17,7 +17,7 @@ use Rattle.certificate_reader.specs.declared.Progress.{Progress}
 
 -- ---- a problem's sizes
 pub record Sized (p : Problem) (sizes : List ℕ) : Type 0 where
-  pub sizes-length : length sizes ≡ 29
+  pub sizes-length : length sizes ≡ 31
   pub bases : (j : ℕ) → j < mostBases → getD sizes j 0 ≡ length (basisOf p j)
   pub conditions : getD sizes conditionsAt 0 ≡ length (p .conditions)
   pub kinds : (j : ℕ) → j < mostBases → equalityIn sizes j ≡ isEquality (kindOf p j)

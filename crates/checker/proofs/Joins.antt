@@ -9,7 +9,7 @@ use lib.IntN.{ℤ}
 use lib.ListN.{length}
 use Rattle.format.specs.ProblemRules.{Problem}
 use Rattle.format.proofs.WithinLimits.{Limits}
-use Rattle.joining_rule.specs.Joining.{closing, tooLarge}
+use Rattle.joining_rule.specs.Joining.{basesOf, closing, tooLarge}
 use Rattle.joining_rule.proofs.Bytes.{bytes-long}
 use Rattle.accepting.specs.Judgement.{comparedKeys}
 use Rattle.flat.specs.Flat.{FlatProblem}
@@ -18,7 +18,7 @@ use Rattle.closure.specs.Tables.{ClosureLeft}
 use Rattle.closure.specs.declared.Joined.{Joined}
 use Rattle.certificate_judge.specs.Steps.{JoinedProblem}
 
-module _ (p : Problem) {t : List ℕ} {j : Joined} {t′ idx′ l′ : List ℕ} (left : ClosureLeft (closing p) t j t′ idx′ l′) where
+module _ (p : Problem) {t : List ℕ} {j : Joined} {t′ idx′ l′ : List ℕ} (left : ClosureLeft (basesOf p) (closing p) t j t′ idx′ l′) where
   -- a joining that is full is refusal 7
   pub full-is : j .full ≡ tooLarge p
   unfolding tooLarge

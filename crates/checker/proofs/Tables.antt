@@ -1,53 +1,19 @@
--- Laws of what is lent: too short or long enough, and what a table holds at the end.
-use mathlib.Core.Path.{_≡_, refl, ap, _∙_}
-use mathlib.Core.Bool.{Bool, true, false, _||_}
-use mathlib.Core.List.{List, _++_}
+-- Laws of the lent bytes and tables of the blocks call: too short or long enough.
+use mathlib.Core.Path.{_≡_}
+use mathlib.Core.Bool.{Bool, true}
+use mathlib.Core.List.{List}
 use Prim.Native.Nat.{ℕ, _≤_, _<_}
-use lib.Dec.{ltb}
-use lib.IntN.{ℤ, pos}
-use lib.ListN.{length, replicate}
-use borrow.Author.Tests.{lt-ltb, le-ltb, ltb-false}
-use Rattle.counting.proofs.Cases.{clash}
-use Rattle.calls.specs.Tables.{tableLength, Tables, tablesShort, TablesLeft}
+use lib.ListN.{length}
+use Rattle.calls.specs.Tables.{Tables, tablesShort}
 use Rattle.joining_rule.specs.Bytes.{blockByteCount}
 use Rattle.calls.specs.Blocks.{blocksShort}
-use Rattle.checker.specs.Tables.{Long, Rest}
+use Rattle.work_tables.proofs.Tables.{lent-short, lent-long}
 
-or-left : (a b : Bool) → (a || b) ≡ false → a ≡ false
-or-left true b h = h
-or-left false b h = refl
+module _ (t : Tables) (out : List ℕ) where
+  pub out-short : length out < blockByteCount → blocksShort out t ≡ true
+  unfolding blocksShort
+  out-short h = lent-short t blockByteCount out h
 
-or-right : (a b : Bool) → (a || b) ≡ false → b ≡ false
-or-right true b h = clash (cc)
-or-right false b h = h
-
-module _ (t : Tables) where
-  pub tables-long : tablesShort t ≡ false → Long t
-  tables-long h =
-      let r = or-right (ltb (length (t .keys)) tableLength) _ h in
-      record {
-        keys = ltb-false _ _ (or-left (ltb (length (t .keys)) tableLength) _ h);
-        high = ltb-false _ _ (or-left (ltb (length (t .high)) tableLength) _ r);
-        low = ltb-false _ _ (or-right (ltb (length (t .high)) tableLength) _ r);
-      }
-
-  -- refusal 1 writes nothing
-  pub tables-kept : TablesLeft true t t
-  tables-kept = record { keys = refl; high = refl; low = refl }
-
-  module _ (out : List ℕ) where
-    pub out-short : length out < blockByteCount → blocksShort out t ≡ true
-    unfolding blocksShort
-    out-short h = rw (lt-ltb (length out) blockByteCount h)
-
-    pub out-long : (b : Bool) → blockByteCount ≤ length out → tablesShort t ≡ b → blocksShort out t ≡ b
-    unfolding blocksShort
-    out-long b h e = rw (le-ltb (length out) blockByteCount h) e
-
--- tables that were changed before place 2,048 only, and then cleared
-pub tables-cleared : {t t₁ t₂ : Tables} → Rest t t₁ → TablesLeft false t₁ t₂ → TablesLeft false t t₂
-tables-cleared r c = record {
-  keys = c .keys ∙ ap (λ (l : List ℕ). replicate tableLength 0 ++ l) (r .keys);
-  high = c .high ∙ ap (λ (l : List ℤ). replicate tableLength (pos 0) ++ l) (r .high);
-  low = c .low ∙ ap (λ (l : List ℤ). replicate tableLength (pos 0) ++ l) (r .low);
-}
+  pub out-long : (b : Bool) → blockByteCount ≤ length out → tablesShort t ≡ b → blocksShort out t ≡ b
+  unfolding blocksShort
+  out-long b h e = lent-long t blockByteCount out b h e

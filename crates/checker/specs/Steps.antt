@@ -24,10 +24,10 @@ pub record ReadableKeys (keys sizes : List ℕ) : Type 0 where
   pub coefficients : List ℤ
   pub readable : Readable keys coefficients sizes
 
-abbrev pub checkFrom : Judged → ℕ → CheckVerdict
-checkFrom (Judged.Refused r) rounds = refusedCheck r
-checkFrom (Judged.Accepted t) rounds = acceptedCheck t rounds
+abbrev pub checkFrom : Judged → ℕ → ℕ → CheckVerdict
+checkFrom (Judged.Refused r) rounds rule = refusedCheck r
+checkFrom (Judged.Accepted t) rounds rule = acceptedCheck t rounds rule
 
-abbrev pub pairFrom : Header → Judged → ℕ → PairVerdict
-pairFrom t (Judged.Refused r) rounds = refusedPair r
-pairFrom t (Judged.Accepted u) rounds = pairSides t u rounds
+abbrev pub pairFrom : Header → Judged → ℕ → ℕ → PairVerdict
+pairFrom t (Judged.Refused r) rounds rule = refusedPair r
+pairFrom t (Judged.Accepted u) rounds rule = pairSides t u rounds rule

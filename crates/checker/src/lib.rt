@@ -1,10 +1,8 @@
 // The public calls: the blocks of a problem, the check of one certificate and the pair of two. What they share is in
 // `certificate_judge`.
 ghost use mathlib.Core.Path.{_≡_};
-ghost use mathlib.Core.Bool.{false, _||_};
 ghost use mathlib.Core.List.{List, _++_};
 ghost use Prim.Native.Nat.{_≤_};
-ghost use lib.Dec.{ltb};
 ghost use lib.IntN.{ℤ};
 ghost use lib.ListN.{length, drop};
 ghost use Rattle.format.specs.ProblemRules.{Problem, readProblem};
@@ -19,14 +17,16 @@ ghost use Rattle.calls.specs.Blocks.{blocksShort, refusedBlocks, blocksOf, bloc
 ghost use Rattle.calls.specs.Blocks.{bytesOf, bytesRead, blocksVerdict, bytesLeft};
 ghost use Rattle.calls.specs.Check.{refusedCheck, checkJudged, checkOf, checkRead, checkVerdict};
 ghost use Rattle.calls.specs.Pair.{refusedPair, pairSides, pairFirst, pairOf, pairRead, pairVerdict};
-ghost use Rattle.calls.specs.Promises.{NumberedTo, BlocksClosed, BlocksLeast, BlocksLowest, BlocksCounted};
-ghost use Rattle.calls.specs.Promises.{RoundsTaken, FewRounds, SevenExactly};
+ghost use Rattle.calls.specs.Promises.{NumberedTo, BlocksClosed, BlocksLeast, BlocksLowest, BlocksCounted, BlocksAfter};
+ghost use Rattle.calls.specs.Promises.{RoundsTaken, FewRounds, SevenExactly, RuleUsed};
 ghost use Rattle.calls.specs.Promises.{AcceptedExactly, CheckDiffers, HoldsBySide};
 ghost use Rattle.calls.specs.Promises.{PairExactly, PairDiffers, HoldsBelow, HoldsAbove, HoldsGap, NoPoints};
+ghost use Rattle.calls.specs.Rules.{BlocksUnderOne, CheckUnderOne, PairUnderOne};
+ghost use Rattle.calls.specs.Rules.{BlocksAtLarger, CheckAtLarger, PairAtLarger};
 ghost use Rattle.flat.specs.Flat.{FlatProblem};
 ghost use Rattle.fractions.specs.Ranges.{Bound};
 ghost use Rattle.certificate_judge.specs.Steps.{JoinedProblem, Judgeable, LongSums, SumsRest};
-ghost use Rattle.checker.specs.Tables.{Long, Rest};
+ghost use Rattle.work_tables.specs.Tables.{Long, Rest};
 ghost use Rattle.checker.specs.Steps.{Readable, ReadableKeys, checkFrom, pairFrom};
 use calls::BlocksVerdict;
 use calls::CheckVerdict;
@@ -36,6 +36,7 @@ use calls::Refusal;
 use calls::TwoChecks;
 use certificate_judge::Judged;
 use closure::Joined;
+use flat::RULE;
 use format::certificate::Header;
 
 // The block numbers written to the lent bytes.
@@ -48,31 +49,6 @@ fn copy(out: &mut [u8], labels: &[u8])
         out[i] = labels[i];
         i += 1;
     }
-}
-
-// Whether a work table is too short, by their lengths.
-fn is_short(keys: usize, high: usize, low: usize) -> bool
-    ensures { λ r. ⌜ r ≡ (ltb keys tableLength || (ltb high tableLength || ltb low tableLength)) ⌝ }
-{
-    if keys < 2048 {
-        return true;
-    }
-    if high < 2048 {
-        return true;
-    }
-    low < 2048
-}
-
-// The work tables as every call leaves them that has used them.
-fn clear_tables(keys: &mut [u64], high: &mut [i64], low: &mut [i64])
-    requires { ⌜ Long (tables (now keys) (now high) (now low)) ⌝ }
-    ensures { λ _.
-        let lent = tables (now (keys .entry)) (now (high .entry)) (now (low .entry)) in
-        ⌜ TablesLeft false lent (tables (now (keys .exit)) (now (high .exit)) (now (low .exit))) ⌝ }
-{
-    certificate_judge::clear(keys, 2048);
-    certificate_judge::clear_signed(high, 2048);
-    certificate_judge::clear_signed(low, 2048);
 }
 
 // A refusal of the blocks call: it is always the problem's, and has no key.
@@ -88,6 +64,7 @@ fn refuse_blocks(number: u8, place: usize) -> BlocksVerdict
         },
         blocks: 0,
         rounds: 0,
+        rule: 0,
     }
 }
 
@@ -111,6 +88,7 @@ fn blocks_of(keys: &[u64], sizes: &[usize], out: &mut [u8], table: &mut [u64]) -
         return refuse_blocks(7, 0);
     }
     copy(out, &labels);
+    let rule = sizes[RULE];
     BlocksVerdict {
         refusal: Refusal {
             number: 0,
@@ -120,6 +98,7 @@ fn blocks_of(keys: &[u64], sizes: &[usize], out: &mut [u8], table: &mut [u64]) -
         },
         blocks: j.blocks,
         rounds: j.rounds,
+        rule,
     }
 }
 
@@ -134,7 +113,7 @@ fn answer_blocks(problem: &[u8], out: &mut [u8], table: &mut [u64]) -> BlocksVer
 {
     let mut keys = [0u64; 1120];
     let mut coefficients = [0i32; 544];
-    let mut sizes = [0usize; 29];
+    let mut sizes = [0usize; 31];
     let r = problem_reader::read(problem, &mut keys, &mut coefficients, &mut sizes);
     let number = r.number;
     if 0 < number {
@@ -172,15 +151,29 @@ pub fn blocks(
     ensures rounds { λ r. ⌜ RoundsTaken (now (problem .entry)) (r .refusal .number) (r .rounds) ⌝ }
     ensures few_rounds { λ r. ⌜ FewRounds (now (problem .entry)) (r .refusal .number) (r .rounds) ⌝ }
     ensures seven { λ r. ⌜ SevenExactly (now (problem .entry)) (r .refusal .number) ⌝ }
+    ensures rule { λ r. ⌜ RuleUsed (now (problem .entry)) (r .refusal .number) (r .rule) ⌝ }
+    ensures under_one { λ r.
+        let lent = tables (now (keys .entry)) (now (high .entry)) (now (low .entry)) in
+        let before = now (out .entry) in
+        ⌜ BlocksUnderOne (blocksShort before lent) (now (problem .entry)) before (r .refusal .number)
+        (now (out .exit)) ⌝ }
+    ensures after { λ r. ⌜
+        BlocksAfter (now (problem .entry)) (r .refusal .number) (now (out .exit)) (r .rounds)
+        ⌝ }
+    ensures at_larger { λ r.
+        let lent = tables (now (keys .entry)) (now (high .entry)) (now (low .entry)) in
+        let before = now (out .entry) in
+        ⌜ BlocksAtLarger (blocksShort before lent) (now (problem .entry)) before (r .refusal .number)
+        (now (out .exit)) ⌝ }
 {
     if out.len() < 576 {
         return refuse_blocks(1, 0);
     }
-    if is_short(keys.len(), high.len(), low.len()) {
+    if work_tables::is_short(keys.len(), high.len(), low.len()) {
         return refuse_blocks(1, 0);
     }
     let v = answer_blocks(problem, out, keys);
-    clear_tables(keys, high, low);
+    work_tables::clear_tables(keys, high, low);
     v
 }
 
@@ -202,12 +195,13 @@ fn refuse_check(refusal: Refusal) -> CheckVerdict
         side: 0,
         bound: fractions::no_fraction(),
         rounds: 0,
+        rule: 0,
     }
 }
 
 // The verdict on one certificate.
-fn check_one(judged: Judged, rounds: usize) -> CheckVerdict
-    ensures { λ r. ⌜ r ≡ checkFrom judged rounds ⌝ }
+fn check_one(judged: Judged, rounds: usize, rule: usize) -> CheckVerdict
+    ensures { λ r. ⌜ r ≡ checkFrom judged rounds rule ⌝ }
 {
     match judged {
         Judged::Refused(f) => refuse_check(f),
@@ -216,6 +210,7 @@ fn check_one(judged: Judged, rounds: usize) -> CheckVerdict
             side: t.side,
             bound: bound(t.p, t.q),
             rounds,
+            rule,
         },
     }
 }
@@ -260,7 +255,7 @@ fn check_of(
         high,
         low,
     );
-    check_one(judged, j.rounds)
+    check_one(judged, j.rounds, sizes[RULE])
 }
 
 // The check, with tables that are long enough. The problem is read into arrays of the call.
@@ -279,7 +274,7 @@ fn answer_check(
 {
     let mut keys = [0u64; 1120];
     let mut coefficients = [0i32; 544];
-    let mut sizes = [0usize; 29];
+    let mut sizes = [0usize; 31];
     let r = problem_reader::read(problem, &mut keys, &mut coefficients, &mut sizes);
     let number = r.number;
     if 0 < number {
@@ -313,12 +308,19 @@ pub fn check(
     ensures holds { λ r. ⌜ HoldsBySide (now (problem .entry)) r ⌝ }
     ensures rounds { λ r. ⌜ RoundsTaken (now (problem .entry)) (r .refusal .number) (r .rounds) ⌝ }
     ensures few_rounds { λ r. ⌜ FewRounds (now (problem .entry)) (r .refusal .number) (r .rounds) ⌝ }
+    ensures rule { λ r. ⌜ RuleUsed (now (problem .entry)) (r .refusal .number) (r .rule) ⌝ }
+    ensures under_one { λ r.
+        let lent = tables (now (keys .entry)) (now (high .entry)) (now (low .entry)) in
+        ⌜ CheckUnderOne (tablesShort lent) (now (problem .entry)) (now (certificate .entry)) r ⌝ }
+    ensures at_larger { λ r.
+        let lent = tables (now (keys .entry)) (now (high .entry)) (now (low .entry)) in
+        ⌜ CheckAtLarger (tablesShort lent) (now (problem .entry)) (now (certificate .entry)) r ⌝ }
 {
-    if is_short(keys.len(), high.len(), low.len()) {
+    if work_tables::is_short(keys.len(), high.len(), low.len()) {
         return refuse_check(certificate_judge::problem_refusal(1, 0));
     }
     let v = answer_check(problem, certificate, keys, high, low);
-    clear_tables(keys, high, low);
+    work_tables::clear_tables(keys, high, low);
     v
 }
 
@@ -332,6 +334,7 @@ fn refuse_pair(refusal: Refusal) -> PairVerdict
         gap: fractions::no_fraction(),
         empty: false,
         rounds: 0,
+        rule: 0,
     }
 }
 
@@ -347,8 +350,8 @@ fn refuse_side(stream: u8) -> PairVerdict
 }
 
 // The verdict on two certificates that are accepted.
-fn pair_sides(lower: Header, upper: Header, rounds: usize) -> PairVerdict
-    ensures { λ r. ⌜ r ≡ pairSides lower upper rounds ⌝ }
+fn pair_sides(lower: Header, upper: Header, rounds: usize, rule: usize) -> PairVerdict
+    ensures { λ r. ⌜ r ≡ pairSides lower upper rounds rule ⌝ }
 {
     if lower.side != 0 {
         return refuse_side(1);
@@ -366,16 +369,17 @@ fn pair_sides(lower: Header, upper: Header, rounds: usize) -> PairVerdict
         gap: fractions::unless_negative(gap),
         empty: fractions::is_negative(gap),
         rounds,
+        rule,
     }
 }
 
 // The second certificate, after the first was accepted.
-fn pair_second(lower: Header, judged: Judged, rounds: usize) -> PairVerdict
-    ensures { λ r. ⌜ r ≡ pairFrom lower judged rounds ⌝ }
+fn pair_second(lower: Header, judged: Judged, rounds: usize, rule: usize) -> PairVerdict
+    ensures { λ r. ⌜ r ≡ pairFrom lower judged rounds rule ⌝ }
 {
     match judged {
         Judged::Refused(f) => refuse_pair(f),
-        Judged::Accepted(upper) => pair_sides(lower, upper, rounds),
+        Judged::Accepted(upper) => pair_sides(lower, upper, rounds, rule),
     }
 }
 
@@ -436,6 +440,7 @@ fn pair_both(
                 low,
             ),
             j.rounds,
+            sizes[RULE],
         ),
     }
 }
@@ -501,7 +506,7 @@ fn answer_pair(
 {
     let mut keys = [0u64; 1120];
     let mut coefficients = [0i32; 544];
-    let mut sizes = [0usize; 29];
+    let mut sizes = [0usize; 31];
     let r = problem_reader::read(problem, &mut keys, &mut coefficients, &mut sizes);
     let number = r.number;
     if 0 < number {
@@ -549,12 +554,19 @@ pub fn pair(
     ensures empty { λ r. ⌜ NoPoints (now (problem .entry)) r ⌝ }
     ensures rounds { λ r. ⌜ RoundsTaken (now (problem .entry)) (r .refusal .number) (r .rounds) ⌝ }
     ensures few_rounds { λ r. ⌜ FewRounds (now (problem .entry)) (r .refusal .number) (r .rounds) ⌝ }
+    ensures rule { λ r. ⌜ RuleUsed (now (problem .entry)) (r .refusal .number) (r .rule) ⌝ }
+    ensures under_one { λ r.
+        let lent = tables (now (keys .entry)) (now (high .entry)) (now (low .entry)) in
+        ⌜ PairUnderOne (tablesShort lent) (now (problem .entry)) (now (first .entry)) (now (second .entry)) r ⌝ }
+    ensures at_larger { λ r.
+        let lent = tables (now (keys .entry)) (now (high .entry)) (now (low .entry)) in
+        ⌜ PairAtLarger (tablesShort lent) (now (problem .entry)) (now (first .entry)) (now (second .entry)) r ⌝ }
 {
-    if is_short(keys.len(), high.len(), low.len()) {
+    if work_tables::is_short(keys.len(), high.len(), low.len()) {
         return refuse_pair(certificate_judge::problem_refusal(1, 0));
     }
     let v = answer_pair(problem, first, second, keys, high, low);
-    clear_tables(keys, high, low);
+    work_tables::clear_tables(keys, high, low);
     v
 }
 
@@ -623,8 +635,8 @@ fn two_judged(
         low,
     );
     TwoChecks {
-        first: check_one(a, j.rounds),
-        second: check_one(b, j.rounds),
+        first: check_one(a, j.rounds, sizes[RULE]),
+        second: check_one(b, j.rounds, sizes[RULE]),
     }
 }
 
@@ -690,7 +702,7 @@ fn answer_two(
 {
     let mut keys = [0u64; 1120];
     let mut coefficients = [0i32; 544];
-    let mut sizes = [0usize; 29];
+    let mut sizes = [0usize; 31];
     let r = problem_reader::read(problem, &mut keys, &mut coefficients, &mut sizes);
     let number = r.number;
     if 0 < number {
@@ -728,10 +740,10 @@ pub fn check_two(
         let left = tables (now (keys .exit)) (now (high .exit)) (now (low .exit)) in
         ⌜ TablesLeft (tablesShort lent) lent left ⌝ }
 {
-    if is_short(keys.len(), high.len(), low.len()) {
+    if work_tables::is_short(keys.len(), high.len(), low.len()) {
         return refuse_two(certificate_judge::problem_refusal(1, 0));
     }
     let v = answer_two(problem, first, second, keys, high, low);
-    clear_tables(keys, high, low);
+    work_tables::clear_tables(keys, high, low);
     v
 }

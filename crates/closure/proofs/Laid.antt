@@ -12,11 +12,12 @@ use Rattle.counting.proofs.Cases.{lt-or-le}
 use Rattle.polynomial.specs.Terms.{keysOf}
 use Rattle.format.specs.ProblemRules.{Problem}
 use Rattle.format.specs.ProblemBases.{basisOf, multiplierOf}
-use Rattle.flat.specs.Flat.{basisIn, FlatProblem}
+use Rattle.flat.specs.Flat.{ruleAt, orderAt, basisIn, FlatProblem}
 use Rattle.flat.proofs.Flat as Flat
-use Rattle.joining_rule.specs.Rounds.{Bases, closingOf}
+use Rattle.joining_rule.specs.Rounds.{Bases, State, mostRounds, closingOf, countedKeys}
 use Rattle.joining_rule.specs.Joining.{basesOf, startFrom, startSet, closing}
 use Rattle.joining_rule.proofs.Same.{closing-same}
+use Rattle.joining_rule.proofs.Counted.{counted-same}
 use Rattle.joining_rule.proofs.Start.{start-same}
 use Rattle.whole_rounds.specs.Parts.{basesIn}
 use Rattle.whole_rounds.specs.Arrays.{Arrays}
@@ -69,6 +70,12 @@ module _ (p : Problem) (keys : List ℕ) (coefficients : List ℤ) (sizes : List
   unfolding startSet
   start-held = ap (λ (l : List ℕ). startFrom l held) (Flat.objective-part f) ∙ start-same (keysOf (p .objective)) held (basesOf p) (f .bases) (Flat.multiplier-part f)
 
-  pub closing-lent : (S : List ℕ) → S ≡ startIn keys sizes → closingOf lent S ≡ closing p
+  pub closing-lent : (most : ℕ) (S : List ℕ) → most ≡ mostRounds (getD sizes orderAt 0) → S ≡ startIn keys sizes
+      → closingOf (getD sizes ruleAt 0) most lent S ≡ closing p
   unfolding closing
-  closing-lent S e = ap (closingOf lent) (e ∙ start-held) ∙ closing-same lent (basesOf p) same-basis same-multiplier (startSet p)
+  closing-lent most S m e =
+      rw (m, f .rule, f .order, e, start-held)
+      (closing-same lent (basesOf p) same-basis same-multiplier (p .rule) (mostRounds (p .order)) (startSet p))
+
+  pub counted-lent : (s : State) → countedKeys lent s ≡ countedKeys (basesOf p) s
+  counted-lent s = counted-same lent (basesOf p) same-basis same-multiplier s

@@ -1,5 +1,4 @@
--- What is left on each way out: where a set on the way to the closed S is too large, the closed S with the zero exponent
--- is.
+-- What is left on each way out: where a set on the way to the counted keys is too large, they are too many.
 use mathlib.Core.Path.{_≡_, sym, ap, _∙_}
 use mathlib.Core.Bool.{Bool, true, false}
 use mathlib.Core.List.{List}
@@ -12,12 +11,16 @@ use Rattle.counting.proofs.Cases.{clash}
 use Rattle.joining_rule.specs.Sets.{insert}
 use Rattle.key_set.specs.Table.{keysIn, Grown, Stored}
 use Rattle.joining_rule.proofs.Elements.{insert-grows}
-use Rattle.joining_rule.specs.Rounds.{Bases, Closing, start, closingOf, blocksIn, closedWithZero}
+use Rattle.joining_rule.specs.Rounds.{Bases, State, Closing, extendTo, start, closingOf, blocksIn, countedKeys}
 use Rattle.whole_rounds.specs.Parts.{basesIn, labelsIn}
 use Rattle.joining_rule.specs.Bytes.{blockBytes}
-use Rattle.whole_rounds.specs.Arrays.{Settled, Arrays}
-use Rattle.whole_rounds.proofs.Flat.{Shaped, part-long, labels-of}
-use Rattle.joining_rule.proofs.Closing.{closing-shaped, closing-numbered}
+use Rattle.whole_rounds.specs.Arrays.{Settled, Arrays, Labelled}
+use Rattle.whole_rounds.proofs.Flat.{Shaped, part-long, labels-of, labelled-of}
+use Rattle.joining_rule.proofs.Closing.{closing-shaped, closing-numbered, closing-full, closing-rising}
+use Rattle.joining_rule.proofs.Counted.{counted-extends}
+use Rattle.joining_rule.proofs.Products.{products-done}
+use Rattle.joining_rule.proofs.Rising.{Rising}
+use Rattle.joining_rule.proofs.Rounds.{adding-all}
 use Rattle.joining_rule.proofs.Numbered.{lowestIn, different-lowest}
 use Rattle.counting.proofs.Sums.{sumTo-same}
 use Rattle.whole_rounds.specs.declared.Closed.{Closed}
@@ -26,70 +29,102 @@ use Rattle.closure.specs.Tables.{ClosureLeft}
 use Rattle.closure.specs.declared.Joined.{Joined}
 
 -- the test for refusal 7
-abbrev large : Closing → Bool
-large o = ltb 2048 (length (closedWithZero o))
+abbrev large : Bases → Closing → Bool
+large g o = ltb 2048 (length (countedKeys g (o .state)))
 
-module _ (g : Bases) (S₀ t : List ℕ) (n : ℕ) (t₁ : List ℕ) (grown : Grown S₀ t n t₁) where
-  -- the closed S with the zero exponent has all of the start
-  start-few : length S₀ ≤ length (closedWithZero (closingOf g S₀))
+module _ (rule most : ℕ) (g : Bases) (S₀ t : List ℕ) (n : ℕ) (t₁ : List ℕ) (grown : Grown S₀ t n t₁) where
+  -- the counted keys have all of the start
+  start-few : length S₀ ≤ length (countedKeys g (closingOf rule most g S₀ .state))
   unfolding closingOf start
-  start-few = let m = close-extends g 578 (start g S₀) 0 .more in omega (arith, insert-grows 0 (closingOf g S₀ .state .support))
+  start-few = let m = close-extends rule g most (start g S₀) 0 .more in omega (arith, counted-extends g (closingOf rule most g S₀ .state) .more)
 
-  pub start-large : 2048 < n → true ≡ large (closingOf g S₀)
-  start-large h = sym (lt-ltb 2048 (length (closedWithZero (closingOf g S₀))) (omega (arith, grown .count, start-few)))
+  pub start-large : 2048 < n → true ≡ large g (closingOf rule most g S₀)
+  start-large h = sym (lt-ltb 2048 (length (countedKeys g (closingOf rule most g S₀ .state))) (omega (arith, grown .count, start-few)))
 
-module _ (o : Closing) (n : ℕ) (t : List ℕ) (r : Closed) (t₁ idx₁ l₁ : List ℕ) (settled : Settled o n t r t₁ idx₁ l₁) where
-  pub close-large : 2048 < r .len → true ≡ large o
-  close-large h = sym (lt-ltb 2048 (length (closedWithZero o)) (omega (arith, settled .stored .grown .count, insert-grows 0 (o .state .support))))
+-- ---- the rounds, the products that may be missing, and the zero exponent, one growth after another
+module _ (g : Bases) (o : Closing) (n : ℕ) (t : List ℕ) (r : Closed) (t₁ idx₁ l₁ : List ℕ) (settled : Settled o n t r t₁ idx₁ l₁) where
+  pub close-large : 2048 < r .len → true ≡ large g o
+  close-large h = sym (lt-ltb 2048 (length (countedKeys g (o .state))) (omega (arith, settled .stored .grown .count, counted-extends g (o .state) .more)))
 
-  module _ (few : r .len ≤ 2048) (len : ℕ) (t₂ idx₂ : List ℕ) (put : Stored (r .len) (insert 0 (keysIn (r .len) t₁)) t₁ len t₂ idx₂) where
-    last : Grown (closedWithZero o) t₁ len t₂
-    last = rw (settled .stored .grown .keys few) at (put .grown)
+  module _ (few : r .len ≤ 2048) (L : List (List ℕ)) (e : L ≡ o .state .labels) (m : ℕ) (t₂ idx₂ : List ℕ) (products : Stored (r .len) (extendTo 9 g L (keysIn (r .len) t₁)) t₁ m t₂ idx₂) where
+    abbrev all : List ℕ
+    all = extendTo 9 g (o .state .labels) (o .state .support)
 
-    pub put-large : 2048 < len → true ≡ large o
-    put-large h = sym (lt-ltb 2048 (length (closedWithZero o)) (omega (arith, last .count)))
+    grown : Grown all t₁ m t₂
+    grown = rw (e, settled .stored .grown .keys few) at (products .grown)
 
-    pub put-small : len ≤ 2048 → false ≡ large o
-    put-small h = sym (le-ltb 2048 (length (closedWithZero o)) (omega (arith, last .count)))
+    pub products-large : 2048 < m → true ≡ large g o
+    unfolding countedKeys
+    products-large h = sym (lt-ltb 2048 (length (insert 0 all)) (omega (arith, grown .count, insert-grows 0 all)))
 
-    pub len-is : len ≤ 2048 → len ≡ length (closedWithZero o)
-    len-is h = omega (arith, last .count)
+    pub products-long : length t₂ ≡ length t
+    products-long = grown .long ∙ settled .stored .grown .long
 
-    pub put-keys : len ≤ 2048 → keysIn len t₂ ≡ closedWithZero o
-    put-keys h = last .keys h
+    pub products-rest : drop 2048 t₂ ≡ drop 2048 t
+    products-rest = grown .rest ∙ settled .stored .grown .rest
 
-    pub put-long : length t₂ ≡ length t
-    put-long = last .long ∙ settled .stored .grown .long
+    module _ (some : m ≤ 2048) (len : ℕ) (t₃ idx₃ : List ℕ) (put : Stored m (insert 0 (keysIn m t₂)) t₂ len t₃ idx₃) where
+      last : Grown (countedKeys g (o .state)) t₂ len t₃
+      unfolding countedKeys
+      last = rw (grown .keys some) at (put .grown)
 
-    pub put-rest : drop 2048 t₂ ≡ drop 2048 t
-    put-rest = last .rest ∙ settled .stored .grown .rest
+      pub put-large : 2048 < len → true ≡ large g o
+      put-large h = sym (lt-ltb 2048 (length (countedKeys g (o .state))) (omega (arith, last .count)))
 
--- the blocks' lists are as long as the sizes say, so the bytes give them back
-module _ (keys sizes exponents counts : List ℕ) (a : Arrays keys sizes exponents counts) (S₀ : List ℕ) where
-  abbrev labels : List (List ℕ)
-  labels = closingOf (basesIn keys sizes exponents counts) S₀ .state .labels
+      pub put-small : len ≤ 2048 → false ≡ large g o
+      put-small h = sym (le-ltb 2048 (length (countedKeys g (o .state))) (omega (arith, last .count)))
 
-  shaped : Shaped sizes labels
+      pub len-is : len ≤ 2048 → len ≡ length (countedKeys g (o .state))
+      len-is h = omega (arith, last .count)
+
+      pub put-keys : len ≤ 2048 → keysIn len t₃ ≡ countedKeys g (o .state)
+      put-keys h = last .keys h
+
+      pub put-long : length t₃ ≡ length t
+      put-long = last .long ∙ products-long
+
+      pub put-rest : drop 2048 t₃ ≡ drop 2048 t
+      put-rest = last .rest ∙ products-rest
+
+-- ---- what the closing leaves in the arrays
+module _ (rule most : ℕ) (keys sizes exponents counts : List ℕ) (a : Arrays keys sizes exponents counts) (S₀ : List ℕ) where
+  abbrev g : Bases
+  g = basesIn keys sizes exponents counts
+
+  abbrev end : State
+  end = closingOf rule most g S₀ .state
+
+  -- the blocks' lists are as long as the sizes say, so the bytes give them back
+  shaped : Shaped sizes (end .labels)
   unfolding basesIn
   shaped =
-      let c = closing-shaped (basesIn keys sizes exponents counts) S₀ in
+      let c = closing-shaped rule most g S₀ in
       record { nine = c .nine; long = λ j h. c .long j h ∙ part-long 64 sizes keys j (omega (arith, a .sized .small j, a .keys-long)) }
 
-  -- their numbers are lowest indices, so counting these counts the blocks
-  pub counted : (l : List ℕ) → l ≡ blockBytes labels → lowestIn (labelsIn sizes l) ≡ blocksIn labels
-  unfolding lowestIn blocksIn
-  counted l e =
-      ap lowestIn (ap (labelsIn sizes) e ∙ labels-of sizes (a .sized) labels shaped)
-      ∙ sumTo-same 9 _ _ (λ j h. sym (different-lowest _ (closing-numbered (basesIn keys sizes exponents counts) S₀ .at j h)))
+  module _ (l : List ℕ) (e : l ≡ blockBytes (end .labels)) where
+    pub labels-held : labelsIn sizes l ≡ end .labels
+    labels-held = ap (labelsIn sizes) e ∙ labels-of sizes (a .sized) (end .labels) shaped
+
+    pub labelled-held : Labelled sizes l
+    labelled-held = rw e (labelled-of sizes (a .sized) (end .labels) shaped)
+
+    -- their numbers are lowest indices, so counting these counts the blocks
+    pub counted : lowestIn (labelsIn sizes l) ≡ blocksIn (end .labels)
+    unfolding lowestIn blocksIn
+    counted = ap lowestIn labels-held ∙ sumTo-same 9 _ _ (λ j h. sym (different-lowest _ (closing-numbered rule most g S₀ .at j h)))
+
+  -- where all bases add, as under rule 1, no product is missing after a round
+  pub none-missing : 0 < most → Rising S₀ → (rule ≡ 2 → ⊥) → extendTo 9 g (end .labels) (end .support) ≡ end .support
+  none-missing some rising d = products-done 9 g (end .labels) (end .support) (closing-rising rule most g S₀ rising) (rw (adding-all rule d) at (closing-full rule most g S₀ some))
 
 -- a test that holds does not fail
 never : {b : Bool} {P : Type 0} → b ≡ true → b ≡ false → P
 never p q = clash (cc)
 
 -- what is left of a table that is kept beyond its first 2,048 numbers
-module _ (o : Closing) (t : List ℕ) (r : Joined) (t′ idx′ l′ : List ℕ) where
+module _ (g : Bases) (o : Closing) (t : List ℕ) (r : Joined) (t′ idx′ l′ : List ℕ) where
   -- where S is too large
-  pub left-full : r .full ≡ true → true ≡ large o → length t′ ≡ length t → drop 2048 t′ ≡ drop 2048 t → ClosureLeft o t r t′ idx′ l′
+  pub left-full : r .full ≡ true → true ≡ large g o → length t′ ≡ length t → drop 2048 t′ ≡ drop 2048 t → ClosureLeft g o t r t′ idx′ l′
   left-full e f a b = record {
     full = e ∙ f;
     labels = λ h. never e h;
@@ -102,15 +137,16 @@ module _ (o : Closing) (t : List ℕ) (r : Joined) (t′ idx′ l′ : List ℕ)
     rest = b;
   }
 
-  -- where the table came from another
-  pub left-from : (t₀ : List ℕ) → length t ≡ length t₀ → drop 2048 t ≡ drop 2048 t₀ → ClosureLeft o t r t′ idx′ l′ → ClosureLeft o t₀ r t′ idx′ l′
-  left-from t₀ a b w = record {
-    full = w .full;
+  -- where the table came from another, and bases with the same counted keys
+  pub left-from : (h : Bases) → countedKeys g (o .state) ≡ countedKeys h (o .state) → (t₀ : List ℕ) → length t ≡ length t₀ → drop 2048 t ≡ drop 2048 t₀
+      → ClosureLeft g o t r t′ idx′ l′ → ClosureLeft h o t₀ r t′ idx′ l′
+  left-from h e t₀ a b w = record {
+    full = w .full ∙ ap (λ (K : List ℕ). ltb 2048 (length K)) e;
     labels = w .labels;
     rounds = w .rounds;
     blocks = w .blocks;
-    len = w .len;
-    keys = w .keys;
+    len = λ q. w .len q ∙ ap length e;
+    keys = λ q. w .keys q ∙ e;
     index = w .index;
     long = w .long ∙ a;
     rest = w .rest ∙ b;

@@ -8,7 +8,7 @@ use lib.IntN.{ℤ}
 use lib.ListN.{length, getD, take, drop}
 use Rattle.flat.specs.Flat.{objectiveNumber, exponentsAt, countAt, basisIn, FlatLimits}
 use Rattle.key_set.specs.Table.{keysIn, Indexed}
-use Rattle.joining_rule.specs.Rounds.{Closing, blocksIn, closedWithZero}
+use Rattle.joining_rule.specs.Rounds.{Bases, Closing, extendTo, blocksIn, countedKeys}
 use Rattle.joining_rule.specs.Bytes.{blockBytes}
 use Rattle.joining_rule.specs.Joining.{startFrom, mostKeys}
 use Rattle.closure.specs.declared.Joined.{Joined}
@@ -29,15 +29,19 @@ startIn keys sizes =
     startFrom (exponentsIn keys sizes objectiveNumber)
     (record { basis = basisIn keys sizes; multiplier = exponentsIn keys sizes })
 
--- what is left where the rounds end in o: the table t′ holds the closed S with the zero exponent, idx′ is its index,
--- and l′ has the block numbers, unless it has more than 2,048 members
-pub record ClosureLeft (o : Closing) (t : List ℕ) (r : Joined) (t′ idx′ l′ : List ℕ) : Type 0 where
-  pub full : r .full ≡ ltb mostKeys (length (closedWithZero o))
+-- what is asked where in-block products may be missing in S: under another rule than 2 none is
+pub record Missing (rule : ℕ) (g : Bases) (L : List (List ℕ)) (S : List ℕ) : Type 0 where
+  pub none : (rule ≡ 2 → ⊥) → extendTo 9 g L S ≡ S
+
+-- what is left where the rounds end in o: the table t′ holds the closed S with all in-block products and the zero
+-- exponent, idx′ is its index, and l′ has the block numbers, unless it has more than 2,048 members
+pub record ClosureLeft (g : Bases) (o : Closing) (t : List ℕ) (r : Joined) (t′ idx′ l′ : List ℕ) : Type 0 where
+  pub full : r .full ≡ ltb mostKeys (length (countedKeys g (o .state)))
   pub labels : r .full ≡ false → l′ ≡ blockBytes (o .state .labels)
   pub rounds : r .full ≡ false → r .rounds ≡ o .rounds
   pub blocks : r .full ≡ false → r .blocks ≡ blocksIn (o .state .labels)
-  pub len : r .full ≡ false → r .len ≡ length (closedWithZero o)
-  pub keys : r .full ≡ false → keysIn (r .len) t′ ≡ closedWithZero o
+  pub len : r .full ≡ false → r .len ≡ length (countedKeys g (o .state))
+  pub keys : r .full ≡ false → keysIn (r .len) t′ ≡ countedKeys g (o .state)
   pub index : r .full ≡ false → Indexed idx′ t′ (r .len)
   pub long : length t′ ≡ length t
   pub rest : drop 2048 t′ ≡ drop 2048 t

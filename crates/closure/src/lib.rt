@@ -1,22 +1,23 @@
 // The joining rule applied to a problem that stands in the arrays of the crate flat: from its start to the closed
-// support and the blocks. The first `len` numbers of `table` are the support, in the order in which they came, with
-// `index`.
+// support, or the one reached where a sparse order ends the rounds, what is counted with it, and the blocks. The first
+// `len` numbers of `table` are the support, in the order in which they came, with `index`.
 ghost use mathlib.Core.Path.{_≡_};
 ghost use mathlib.Core.Bool.{true};
 ghost use mathlib.Core.List.{List};
-ghost use Prim.Native.Nat.{_*_, _^_, _≤_};
+ghost use Prim.Native.Nat.{_*_, _^_, _≤_, _<_};
 ghost use lib.IntN.{ℤ};
 ghost use lib.ListN.{length};
 ghost use Rattle.counting.specs.Counting.{fromTo, Bounded};
 ghost use Rattle.format.specs.ProblemRules.{Problem};
 ghost use Rattle.joining_rule.specs.Sets.{insertAll};
-ghost use Rattle.joining_rule.specs.Rounds.{closingOf};
-ghost use Rattle.joining_rule.specs.Joining.{multiples, closing};
+ghost use Rattle.joining_rule.specs.Rounds.{extendTo, mostRounds, closingOf};
+ghost use Rattle.joining_rule.specs.Joining.{multiples, basesOf, closing};
 ghost use Rattle.key_set.specs.Table.{keysIn, Holds, Indexed, Stored};
 ghost use Rattle.flat.specs.Flat.{FlatProblem};
-ghost use Rattle.whole_rounds.specs.Parts.{basesIn};
-ghost use Rattle.whole_rounds.specs.Arrays.{Arrays};
-ghost use Rattle.closure.specs.Tables.{FlatKeys, exponentsIn, startIn, ClosureLeft};
+ghost use Rattle.whole_rounds.specs.Parts.{basesIn, labelsIn};
+ghost use Rattle.whole_rounds.specs.Arrays.{Arrays, JoiningAll};
+ghost use Rattle.closure.specs.Tables.{FlatKeys, exponentsIn, startIn, Missing, ClosureLeft};
+use whole_rounds::Support;
 
 // The support with each key times `factor` put in; 2,049 where it has too many.
 fn put_keys(table: &mut [u64], index: &mut [u16], len: usize, keys: &[u64], factor: u64) -> usize
@@ -115,8 +116,8 @@ fn seed(keys: &[u64], sizes: &[usize], table: &mut [u64], index: &mut [u16]) -> 
     put_keys(table, index, b, basis, 2)
 }
 
-// What the joining rule leaves beside the block numbers: the number of rounds and of blocks, and how many keys the
-// closed support has with the zero exponent. Where that is more than 2,048, `full` says so and the rest says nothing.
+// What the joining rule leaves beside the block numbers: the number of rounds and of blocks, and how many keys are
+// counted. Where these are more than 2,048, `full` says so and the rest says nothing.
 pub struct Joined {
     pub full: bool,
     pub rounds: usize,
@@ -135,8 +136,41 @@ fn too_many() -> Joined
     }
 }
 
-// The joining rule from its start, the first `count` numbers of the table, to its end. Basis j stands from place 64j on
-// in `keys`, the exponents of its multiplier from place 32j on in `exponents`, as in the crate whole_rounds.
+// The in-block products that the support may lack after the rounds, put in: those of every basis under rule 2, none
+// under rule 1, where it has them all. The arrays are those of the crate whole_rounds.
+fn put_missing(
+    table: &mut [u64],
+    index: &mut [u16],
+    support: Support,
+    labels: &[u8],
+    keys: &[u64],
+    sizes: &[usize],
+    exponents: &[u64],
+    counts: &[usize],
+) -> usize
+    requires { ⌜
+        JoiningAll (now table) (now index) (support .len) (now keys) (now sizes) (now exponents) (now counts)
+        (now labels)
+        × Missing (support .rule) (basesIn (now keys) (now sizes) (now exponents) (now counts))
+        (labelsIn (now sizes) (now labels)) (keysIn (support .len) (now table))
+        ⌝ }
+    ensures { λ r. ⌜
+        Stored (support .len)
+        (extendTo 9 (basesIn (now (keys .entry)) (now (sizes .entry)) (now (exponents .entry)) (now (counts .entry)))
+        (labelsIn (now (sizes .entry)) (now (labels .entry))) (keysIn (support .len) (now (table .entry))))
+        (now (table .entry)) r (now (table .exit)) (now (index .exit))
+        ⌝ }
+{
+    let len = support.len;
+    if support.rule == 2 {
+        whole_rounds::put_products(table, index, len, labels, keys, sizes, exponents, counts)
+    } else {
+        len
+    }
+}
+
+// The joining rule from its start, the first numbers of the table, to its end. Basis j stands from place 64j on in
+// `keys`, the exponents of its multiplier from place 32j on in `exponents`, as in the crate whole_rounds.
 fn settle(
     keys: &[u64],
     sizes: &[usize],
@@ -145,27 +179,47 @@ fn settle(
     labels: &mut [u8; 576],
     table: &mut [u64],
     index: &mut [u16],
-    count: usize,
+    support: Support,
 ) -> Joined
     requires { ⌜
-        (Holds (now table) count × Indexed (now index) (now table) count)
+        (Holds (now table) (support .len) × Indexed (now index) (now table) (support .len))
         × Arrays (now keys) (now sizes) (now exponents) (now counts)
+        × (0 < support .most)
         ⌝ }
     ensures { λ r. ⌜
-        ClosureLeft
-        (closingOf (basesIn (now (keys .entry)) (now (sizes .entry)) (now (exponents .entry)) (now (counts .entry)))
-        (keysIn count (now (table .entry)))) (now (table .entry)) r (now (table .exit)) (now (index .exit))
+        ClosureLeft (basesIn (now (keys .entry)) (now (sizes .entry)) (now (exponents .entry)) (now (counts .entry)))
+        (closingOf (support .rule) (support .most)
+        (basesIn (now (keys .entry)) (now (sizes .entry)) (now (exponents .entry)) (now (counts .entry)))
+        (keysIn (support .len) (now (table .entry)))) (now (table .entry)) r (now (table .exit)) (now (index .exit))
         (now (labels .exit))
         ⌝ }
 {
     *labels = [255u8; 576];
     whole_rounds::start_labels(labels, sizes);
-    let c = whole_rounds::close(labels, keys, sizes, exponents, counts, table, index, count);
+    let c = whole_rounds::close(
+        labels,
+        keys,
+        sizes,
+        exponents,
+        counts,
+        table,
+        index,
+        support,
+    );
     let m = c.len;
     if 2048 < m {
         return too_many();
     }
-    let len = key_set::put(table, index, m, 0);
+    let closed = Support {
+        len: m,
+        rule: support.rule,
+        most: support.most,
+    };
+    let n = put_missing(table, index, closed, labels, keys, sizes, exponents, counts);
+    if 2048 < n {
+        return too_many();
+    }
+    let len = key_set::put(table, index, n, 0);
     if 2048 < len {
         return too_many();
     }
@@ -177,8 +231,15 @@ fn settle(
     }
 }
 
+// The most rounds at a sparse order: as many as it says, and enough for any problem where none is named.
+fn most_rounds(order: usize) -> usize
+    ensures { λ r. ⌜ r ≡ mostRounds order ⌝ }
+{
+    if order == 0 { 578 } else { order }
+}
+
 // The joining rule of the problem in the arrays, with an index that holds nothing. The table's first numbers are then
-// the closed support with the zero exponent, and the index is theirs.
+// those that are counted: the support reached, all in-block products and the zero exponent. The index is theirs.
 pub fn join(
     keys: &[u64],
     sizes: &[usize],
@@ -191,13 +252,19 @@ pub fn join(
         ⌝ }
     ensures { λ r. ⌜
         ((p : Problem) (coefficients : List ℤ) → FlatProblem p (now (keys .entry)) coefficients (now (sizes .entry))
-        → ClosureLeft (closing p) (now (table .entry)) r (now (table .exit)) (now (index .exit)) (now (labels .exit)))
+        → ClosureLeft (basesOf p) (closing p) (now (table .entry)) r (now (table .exit)) (now (index .exit))
+        (now (labels .exit)))
         ⌝ }
 {
     let n = seed(keys, sizes, table, index);
     if 2048 < n {
         return too_many();
     }
+    let support = Support {
+        len: n,
+        rule: sizes[flat::RULE],
+        most: most_rounds(sizes[flat::ORDER]),
+    };
     settle(
         &keys[..576],
         &sizes[..9],
@@ -206,6 +273,6 @@ pub fn join(
         labels,
         table,
         index,
-        n,
+        support,
     )
 }

@@ -3,3 +3,4 @@ pub mod Bounded
 pub mod Listed
 pub mod Steps
 pub mod Sums
+pub mod Binary

@@ -1,7 +1,7 @@
 -- Laws of a sum over the numbers below n: order, and equality summand by summand.
 use mathlib.Core.Path.{_≡_, refl}
 use mathlib.Core.Logic.{⊎-elim}
-use Prim.Native.Nat.{ℕ, zero, suc, _+_, _≤_, _<_, zero-le}
+use Prim.Native.Nat.{ℕ, zero, suc, _+_, _*_, _≤_, _<_, zero-le}
 use native.Mathlib.Nat.{not-suc-le-zero, le-of-suc-le-suc, eq-or-lt-of-le}
 use native.Mathlib.Omega.{arith}
 use mathlib.Core.Bool.{Bool, true, false, cond}
@@ -50,3 +50,13 @@ sumTo-one (suc n) x h = go (eqb x n) refl (λ b. sumTo-one n x b)
         other i l true e q = absurd (omega (arith, eqb-true x i e))
         other i l false e q = refl
     go false e f = let d = eqb-false x n e in let b : x < n = ⊎-elim (λ q. absurd (d q)) (λ l. l) (eq-or-lt-of-le {n = x} {m = n} (omega arith)) in omega (arith, f b)
+
+pub sumTo-first : (n : ℕ) (f : ℕ → ℕ) → sumTo (suc n) f ≡ f 0 + sumTo n (λ i. f (suc i))
+unfolding sumTo
+sumTo-first zero f = omega arith
+sumTo-first (suc n) f = omega (arith, sumTo-first n f)
+
+pub sumTo-times : (n c : ℕ) (f : ℕ → ℕ) → sumTo n (λ i. c * f i) ≡ c * sumTo n f
+unfolding sumTo
+sumTo-times zero c f = omega arith
+sumTo-times (suc n) c f = omega (arith, sumTo-times n c f)

@@ -44,8 +44,8 @@ multiplier-largest i h = rw (lt-ltb i 288 h)
 pub objective-largest : (i : ℕ) → 288 ≤ i → largestAt i ≡ 2 ^ 31
 objective-largest i h = rw (le-ltb i 288 h)
 
-pub kind-most : (i : ℕ) → 20 ≤ i → mostAt i ≡ 1
-kind-most i h = rw (le-ltb i 9 (omega arith), le-ltb i 18 (omega arith), le-ltb i 19 (omega arith), le-ltb i 20 h)
+pub kind-most : (i : ℕ) → 20 ≤ i → i < 29 → mostAt i ≡ 1
+kind-most i h k = rw (le-ltb i 9 (omega arith), le-ltb i 18 (omega arith), le-ltb i 19 (omega arith), le-ltb i 20 h, lt-ltb i 29 k)
 
 -- ---- parts of parts
 module _ {A : Type 0} where

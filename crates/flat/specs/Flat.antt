@@ -1,5 +1,5 @@
 -- Where a problem stands in the three arrays that a call owns and lends to its steps, always in this order: `keys`
--- (1,120 numbers), `coefficients` (544 signed numbers) and `sizes` (29 numbers).
+-- (1,120 numbers), `coefficients` (544 signed numbers) and `sizes` (31 numbers).
 use mathlib.Core.Path.{_≡_}
 use mathlib.Core.Bool.{Bool, cond}
 use mathlib.Core.List.{List}
@@ -8,7 +8,7 @@ use lib.Dec.{eqb, ltb}
 use lib.IntN.{ℤ, pos, natAbs}
 use lib.ListN.{length, getD, take, drop, replicate}
 use Rattle.polynomial.specs.Terms.{Term}
-use Rattle.format.specs.ProblemLimits.{mostObjectiveDegree, mostObjectiveTerms, mostConditions, mostConditionDegree, mostConditionTerms, mostBasisDegree, mostMonomials, mostBases}
+use Rattle.format.specs.ProblemLimits.{latestRule, mostOrder, mostObjectiveDegree, mostObjectiveTerms, mostConditions, mostConditionDegree, mostConditionTerms, mostBasisDegree, mostMonomials, mostBases}
 use Rattle.format.specs.ProblemRules.{Problem}
 use Rattle.format.specs.declared.problem.Kind.{Kind}
 use Rattle.format.specs.ProblemBases.{basisOf, multiplier, kindOf, isEquality}
@@ -43,6 +43,14 @@ conditionsAt = 19
 abbrev pub kindAt : ℕ → ℕ
 kindAt j = 20 + j
 
+-- and then the joining rule that the problem names
+abbrev pub ruleAt : ℕ
+ruleAt = 29
+
+-- and last the sparse order, 0 where it names none
+abbrev pub orderAt : ℕ
+orderAt = 30
+
 -- ---- what stands there
 abbrev pub basisIn : List ℕ → List ℕ → ℕ → List ℕ
 basisIn keys sizes j = take (getD sizes j 0) (drop (basisAt j) keys)
@@ -63,7 +71,8 @@ equalityIn sizes j = eqb (getD sizes (kindAt j) 0) 1
 abbrev pub mostAt : ℕ → ℕ
 mostAt i =
     cond (ltb i (countAt 0)) mostMonomials (cond (ltb i (countAt objectiveNumber)) mostConditionTerms
-    (cond (ltb i conditionsAt) mostObjectiveTerms (cond (ltb i (kindAt 0)) mostConditions 1)))
+    (cond (ltb i conditionsAt) mostObjectiveTerms (cond (ltb i (kindAt 0)) mostConditions
+    (cond (ltb i ruleAt) 1 (cond (ltb i orderAt) latestRule mostOrder)))))
 
 -- the highest degree of a monomial at a place of keys
 abbrev pub degreeAt : ℕ → ℕ
@@ -79,7 +88,7 @@ largestAt i = cond (ltb i (coefficientsAt objectiveNumber)) (2 ^ 15) (2 ^ 31)
 pub record FlatLimits (keys : List ℕ) (coefficients : List ℤ) (sizes : List ℕ) : Type 0 where
   pub keys-length : length keys ≡ 1120
   pub coefficients-length : length coefficients ≡ 544
-  pub sizes-length : length sizes ≡ 29
+  pub sizes-length : length sizes ≡ 31
   pub sizes-low : (i : ℕ) → getD sizes i 0 ≤ mostAt i
   -- no key of a monomial of degree at most d is above d × 256^7
   pub keys-low : (i : ℕ) → getD keys i 0 ≤ degreeAt i * 2 ^ 56
@@ -93,9 +102,11 @@ pub record FlatProblem (p : Problem) (keys : List ℕ) (coefficients : List ℤ)
   pub objective : polynomialIn keys coefficients sizes objectiveNumber ≡ p .objective
   pub conditions : getD sizes conditionsAt 0 ≡ length (p .conditions)
   pub kinds : (j : ℕ) → j < mostBases → getD sizes (kindAt j) 0 ≡ kindNumber (kindOf p j)
+  pub rule : getD sizes ruleAt 0 ≡ p .rule
+  pub order : getD sizes orderAt 0 ≡ p .order
 
 -- the arrays as a call makes them
 pub record FlatZero (keys : List ℕ) (coefficients : List ℤ) (sizes : List ℕ) : Type 0 where
   pub keys-zero : keys ≡ replicate 1120 0
   pub coefficients-zero : coefficients ≡ replicate 544 (pos 0)
-  pub sizes-zero : sizes ≡ replicate 29 0
+  pub sizes-zero : sizes ≡ replicate 31 0

@@ -17,6 +17,12 @@ pub const CONDITIONS: usize = 19;
 // The kinds of the multipliers stand in sizes from here on: 1 for an equality, 0 for an inequality.
 pub const KINDS: usize = 20;
 
+// The joining rule stands behind them.
+pub const RULE: usize = 29;
+
+// The sparse order stands last: the most rounds, and 0 where the problem names no order.
+pub const ORDER: usize = 30;
+
 // The n numbers from a place on.
 pub fn part(l: &[u64], from: usize, n: usize) -> &[u64]
     requires { ⌜ from + n ≤ length (now l) ⌝ }

@@ -7,4 +7,9 @@ pub mod CertificateLimits
 pub mod Numbers
 pub mod Lengths
 pub mod ProblemCounts
+pub mod ProblemRule
+pub mod Differing
+pub mod Exchanged
+pub mod Alike
 pub mod All
+pub mod ProblemVariables

@@ -14,17 +14,19 @@ use Rattle.format.specs.ProblemLayout.{problemCommand, problemSize, prob
 use Rattle.format.specs.ProblemRules.{Problem, problemPlaced}
 
 -- a command that stands somewhere has a byte, and 06 is the one that ends
-pub placed-size : (p : Problem) (at : ℕ) (k : Command) → problemPlaced p at k ≡ true → 1 ≤ problemSize k
-placed-size p at C.Variables h = omega arith
-placed-size p at C.Objective h = omega arith
-placed-size p at C.Inequality h = omega arith
-placed-size p at C.Term h = omega arith
-placed-size p at C.Member h = omega arith
-placed-size p at C.End h = omega arith
-placed-size p at C.Unknown h = clash (cc)
-placed-size p at C.Equality h = omega arith
+pub placed-size : (p : Problem) (s : List ℕ) (at : ℕ) (k : Command) → problemPlaced p s at k ≡ true → 1 ≤ problemSize k
+placed-size p s at C.Variables h = omega arith
+placed-size p s at C.Objective h = omega arith
+placed-size p s at C.Inequality h = omega arith
+placed-size p s at C.Term h = omega arith
+placed-size p s at C.Member h = omega arith
+placed-size p s at C.End h = omega arith
+placed-size p s at C.Unknown h = clash (cc)
+placed-size p s at C.Equality h = omega arith
+placed-size p s at C.Rule h = omega arith
+placed-size p s at C.Order h = omega arith
 
-pub end-command : (p : Problem) (s : List ℕ) (at : ℕ) (k : Command) → problemPlaced p at k ≡ true → problemDecoded k s at ≡ I.End → k ≡ C.End
+pub end-command : (p : Problem) (s : List ℕ) (at : ℕ) (k : Command) → problemPlaced p s at k ≡ true → problemDecoded k s at ≡ I.End → k ≡ C.End
 end-command p s at C.Variables h e = clash (cc)
 end-command p s at C.Objective h e = clash (cc)
 end-command p s at C.Inequality h e = clash (cc)
@@ -33,6 +35,8 @@ end-command p s at C.Member h e = clash (cc)
 end-command p s at C.End h e = refl
 end-command p s at C.Unknown h e = clash (cc)
 end-command p s at C.Equality h e = clash (cc)
+end-command p s at C.Rule h e = clash (cc)
+end-command p s at C.Order h e = clash (cc)
 
 pub end-byte : (b : ℕ) → problemCommand b ≡ C.End → b ≡ 6
 end-byte b h = eqb-true b 6 (problem-byte C.End b h (λ e. clash (cc)))

@@ -36,6 +36,8 @@ isMemberCommand C.Member = true
 isMemberCommand C.End = false
 isMemberCommand C.Unknown = false
 isMemberCommand C.Equality = false
+isMemberCommand C.Rule = false
+isMemberCommand C.Order = false
 
 member-byte : (b : ℕ) → eqb b 5 ≡ isMemberCommand (problemCommand b)
 member-byte b = go (eqb b 5) refl (problemCommand b) refl
@@ -50,6 +52,8 @@ member-byte b = go (eqb b 5) refl (problemCommand b) refl
     go false e C.End h = refl
     go false e C.Unknown h = refl
     go false e C.Equality h = refl
+    go false e C.Rule h = refl
+    go false e C.Order h = refl
 
 -- ---- one command
 module _ (p : Problem) (s : List ℕ) (at : ℕ) (kept : Kept p at) where
@@ -63,7 +67,7 @@ module _ (p : Problem) (s : List ℕ) (at : ℕ) (kept : Kept p at) where
       go false e = rw (getD-set-other ls i j (getD ls i [] ++ (k ∷ [])) [] (λ q. eqb-false i j e (sym q))) (omega arith)
 
   -- the basis that an 05 names is one of the nine
-  named-low : (w r f : Bool) → Passes (problemPlaced p at C.Member) w (problemOperandsFit p (problemDecoded C.Member s at)) r f → number 1 s (at + 1) < 9
+  named-low : (w r f : Bool) → Passes (problemPlaced p s at C.Member) w (problemOperandsFit p (problemDecoded C.Member s at)) r f → number 1 s (at + 1) < 9
   named-low w r f c =
       let q = kept .later (ltb-true 0 at (c .placed)) in
       let low = leb (number 1 s (at + 1)) (length (p .conditions)) in
@@ -81,7 +85,7 @@ module _ (p : Problem) (s : List ℕ) (at : ℕ) (kept : Kept p at) where
     named = λ h. clash (cc);
   }
 
-  step : (k : Command) (w : Bool) → Passes (problemPlaced p at k) w (problemOperandsFit p (problemDecoded k s at)) (problemRepeated p (problemDecoded k s at)) (problemFull p (problemDecoded k s at)) → Step k
+  step : (k : Command) (w : Bool) → Passes (problemPlaced p s at k) w (problemOperandsFit p (problemDecoded k s at)) (problemRepeated p (problemDecoded k s at)) (problemFull p (problemDecoded k s at)) → Step k
   unfolding problemApplied
   step C.Variables w c = same-step C.Variables refl refl
   step C.Objective w c = same-step C.Objective refl refl
@@ -94,6 +98,8 @@ module _ (p : Problem) (s : List ℕ) (at : ℕ) (kept : Kept p at) where
   step C.End w c = same-step C.End refl refl
   step C.Unknown w c = same-step C.Unknown refl refl
   step C.Equality w c = same-step C.Equality refl refl
+  step C.Rule w c = same-step C.Rule refl refl
+  step C.Order w c = same-step C.Order refl refl
 
   step-at : problemRefusalAt p s at ≡ 0 → Step (problemCommandAt s at)
   unfolding problemRefusalAt

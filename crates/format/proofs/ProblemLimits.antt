@@ -20,7 +20,8 @@ use Rattle.format.specs.declared.problem.Command.{Command}
 use Rattle.format.specs.declared.problem.Command.the-variants as C
 use Rattle.format.specs.declared.problem.Kind.{Kind}
 use Rattle.format.specs.ProblemLayout.{problemCommand, problemSize, problemDecoded}
-use Rattle.format.specs.ProblemRules.{Problem, noProblem, noCondition, appendAt, withCondition, conditionsFull, problemPlaced, nonzero, fitting, problemOperandsFit, problemRepeated, problemFull, problemApplied, problemCommandAt, problemRefusalAt, problemNext, problemLanguage, readProblem}
+use Rattle.format.specs.ProblemRules.{Problem, noProblem, noCondition, appendAt, withCondition, withRule, withOrder, conditionsFull, orderPlace, problemPlaced, nonzero, fitting, problemOperandsFit, problemRepeated, problemFull, problemApplied, problemCommandAt, problemRefusalAt, problemNext, problemLanguage, readProblem}
+use Rattle.format.specs.ProblemBases.{basisOf}
 use Rattle.format.specs.All.{All}
 use Rattle.format.proofs.WithinLimits.{Distinct, Monomials, Terms, ConditionTerms, Limits}
 use Rattle.format.proofs.ProblemChecks.{placed-size}
@@ -127,10 +128,12 @@ nothing-basis j = go 9 j
 
 -- the first command gives the number of variables
 first-limits : (n : ℕ) → (leb 1 n && leb n 8) ≡ true
-    → Limits (record { variables = n; objective = []; conditions = []; bases = noProblem .bases })
+    → Limits (record { variables = n; rule = noProblem .rule; order = noProblem .order; objective = []; conditions = []; bases = noProblem .bases })
 unfolding All
 first-limits n h = record {
   variables = (leb-true 1 n (and-left _ _ h), leb-true n 8 (and-right (leb 1 n) _ h));
+  rule = omega arith;
+  order = omega arith;
   objective = terms-none n 32 256;
   conditions = omega arith;
   terms = tt;
@@ -145,6 +148,8 @@ begun-limits p k q full =
     let e = length-append (p .conditions) (record { kind = k; terms = [] } ∷ []) in
     record {
       variables = q .variables;
+      rule = q .rule;
+      order = q .order;
       objective = q .objective;
       conditions = rw e (omega (arith, leb-false 8 (length (p .conditions)) full));
       terms = all-more _ (p .conditions) _ (q .terms) (terms-none (p .variables) 16 32);
@@ -152,6 +157,49 @@ begun-limits p k q full =
       members = q .members;
       begun = λ j h. q .begun j (omega arith);
     }
+
+-- the joining rule is named, and not first
+ruled-later : (p : Problem) (s : List ℕ) (at : ℕ) → problemPlaced p s at C.Rule ≡ true → 0 < at
+ruled-later p s zero h = clash (cc)
+ruled-later p s (suc at) h = omega arith
+
+ruled-limits : (p : Problem) (r : ℕ) → Limits p → (leb 1 r && leb r 2) ≡ true → Limits (withRule p r)
+ruled-limits p r q h = record {
+  variables = q .variables;
+  rule = (leb-true 1 r (and-left _ _ h), leb-true r 2 (and-right (leb 1 r) _ h));
+  order = q .order;
+  objective = q .objective;
+  conditions = q .conditions;
+  terms = q .terms;
+  bases = q .bases;
+  members = q .members;
+  begun = q .begun;
+}
+
+-- and so the sparse order
+pub place-positive : (s : List ℕ) → 0 < orderPlace s
+unfolding orderPlace
+place-positive s = go (eqb (getD s 2 0) 8) refl
+  where
+    go : (b : Bool) → eqb (getD s 2 0) 8 ≡ b → 0 < orderPlace s
+    go true e = rw e (omega arith)
+    go false e = rw e (omega arith)
+
+ordered-later : (p : Problem) (s : List ℕ) (at : ℕ) → problemPlaced p s at C.Order ≡ true → 0 < at
+ordered-later p s at h = omega (arith, eqb-true at (orderPlace s) h, place-positive s)
+
+ordered-limits : (p : Problem) (k : ℕ) → Limits p → (leb 1 k && leb k 255) ≡ true → Limits (withOrder p k)
+ordered-limits p k q h = record {
+  variables = q .variables;
+  rule = q .rule;
+  order = leb-true k 255 (and-right (leb 1 k) _ h);
+  objective = q .objective;
+  conditions = q .conditions;
+  terms = q .terms;
+  bases = q .bases;
+  members = q .members;
+  begun = q .begun;
+}
 
 appended-length : {A : Type 0} (ls : List (List A)) (j : ℕ) (a : A) → length (appendAt ls j a) ≡ length ls
 unfolding appendAt
@@ -163,7 +211,7 @@ appended-other ls j i a d = getD-set-other ls j i _ [] d
 
 module _ (p : Problem) (s : List ℕ) (at : ℕ) (kept : Kept p at) where
   abbrev Passed : Bool → Command → Type 0
-  Passed w k = Passes (problemPlaced p at k) w (problemOperandsFit p (problemDecoded k s at)) (problemRepeated p (problemDecoded k s at)) (problemFull p (problemDecoded k s at))
+  Passed w k = Passes (problemPlaced p s at k) w (problemOperandsFit p (problemDecoded k s at)) (problemRepeated p (problemDecoded k s at)) (problemFull p (problemDecoded k s at))
 
   applied-limits : (w : Bool) (k : Command) → Passed w k → Limits (problemApplied p (problemDecoded k s at))
   unfolding problemApplied
@@ -172,6 +220,8 @@ module _ (p : Problem) (s : List ℕ) (at : ℕ) (kept : Kept p at) where
       let q = kept .later (ltb-true 0 at (c .placed)) in
       record {
         variables = q .variables;
+        rule = q .rule;
+        order = q .order;
         objective = terms-more (p .variables) 32 256 (p .objective) _ _ (q .objective) (c .allowed) (c .repeated) (c .full);
         conditions = q .conditions;
         terms = q .terms;
@@ -186,6 +236,8 @@ module _ (p : Problem) (s : List ℕ) (at : ℕ) (kept : Kept p at) where
       let last = all-at (ConditionTerms _) gs (length gs - 1) noCondition (q .terms) (terms-none _ 16 32) in
       record {
         variables = q .variables;
+        rule = q .rule;
+        order = q .order;
         objective = q .objective;
         conditions = rw (length-set gs) (q .conditions);
         terms = all-set _ gs _ _ (q .terms) (terms-more _ 16 32 _ _ _ last (c .allowed) (c .repeated) (c .full));
@@ -199,6 +251,8 @@ module _ (p : Problem) (s : List ℕ) (at : ℕ) (kept : Kept p at) where
       let j-low = leb-true _ (length (p .conditions)) (and-left low (fitting (p .variables) 8 _) (c .allowed)) in
       record {
         variables = q .variables;
+        rule = q .rule;
+        order = q .order;
         objective = q .objective;
         conditions = q .conditions;
         terms = q .terms;
@@ -211,6 +265,8 @@ module _ (p : Problem) (s : List ℕ) (at : ℕ) (kept : Kept p at) where
   applied-limits w C.End c = kept .later (ltb-true 0 at (c .placed))
   applied-limits w C.Unknown c = let z : _≡_ {A = ℕ} 0 1 = let e = c .placed in cc in absurd (omega arith)
   applied-limits w C.Equality c = begun-limits p _ (kept .later (ltb-true 0 at (c .placed))) (c .full)
+  applied-limits w C.Rule c = ruled-limits p _ (kept .later (ruled-later p s at (c .placed))) (c .allowed)
+  applied-limits w C.Order c = ordered-limits p _ (kept .later (ordered-later p s at (c .placed))) (c .allowed)
 
   next-limits : problemRefusalAt p s at ≡ 0 → Limits (problemNext p s at)
   unfolding problemRefusalAt problemNext
@@ -219,13 +275,13 @@ module _ (p : Problem) (s : List ℕ) (at : ℕ) (kept : Kept p at) where
 -- a command that stands somewhere has a byte
 pub taken-size : (p : Problem) (s : List ℕ) (at : ℕ) → problemRefusalAt p s at ≡ 0 → 1 ≤ problemSize (problemCommandAt s at)
 unfolding problemRefusalAt
-taken-size p s at h = placed-size p at (problemCommandAt s at) (passes _ _ _ _ _ h .placed)
+taken-size p s at h = placed-size p s at (problemCommandAt s at) (passes _ _ _ _ _ h .placed)
 
 pub kept-next : (p : Problem) (s : List ℕ) (at : ℕ) → Kept p at → problemRefusalAt p s at ≡ 0 → Kept (problemNext p s at) (at + problemSize (problemCommandAt s at))
 kept-next p s at k v = record { first = λ z. let n = taken-size p s at v in absurd (omega arith); later = λ _. next-limits p s at k v }
 
 -- the end command leaves the problem
-end-leaves : (p : Problem) (s : List ℕ) (at : ℕ) → getD s at 0 ≡ 6 → problemNext p s at ≡ p
+pub end-leaves : (p : Problem) (s : List ℕ) (at : ℕ) → getD s at 0 ≡ 6 → problemNext p s at ≡ p
 unfolding problemNext problemApplied problemCommand
 end-leaves p s at e = rw e
 
@@ -237,3 +293,9 @@ read-limits s p h =
     (λ a at t e k. subst Limits (end-leaves a s at e) (next-limits a s at k (t .passed)))
     (λ a b at cs t e f k. f (kept-next a s at k (t .passed)))
     noProblem p h kept-start
+
+-- no basis of a problem within the limits has more than 64 monomials
+pub basis-few : (p : Problem) → Limits p → (j : ℕ) → length (basisOf p j) ≤ 64
+unfolding basisOf
+basis-few p l j =
+    all-at (Monomials (p .variables) 8 64) (p .bases) j [] (l .members) (monomials-none (p .variables) 8 64) .count

@@ -8,7 +8,7 @@ use lib.ListN.{length, getD}
 use Rattle.polynomial.specs.Monomial.{degree, within, among}
 use Rattle.polynomial.specs.Terms.{Term, keysOf}
 use Rattle.format.specs.All.{All}
-use Rattle.format.specs.ProblemLimits.{mostVariables, mostObjectiveDegree, mostObjectiveTerms, mostConditions, mostConditionDegree, mostConditionTerms, mostBasisDegree, mostMonomials, mostBases}
+use Rattle.format.specs.ProblemLimits.{mostVariables, latestRule, mostOrder, mostObjectiveDegree, mostObjectiveTerms, mostConditions, mostConditionDegree, mostConditionTerms, mostBasisDegree, mostMonomials, mostBases}
 use Rattle.format.specs.ProblemRules.{Condition, Problem}
 
 -- "no monomial twice"
@@ -34,6 +34,9 @@ ConditionTerms n g = Terms n mostConditionDegree mostConditionTerms (g .terms)
 
 pub record Limits (p : Problem) : Type 0 where
   pub variables : (1 ≤ p .variables) × (p .variables ≤ mostVariables)
+  pub rule : (1 ≤ p .rule) × (p .rule ≤ latestRule)
+  -- 0 is that of a stream without 09
+  pub order : p .order ≤ mostOrder
   pub objective : Terms (p .variables) mostObjectiveDegree mostObjectiveTerms (p .objective)
   pub conditions : length (p .conditions) ≤ mostConditions
   pub terms : All (ConditionTerms (p .variables)) (p .conditions)

@@ -24,10 +24,24 @@ problemLayout C.Member = line 0x05 (u8 ∷ E ∷ [])
 problemLayout C.End = line 0x06 []
 -- "Problem command 07 begins an equality"
 problemLayout C.Equality = line 0x07 []
+-- "Problem command 08 rule(u8)"
+problemLayout C.Rule = line 0x08 (u8 ∷ [])
+-- "Problem command 09 k(u8)"
+problemLayout C.Order = line 0x09 (u8 ∷ [])
 problemLayout C.Unknown = none
 
 abbrev pub problemCommands : List Command
-problemCommands = C.Variables ∷ C.Objective ∷ C.Inequality ∷ C.Term ∷ C.Member ∷ C.End ∷ C.Equality ∷ []
+problemCommands =
+    C.Variables
+    ∷ C.Objective
+    ∷ C.Inequality
+    ∷ C.Term
+    ∷ C.Member
+    ∷ C.End
+    ∷ C.Equality
+    ∷ C.Rule
+    ∷ C.Order
+    ∷ []
 
 -- the command that a byte names
 unfoldable pub problemCommand : ℕ → Command
@@ -53,4 +67,6 @@ problemDecoded C.Term s at = I.Term (problemUnsigned C.Term 0 s at) (problemSign
 problemDecoded C.Member s at = I.Member (problemUnsigned C.Member 0 s at) (problemUnsigned C.Member 1 s at)
 problemDecoded C.End s at = I.End
 problemDecoded C.Equality s at = I.Equality
+problemDecoded C.Rule s at = I.Rule (problemUnsigned C.Rule 0 s at)
+problemDecoded C.Order s at = I.Order (problemUnsigned C.Order 0 s at)
 problemDecoded C.Unknown s at = I.End

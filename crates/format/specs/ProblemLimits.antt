@@ -5,6 +5,14 @@ use Prim.Native.Nat.{ℕ, _+_}
 abbrev pub mostVariables : ℕ
 mostVariables = 8
 
+-- "08 rule(u8), value 1 or 2": the joining rule, by its edition
+abbrev pub latestRule : ℕ
+latestRule = 2
+
+-- "09 k(u8), from 1 to 255": the sparse order, a number of rounds
+abbrev pub mostOrder : ℕ
+mostOrder = 255
+
 -- "02 E c(i32): objective term, total degree at most 32, at most 256"
 abbrev pub mostObjectiveDegree : ℕ
 mostObjectiveDegree = 32

@@ -1,5 +1,5 @@
 -- The rules of the problem stream: what is refused, with which number, and what is read.
-use mathlib.Core.Bool.{Bool, true, false, _&&_}
+use mathlib.Core.Bool.{Bool, true, false, cond, _&&_}
 use mathlib.Core.List.{List, [], _∷_, _++_}
 use Prim.Native.Nat.{ℕ, _+_, _-_}
 use lib.Dec.{eqb, leb, ltb}
@@ -15,23 +15,28 @@ use Rattle.format.specs.declared.problem.Instruction.the-variants as I
 use Rattle.format.specs.declared.problem.Kind.{Kind}
 use Rattle.format.specs.declared.problem.Kind.the-variants as K
 use Rattle.format.specs.ProblemLayout.{problemCommand, problemSize, problemDecoded}
-use Rattle.format.specs.ProblemLimits.{mostVariables, mostObjectiveDegree, mostObjectiveTerms, mostConditions, mostConditionDegree, mostConditionTerms, mostBasisDegree, mostMonomials, mostBases}
+use Rattle.format.specs.ProblemLimits.{mostVariables, latestRule, mostOrder, mostObjectiveDegree, mostObjectiveTerms, mostConditions, mostConditionDegree, mostConditionTerms, mostBasisDegree, mostMonomials, mostBases}
 
 -- a condition: an inequality (document 01's constraint) or an equality, with its terms
 pub record Condition : Type 0 where
   pub kind : Kind
   pub terms : List Term
 
--- a problem: the number of variables, the objective, the conditions from number 1 on, and the bases 0 to 8
+-- a problem: the number of variables, the joining rule, the sparse order, the objective, the conditions from number 1
+-- on, and the bases 0 to 8
 pub record Problem : Type 0 where
   pub variables : ℕ
+  pub rule : ℕ
+  pub order : ℕ
   pub objective : List Term
   pub conditions : List Condition
   pub bases : List (List ℕ)
 
--- before the first command
+-- before the first command. The joining rule is 1 until an 08 names another: "absent means 1". The sparse order is 0
+-- until a 09 names one, and then it is not 0: "Leaving it out keeps full closure"
 abbrev pub noProblem : Problem
-noProblem = record { variables = 0; objective = []; conditions = []; bases = replicate mostBases [] }
+noProblem =
+    record { variables = 0; rule = 1; order = 0; objective = []; conditions = []; bases = replicate mostBases [] }
 
 -- one more at the end of list j
 unfoldable pub appendAt {ℓ} : {A : Type ℓ} → List (List A) → ℕ → A → List (List A)
@@ -45,16 +50,22 @@ abbrev pub lastCondition : List Condition → Condition
 lastCondition gs = getD gs (length gs - 1) noCondition
 
 -- ---- refusal 3: 01 stands "first, and only first", and "a 04 before any 03 .. is misplaced"; 04 "from now on needs a
--- 03 or 07 before it"
-abbrev pub problemPlaced : Problem → ℕ → Command → Bool
-problemPlaced p at C.Variables = eqb at 0
-problemPlaced p at C.Objective = ltb 0 at
-problemPlaced p at C.Inequality = ltb 0 at
-problemPlaced p at C.Term = ltb 0 at && ltb 0 (length (p .conditions))
-problemPlaced p at C.Member = ltb 0 at
-problemPlaced p at C.End = ltb 0 at
-problemPlaced p at C.Equality = ltb 0 at
-problemPlaced p at C.Unknown = false
+-- 03 or 07 before it"; 08 "stands directly after 01 and only there", which is at offset 2, as 01 has two bytes; 09
+-- "stands directly after 01 or 08", which is at offset 2, or at 4 where the command at 2 is an 08, as 08 has two too
+unfoldable pub orderPlace : List ℕ → ℕ
+orderPlace s = cond (eqb (getD s 2 0) 0x08) 4 2
+
+abbrev pub problemPlaced : Problem → List ℕ → ℕ → Command → Bool
+problemPlaced p s at C.Variables = eqb at 0
+problemPlaced p s at C.Objective = ltb 0 at
+problemPlaced p s at C.Inequality = ltb 0 at
+problemPlaced p s at C.Term = ltb 0 at && ltb 0 (length (p .conditions))
+problemPlaced p s at C.Member = ltb 0 at
+problemPlaced p s at C.End = ltb 0 at
+problemPlaced p s at C.Equality = ltb 0 at
+problemPlaced p s at C.Rule = eqb at 2
+problemPlaced p s at C.Order = eqb at (orderPlace s)
+problemPlaced p s at C.Unknown = false
 
 -- ---- refusal 4: "operand outside its rule"
 -- "Coefficients and factors are never 0"
@@ -75,6 +86,8 @@ problemOperandsFit p (I.Member j k) =
     leb j (length (p .conditions)) && fitting (p .variables) mostBasisDegree k
 problemOperandsFit p I.End = true
 problemOperandsFit p I.Equality = true
+problemOperandsFit p (I.Rule r) = leb 1 r && leb r latestRule
+problemOperandsFit p (I.Order k) = leb 1 k && leb k mostOrder
 
 -- ---- refusal 5: "A polynomial or a basis has no monomial twice"
 abbrev pub problemRepeated : Problem → Instruction → Bool
@@ -85,6 +98,8 @@ problemRepeated p (I.Term k c) = among k (keysOf (lastCondition (p .conditions) 
 problemRepeated p (I.Member j k) = among k (getD (p .bases) j [])
 problemRepeated p I.End = false
 problemRepeated p I.Equality = false
+problemRepeated p (I.Rule r) = false
+problemRepeated p (I.Order k) = false
 
 -- ---- refusal 6: "one more than a count allows"
 -- of the conditions, of either kind
@@ -99,14 +114,40 @@ problemFull p (I.Term k c) = leb mostConditionTerms (length (lastCondition (p .c
 problemFull p (I.Member j k) = leb mostMonomials (length (getD (p .bases) j []))
 problemFull p I.End = false
 problemFull p I.Equality = conditionsFull p
+problemFull p (I.Rule r) = false
+problemFull p (I.Order k) = false
 
 -- ---- what a command that is not refused does
 -- a condition begun, without terms; an equality is "numbered together with the constraints"
 abbrev pub withCondition : Problem → Kind → Problem
 withCondition p k = record {
   variables = p .variables;
+  rule = p .rule;
+  order = p .order;
   objective = p .objective;
   conditions = p .conditions ++ (record { kind = k; terms = [] } ∷ []);
+  bases = p .bases;
+}
+
+-- the joining rule named
+abbrev pub withRule : Problem → ℕ → Problem
+withRule p r = record {
+  variables = p .variables;
+  rule = r;
+  order = p .order;
+  objective = p .objective;
+  conditions = p .conditions;
+  bases = p .bases;
+}
+
+-- the sparse order named
+abbrev pub withOrder : Problem → ℕ → Problem
+withOrder p k = record {
+  variables = p .variables;
+  rule = p .rule;
+  order = k;
+  objective = p .objective;
+  conditions = p .conditions;
   bases = p .bases;
 }
 
@@ -117,12 +158,16 @@ withTerm g t = record { kind = g .kind; terms = g .terms ++ (t ∷ []) }
 unfoldable pub problemApplied : Problem → Instruction → Problem
 problemApplied p (I.Variables n) = record {
   variables = n;
+  rule = p .rule;
+  order = p .order;
   objective = p .objective;
   conditions = p .conditions;
   bases = p .bases;
 }
 problemApplied p (I.Objective k c) = record {
   variables = p .variables;
+  rule = p .rule;
+  order = p .order;
   objective = p .objective ++ (term k c ∷ []);
   conditions = p .conditions;
   bases = p .bases;
@@ -130,6 +175,8 @@ problemApplied p (I.Objective k c) = record {
 problemApplied p I.Inequality = withCondition p K.Inequality
 problemApplied p (I.Term k c) = record {
   variables = p .variables;
+  rule = p .rule;
+  order = p .order;
   objective = p .objective;
   conditions =
       set (p .conditions) (length (p .conditions) - 1) (withTerm (lastCondition (p .conditions)) (term k c));
@@ -137,12 +184,16 @@ problemApplied p (I.Term k c) = record {
 }
 problemApplied p (I.Member j k) = record {
   variables = p .variables;
+  rule = p .rule;
+  order = p .order;
   objective = p .objective;
   conditions = p .conditions;
   bases = appendAt (p .bases) j k;
 }
 problemApplied p I.End = p
 problemApplied p I.Equality = withCondition p K.Equality
+problemApplied p (I.Rule r) = withRule p r
+problemApplied p (I.Order k) = withOrder p k
 
 -- ---- the command at an offset
 abbrev pub problemCommandAt : List ℕ → ℕ → Command
@@ -153,7 +204,7 @@ problemInstructionAt s at = problemDecoded (problemCommandAt s at) s at
 
 unfoldable pub problemRefusalAt : Problem → List ℕ → ℕ → ℕ
 problemRefusalAt p s at =
-    firstRefusal (problemPlaced p at (problemCommandAt s at))
+    firstRefusal (problemPlaced p s at (problemCommandAt s at))
     (leb (at + problemSize (problemCommandAt s at)) (length s))
     (problemOperandsFit p (problemInstructionAt s at)) (problemRepeated p (problemInstructionAt s at))
     (problemFull p (problemInstructionAt s at))

@@ -9,6 +9,8 @@ pub enum Command {
     End,
     Unknown,
     Equality,
+    Rule,
+    Order,
 }
 
 // A command with its operands. A monomial is its key.
@@ -20,6 +22,8 @@ pub enum Instruction {
     Member(usize, u64),
     End,
     Equality,
+    Rule(usize),
+    Order(usize),
 }
 
 // The kind of a condition: an inequality asks that its polynomial be at least 0, an equality that it be 0.

@@ -25,8 +25,8 @@ brackets of the current folder is. A missing file is an empty stream.
   HIGH     the certificate of the upper bound            [high.bin]
 
 Where both certificates are accepted, four lines are written, in base ten, unreduced.
-A point is allowed if its coordinates are rational, and there no inequality is below 0 and
-every equality is 0.
+A point, with rational or other real coordinates, is allowed if no inequality is below 0
+there and every equality is 0.
 
   lower p/q   at every allowed point the polynomial is at least p/q
   upper P/Q   at every allowed point it is at most P/Q

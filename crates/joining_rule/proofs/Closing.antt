@@ -1,127 +1,133 @@
--- The closing is the state after its number of rounds, and has what the state after every number of rounds has.
-use mathlib.Core.Path.{_≡_, refl, sym, _∙_}
+-- The rounds of the definition, one by one: what they leave is the state after their number of rounds, and after the most
+-- that are allowed, and has what the state after every number of rounds has.
+use mathlib.Core.Path.{_≡_, refl, sym, ap, _∙_}
 use mathlib.Core.Logic.{_⊎_, inl, inr, ⊎-elim}
 use mathlib.Core.Bool.{Bool, true, false, cond}
 use mathlib.Core.List.{List}
 use Prim.Native.Nat.{ℕ, zero, suc, _+_, _-_, _≤_, _<_, zero-le}
 use native.Mathlib.Numerals.{add-one}
-use native.Mathlib.Nat.{eq-or-lt-of-le}
+use native.Mathlib.Nat.{eq-or-lt-of-le, le-of-suc-le-suc}
 use native.Mathlib.Omega.{arith}
-use lib.ListN.{length}
 use Rattle.counting.proofs.Cases.{clash}
-use Rattle.joining_rule.specs.Sets.{In, member, insert}
+use Rattle.joining_rule.specs.Sets.{In}
 use Rattle.joining_rule.proofs.Rising.{Rising}
-use Rattle.joining_rule.proofs.Elements.{insert-member, length-insert-new, insert-grows}
-use Rattle.joining_rule.proofs.Extending.{Extends}
-use Rattle.joining_rule.specs.Rounds.{Bases, State, Closing, start, round, after, sameState, closeFrom, closingOf}
+use Rattle.joining_rule.specs.Rounds.{Bases, State, Closing, start, addingBases, round, after, sameState, closeFrom, closingOf}
 use Rattle.joining_rule.proofs.Same.{sameState-refl, sameState-true, close-next}
-use Rattle.joining_rule.proofs.Rounds.{Shaped, AllNumbered, AllFull, after-keeps, after-extends, after-in, round-extends, round-full, after-shaped, after-numbered}
+use Rattle.joining_rule.proofs.Products.{AllFull}
+use Rattle.joining_rule.proofs.Rounds.{Shaped, AllNumbered, after-keeps, after-in, round-extends, round-full, after-shaped, after-numbered}
 
 -- ---- the rounds of the definition, one by one
 
-module _ (g : Bases) (s : State) where
+module _ (rule : ℕ) (g : Bases) (s : State) where
   -- round k + 1 changes a block, or S
   abbrev pub Moves : ℕ → Type 0
-  Moves k = after g s (suc k) ≡ after g s k → ⊥
+  Moves k = after rule g s (suc k) ≡ after rule g s k → ⊥
 
   -- o is what at most m rounds after the first c leave. Each round before the last changes something. The last changes nothing;
-  -- or it is number m + c and changes something, and the fuel has run out.
+  -- or it is number m + c and changes something, and no more are allowed.
   pub record Ran (m c : ℕ) (o : Closing) : Type 0 where
-    pub state : o .state ≡ after g s (o .rounds)
+    pub upto : o .rounds ≤ m + c
+    pub state : o .state ≡ after rule g s (o .rounds)
     pub moves : (k : ℕ) → k + 1 < o .rounds → Moves k
-    pub ended : ((0 < o .rounds) × (after g s (o .rounds) ≡ after g s (o .rounds - 1))) ⊎ ((o .rounds ≡ m + c) × ((k : ℕ) → k < o .rounds → Moves k))
+    pub ended : ((0 < o .rounds) × (after rule g s (o .rounds) ≡ after rule g s (o .rounds - 1))) ⊎ ((o .rounds ≡ m + c) × ((k : ℕ) → k < o .rounds → Moves k))
 
-  next : (c : ℕ) → after g s (c + 1) ≡ round g (after g s c)
+  next : (c : ℕ) → after rule g s (c + 1) ≡ round rule g (after rule g s c)
   unfolding after
   next c = rw (add-one c)
 
   -- a round that the test does not find the same changes something
-  changes : (c : ℕ) → sameState (after g s c) (round g (after g s c)) ≡ false → (k : ℕ) → k ≡ c → Moves k
+  changes : (c : ℕ) → sameState (after rule g s c) (round rule g (after rule g s c)) ≡ false → (k : ℕ) → k ≡ c → Moves k
   unfolding after
   changes c e k q w =
-      let u : round g (after g s c) ≡ after g s c = rw q at w in
-      let t : sameState (after g s c) (round g (after g s c)) ≡ true = rw (u, sameState-refl (after g s c)) in
+      let u : round rule g (after rule g s c) ≡ after rule g s c = rw q at w in
+      let t : sameState (after rule g s c) (round rule g (after rule g s c)) ≡ true = rw (u, sameState-refl (after rule g s c)) in
       clash (cc)
 
   -- the definition's rounds, where the first c all change something
-  pub ran : (m c : ℕ) → ((k : ℕ) → k < c → Moves k) → Ran m c (closeFrom g m (after g s c) c)
+  pub ran : (m c : ℕ) → ((k : ℕ) → k < c → Moves k) → Ran m c (closeFrom rule g m (after rule g s c) c)
   unfolding closeFrom
-  ran zero c h = record { state = refl; moves = λ k b. h k (omega arith); ended = inr (omega arith, h) }
-  ran (suc m) c h = rw (close-next g m (after g s c) c) (go (sameState (after g s c) (round g (after g s c))) refl (ran m (c + 1)))
+  ran zero c h = record { upto = omega arith; state = refl; moves = λ k b. h k (omega arith); ended = inr (omega arith, h) }
+  ran (suc m) c h = rw (close-next rule g m (after rule g s c) c) (go (sameState (after rule g s c) (round rule g (after rule g s c))) refl (ran m (c + 1)))
     where
-      go : (b : Bool) → sameState (after g s c) (round g (after g s c)) ≡ b
-          → (((k : ℕ) → k < c + 1 → Moves k) → Ran m (c + 1) (closeFrom g m (after g s (c + 1)) (c + 1)))
-          → Ran (suc m) c (cond b (record { state = round g (after g s c); rounds = c + 1 }) (closeFrom g m (round g (after g s c)) (c + 1)))
+      go : (b : Bool) → sameState (after rule g s c) (round rule g (after rule g s c)) ≡ b
+          → (((k : ℕ) → k < c + 1 → Moves k) → Ran m (c + 1) (closeFrom rule g m (after rule g s (c + 1)) (c + 1)))
+          → Ran (suc m) c (cond b (record { state = round rule g (after rule g s c); rounds = c + 1 }) (closeFrom rule g m (round rule g (after rule g s c)) (c + 1)))
       go true e f =
           let z : c + 1 - 1 ≡ c = omega arith in
-          record { state = sym (next c); moves = λ k b. h k (omega arith); ended = inl (omega arith, rw z (next c ∙ sym (sameState-true _ _ e))) }
+          record { upto = omega arith; state = sym (next c); moves = λ k b. h k (omega arith); ended = inl (omega arith, rw z (next c ∙ sym (sameState-true _ _ e))) }
       go false e f =
-          let r : Ran m (c + 1) (closeFrom g m (round g (after g s c)) (c + 1)) =
+          let r : Ran m (c + 1) (closeFrom rule g m (round rule g (after rule g s c)) (c + 1)) =
           rw (next c) at (f (λ k b. ⊎-elim (λ q. changes c e k q) (λ l. h k l) (eq-or-lt-of-le {n = k} {m = c} (omega arith)))) in
-          record { state = r .state; moves = r .moves; ended = ⊎-elim (λ w. inl w) (λ w. inr (omega (arith, w .0), w .1)) (r .ended) }
+          record { upto = omega (arith, r .upto); state = r .state; moves = r .moves; ended = ⊎-elim (λ w. inl w) (λ w. inr (omega (arith, w .0), w .1)) (r .ended) }
 
--- a set that grows has no fewer members with k added
-pub insert-more : (k : ℕ) (S S′ : List ℕ) → Rising S → Extends S S′ → length (insert k S) ≤ length (insert k S′)
-insert-more k S S′ r x = go (member k S) refl (member k S′) refl
-  where
-    go : (b : Bool) → member k S ≡ b → (d : Bool) → member k S′ ≡ d → length (insert k S) ≤ length (insert k S′)
-    go true e d f = rw (insert-member k S r e) (omega (arith, x .more, insert-grows k S′))
-    go false e true f =
-        ⊎-elim (λ q. let w : S′ ≡ S = x .same (sym q) in clash (cc)) (λ l. omega (arith, length-insert-new k S e, insert-grows k S′)) (eq-or-lt-of-le (x .more))
-    go false e false f = omega (arith, length-insert-new k S e, length-insert-new k S′ f, x .more)
+  -- after a round that changes nothing, none changes anything
+  pub still-later : (k : ℕ) → after rule g s (suc k) ≡ after rule g s k → (m : ℕ) → k ≤ m → after rule g s m ≡ after rule g s k
+  unfolding after
+  still-later k e zero h = let z : k ≡ 0 = omega arith in rw z
+  still-later k e (suc m) h =
+      ⊎-elim
+      (λ z. rw z)
+      (λ l. ap (round rule g) (still-later k e m (le-of-suc-le-suc l)) ∙ e)
+      (eq-or-lt-of-le {n = k} {m = suc m} h)
 
-module _ (g : Bases) (S₀ : List ℕ) where
-  pub closing-ran : Ran g (start g S₀) 578 0 (closingOf g S₀)
-  unfolding closingOf after
-  closing-ran = ran g (start g S₀) 578 0 (λ k b. absurd (omega arith))
-
+module _ (rule : ℕ) (g : Bases) (S₀ : List ℕ) where
   start-support : start g S₀ .support ≡ S₀
   unfolding start
   start-support = refl
 
+  -- S stays in order
+  pub after-rising : Rising S₀ → (k : ℕ) → Rising (after rule g (start g S₀) k .support)
+  after-rising rising k = after-keeps rule g (λ s. Rising (s .support)) (λ s r. round-extends rule g s .rising r) (start g S₀) (rw start-support rising) k
+
+module _ (rule most : ℕ) (g : Bases) (S₀ : List ℕ) where
+  abbrev o : Closing
+  o = closingOf rule most g S₀
+
+  pub closing-ran : Ran rule g (start g S₀) most 0 o
+  unfolding closingOf after
+  closing-ran = ran rule g (start g S₀) most 0 (λ k b. absurd (omega arith))
+
   -- the closing's state is the state after its number of rounds
-  pub closing-state : closingOf g S₀ .state ≡ after g (start g S₀) (closingOf g S₀ .rounds)
+  pub closing-state : o .state ≡ after rule g (start g S₀) (o .rounds)
   closing-state = closing-ran .state
 
+  -- and after the most rounds: those that were not made would change nothing
+  pub closing-after : o .state ≡ after rule g (start g S₀) most
+  closing-after =
+      closing-state
+      ∙ ⊎-elim
+      (λ e.
+      let r = o .rounds - 1 in
+      let z : o .rounds ≡ suc r = omega (arith, e .0) in
+      let w : after rule g (start g S₀) (suc r) ≡ after rule g (start g S₀) r = ap (after rule g (start g S₀)) (sym z) ∙ e .1 in
+      e .1 ∙ sym (still-later rule g (start g S₀) r w most (omega (arith, closing-ran .upto, e .0))))
+      (λ e. let z : o .rounds ≡ most = omega (arith, e .0) in rw z)
+      (closing-ran .ended)
+
   -- what the state after any number of rounds has, the closing's has
-  pub closing-has : (P : State → Type 0) → ((k : ℕ) → P (after g (start g S₀) k)) → P (closingOf g S₀ .state)
-  closing-has P h = rw closing-state (h (closingOf g S₀ .rounds))
+  pub closing-has : (P : State → Type 0) → ((k : ℕ) → P (after rule g (start g S₀) k)) → P (o .state)
+  closing-has P h = rw closing-state (h (o .rounds))
 
-  pub closing-shaped : Shaped g (closingOf g S₀ .state .labels)
-  closing-shaped = closing-has (λ s. Shaped g (s .labels)) (after-shaped g S₀)
+  pub closing-shaped : Shaped g (o .state .labels)
+  closing-shaped = closing-has (λ s. Shaped g (s .labels)) (after-shaped rule g S₀)
 
-  pub closing-numbered : AllNumbered g (closingOf g S₀ .state .labels)
-  closing-numbered = closing-has (λ s. AllNumbered g (s .labels)) (after-numbered g S₀)
+  pub closing-numbered : AllNumbered g (o .state .labels)
+  closing-numbered = closing-has (λ s. AllNumbered g (s .labels)) (after-numbered rule g S₀)
 
-  -- there is a last round
-  closing-last : closingOf g S₀ .rounds ≡ suc (closingOf g S₀ .rounds - 1)
-  closing-last = ⊎-elim (λ e. omega (arith, e .0)) (λ e. omega (arith, e .0)) (closing-ran .ended)
-
-  -- so S has every sum of two monomials in one block
-  pub closing-full : AllFull g (closingOf g S₀ .state)
+  -- where a round is made, S has every sum of two monomials in one block, of the bases that add
+  pub closing-full : 0 < most → AllFull (addingBases rule) g (o .state)
   unfolding after
-  closing-full = rw (closing-state, closing-last) (round-full g (after g (start g S₀) (closingOf g S₀ .rounds - 1)))
+  closing-full b =
+      let z : most ≡ suc (most - 1) = omega arith in
+      rw (closing-after, z) (round-full rule g (after rule g (start g S₀) (most - 1)))
 
   -- S has all that it had after any of the rounds, and so all of S₀
-  pub closing-in : (x k : ℕ) → k ≤ closingOf g S₀ .rounds → In x (after g (start g S₀) k .support) → In x (closingOf g S₀ .state .support)
-  closing-in x k h m = rw closing-state (after-in g x (start g S₀) k (closingOf g S₀ .rounds) h m)
+  pub closing-in : (x k : ℕ) → k ≤ o .rounds → In x (after rule g (start g S₀) k .support) → In x (o .state .support)
+  closing-in x k h m = rw closing-state (after-in rule g x (start g S₀) k (o .rounds) h m)
 
-  pub closing-starts : (x : ℕ) → In x S₀ → In x (closingOf g S₀ .state .support)
+  pub closing-starts : (x : ℕ) → In x S₀ → In x (o .state .support)
   unfolding after
-  closing-starts x m = closing-in x 0 zero-le (rw start-support m)
+  closing-starts x m = closing-in x 0 zero-le (rw (start-support rule g S₀) m)
 
-  module _ (rising : Rising S₀) where
-    pub after-rising : (k : ℕ) → Rising (after g (start g S₀) k .support)
-    after-rising k = after-keeps g (λ s. Rising (s .support)) (λ s r. round-extends g s .rising r) (start g S₀) (rw start-support rising) k
-
-    -- S stays in order
-    pub closing-rising : Rising (closingOf g S₀ .state .support)
-    closing-rising = closing-has (λ s. Rising (s .support)) after-rising
-
-    -- with the zero exponent added, S has no more members after any of the rounds than the closed S has
-    pub closing-more : (k : ℕ) → k ≤ closingOf g S₀ .rounds → length (insert 0 (after g (start g S₀) k .support)) ≤ length (insert 0 (closingOf g S₀ .state .support))
-    closing-more k h = rw closing-state (insert-more 0 _ _ (after-rising k) (after-extends g (start g S₀) k (closingOf g S₀ .rounds) h))
-
-    -- so once it has more than 2,048, "the closed S with the zero exponent added" has
-    pub closing-grows : (k : ℕ) → k ≤ closingOf g S₀ .rounds → 2048 < length (insert 0 (after g (start g S₀) k .support)) → 2048 < length (insert 0 (closingOf g S₀ .state .support))
-    closing-grows k h b = omega (arith, closing-more k h)
+  pub closing-rising : Rising S₀ → Rising (o .state .support)
+  closing-rising rising = closing-has (λ s. Rising (s .support)) (after-rising rule g S₀ rising)

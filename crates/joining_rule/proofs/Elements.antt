@@ -47,14 +47,17 @@ pub append-in : (x : ℕ) (l m : List ℕ) → In x m → In x (l ++ m)
 append-in x [] m e = e
 append-in x (y ∷ ys) m e = in-there x y (ys ++ m) (append-in x ys m e)
 
+pub append-keeps : (x : ℕ) (l m : List ℕ) → In x l → In x (l ++ m)
+append-keeps x [] m e = not-nil x e
+append-keeps x (y ∷ ys) m e = ⊎-elim (λ q. in-here x y (ys ++ m) q) (λ w. in-there x y (ys ++ m) (append-keeps x ys m w)) (in-cons x y ys e)
+
 -- ---- a list with one more element
 
 pub in-snoc : (y : ℕ) (l : List ℕ) (k : ℕ) → In y (l ++ (k ∷ [])) → (k ≡ y) ⊎ In y l
 in-snoc y l k m = ⊎-elim (λ w. inr w) (λ w. ⊎-elim (λ e. inl e) (λ v. not-nil y v) (in-cons y k [] w)) (in-append y l (k ∷ []) m)
 
 pub snoc-keeps : (y : ℕ) (l : List ℕ) (k : ℕ) → In y l → In y (l ++ (k ∷ []))
-snoc-keeps y [] k m = not-nil y m
-snoc-keeps y (z ∷ zs) k m = ⊎-elim (λ q. in-here y z (zs ++ (k ∷ [])) q) (λ w. in-there y z (zs ++ (k ∷ [])) (snoc-keeps y zs k w)) (in-cons y z zs m)
+snoc-keeps y l k m = append-keeps y l (k ∷ []) m
 
 pub snoc-in : (l : List ℕ) (k : ℕ) → In k (l ++ (k ∷ []))
 snoc-in l k = append-in k l (k ∷ []) (in-here k k [] refl)

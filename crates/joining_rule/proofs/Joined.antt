@@ -10,7 +10,7 @@ use lib.ListN.{length, getD}
 use lib.Dec.{ltb}
 use borrow.Author.Tests.{ltb-true, ltb-false}
 use Rattle.joining_rule.specs.Join.{linked, merged, joinPair, join}
-use Rattle.joining_rule.proofs.Pairs.{pairs-reach}
+use Rattle.joining_rule.proofs.Pairs.{pairs-keep, pairs-reach}
 use Rattle.joining_rule.proofs.Labels.{inOne, merged-at, two-low, pair-long}
 
 -- linked indices have one block number
@@ -36,6 +36,13 @@ module _ (S T B : List ℕ) where
       go : (b : Bool) → getD (cond b (merged (getD L i 0) (getD L k 0) L) L) x 0 ≡ getD (cond b (merged (getD L i 0) (getD L k 0) L) L) y 0
       go true = merged-equal (getD L i 0) (getD L k 0) L x y hx hy e
       go false = e
+
+  -- a joining keeps in one block what is in one
+  pub join-equal : (L : List ℕ) → length L ≡ length B → (x y : ℕ) → x < length B → y < length B → getD L x 0 ≡ getD L y 0 → getD (join S T B L) x 0 ≡ getD (join S T B L) y 0
+  unfolding join
+  join-equal L l x y hx hy e =
+      pairs-keep (length B) (λ i. i + 1) (joinPair S T B) (λ M. (length M ≡ length B) × (getD M x 0 ≡ getD M y 0))
+      (λ i k M _ _ _ q. let n = q .0 in (pair-long S T B i k M ∙ n, pair-equal x y i k M (omega arith) (omega arith) (q .1))) L (l, e) .1
 
   pair-joins : (i k : ℕ) (L : List ℕ) → i < length L → k < length L → linked S T (getD B i 0 + getD B k 0) ≡ true → getD (joinPair S T B i k L) i 0 ≡ getD (joinPair S T B i k L) k 0
   unfolding joinPair

@@ -24,9 +24,12 @@ pub record Equivalence (R : ℕ → ℕ → Type 0) : Type 0 where
   pub symmetric : (x y : ℕ) → R x y → R y x
   pub transitive : (x y z : ℕ) → R x y → R y z → R x z
 
--- blocks R and a set Q are closed under the steps of a round, for the basis B with the multiplier's exponents T
-pub record ClosedFor (Q : ℕ → Type 0) (R : ℕ → ℕ → Type 0) (T B : List ℕ) : Type 0 where
+-- blocks R and a set Q are closed under the first half of a round, for the basis B with the multiplier's exponents T
+pub record JoinedIn (Q : ℕ → Type 0) (R : ℕ → ℕ → Type 0) (T B : List ℕ) : Type 0 where
   pub joins : (i k t : ℕ) → i < length B → k < length B → In t T → Q (t + (getD B i 0 + getD B k 0)) → R i k
+
+-- and under the second
+pub record AddedIn (Q : ℕ → Type 0) (R : ℕ → ℕ → Type 0) (T B : List ℕ) : Type 0 where
   pub adds : (i k t : ℕ) → i < length B → k < length B → R i k → In t T → Q (t + (getD B i 0 + getD B k 0))
 
 -- n indices, and those with one block number are in one block of R
@@ -79,23 +82,25 @@ module _ (R : ℕ → ℕ → Type 0) (eq : Equivalence R) (S T B : List ℕ) (l
   unfolding join
   links-inside L s = pairs-keep (length B) (λ i. i + 1) (joinPair S T B) (Inside R (length B)) (λ i k M hi _ hk m. pair-inside i k M hi hk m) L s
 
-module _ (Q : ℕ → Type 0) (R : ℕ → ℕ → Type 0) (eq : Equivalence R) (T B : List ℕ) (c : ClosedFor Q R T B) where
-  -- a joining on a set within Q stays within R
-  pub join-inside : (S : List ℕ) → Within Q S → (L : List ℕ) → Inside R (length B) L → Inside R (length B) (join S T B L)
-  join-inside S w = links-inside R eq S T B (λ i k hi hk e. linked-from S T (getD B i 0 + getD B k 0) (λ t h m. c .joins i k t hi hk h (w .at _ m)) e)
+-- a joining on a set within Q stays within R
+pub join-inside : (Q : ℕ → Type 0) (R : ℕ → ℕ → Type 0) → Equivalence R → (T B : List ℕ) → JoinedIn Q R T B
+    → (S : List ℕ) → Within Q S → (L : List ℕ) → Inside R (length B) L → Inside R (length B) (join S T B L)
+join-inside Q R eq T B c S w =
+    links-inside R eq S T B
+    (λ i k hi hk e. linked-from S T (getD B i 0 + getD B k 0) (λ t h m. c .joins i k t hi hk h (w .at _ m)) e)
 
-  module _ (L : List ℕ) (s : Inside R (length B) L) where
-    pair-within : (i k : ℕ) (S : List ℕ) → i < length B → k < length B → Within Q S → Within Q (addPair T B L i k S)
-    unfolding addPair
-    pair-within i k S hi hk w = go (eqb (getD L i 0) (getD L k 0)) refl
-      where
-        go : (b : Bool) → eqb (getD L i 0) (getD L k 0) ≡ b → Within Q (cond b (addTerms T (getD B i 0 + getD B k 0) S) S)
-        go true e = record {
-          at = λ x m. add-from x T (getD B i 0 + getD B k 0) S (λ t h q. rw (← q) (c .adds i k t hi hk (s .at i k hi hk (eqb-true _ _ e)) h)) (w .at x) m;
-        }
-        go false e = w
+module _ (Q : ℕ → Type 0) (R : ℕ → ℕ → Type 0) (T B : List ℕ) (c : AddedIn Q R T B) (L : List ℕ) (s : Inside R (length B) L) where
+  pair-within : (i k : ℕ) (S : List ℕ) → i < length B → k < length B → Within Q S → Within Q (addPair T B L i k S)
+  unfolding addPair
+  pair-within i k S hi hk w = go (eqb (getD L i 0) (getD L k 0)) refl
+    where
+      go : (b : Bool) → eqb (getD L i 0) (getD L k 0) ≡ b → Within Q (cond b (addTerms T (getD B i 0 + getD B k 0) S) S)
+      go true e = record {
+        at = λ x m. add-from x T (getD B i 0 + getD B k 0) S (λ t h q. rw (← q) (c .adds i k t hi hk (s .at i k hi hk (eqb-true _ _ e)) h)) (w .at x) m;
+      }
+      go false e = w
 
-    -- an extension by blocks within R stays within Q
-    pub extend-within : (S : List ℕ) → Within Q S → Within Q (extend T B L S)
-    unfolding extend
-    extend-within S w = pairs-keep (length B) (λ i. i) (addPair T B L) (Within Q) (λ i k S′ hi _ hk v. pair-within i k S′ hi hk v) S w
+  -- an extension by blocks within R stays within Q
+  pub extend-within : (S : List ℕ) → Within Q S → Within Q (extend T B L S)
+  unfolding extend
+  extend-within S w = pairs-keep (length B) (λ i. i) (addPair T B L) (Within Q) (λ i k S′ hi _ hk v. pair-within i k S′ hi hk v) S w

@@ -5,14 +5,16 @@ use mathlib.Core.Bool.{Bool, true, false, cond, _&&_}
 use mathlib.Core.List.{List, [], _∷_}
 use Prim.Native.Nat.{ℕ, zero, suc, _+_, _≤_, _<_}
 use native.Mathlib.Numerals.{add-one}
+use native.Mathlib.Omega.{arith}
 use lib.Dec.{eqb}
 use lib.ListN.{length, getD, drop, drop-of-length-le}
 use lib.Seq.{drop-cons}
 use borrow.Author.Tests.{eqb-true, eq-eqb, ne-eqb}
 use Rattle.counting.proofs.Cases.{never}
-use Rattle.counting.proofs.Steps.{fromTo-same}
 use Rattle.counting.proofs.Listed.{listed-same}
-use Rattle.joining_rule.specs.Rounds.{Bases, State, Closing, singles, start, joinAll, extendAll, round, same, sameAll, sameState, closeFrom, closingOf}
+use Rattle.joining_rule.proofs.Products.{products-same}
+use Rattle.joining_rule.proofs.Rounds.{adding-most}
+use Rattle.joining_rule.specs.Rounds.{Bases, State, Closing, singles, start, joinAll, addingBases, round, same, sameAll, sameState, closeFrom, closingOf}
 
 pub same-refl : (l : List ℕ) → same l l ≡ true
 unfolding same
@@ -78,9 +80,9 @@ module _ (s t : State) where
 
 -- ---- one more round
 
-pub close-next : (g : Bases) (m : ℕ) (s : State) (c : ℕ) → closeFrom g (suc m) s c ≡ cond (sameState s (round g s)) (record { state = round g s; rounds = c + 1 }) (closeFrom g m (round g s) (c + 1))
+pub close-next : (rule : ℕ) (g : Bases) (m : ℕ) (s : State) (c : ℕ) → closeFrom rule g (suc m) s c ≡ cond (sameState s (round rule g s)) (record { state = round rule g s; rounds = c + 1 }) (closeFrom rule g m (round rule g s) (c + 1))
 unfolding closeFrom
-close-next g m s c = go (sameState s (round g s)) _ _
+close-next rule g m s c = go (sameState s (round rule g s)) _ _
   where
     go : (b : Bool) (x y : Closing) → elim b [ true ↦ x | false ↦ y ] ≡ cond b x y
     go true x y = refl
@@ -93,22 +95,23 @@ module _ (g g′ : Bases) (bases : (j : ℕ) → j < 9 → g .basis j ≡ g′ .
   unfolding start singles
   start-same S = ap (λ (L : List (List ℕ)). record { labels = L; support = S }) (listed-same 9 _ _ (λ j h. rw (bases j h)))
 
-  pub round-same : (s : State) → round g s ≡ round g′ s
-  unfolding round joinAll extendAll
-  round-same s =
-      let e : joinAll g (s .support) (s .labels) ≡ joinAll g′ (s .support) (s .labels) = listed-same 9 _ _ (λ j h. rw (bases j h, multipliers j h)) in
-      ap₂ (λ (L : List (List ℕ)) (S : List ℕ). record { labels = L; support = S }) e
-      (rw e (fromTo-same _ _ 9 0 (λ j S _ h. rw (bases j h, multipliers j h)) (s .support)))
+  module _ (rule : ℕ) where
+    pub round-same : (s : State) → round rule g s ≡ round rule g′ s
+    unfolding round joinAll
+    round-same s =
+        let e : joinAll g (s .support) (s .labels) ≡ joinAll g′ (s .support) (s .labels) = listed-same 9 _ _ (λ j h. rw (bases j h, multipliers j h)) in
+        ap₂ (λ (L : List (List ℕ)) (S : List ℕ). record { labels = L; support = S }) e
+        (rw e (products-same (addingBases rule) g g′ (λ j h. bases j (omega (arith, adding-most rule))) (λ j h. multipliers j (omega (arith, adding-most rule))) _ (s .support)))
 
-  close-same : (m : ℕ) (s : State) (c : ℕ) → closeFrom g m s c ≡ closeFrom g′ m s c
-  unfolding closeFrom
-  close-same zero s c = refl
-  close-same (suc m) s c = rw (close-next g m s c, close-next g′ m s c, round-same s, close-same m (round g′ s) (c + 1))
+    close-same : (m : ℕ) (s : State) (c : ℕ) → closeFrom rule g m s c ≡ closeFrom rule g′ m s c
+    unfolding closeFrom
+    close-same zero s c = refl
+    close-same (suc m) s c = rw (close-next rule g m s c, close-next rule g′ m s c, round-same s, close-same m (round rule g′ s) (c + 1))
 
-  -- the closing is the same for bases and multipliers that are the same for every j
-  pub closing-same : (S : List ℕ) → closingOf g S ≡ closingOf g′ S
-  unfolding closingOf
-  closing-same S = rw (start-same S) (close-same 578 (start g′ S) 0)
+    -- the closing is the same for bases and multipliers that are the same for every j
+    pub closing-same : (most : ℕ) (S : List ℕ) → closingOf rule most g S ≡ closingOf rule most g′ S
+    unfolding closingOf
+    closing-same most S = rw (start-same S) (close-same _ (start g′ S) 0)
 
 -- ---- a loop that compares two lists from the front
 

@@ -9,7 +9,7 @@ use Rattle.polynomial.specs.Terms.{keysOf}
 use Rattle.format.specs.ProblemRules.{Problem}
 use Rattle.format.specs.ProblemBases.{basisOf, multiplierOf}
 use Rattle.joining_rule.specs.Sets.{insertAll}
-use Rattle.joining_rule.specs.Rounds.{Bases, Closing, blocksIn, closedWithZero}
+use Rattle.joining_rule.specs.Rounds.{Bases, Closing, mostRounds, blocksIn, countedKeys}
 use Rattle.joining_rule.specs.Rounds as Rounds
 
 -- the bases of a problem, each with its multiplier
@@ -29,20 +29,24 @@ startFrom objective g =
 unfoldable pub startSet : Problem → List ℕ
 startSet p = startFrom (keysOf (p .objective)) (basesOf p)
 
--- the blocks, S and the number of rounds when the joining rule has ended
+-- the blocks, S and the number of rounds when the joining rule that the problem names has ended, or its order has ended
+-- it: "the blocks reported and used are those after the last round"
 unfoldable pub closing : Problem → Closing
-closing p = Rounds.closingOf (basesOf p) (startSet p)
+closing p = Rounds.closingOf (p .rule) (mostRounds (p .order)) (basesOf p) (startSet p)
 
-abbrev pub closedSupport : Problem → List ℕ
-closedSupport p = closing p .state .support
+-- "the S reached"
+abbrev pub reachedSupport : Problem → List ℕ
+reachedSupport p = closing p .state .support
 
--- "The closed S with the zero exponent added may have at most 2,048 members"
+-- "The closed S with the zero exponent added may have at most 2,048 members"; "The limit of 2,048 counts the closed S
+-- with the zero exponent and all in-block products"; "The limit counts the S reached, with zero and its in-block
+-- products"
 abbrev pub mostKeys : ℕ
 mostKeys = 2048
 
 -- refusal 7: "closed S with zero above 2,048"
 unfoldable pub tooLarge : Problem → Bool
-tooLarge p = ltb mostKeys (length (closedWithZero (closing p)))
+tooLarge p = ltb mostKeys (length (countedKeys (basesOf p) (closing p .state)))
 
 -- the number of blocks, over all bases
 unfoldable pub blockTotal : Problem → ℕ

@@ -1,4 +1,5 @@
--- What documents 01 and 02 show of gapcheck's output, and the ends of the range of numbers.
+-- What documents 01 and 02 show of gapcheck's output, replay's lines of the same pairs, and the ends of the range of
+-- numbers.
 use mathlib.Core.Path.{_≡_, refl}
 use mathlib.Core.Bool.{true, false}
 use lib.IntN.{pos, negsuc}
@@ -16,11 +17,16 @@ caseF = record {
   gap = fraction (pos 2) 1;
   empty = false;
   rounds = 2;
+  rule = 1;
 }
 
 pub lines-of-F : pairLines caseF ≡ ascii "lower -1/1\nupper 1/1\ngap 2/1\nrounds 2\n"
-unfolding pairWords gapWord ratio signedDecimal decimal refusalLine
+unfolding pairLines pairWords gapWord ratio signedDecimal decimal refusalLine
 lines-of-F = refl
+
+pub line-of-F : pairLine caseF ≡ ascii "pair -1/1 1/1 gap 2/1 rounds 2 rule 1\n"
+unfolding pairLine pairWords gapWord ratio signedDecimal decimal refusalLine
+line-of-F = refl
 
 -- two bounds that cross
 abbrev pub crossed : PairVerdict
@@ -31,18 +37,19 @@ crossed = record {
   gap = none;
   empty = true;
   rounds = 1;
+  rule = 2;
 }
 
 pub lines-of-crossed : pairLines crossed ≡ ascii "lower 1/1\nupper -1/1\ngap empty\nrounds 1\n"
-unfolding pairWords gapWord ratio signedDecimal decimal refusalLine
+unfolding pairLines pairWords gapWord ratio signedDecimal decimal refusalLine
 lines-of-crossed = refl
 
-pub line-of-crossed : pairLine crossed ≡ ascii "pair 1/1 -1/1 gap empty rounds 1\n"
-unfolding pairWords gapWord ratio signedDecimal decimal refusalLine
+pub line-of-crossed : pairLine crossed ≡ ascii "pair 1/1 -1/1 gap empty rounds 1 rule 2\n"
+unfolding pairLine pairWords gapWord ratio signedDecimal decimal refusalLine
 line-of-crossed = refl
 
 pub lines-of-B : pairLines (refusedPair (certificateRefusal 1 9 0 0)) ≡ ascii "refused 9 1 0 0\n"
-unfolding pairWords ratio signedDecimal decimal refusalLine
+unfolding pairLines pairWords ratio signedDecimal decimal refusalLine
 lines-of-B = refl
 
 pub least : signedDecimal (negsuc 9223372036854775807) ≡ ascii "-9223372036854775808"

@@ -14,6 +14,7 @@ use Rattle.calls.specs.declared.BlocksVerdict.{BlocksVerdict}
 use Rattle.calls.specs.declared.CheckVerdict.{CheckVerdict}
 use Rattle.calls.specs.declared.PairVerdict.{PairVerdict}
 use Rattle.calls.specs.declared.WindowVerdict.{WindowVerdict}
+use Rattle.calls.specs.declared.SymmetriesVerdict.{SymmetriesVerdict}
 
 -- the bytes of a text, one for each character
 abbrev pub ascii : String → List ℕ
@@ -70,23 +71,25 @@ gapWord empty gap = cond empty (ascii "empty") (ratio gap)
 -- the bounds, the gap and the rounds of the pair, with the words that stand before each
 unfoldable pub pairWords : List ℕ → List ℕ → List ℕ → List ℕ → PairVerdict → List ℕ
 pairWords lower upper gap rounds v =
-    unlessRefused (v .refusal)
-    ((lower ++ ratio (v .lower))
+    (lower ++ ratio (v .lower))
     ++ (upper ++ ratio (v .upper))
     ++ (gap ++ gapWord (v .empty) (v .gap))
     ++ (rounds ++ decimal (v .rounds))
-    ++ ascii "\n")
 
--- ---- gapcheck: "The lines give p/q, P/Q, the gap and the rounds"; "each line ends in byte 0A"
-abbrev pub pairLines : PairVerdict → List ℕ
-pairLines v = pairWords (ascii "lower ") (ascii "\nupper ") (ascii "\ngap ") (ascii "\nrounds ") v
+-- ---- gapcheck: "The lines give p/q, P/Q, the gap and the rounds"; "each line ends in byte 0A"; with two joining rules
+-- "the program's lines .. keep their form"
+unfoldable pub pairLines : PairVerdict → List ℕ
+pairLines v =
+    unlessRefused (v .refusal)
+    (pairWords (ascii "lower ") (ascii "\nupper ") (ascii "\ngap ") (ascii "\nrounds ") v ++ ascii "\n")
 
--- ---- replay: one line for each record
+-- ---- replay: one line for each record, with the rule used
 unfoldable pub blocksLine : BlocksVerdict → List ℕ → List ℕ
 blocksLine v out =
     unlessRefused (v .refusal)
     (withNumber "blocks " (v .blocks)
     ++ withNumber " rounds " (v .rounds)
+    ++ withNumber " rule " (v .rule)
     ++ ascii " "
     ++ hexadecimal out
     ++ ascii "\n")
@@ -97,10 +100,15 @@ checkLine v =
     (withNumber "check " (v .side)
     ++ withRatio " " (v .bound)
     ++ withNumber " rounds " (v .rounds)
+    ++ withNumber " rule " (v .rule)
     ++ ascii "\n")
 
-abbrev pub pairLine : PairVerdict → List ℕ
-pairLine v = pairWords (ascii "pair ") (ascii " ") (ascii " gap ") (ascii " rounds ") v
+unfoldable pub pairLine : PairVerdict → List ℕ
+pairLine v =
+    unlessRefused (v .refusal)
+    (pairWords (ascii "pair ") (ascii " ") (ascii " gap ") (ascii " rounds ") v
+    ++ withNumber " rule " (v .rule)
+    ++ ascii "\n")
 
 -- the outcomes of the arrivals, in order: the widest gap and its age, or the number of the refusal, with "; " between
 -- them
@@ -118,3 +126,9 @@ windowLine l = ascii "window" ++ (arrivalWords (ascii " ") l ++ ascii "\n")
 -- the bytes that came back of two certificates
 unfoldable pub tighterLine : Refusal → List ℕ → List ℕ
 tighterLine r part = unlessRefused r (ascii "tighter " ++ hexadecimal part ++ ascii "\n")
+
+-- the number of masks, and the 256 bytes
+unfoldable pub symmetriesLine : SymmetriesVerdict → List ℕ → List ℕ
+symmetriesLine v out =
+    unlessRefused (v .refusal)
+    (withNumber "symmetries " (v .masks) ++ ascii " " ++ hexadecimal out ++ ascii "\n")

@@ -5,9 +5,10 @@ use Prim.Native.Nat.{ℕ, zero, suc, _+_, _*_, _/_, _%_, _^_, _<_}
 use native.Mathlib.Nat.{pow-suc, mod-lt, div-add-mod'}
 use native.Mathlib.Omega.{arith}
 use lib.Arith.{digits-div, digits-mod}
-use lib.Bits.{bitAnd, bitXor, differ, xor-step, xor-lt, and-shr, and-mod, and-mask, and-block, and-zero-r}
+use lib.Bits.{bitAnd, bitXor, differ, xor-lt, and-shr, and-mod, and-mask, and-block, and-zero-r}
 use lib.Dec.{lit<}
 use borrow.Author.Tests.{eqb-true}
+use Rattle.counting.proofs.Binary.{by-bit, low, sum-mod, differ-both, xor-more}
 use Rattle.parity.specs.Parity.{parityFrom, class, small}
 
 -- ---- small keys
@@ -32,29 +33,6 @@ module _ (k n : ℕ) (z : bitAnd n (mask (suc k)) ≡ 0) where
       omega arith
 
 -- ---- one more parity
-
-xor-more : (c d x y : ℕ) → x < 2 → y < 2 → bitXor (c * 2 + x) (d * 2 + y) ≡ bitXor c d * 2 + differ x y
-xor-more c d x y h i =
-    xor-step (c * 2 + x) (d * 2 + y)
-    ∙ ap₂ (λ (u v : ℕ). u * 2 + v) (ap₂ bitXor (digits-div c h) (digits-div d i)) (ap₂ differ (digits-mod c h) (digits-mod d i))
-
-by-bit : (P : ℕ → Type 0) (x : ℕ) → x < 2 → P 0 → P 1 → P x
-by-bit P zero h p q = p
-by-bit P (suc zero) h p q = q
-by-bit P (suc (suc x)) h p q = absurd (omega arith)
-
-low : (n : ℕ) → n % 2 < 2
-low n = omega arith
-
-sum-mod : (a b : ℕ) → (a + b) % 2 ≡ (a % 2 + b % 2) % 2
-sum-mod a b = omega arith
-
--- the parity of a sum tells where two parities differ
-differ-both : (x y : ℕ) → x < 2 → y < 2 → (x + y) % 2 ≡ differ x y
-differ-both x y h i =
-    by-bit (λ x. (x + y) % 2 ≡ differ x y) x h
-    (by-bit (λ y. (0 + y) % 2 ≡ differ 0 y) y i refl refl)
-    (by-bit (λ y. (1 + y) % 2 ≡ differ 1 y) y i refl refl)
 
 differ-twice : (x y : ℕ) → x < 2 → y < 2 → differ x ((x + y) % 2) ≡ y
 differ-twice x y h i =

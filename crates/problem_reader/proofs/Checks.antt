@@ -17,11 +17,11 @@ use Rattle.format.proofs.ProblemChecks.{placed-size, end-command, end-byte}
 
 -- ---- the first two checks, one by one
 module _ (p : Problem) (s : List ℕ) (at : ℕ) where
-  pub early-3 : problemPlaced p at (problemCommandAt s at) ≡ false → early p s at ≡ 3
+  pub early-3 : problemPlaced p s at (problemCommandAt s at) ≡ false → early p s at ≡ 3
   unfolding early firstRefusal
   early-3 h = rw h
 
-  module _ (h : problemPlaced p at (problemCommandAt s at) ≡ true) where
+  module _ (h : problemPlaced p s at (problemCommandAt s at) ≡ true) where
     pub early-2 : length s < at + problemSize (problemCommandAt s at) → early p s at ≡ 2
     unfolding early firstRefusal
     early-2 k = rw (h, lt-leb (at + problemSize (problemCommandAt s at)) (length s) k)
@@ -64,7 +64,7 @@ space keys from n k most h = leb-false most n (not-full _ _ h)
 -- a command that passed them, with its operands and the place of the next: the last two checks decide
 pub record Passes (p : Problem) (s : List ℕ) (at : ℕ) (i : Instruction) (next : ℕ) : Type 0 where
   pub instruction : problemInstructionAt s at ≡ i
-  pub stands : problemPlaced p at (problemCommandAt s at) ≡ true
+  pub stands : problemPlaced p s at (problemCommandAt s at) ≡ true
   pub step : next ≡ at + problemSize (problemCommandAt s at)
   pub whole : next ≤ length s
   pub operands : problemOperandsFit p i ≡ true
@@ -76,7 +76,7 @@ module _ (p : Problem) (s : List ℕ) (at : ℕ) where
   early-refusal h = early-decides _ _ _ _ _ h
 
   module _ (h : early p s at ≡ 0) where
-    tests : (problemPlaced p at (problemCommandAt s at) ≡ true) × (leb (at + problemSize (problemCommandAt s at)) (length s) ≡ true)
+    tests : (problemPlaced p s at (problemCommandAt s at) ≡ true) × (leb (at + problemSize (problemCommandAt s at)) (length s) ≡ true)
     unfolding early
     tests = early-passes _ _ h
 
@@ -96,7 +96,7 @@ module _ (p : Problem) (s : List ℕ) (at : ℕ) where
 
 module _ (p : Problem) (s : List ℕ) (at : ℕ) (i : Instruction) (next : ℕ) (t : Passes p s at i next) where
   pub passes-size : 1 ≤ problemSize (problemCommandAt s at)
-  passes-size = placed-size p at (problemCommandAt s at) (t .stands)
+  passes-size = placed-size p s at (problemCommandAt s at) (t .stands)
 
   pub passes-end : I.End ≡ i → getD s at 0 ≡ 6
   passes-end e = end-byte (getD s at 0) (end-command p s at (problemCommandAt s at) (t .stands) (t .instruction ∙ sym e))

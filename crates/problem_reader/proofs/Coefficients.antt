@@ -21,6 +21,8 @@ Sized (I.Term k c) = natAbs c ≤ 2 ^ 15
 Sized (I.Member j k) = Unit {0}
 Sized I.End = Unit {0}
 Sized I.Equality = Unit {0}
+Sized (I.Rule r) = Unit {0}
+Sized (I.Order k) = Unit {0}
 
 module _ (s : List ℕ) (bytes : Bounded 255 s) where
   decoded-small : (w : Command) (at : ℕ) → Sized (problemDecoded w s at)
@@ -32,6 +34,8 @@ module _ (s : List ℕ) (bytes : Bounded 255 s) where
   decoded-small C.End at = tt
   decoded-small C.Unknown at = tt
   decoded-small C.Equality at = tt
+  decoded-small C.Rule at = tt
+  decoded-small C.Order at = tt
 
   pub passed-small : {p : Problem} {at after : ℕ} {i : Instruction} → Passes p s at i after → Sized i
   passed-small {at = at} t = rw (t .instruction) at (decoded-small (problemCommandAt s at) at)

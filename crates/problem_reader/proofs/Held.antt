@@ -8,7 +8,7 @@ use native.Mathlib.Numerals.{add-one}
 use native.Mathlib.Omega.{arith}
 use lib.IntN.{ℤ, pos, natAbs}
 use lib.ListN.{length, drop, set, getD, replicate, length-set, length-append, length-drop, length-replicate}
-use lib.Seq.{paste, length-paste, take-suc-set, drop-set-add, getD-set-same}
+use lib.Seq.{paste, length-paste, take-suc-set, drop-set-add, getD-set-same, getD-set-other}
 use Rattle.counting.specs.Counting.{listed}
 use Rattle.counting.proofs.Bounded.{bounded-zeros}
 use Rattle.counting.proofs.Cases.{lt-or-le}
@@ -17,7 +17,7 @@ use Rattle.polynomial.specs.Terms.{Term, term}
 use Rattle.format.specs.declared.problem.Instruction.the-variants as I
 use Rattle.format.specs.declared.problem.Kind.{Kind}
 use Rattle.format.specs.declared.problem.Kind.the-variants as K
-use Rattle.format.specs.ProblemRules.{Problem, withCondition, problemApplied, noProblem}
+use Rattle.format.specs.ProblemRules.{Problem, withRule, withOrder, withCondition, problemApplied, noProblem}
 use Rattle.format.proofs.ProblemLimits.{nothing-basis}
 use Rattle.format.specs.ProblemBases.{basisOf}
 use Rattle.flat.specs.TermArrays.{termsIn, FilledTerms}
@@ -46,6 +46,8 @@ pub record Held (p : Problem) (keys : List ℕ) (coefficients : List ℤ) (sizes
   pub filled : FilledTerms 16 32 (2 ^ 15) (last .keys) (last .coefficients) (last .count)
   pub empty : (j : ℕ) → n ≤ j → j < 9 → getD sizes (9 + j) 0 ≡ 0
   pub kinds : (j : ℕ) → j < 9 → getD sizes (20 + j) 0 ≡ kindNumber (conditionOf p j .kind)
+  pub rule : getD sizes 29 0 ≡ p .rule
+  pub order : getD sizes 30 0 ≡ p .order
 
 module _ {p : Problem} {keys : List ℕ} {coefficients : List ℤ} {sizes : List ℕ} {v : ℕ} {last : Polynomial} {n : ℕ} (held : Held p keys coefficients sizes v last n) where
   abbrev limits : FlatLimits keys coefficients sizes
@@ -68,7 +70,48 @@ module _ {p : Problem} {keys : List ℕ} {coefficients : List ℤ} {sizes : List
     filled = held .filled;
     empty = held .empty;
     kinds = λ j l. held .kinds j l ∙ same-kind (condition-same p _ refl j);
+    rule = held .rule;
+    order = held .order;
   }
+
+  -- ---- the joining rule and the sparse order: a number behind the kinds
+  held-number : (i m r k : ℕ) → 29 ≤ i → m ≤ mostAt i → getD (set sizes i m) 29 0 ≡ r → getD (set sizes i m) 30 0 ≡ k
+      → Held (withOrder (withRule p r) k) keys coefficients (set sizes i m) v last n
+  unfolding basisOf
+  held-number i m r k far few x y =
+      let o = number-others limits i m in
+      let w = held .count-low in
+      record {
+        limits = number-limits limits i m few;
+        variables = held .variables;
+        variables-low = held .variables-low;
+        count = held .count;
+        count-low = w;
+        nine = held .nine;
+        bases = λ j q. o .bases j q (λ e. omega arith) ∙ held .bases j q;
+        objective = o .polynomials 9 (omega arith) (λ e. omega arith) ∙ held .objective;
+        laid = λ j q. o .polynomials j (omega arith) (λ e. omega arith) ∙ held .laid j q ∙ same-terms (condition-same p _ refl j);
+        latest = held .latest ∙ same-terms (condition-same p _ refl n);
+        filled = held .filled;
+        empty = λ j q l. o .lengths (9 + j) (λ e. omega arith) ∙ held .empty j q l;
+        kinds = λ j q. o .lengths (20 + j) (λ e. omega arith) ∙ held .kinds j q ∙ same-kind (condition-same p _ refl j);
+        rule = x;
+        order = y;
+      }
+
+  pub held-rule : (m : ℕ) → m ≤ 2 → Held (problemApplied p (I.Rule m)) keys coefficients (set sizes 29 m) v last n
+  unfolding problemApplied
+  held-rule m h =
+      held-number 29 m m (p .order) (omega arith) h
+      (getD-set-same sizes 29 m 0 (let s = limits .sizes-length in omega arith))
+      (getD-set-other sizes 29 30 m 0 (λ e. omega arith) ∙ held .order)
+
+  pub held-order : (m : ℕ) → m ≤ 255 → Held (problemApplied p (I.Order m)) keys coefficients (set sizes 30 m) v last n
+  unfolding problemApplied
+  held-order m h =
+      held-number 30 m (p .rule) m (omega arith) h
+      (getD-set-other sizes 30 29 m 0 (λ e. omega arith) ∙ held .rule)
+      (getD-set-same sizes 30 m 0 (let s = limits .sizes-length in omega arith))
 
   -- ---- a monomial of basis j
   module _ (j k : ℕ) (h : j < 9) (r : getD sizes j 0 < 64) (low : k ≤ 8 * 2 ^ 56) where
@@ -124,6 +167,8 @@ module _ {p : Problem} {keys : List ℕ} {coefficients : List ℤ} {sizes : List
           filled = held .filled;
           empty = λ i q l. o .lengths (9 + i) (λ e. omega arith) ∙ held .empty i q l;
           kinds = λ i q. o .lengths (20 + i) (λ e. omega arith) ∙ held .kinds i q ∙ same-kind (condition-same p _ refl i);
+          rule = o .lengths 29 (λ e. omega arith) ∙ held .rule;
+          order = o .lengths 30 (λ e. omega arith) ∙ held .order;
         }
 
   -- ---- a term of the objective
@@ -179,6 +224,8 @@ module _ {p : Problem} {keys : List ℕ} {coefficients : List ℤ} {sizes : List
           filled = held .filled;
           empty = λ i q l. o .lengths (9 + i) (λ e. omega arith) ∙ held .empty i q l;
           kinds = λ i q. o .lengths (20 + i) (λ e. omega arith) ∙ held .kinds i q ∙ same-kind (condition-same p _ refl i);
+          rule = o .lengths 29 (λ e. omega arith) ∙ held .rule;
+          order = o .lengths 30 (λ e. omega arith) ∙ held .order;
         }
 
   -- ---- a term of the condition begun last
@@ -212,6 +259,8 @@ module _ {p : Problem} {keys : List ℕ} {coefficients : List ℤ} {sizes : List
             (λ z. rw z (same-kind (sym here)))
             (λ d. same-kind (sym (other i d)))
             (same-or-not i n);
+        rule = held .rule;
+        order = held .order;
       }
 
   -- ---- the condition begun last is laid out
@@ -304,16 +353,16 @@ module _ {p : Problem} {keys : List ℕ} {coefficients : List ℤ} {sizes : List
     stored-here h = getD-set-same laid-sizes i m 0 (let s = laid-limits .sizes-length in omega arith)
 
   -- the next condition begins, of a kind
-  kind-few : (k : Kind) → kindNumber k ≤ mostAt (20 + (n + 1))
-  kind-few K.Inequality = zero-le
-  kind-few K.Equality = rw (kind-most (20 + (n + 1)) (omega arith)) (omega arith)
+  kind-few : (k : Kind) → n < 8 → kindNumber k ≤ mostAt (20 + (n + 1))
+  kind-few K.Inequality h = zero-le
+  kind-few K.Equality h = rw (kind-most (20 + (n + 1)) (omega arith) (omega arith)) (omega arith)
 
   pub held-condition : (k : Kind) → n < 8 → Held (withCondition p k) laid-keys laid-coefficients (set laid-sizes (20 + (n + 1)) (kindNumber k)) v noTerms (n + 1)
   unfolding basisOf termsIn listed
   held-condition k h =
       let i = 20 + (n + 1) in
       let far : 19 ≤ i = omega arith in
-      let few = kind-few k in
+      let few = kind-few k h in
       let e = held .count in
       let here : conditionOf (withCondition p k) (n + 1) ≡ record { kind = k; terms = [] } = rw e at (begun-here p k) in
       let other : (j : ℕ) → j ≢ n + 1 → conditionOf (withCondition p k) j ≡ conditionOf p j = rw e at (begun-other p k) in
@@ -335,6 +384,8 @@ module _ {p : Problem} {keys : List ℕ} {coefficients : List ℤ} {sizes : List
             (λ z. rw z (stored-here i _ far few (omega arith) ∙ same-kind (sym here)))
             (λ d. rw (other j d) (stored-other i _ far few (20 + j) (λ z. d (omega arith)) (λ z. omega arith) ∙ held .kinds j q))
             (same-or-not j (n + 1));
+        rule = stored-other i _ far few 29 (λ z. omega arith) (λ z. omega arith) ∙ held .rule;
+        order = stored-other i _ far few 30 (λ z. omega arith) (λ z. omega arith) ∙ held .order;
       }
 
   -- the end of the stream
@@ -356,11 +407,13 @@ module _ {p : Problem} {keys : List ℕ} {coefficients : List ℤ} {sizes : List
         objective = stored-objective 19 n (omega arith) w;
         conditions = stored-here 19 n (omega arith) w (omega arith) ∙ sym (held .count);
         kinds = λ j q. rw (kind-is p j) (stored-other 19 n (omega arith) w (20 + j) (λ z. omega arith) (λ z. omega arith) ∙ held .kinds j q);
+        rule = stored-other 19 n (omega arith) w 29 (λ z. omega arith) (λ z. omega arith) ∙ held .rule;
+        order = stored-other 19 n (omega arith) w 30 (λ z. omega arith) (λ z. omega arith) ∙ held .order;
       }
 
--- ---- before the first command
+-- ---- before the first command: all numbers are 0 but the rule
 pub held-start : (keys : List ℕ) (coefficients : List ℤ) (sizes : List ℕ) (one : Polynomial) → FlatZero keys coefficients sizes
-    → FilledTerms 16 32 (2 ^ 15) (one .keys) (one .coefficients) (one .count) → terms one ≡ term 0 (pos 1) ∷ [] → Held noProblem keys coefficients sizes 0 one 0
+    → FilledTerms 16 32 (2 ^ 15) (one .keys) (one .coefficients) (one .count) → terms one ≡ term 0 (pos 1) ∷ [] → Held noProblem keys coefficients (set sizes 29 1) 0 one 0
 unfolding basisOf conditionOf termsIn listed
 held-start keys coefficients sizes one z f e =
     rw (z .keys-zero, z .coefficients-zero, z .sizes-zero)
@@ -369,7 +422,7 @@ held-start keys coefficients sizes one z f e =
         keys-length = length-replicate {A = ℕ} 1120 0;
         coefficients-length = length-replicate {A = ℤ} 544 (pos 0);
         sizes-length = refl;
-        sizes-low = λ i. bounded-zeros (mostAt i) 29 i;
+        sizes-low = set-all (λ i m. m ≤ mostAt i) (replicate 31 0) 29 1 0 (λ i. bounded-zeros (mostAt i) 31 i) (omega arith);
         keys-low = λ i. bounded-zeros (degreeAt i * 2 ^ 56) 1120 i;
         coefficients-low = λ i. small-zeros (largestAt i) 544 i;
       };
@@ -378,14 +431,16 @@ held-start keys coefficients sizes one z f e =
       count = refl;
       count-low = zero-le;
       nine = refl;
-      bases = λ j _. rw (none j, nothing-basis j);
+      bases = λ j h. rw (none j (λ e. omega arith), nothing-basis j);
       objective = refl;
       laid = λ j h. absurd (omega arith);
       latest = e;
       filled = f;
-      empty = λ j _ _. none (9 + j);
-      kinds = λ j _. rw (none (20 + j), nothing-kind noProblem refl j);
+      empty = λ j _ h. none (9 + j) (λ e. omega arith);
+      kinds = λ j h. rw (none (20 + j) (λ e. omega arith), nothing-kind noProblem refl j);
+      rule = refl;
+      order = refl;
     })
   where
-    none : (i : ℕ) → getD (replicate {A = ℕ} 29 0) i 0 ≡ 0
-    none i = let b = bounded-zeros 0 29 i in omega arith
+    none : (i : ℕ) → i ≢ 29 → getD (set (replicate {A = ℕ} 31 0) 29 1) i 0 ≡ 0
+    none i d = let b = bounded-zeros 0 31 i in getD-set-other (replicate 31 0) 29 i 1 0 d ∙ omega arith

@@ -98,6 +98,8 @@ begins (I.Objective k c) h = absurd (⊎-elim (λ e. omega arith) (λ e. omega a
 begins (I.Term k c) h = absurd (⊎-elim (λ e. omega arith) (λ e. omega arith) h)
 begins (I.Member j k) h = absurd (⊎-elim (λ e. omega arith) (λ e. omega arith) h)
 begins I.End h = absurd (⊎-elim (λ e. omega arith) (λ e. omega arith) h)
+begins (I.Rule r) h = absurd (⊎-elim (λ e. omega arith) (λ e. omega arith) h)
+begins (I.Order k) h = absurd (⊎-elim (λ e. omega arith) (λ e. omega arith) h)
 
 pub begins-on : (k : Kind) → I.End ≡ beginning k → ⊥
 begins-on K.Inequality e = clash (cc)

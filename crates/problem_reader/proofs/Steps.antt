@@ -35,7 +35,7 @@ use Rattle.problem_reader.specs.declared.Reading.{Reading}
 use Rattle.problem_reader.proofs.Checks.{Passes, passes-size, passes-end, passes-on, space}
 use Rattle.problem_reader.proofs.Problems.{condition-last, same-terms, begins-on, begins-applied, begins-late}
 use Rattle.problem_reader.proofs.Coefficients.{passed-small}
-use Rattle.problem_reader.proofs.Held.{Held, held-variables, held-member, held-objective, held-term, held-condition, held-end, held-start}
+use Rattle.problem_reader.proofs.Held.{Held, held-variables, held-rule, held-order, held-member, held-objective, held-term, held-condition, held-end, held-start}
 
 abbrev pub reading : ℕ → ℕ → Reading
 reading n at = record { number = n; place = at }
@@ -137,14 +137,14 @@ module _ {s keys : List ℕ} {coefficients : List ℤ} {sizes : List ℕ} {v : �
 
 -- before the first command
 pub starting : (s keys : List ℕ) (coefficients : List ℤ) (sizes : List ℕ) (one : Polynomial) → FlatZero keys coefficients sizes
-    → FilledTerms 16 32 (2 ^ 15) (one .keys) (one .coefficients) (one .count) → terms one ≡ term 0 (pos 1) ∷ [] → Going s keys coefficients sizes 0 one 0 2 0
+    → FilledTerms 16 32 (2 ^ 15) (one .keys) (one .coefficients) (one .count) → terms one ≡ term 0 (pos 1) ∷ [] → Going s keys coefficients (set sizes 29 1) 0 one 0 2 0
 unfolding readProblem
 starting s keys coefficients sizes one z f e =
     record { problem = noProblem; held = held-start keys coefficients sizes one z f e; undecided = refl; reached = zero-le; left = left-start problemLanguage s noProblem }
 
 -- ---- what the arm of each command leaves
 -- a 04 stands after a 03 or a 07
-term-placed : (p : Problem) (s : List ℕ) (at : ℕ) (w : Command) (k : ℕ) (c : ℤ) → problemPlaced p at w ≡ true → problemDecoded w s at ≡ I.Term k c → 0 < length (p .conditions)
+term-placed : (p : Problem) (s : List ℕ) (at : ℕ) (w : Command) (k : ℕ) (c : ℤ) → problemPlaced p s at w ≡ true → problemDecoded w s at ≡ I.Term k c → 0 < length (p .conditions)
 term-placed p s at C.Variables k c h e = clash (cc)
 term-placed p s at C.Objective k c h e = clash (cc)
 term-placed p s at C.Inequality k c h e = clash (cc)
@@ -153,6 +153,8 @@ term-placed p s at C.Member k c h e = clash (cc)
 term-placed p s at C.End k c h e = clash (cc)
 term-placed p s at C.Unknown k c h e = clash (cc)
 term-placed p s at C.Equality k c h e = clash (cc)
+term-placed p s at C.Rule k c h e = clash (cc)
+term-placed p s at C.Order k c h e = clash (cc)
 
 -- a monomial that is allowed has a key that is low enough
 fitting-low : (n d k : ℕ) → n ≤ 8 → fitting n d k ≡ true → k ≤ d * 2 ^ 56
@@ -190,6 +192,18 @@ module _ {p : Problem} {keys : List ℕ} {coefficients : List ℤ} {sizes : List
     unfolding firstRefusal
     stepped-variables {m} t r z =
         record { decided = z; limits = held .limits; held = λ _. held-variables held m (leb-true m 8 (and-right (leb 1 m) (leb m 8) (t .operands))); on = λ e. clash (cc) }
+
+    pub stepped-rule : {m : ℕ} → Passes p s at (I.Rule m) after → (r : ℕ) → r ≡ 0 → Stepped p (I.Rule m) keys coefficients (set sizes 29 m) v last n r
+    unfolding firstRefusal
+    stepped-rule {m} t r z =
+        let k = held-rule held m (leb-true m 2 (and-right (leb 1 m) (leb m 2) (t .operands))) in
+        record { decided = z; limits = k .limits; held = λ _. k; on = λ e. clash (cc) }
+
+    pub stepped-order : {m : ℕ} → Passes p s at (I.Order m) after → (r : ℕ) → r ≡ 0 → Stepped p (I.Order m) keys coefficients (set sizes 30 m) v last n r
+    unfolding firstRefusal
+    stepped-order {m} t r z =
+        let k = held-order held m (leb-true m 255 (and-right (leb 1 m) (leb m 255) (t .operands))) in
+        record { decided = z; limits = k .limits; held = λ _. k; on = λ e. clash (cc) }
 
     module _ {k : ℕ} {c : ℤ} (t : Passes p s at (I.Objective k c) after) where
       objective-room : lateIn keys 864 (getD sizes 18 0) k 256 ≡ late p (I.Objective k c)

@@ -14,7 +14,7 @@ use Rattle.format.specs.ProblemRules.{Problem, problemPlaced, problemRepeated, 
 -- the number of the first of 3 and 2 that fails, or 0
 unfoldable pub early : Problem → List ℕ → ℕ → ℕ
 early p s at =
-    firstRefusal (problemPlaced p at (problemCommandAt s at))
+    firstRefusal (problemPlaced p s at (problemCommandAt s at))
     (leb (at + problemSize (problemCommandAt s at)) (length s)) true false false
 
 -- the number of the first of 5 and 6 that fails, or 0

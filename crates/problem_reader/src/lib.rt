@@ -10,7 +10,7 @@ ghost use lib.IntN.{pos};
 ghost use lib.Seq.{paste};
 ghost use Rattle.format.specs.ProblemLimits.{mostObjectiveTerms};
 ghost use Rattle.format.specs.ProblemLayout.{problemCommand, problemSize, problemDecoded};
-ghost use Rattle.format.specs.ProblemRules.{Problem, problemPlaced, fitting, problemOperandsFit, problemCommandAt};
+ghost use Rattle.format.specs.ProblemRules.{Problem, orderPlace, problemPlaced, fitting, problemOperandsFit, problemCommandAt};
 ghost use Rattle.problem_reader.specs.Checks.{early, lateIn};
 ghost use Rattle.problem_reader.specs.Storing.{noTerms, terms, beginning, storedIf, ReadFlat};
 ghost use Rattle.flat.specs.Flat.{objectiveNumber, exponentsAt, coefficientsAt, countAt, kindNumber, FlatLimits, FlatZero};
@@ -20,6 +20,8 @@ ghost use Rattle.polynomial.specs.Terms.{term};
 use flat::CONDITIONS;
 use flat::KINDS;
 use flat::OBJECTIVE;
+use flat::ORDER;
+use flat::RULE;
 use flat::TERMS;
 use format::problem::Command;
 use format::problem::Instruction;
@@ -115,6 +117,8 @@ fn command_of(byte: u8) -> Command
         5 => Command::Member,
         6 => Command::End,
         7 => Command::Equality,
+        8 => Command::Rule,
+        9 => Command::Order,
         _ => Command::Unknown,
     }
 }
@@ -126,17 +130,26 @@ pub fn length_of(byte: u8) -> usize
 {
     match byte {
         0x03 | 0x06 | 0x07 => 1,
-        0x01 => 2,
+        0x01 | 0x08 | 0x09 => 2,
         0x05 => 10,
         0x04 => 11,
         0x02 => 13,
-        0x00 | 0x08..=0xFF => 0,
+        0x00 | 0x0A..=0xFF => 0,
     }
 }
 
-// Whether a command may stand at an offset, after `count` conditions.
-fn is_placed(count: usize, at: usize, command: Command) -> bool
-    ensures { λ r. ⌜ ((p : Problem) → length (p .conditions) ≡ count → r ≡ problemPlaced p at command) ⌝ }
+// The offset at which a 09 may stand. A byte that the stream does not have is no 08.
+fn order_place(s: &[u8]) -> usize
+    ensures { λ r. ⌜ r ≡ orderPlace (now (s .entry)) ⌝ }
+{
+    if 2 < s.len() && s[2] == 8 { 4 } else { 2 }
+}
+
+// Whether a command may stand at an offset of a stream, after `count` conditions.
+fn is_placed(count: usize, s: &[u8], at: usize, command: Command) -> bool
+    ensures { λ r. ⌜
+        ((p : Problem) → length (p .conditions) ≡ count → r ≡ problemPlaced p (now (s .entry)) at command)
+        ⌝ }
 {
     match command {
         Command::Variables => at == 0,
@@ -147,6 +160,8 @@ fn is_placed(count: usize, at: usize, command: Command) -> bool
         Command::End => 0 < at,
         Command::Unknown => false,
         Command::Equality => 0 < at,
+        Command::Rule => at == 2,
+        Command::Order => at == order_place(s),
     }
 }
 
@@ -180,6 +195,8 @@ fn decode_at(command: Command, s: &[u8], at: usize) -> Instruction
         Command::End => Instruction::End,
         Command::Unknown => Instruction::End,
         Command::Equality => Instruction::Equality,
+        Command::Rule => Instruction::Rule(operand_reader::number_at(s, at + 1, 1) as usize),
+        Command::Order => Instruction::Order(operand_reader::number_at(s, at + 1, 1) as usize),
     }
 }
 
@@ -203,6 +220,8 @@ fn is_allowed(n: usize, count: usize, i: Instruction) -> bool
         Instruction::Member(j, key) => j <= count && is_fitting(n, 8, key),
         Instruction::End => true,
         Instruction::Equality => true,
+        Instruction::Rule(r) => 1 <= r && r <= 2,
+        Instruction::Order(k) => 1 <= k && k <= 255,
     }
 }
 
@@ -223,7 +242,7 @@ fn check_at(count: usize, command: Command, len: usize, s: &[u8], at: usize) -> 
         ⌝ }
     ensures { λ r. ⌜ ((p : Problem) → length (p .conditions) ≡ count → r ≡ early p (now (s .entry)) at) ⌝ }
 {
-    if !is_placed(count, at, command) {
+    if !is_placed(count, s, at, command) {
         return 3;
     }
     if s.len() - at < len {
@@ -250,13 +269,13 @@ fn check_room(keys: &[u64], from: usize, count: usize, key: u64, limit: usize) -
 // length is sizes[which].
 fn put(
     keys: &mut [u64; 1120],
-    sizes: &mut [usize; 29],
+    sizes: &mut [usize; 31],
     which: usize,
     from: usize,
     key: u64,
     limit: usize,
 ) -> u8
-    requires { ⌜ (which < 29) × (getD (now sizes) which 0 ≤ limit) × (from + limit ≤ 1120) ⌝ }
+    requires { ⌜ (which < 31) × (getD (now sizes) which 0 ≤ limit) × (from + limit ≤ 1120) ⌝ }
     ensures { λ r. let n = getD (now (sizes .entry)) which 0 in ⌜
         (r ≡ lateIn (now (keys .entry)) from n key limit)
         × (now (keys .exit) ≡ storedIf r (now (keys .entry)) (from + n) key)
@@ -277,7 +296,7 @@ fn put(
 fn put_objective(
     keys: &mut [u64; 1120],
     coefficients: &mut [i32; 544],
-    sizes: &mut [usize; 29],
+    sizes: &mut [usize; 31],
     key: u64,
     c: i32,
 ) -> u8
@@ -328,19 +347,20 @@ fn lay_out<'a>(
 }
 
 // Reads a problem stream into arrays that hold zeros. The condition begun last is a polynomial by itself, until the
-// next begins or the stream ends: then it is laid out. Before the first, that is g_0, which is 1. number is 2, as of a
-// stream that ends here, until it is decided.
+// next begins or the stream ends: then it is laid out. Before the first, that is g_0, which is 1. The joining rule is 1
+// until one is named, and the sparse order 0. number is 2, as of a stream that ends here, until it is decided.
 pub fn read(
     s: &[u8],
     keys: &mut [u64; 1120],
     coefficients: &mut [i32; 544],
-    sizes: &mut [usize; 29],
+    sizes: &mut [usize; 31],
 ) -> Reading
     requires { ⌜ FlatZero (now keys) (now coefficients) (now sizes) ⌝ }
     ensures { λ r. ⌜
         ReadFlat (now (s .entry)) r (now (keys .exit)) (now (coefficients .exit)) (now (sizes .exit))
         ⌝ }
 {
+    sizes[RULE] = 1;
     let mut variables = 0;
     let mut last = Polynomial::one();
     let mut count = 0;
@@ -409,6 +429,12 @@ pub fn read(
                     sizes[CONDITIONS] = count;
                 }
                 break;
+            }
+            Instruction::Rule(r) => {
+                sizes[RULE] = r;
+            }
+            Instruction::Order(k) => {
+                sizes[ORDER] = k;
             }
         }
         if 0 < number {

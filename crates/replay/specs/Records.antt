@@ -1,4 +1,5 @@
--- The line that answers a record. The tables and the 576 bytes are long enough, and the bytes are 0 before the call.
+-- The line that answers a record. The tables, the 576 bytes and the 256 bytes are long enough, and the bytes are 0
+-- before the call.
 use mathlib.Core.Bool.{false, cond}
 use mathlib.Core.List.{List, []}
 use Prim.Native.Nat.{ℕ}
@@ -9,7 +10,8 @@ use Rattle.calls.specs.Check.{checkVerdict}
 use Rattle.calls.specs.Pair.{pairVerdict}
 use Rattle.calls.specs.Superseding.{supersedingVerdict, partOf}
 use Rattle.calls.specs.declared.SupersedingVerdict.{SupersedingVerdict}
-use Rattle.lines.specs.Lines.{blocksLine, checkLine, pairLine, tighterLine}
+use Rattle.calls.specs.Symmetries.{symmetriesVerdict, masksLeft}
+use Rattle.lines.specs.Lines.{blocksLine, checkLine, pairLine, tighterLine, symmetriesLine}
 
 abbrev pub blocksAnswer : List ℕ → List ℕ
 blocksAnswer problem = blocksLine (blocksVerdict false problem) (bytesLeft false problem (replicate 576 0))
@@ -27,10 +29,15 @@ tighterVerdict v first second = tighterLine (v .refusal) (partOf (v .chosen) fir
 abbrev pub tighterAnswer : List ℕ → List ℕ → List ℕ → List ℕ
 tighterAnswer problem first second = tighterVerdict (supersedingVerdict false problem first second) first second
 
--- by the kind: b, c, p, or another, which is not answered. Kinds t and w, whose lines may be longer than a text, are
--- answered by `tighterAnswer` and `windowAnswer`
+abbrev pub symmetriesAnswer : List ℕ → List ℕ
+symmetriesAnswer problem =
+    symmetriesLine (symmetriesVerdict false problem) (masksLeft false problem (replicate 256 0))
+
+-- by the kind: b, c, p, s, or another, which is not answered. Kinds t, w and r, whose lines may be longer than a text,
+-- are answered by `tighterAnswer`, `windowAnswer` and `reportAnswer`
 unfoldable pub recordAnswer : ℕ → List ℕ → List ℕ → List ℕ → List ℕ
 recordAnswer kind problem first second =
     cond (eqb kind 0x62) (blocksAnswer problem)
     (cond (eqb kind 0x63) (checkAnswer problem first)
-    (cond (eqb kind 0x70) (pairAnswer problem first second) []))
+    (cond (eqb kind 0x70) (pairAnswer problem first second)
+    (cond (eqb kind 0x73) (symmetriesAnswer problem) [])))

@@ -1,7 +1,8 @@
 // Answers the records of the standard input, one line for each, until it ends. A record is a kind byte (b: blocks, c:
-// check, p: pair, t: the tighter of two certificates, w: arrivals at the window of gaps), three lengths of 32 bits,
-// little-endian, and three byte runs, each of at most 65,536 bytes. `answer_record` decides, on the kind and the runs,
-// `window_line` on the arrivals and `tighter_line` on two certificates; all else moves bytes.
+// check, p: pair, s: symmetries, t: the tighter of two certificates, w: arrivals at the window of gaps, r: a report),
+// three lengths of 32 bits, little-endian, and three byte runs, each of at most 65,536 bytes. `answer_record` decides,
+// on the kind and the runs, `window_line` on the arrivals, `tighter_line` on two certificates and `report_line` on a
+// report; all else moves bytes.
 ghost use mathlib.Core.Path.{_≡_};
 ghost use mathlib.Core.Bool.{true};
 ghost use mathlib.Core.List.{_++_};
@@ -12,7 +13,9 @@ ghost use Rattle.lines.specs.Lines.{arrivalWord};
 ghost use Rattle.lines.specs.Texts.{textOf};
 ghost use Rattle.text.specs.Appending.{Appended};
 ghost use Rattle.replay.specs.Arrivals.{arrivalAt, separator, windowAnswer};
-ghost use Rattle.replay.specs.Records.{blocksAnswer, checkAnswer, pairAnswer, recordAnswer, tighterAnswer};
+ghost use Rattle.replay.specs.Records.{blocksAnswer, checkAnswer, pairAnswer, symmetriesAnswer, recordAnswer};
+ghost use Rattle.replay.specs.Records.{tighterAnswer};
+ghost use Rattle.replay.specs.Reports.{reportAnswer};
 use calls::Fraction;
 use calls::WindowVerdict;
 use libc::STDIN_FILENO;
@@ -50,6 +53,17 @@ fn answer_pair(problem: &[u8], first: &[u8], second: &[u8]) -> Text
     text::pair_line(v)
 }
 
+fn answer_symmetries(problem: &[u8]) -> Text
+    ensures { λ t. ⌜ textOf t ≡ symmetriesAnswer (now (problem .entry)) ⌝ }
+{
+    let mut out = [0u8; 256];
+    let mut keys = [0u64; 2048];
+    let mut high = [0i64; 2048];
+    let mut low = [0i64; 2048];
+    let v = sign_symmetries::symmetries(problem, &mut out, &mut keys, &mut high, &mut low);
+    text::symmetries_line(v, &out)
+}
+
 // The line for a record, or none where its kind is unknown.
 fn answer_record(kind: u8, problem: &[u8], first: &[u8], second: &[u8]) -> Text
     ensures { λ t. ⌜
@@ -64,6 +78,9 @@ fn answer_record(kind: u8, problem: &[u8], first: &[u8], second: &[u8]) -> Text
     }
     if kind == b'p' {
         return answer_pair(problem, first, second);
+    }
+    if kind == b's' {
+        return answer_symmetries(problem);
     }
     Text {
         bytes: [0u8; 1280],
@@ -182,6 +199,31 @@ fn answer_tighter<'a>(
     io::write_all(STDOUT_FILENO, text::cut(&out, len))
 }
 
+// The line for a report, with the output as it was lent.
+fn report_line(records: &[u8], output: &mut [u8], line: &mut [u8]) -> usize
+    requires { ⌜ 2 * length (now output) + 127 ≤ length (now line) ⌝ }
+    ensures { λ r. ⌜ take r (now (line .exit)) ≡ reportAnswer (now (records .entry)) (now (output .entry)) ⌝ }
+{
+    let mut keys = [0u64; 2048];
+    let mut high = [0i64; 2048];
+    let mut low = [0i64; 2048];
+    let v = weekly_report::report(records, output, &mut keys, &mut high, &mut low);
+    text::reports::report_line(line, v, output)
+}
+
+// Answers a record of a report, whose output is the first n bytes; whether its line was written.
+fn answer_report(records: &[u8], output: &mut [u8], n: usize) -> bool {
+    if output.len() < n {
+        return false;
+    }
+    if 65536 < n {
+        return false;
+    }
+    let mut line = [0u8; 131200];
+    let len = report_line(records, &mut output[..n], &mut line);
+    io::write_all(STDOUT_FILENO, text::cut(&line, len))
+}
+
 // The length that four bytes of a record's head give.
 fn length_at(head: &[u8; 13], at: usize) -> usize
     requires { ⌜ at + 4 ≤ 13 ⌝ }
@@ -227,6 +269,9 @@ fn answer_next() -> bool {
     }
     if head[0] == b't' {
         return answer_tighter(&problem, a, &first, b, &second, c);
+    }
+    if head[0] == b'r' {
+        return answer_report(text::cut(&problem, a), &mut first, b);
     }
     let text = answer_record(
         head[0],

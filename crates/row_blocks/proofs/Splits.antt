@@ -17,10 +17,11 @@ use Rattle.format.proofs.WithinLimits.{Limits}
 use Rattle.joining_rule.specs.Bytes.{blockBytes, blockAt}
 use Rattle.joining_rule.proofs.Bytes.{byte-at}
 use Rattle.joining_rule.proofs.Closing.{closing-shaped}
+use Rattle.joining_rule.specs.Rounds.{mostRounds}
 use Rattle.joining_rule.specs.Joining.{basesOf, startSet, closing}
 use Rattle.format.specs.CertificateRules.{Entry, Row, Certificate, noRow, readCertificate}
 use Rattle.certificate_reader.specs.Rows.{sizeAt, basisAt, entryAt, rowAt, rowsBy, EntriesStand, Walkable}
-use Rattle.certificate_reader.proofs.Shapes.{basis-few}
+use Rattle.format.proofs.ProblemLimits.{basis-few}
 use Rattle.certificate_reader.proofs.Rows.{rows-length, row-by}
 use Rattle.certificate_reader.proofs.Walk.{Step, step-of, step-none, walk-sound}
 use Rattle.accepting.specs.Identity.{blockOf}
@@ -168,7 +169,7 @@ module _ (p : Problem) (limits : Limits p) where
   block-is : (j i : ℕ) → j < 9 → i < length (basisOf p j) → blockAt (blockBytes (closing p .state .labels)) j i ≡ blockOf p j i
   unfolding blockOf closing
   block-is j i h b =
-      let n = closing-shaped (basesOf p) (startSet p) .long j h in
+      let n = closing-shaped (p .rule) (mostRounds (p .order)) (basesOf p) (startSet p) .long j h in
       let z = basis-few p limits j in
       byte-at (closing p .state .labels) j i h (omega arith) (omega arith)
 

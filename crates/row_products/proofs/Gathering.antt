@@ -28,7 +28,7 @@ use Rattle.format.proofs.All.{all-map}
 use Rattle.format.proofs.Numbers.{number-low, signed-small}
 use Rattle.format.proofs.CertificateLimits.{IndicesRise, all-within}
 use Rattle.certificate_reader.specs.Rows.{sizeAt, entryAt, basisAt, weightAt, rowAt, rowsBy, EntriesStand, done, more, SoundRows}
-use Rattle.certificate_reader.proofs.Shapes.{basis-few}
+use Rattle.format.proofs.ProblemLimits.{basis-few}
 use Rattle.certificate_reader.proofs.Walk.{Step, step-of, step-none, factor-small, width-most, walk-sound}
 use Rattle.accepting.proofs.Reach.{all-both}
 use Rattle.row_products.specs.declared.Part.{Part}

@@ -19,7 +19,7 @@ use Rattle.format.specs.ProblemBases.{basisOf, multiplier}
 use Rattle.format.specs.CertificateRules.{Entry, Row}
 use Rattle.format.proofs.All.{all-map}
 use Rattle.certificate_reader.specs.Rows.{rowsBy}
-use Rattle.certificate_reader.proofs.Shapes.{basis-few}
+use Rattle.format.proofs.ProblemLimits.{basis-few}
 use Rattle.accepting.specs.Identity.{squares}
 use Rattle.row_products.specs.declared.Part.{Part}
 use Rattle.row_products.specs.declared.Part.the-variants as P

@@ -23,7 +23,7 @@ use Rattle.format.specs.CertificateLayout as CertificateLayout
 use Rattle.joining_rule.specs.Sets.{member, different, insert, insertAll}
 use Rattle.joining_rule.specs.Join.{linked, merged, joinPair, join}
 use Rattle.joining_rule.specs.Extend.{addTerms, addPair, extend}
-use Rattle.joining_rule.specs.Rounds.{singles, start, joinAll, extendAll, round, same, sameAll, sameState, closeFrom, blocksIn}
+use Rattle.joining_rule.specs.Rounds.{singles, start, joinAll, extendTo, addingBases, round, same, sameAll, sameState, closeFrom, mostRounds, blocksIn, countedKeys}
 use Rattle.joining_rule.specs.Rounds as Rounds
 use Rattle.joining_rule.specs.Joining.{startFrom, startSet, closing, tooLarge}
 use Rattle.accepting.specs.Identity.{square, squares, claimOf, blockOf}
@@ -45,7 +45,7 @@ accepted :
     (verdict .refusal .number ≡ 0)
     × (verdict .lower ≡ fraction (negsuc 16) 12)
     × (verdict .upper ≡ fraction (pos 17) 12)
-unfolding listed fromTo sumTo number signed firstRefusal run readWhole degreeOf degree within among keysOf problemCommand appendAt fitting problemApplied problemRefusalAt problemNext readProblem basisOf multiplier multiplierOf kindOf member insert linked merged joinPair join addTerms addPair extend different singles start joinAll extendAll round same sameAll sameState closeFrom blocksIn Rounds.closingOf insertAll startFrom startSet closing tooLarge CertificateLayout.certificateCommand Certificate.certificateRefusalAt Certificate.certificateApplied Certificate.certificateNext readCertificate coefficient square squares claimOf blockOf firstOutside rowSplit splitBy firstDifference comparedKeys differenceKey judgeRead judge pairSides pairOf pairVerdict
+unfolding listed fromTo sumTo number signed firstRefusal run readWhole degreeOf degree within among keysOf problemCommand appendAt fitting problemApplied problemRefusalAt problemNext readProblem basisOf multiplier multiplierOf kindOf member insert linked merged joinPair join addTerms addPair extend different singles start joinAll extendTo addingBases round same sameAll sameState closeFrom blocksIn countedKeys mostRounds Rounds.closingOf insertAll startFrom startSet closing tooLarge CertificateLayout.certificateCommand Certificate.certificateRefusalAt Certificate.certificateApplied Certificate.certificateNext readCertificate coefficient square squares claimOf blockOf firstOutside rowSplit splitBy firstDifference comparedKeys differenceKey judgeRead judge pairSides pairOf pairVerdict
 accepted = (refl, refl, refl)
 
 -- so its bounds hold over every ordered ring

@@ -1,6 +1,6 @@
--- The byte streams of document 01's samples, of some with equalities and wide factors, and of one whose limits
--- contradict each other. A monomial is written by the exponents of its first two variables, a number below 0 as its
--- lowest byte.
+-- The byte streams of document 01's samples, of some with equalities, wide factors, a joining rule and a sparse order,
+-- and of one whose limits contradict each other. A monomial is written by the exponents of its first two variables, a
+-- number below 0 as its lowest byte.
 use mathlib.Core.List.{List, [], _∷_, _++_}
 use Prim.Native.Nat.{ℕ}
 use lib.ListN.{replicate}
@@ -18,6 +18,12 @@ minus c = c ∷ 255 ∷ 255 ∷ 255 ∷ []
 
 abbrev pub variables : ℕ → List ℕ
 variables n = 1 ∷ n ∷ []
+
+abbrev pub rule : ℕ → List ℕ
+rule r = 8 ∷ r ∷ []
+
+abbrev pub order : ℕ → List ℕ
+order k = 9 ∷ k ∷ []
 
 abbrev pub objectiveTerm : List ℕ → ℕ → List ℕ
 objectiveTerm e c = (2 ∷ e) ++ small c
@@ -78,17 +84,29 @@ problemD =
     ++ memberCommand 0 (exponents 0 1)
     ++ end
 
--- objective x⁶, constraint x, basis 0: 1, x³; basis 1: x
-abbrev pub problemE : List ℕ
-problemE =
+-- objective x⁶, constraint x, basis 0: 1, x³; basis 1: x. What stands between 01 and 02 is given, and what begins the
+-- constraint
+abbrev pub problemEOf : List ℕ → List ℕ → List ℕ
+problemEOf begins between =
     variables 1
+    ++ between
     ++ objectiveTerm (exponents 6 0) 1
-    ++ inequality
+    ++ begins
     ++ conditionTerm (exponents 1 0) 1
     ++ memberCommand 0 (exponents 0 0)
     ++ memberCommand 0 (exponents 3 0)
     ++ memberCommand 1 (exponents 1 0)
     ++ end
+
+abbrev pub problemEWith : List ℕ → List ℕ
+problemEWith between = problemEOf inequality between
+
+abbrev pub problemE : List ℕ
+problemE = problemEWith []
+
+-- the same with the equality x in place of the constraint
+abbrev pub problemZero : List ℕ → List ℕ
+problemZero between = problemEOf equality between
 
 -- objective x, constraint 1 − x², bases {1, x} and {1}
 abbrev pub problemF : List ℕ
@@ -226,3 +244,42 @@ certificateWideD = header 0 1 0 1 ++ row 0 1 ++ wideEntry 1 (small 1) ++ entry 2
 -- a lower certificate 1/1 with some commands
 abbrev pub withRow : List ℕ → List ℕ
 withRow r = header 0 1 1 1 ++ r ++ finish
+
+-- for E: x⁶ = (x³)²; the same with x × x² beside it, which is x³; and a row on 1 and x³
+abbrev pub certificateE : List ℕ
+certificateE = header 0 1 0 1 ++ row 0 1 ++ entry 1 1 ++ finish
+
+abbrev pub certificateBeside : List ℕ
+certificateBeside = header 0 1 0 1 ++ row 0 1 ++ entry 1 1 ++ row 1 1 ++ entry 0 1 ++ finish
+
+abbrev pub certificateAcross : List ℕ
+certificateAcross = header 0 1 0 1 ++ row 0 1 ++ entry 0 1 ++ entry 1 1 ++ finish
+
+-- where x is 0: x⁶ + 1 = (1 + x³)² − 2 × x² × x
+abbrev pub certificateZero : List ℕ
+certificateZero =
+    headerMinus 0 1 255 1
+    ++ row 0 1
+    ++ entry 0 1
+    ++ entry 1 1
+    ++ equalityRowMinus 1 254
+    ++ entry 0 1
+    ++ finish
+
+-- ---- document 02's sign symmetries
+-- x2² + x1³x2 + x1x2³ + x1²x2², an example of paper 003; basis 1, x1, x2
+abbrev pub problemSigns : List ℕ
+problemSigns =
+    variables 2
+    ++ objectiveTerm (exponents 0 2) 1
+    ++ objectiveTerm (exponents 3 1) 1
+    ++ objectiveTerm (exponents 1 3) 1
+    ++ objectiveTerm (exponents 2 2) 1
+    ++ memberCommand 0 (exponents 0 0)
+    ++ memberCommand 0 (exponents 1 0)
+    ++ memberCommand 0 (exponents 0 1)
+    ++ end
+
+-- two variables, and a condition x2, which some commands begin
+abbrev pub problemOneCondition : List ℕ → List ℕ
+problemOneCondition begin = variables 2 ++ begin ++ conditionTerm (exponents 0 1) 1 ++ end

@@ -1,4 +1,6 @@
 // Verdicts as text: the lines that the programs write, made in a buffer first, each proved equal to its definition.
+pub mod reports;
+
 ghost use mathlib.Core.Path.{_≡_};
 ghost use mathlib.Core.List.{_++_};
 ghost use Prim.Native.Nat.{_+_, _*_, _≤_, _<_};
@@ -7,6 +9,7 @@ ghost use Rattle.io.specs.Digits.{glyph};
 ghost use Rattle.calls.specs.Superseding.{refusalIn};
 ghost use Rattle.lines.specs.Lines.{decimal, signedDecimal, ratio, hexadecimal, refusalLine, gapWord, pairWords};
 ghost use Rattle.lines.specs.Lines.{pairLines, blocksLine, checkLine, pairLine, arrivalWord, tighterLine};
+ghost use Rattle.lines.specs.Lines.{symmetriesLine};
 ghost use Rattle.lines.specs.Texts.{textOf};
 ghost use Rattle.text.specs.Appending.{Appended};
 use calls::BlocksVerdict;
@@ -14,6 +17,7 @@ use calls::CheckVerdict;
 use calls::Fraction;
 use calls::PairVerdict;
 use calls::Refusal;
+use calls::SymmetriesVerdict;
 use calls::WindowVerdict;
 use lines::Text;
 
@@ -156,32 +160,55 @@ fn append_with_gap(out: &mut [u8], at: usize, word: &[u8], empty: bool, gap: Fra
     append_with_ratio(out, at, word, gap)
 }
 
-// A verdict of the pair: the bounds, the gap and the rounds, with the word that stands before each; or the line of the
-// refusal.
-fn pair_words(v: PairVerdict, lower: &[u8], upper: &[u8], gap: &[u8], rounds: &[u8]) -> Text
-    requires { ⌜ length (now lower) + length (now upper) + length (now gap) + length (now rounds) ≤ 256 ⌝ }
-    ensures { λ t. ⌜
-        textOf t ≡ pairWords (now (lower .entry)) (now (upper .entry)) (now (gap .entry)) (now (rounds .entry)) v
+// The bounds, the gap and the rounds of a pair, with the word that stands before each.
+fn append_pair(
+    out: &mut [u8],
+    at: usize,
+    v: PairVerdict,
+    lower: &[u8],
+    upper: &[u8],
+    gap: &[u8],
+    rounds: &[u8],
+) -> usize
+    requires { ⌜
+        at + length (now lower) + length (now upper) + length (now gap) + length (now rounds) + 146
+        ≤ length (now out)
+        ⌝ }
+    ensures { λ r.
+        let l = now (lower .entry) in
+        let u = now (upper .entry) in
+        let g = now (gap .entry) in
+        let w = now (rounds .entry) in ⌜
+        Appended (now (out .entry)) at (pairWords l u g w v) (now (out .exit)) r
+        × (r ≤ at + length l + length u + length g + length w + 146)
         ⌝ }
 {
-    let r = v.refusal;
-    if 0 < r.number {
-        return refusal_line(r);
-    }
-    let mut out = [0u8; 1280];
-    let a = append_with_ratio(&mut out, 0, lower, v.lower);
-    let b = append_with_ratio(&mut out, a, upper, v.upper);
-    let c = append_with_gap(&mut out, b, gap, v.empty, v.gap);
-    let d = append_with_number(&mut out, c, rounds, v.rounds as u64);
-    let len = append(&mut out, d, b"\n");
-    Text { bytes: out, len }
+    let a = append_with_ratio(out, at, lower, v.lower);
+    let b = append_with_ratio(out, a, upper, v.upper);
+    let c = append_with_gap(out, b, gap, v.empty, v.gap);
+    append_with_number(out, c, rounds, v.rounds as u64)
 }
 
 // What gapcheck writes: the bounds, the gap and the rounds, a line each, or the line of the refusal.
 pub fn pair_lines(v: PairVerdict) -> Text
     ensures { λ t. ⌜ textOf t ≡ pairLines v ⌝ }
 {
-    pair_words(v, b"lower ", b"\nupper ", b"\ngap ", b"\nrounds ")
+    let r = v.refusal;
+    if 0 < r.number {
+        return refusal_line(r);
+    }
+    let mut out = [0u8; 1280];
+    let a = append_pair(
+        &mut out,
+        0,
+        v,
+        b"lower ",
+        b"\nupper ",
+        b"\ngap ",
+        b"\nrounds ",
+    );
+    let len = append(&mut out, a, b"\n");
+    Text { bytes: out, len }
 }
 
 // The line of the blocks call, with the 576 bytes that it left, or that of the refusal.
@@ -195,9 +222,10 @@ pub fn blocks_line(v: BlocksVerdict, bytes: &[u8; 576]) -> Text
     let mut out = [0u8; 1280];
     let a = append_with_number(&mut out, 0, b"blocks ", v.blocks as u64);
     let b = append_with_number(&mut out, a, b" rounds ", v.rounds as u64);
-    let c = append(&mut out, b, b" ");
-    let d = append_hexadecimal(&mut out, c, bytes);
-    let len = append(&mut out, d, b"\n");
+    let c = append_with_number(&mut out, b, b" rule ", v.rule as u64);
+    let d = append(&mut out, c, b" ");
+    let e = append_hexadecimal(&mut out, d, bytes);
+    let len = append(&mut out, e, b"\n");
     Text { bytes: out, len }
 }
 
@@ -213,7 +241,8 @@ pub fn check_line(v: CheckVerdict) -> Text
     let a = append_with_number(&mut out, 0, b"check ", v.side as u64);
     let b = append_with_ratio(&mut out, a, b" ", v.bound);
     let c = append_with_number(&mut out, b, b" rounds ", v.rounds as u64);
-    let len = append(&mut out, c, b"\n");
+    let d = append_with_number(&mut out, c, b" rule ", v.rule as u64);
+    let len = append(&mut out, d, b"\n");
     Text { bytes: out, len }
 }
 
@@ -221,7 +250,15 @@ pub fn check_line(v: CheckVerdict) -> Text
 pub fn pair_line(v: PairVerdict) -> Text
     ensures { λ t. ⌜ textOf t ≡ pairLine v ⌝ }
 {
-    pair_words(v, b"pair ", b" ", b" gap ", b" rounds ")
+    let r = v.refusal;
+    if 0 < r.number {
+        return refusal_line(r);
+    }
+    let mut out = [0u8; 1280];
+    let a = append_pair(&mut out, 0, v, b"pair ", b" ", b" gap ", b" rounds ");
+    let b = append_with_number(&mut out, a, b" rule ", v.rule as u64);
+    let len = append(&mut out, b, b"\n");
+    Text { bytes: out, len }
 }
 
 // The outcome of an arrival, and the word before it.
@@ -269,4 +306,20 @@ pub fn cut(bytes: &[u8], n: usize) -> &[u8]
     ensures { λ r. ⌜ now r ≡ take n (now (bytes .entry)) ⌝ }
 {
     if n <= bytes.len() { &bytes[..n] } else { bytes }
+}
+
+// The line of the symmetries call, with the 256 bytes that it left, or that of the refusal.
+pub fn symmetries_line(v: SymmetriesVerdict, bytes: &[u8; 256]) -> Text
+    ensures { λ t. ⌜ textOf t ≡ symmetriesLine v (now (bytes .entry)) ⌝ }
+{
+    let r = v.refusal;
+    if 0 < r.number {
+        return refusal_line(r);
+    }
+    let mut out = [0u8; 1280];
+    let a = append_with_number(&mut out, 0, b"symmetries ", v.masks as u64);
+    let b = append(&mut out, a, b" ");
+    let c = append_hexadecimal(&mut out, b, bytes);
+    let len = append(&mut out, c, b"\n");
+    Text { bytes: out, len }
 }

@@ -55,23 +55,23 @@ module _ (g : Bases) (t : List ℕ) (n : ℕ) where
 
 -- ---- after a round those that it added
 
-module _ (g : Bases) (s : State) (t : List ℕ) (n : ℕ) (e : keysIn n t ≡ s .support) (F : List ℕ) (r : RecentAll g (s .support) (s .labels) F)
-    (t′ : List ℕ) (n′ : ℕ) (e′ : keysIn n′ t′ ≡ round g s .support) (more : n ≤ n′) (first : take n t′ ≡ take n t) where
+module _ (rule : ℕ) (g : Bases) (s : State) (t : List ℕ) (n : ℕ) (e : keysIn n t ≡ s .support) (F : List ℕ) (r : RecentAll g (s .support) (s .labels) F)
+    (t′ : List ℕ) (n′ : ℕ) (e′ : keysIn n′ t′ ≡ round rule g s .support) (more : n ≤ n′) (first : take n t′ ≡ take n t) where
   came-before : (k : ℕ) → In k (take n t′) → In k (s .support)
   came-before k m = rw (← e) (keys-in n t k (rw (← first) m))
 
-  pub recent-next : RecentAll g (round g s .support) (round g s .labels) (latest t′ n n′)
+  pub recent-next : RecentAll g (round rule g s .support) (round rule g s .labels) (latest t′ n n′)
   recent-next = record {
     blocks = λ j h.
         let b = r .blocks j h in
-        rw (round-labels g s j h) (record { long = join-long (s .support) (g .multiplier j) (g .basis j) (getD (s .labels) j []) ∙ b .long; numbered = join-falls (s .support) (g .multiplier j) (g .basis j) (getD (s .labels) j []) (b .long) (b .numbered) .numbered });
+        rw (round-labels rule g s j h) (record { long = join-long (s .support) (g .multiplier j) (g .basis j) (getD (s .labels) j []) ∙ b .long; numbered = join-falls (s .support) (g .multiplier j) (g .basis j) (getD (s .labels) j []) (b .long) (b .numbered) .numbered });
     at = λ j h.
         record {
           members = λ k m. rw (← e′) (latest-in t′ n n′ more k m);
           at = λ y z t hy hz q m.
               ⊎-elim
               (λ w.
-              inl (rw (round-labels g s j h) (record { same = join-joined (s .support) (g .multiplier j) (g .basis j) (getD (s .labels) j []) (r .blocks j h .long) .at y z hy hz (linked-by (s .support) (g .multiplier j) _ t q (came-before _ w)) })))
+              inl (rw (round-labels rule g s j h) (record { same = join-joined (s .support) (g .multiplier j) (g .basis j) (getD (s .labels) j []) (r .blocks j h .long) .at y z hy hz (linked-by (s .support) (g .multiplier j) _ t q (came-before _ w)) })))
               (λ w. inr w)
               (latest-or t′ n n′ more _ (rw e′ m));
         };

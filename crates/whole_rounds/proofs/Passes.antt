@@ -11,19 +11,17 @@ use lib.ListN.{length, getD, take, drop, set, replicate, length-drop}
 use lib.Seq.{length-take-le}
 use Rattle.counting.specs.Counting.{listed, fromTo, sumTo}
 use Rattle.counting.proofs.Listed.{listed-length, listed-same, listed-at, listed-all}
-use Rattle.counting.proofs.Steps.{fromTo-reaches}
 use Rattle.key_set.specs.Table.{keysIn, Grown, Stored}
 use Rattle.joining_rule.specs.Join.{join}
 use Rattle.joining_rule.specs.Extend.{extend}
-use Rattle.joining_rule.proofs.FullSets.{Full}
 use Rattle.half_rounds.specs.Filled.{Filled}
 use Rattle.pair_index.specs.Fresh.{Joins, Through, Blocks}
 use Rattle.joining_rule.proofs.Labels.{join-long}
 use Rattle.joining_rule.proofs.Numbered.{lowestFrom, lowest-few}
-use Rattle.joining_rule.proofs.Full.{extend-full}
-use Rattle.joining_rule.proofs.Extending.{Extends, fromTo-extends, extend-extends, full-keeps}
+use Rattle.joining_rule.proofs.Extending.{Extends, fromTo-extends, extend-extends}
+use Rattle.joining_rule.proofs.Products.{products-full}
 use Rattle.half_rounds.proofs.Growth.{filled-keeps}
-use Rattle.joining_rule.specs.Rounds.{Bases, singles, joinAll, extendAll}
+use Rattle.joining_rule.specs.Rounds.{Bases, singles, joinAll, extendTo}
 use Rattle.joining_rule.specs.Bytes.{blockBytes}
 use Rattle.whole_rounds.specs.Parts.{part, basesIn, labelsIn}
 use Rattle.whole_rounds.specs.Arrays.{Sizes, Arrays, Labelled, joinAt, extendAt, FilledAll, FreshAt}
@@ -150,13 +148,14 @@ module _ (keys sizes exponents counts : List ℕ) (s : Sizes sizes) (j : ℕ) (h
       let q = add-sub-cancel-left (32 * j) (getD counts j 0) in
       rw (labels-at sizes l j h) (rw (p, q) at g)
 
-  pub filled-at : (first : Bool) (l S : List ℕ) → FilledAll first (basesIn keys sizes exponents counts) (labelsIn sizes l) S
+  pub filled-at : (first : Bool) (l S : List ℕ)
+      → Filled first (basesIn keys sizes exponents counts .multiplier j) (basesIn keys sizes exponents counts .basis j) (getD (labelsIn sizes l) j []) S
       → Filled first (take (32 * j + getD counts j 0 - 32 * j) (drop (32 * j) exponents)) (take (64 * j + getD sizes j 0 - 64 * j) (drop (64 * j) keys)) (take (64 * j + getD sizes j 0 - 64 * j) (drop (64 * j) l)) S
   unfolding basesIn
   filled-at first l S f =
       let p = add-sub-cancel-left (64 * j) (getD sizes j 0) in
       let q = add-sub-cancel-left (32 * j) (getD counts j 0) in
-      rw (p, q) (rw (labels-at sizes l j h) at (f .at j h))
+      rw (p, q) (rw (labels-at sizes l j h) at f)
 
 -- ---- the start
 
@@ -234,25 +233,14 @@ module _ (g : Bases) (L : List (List ℕ)) where
   pub at-extends : (j : ℕ) (S : List ℕ) → Extends S (extendAt g L j S)
   at-extends j S = extend-extends (g .multiplier j) (g .basis j) (getD L j []) S
 
-  pub rest-extends : (a : ℕ) (S : List ℕ) → Extends S (fromTo a 9 (extendAt g L) S)
-  rest-extends a S = fromTo-extends (extendAt g L) at-extends a 9 S
+  pub rest-extends : (a n : ℕ) (S : List ℕ) → Extends S (fromTo a n (extendAt g L) S)
+  rest-extends a n S = fromTo-extends (extendAt g L) at-extends a n S
 
-  pub all-extends : (S : List ℕ) → Extends S (extendAll g L S)
-  unfolding extendAll
-  all-extends S = rest-extends 0 S
-
-  -- a round fills S for its blocks
-  all-full : (S : List ℕ) (j : ℕ) → j < 9 → Full (g .multiplier j) (g .basis j) (getD L j []) (extendAll g L S)
-  unfolding extendAll
-  all-full S j h =
-      fromTo-reaches (λ _. Unit {0}) (λ j S′. Full (g .multiplier j) (g .basis j) (getD L j []) S′) (extendAt g L) 9 0 (λ _ _ _ _ _. tt)
-      (λ j S′ _ _ _. extend-full (g .multiplier j) (g .basis j) (getD L j []) S′)
-      (λ j x S′ _ _ _ f. full-keeps (g .multiplier j) (g .basis j) (getD L j []) S′ (extendAt g L x S′) (at-extends x S′) f) j (omega arith) h S tt
-
-  pub filled-next : (first : Bool) (S : List ℕ) → FilledAll first g L (extendAll g L S)
-  filled-next first S = record { at = λ j h. record { full = λ _. all-full S j h } }
+  -- the extension by the bases before n fills S for their blocks
+  pub filled-next : (n : ℕ) (first : Bool) (S : List ℕ) → FilledAll n first g L (extendTo n g L S)
+  filled-next n first S = record { at = λ j h. record { full = λ _. products-full n g L S .at j h } }
 
   -- what is filled stays so while S grows
-  pub filled-on : (first : Bool) (S₀ S t : List ℕ) (n : ℕ) (t′ : List ℕ) → Grown S t n t′ → n ≤ 2048 → Extends S₀ S → FilledAll first g L S₀ → FilledAll first g L (keysIn n t′)
-  filled-on first S₀ S t n t′ k b x f =
+  pub filled-on : (n : ℕ) (first : Bool) (S₀ S t : List ℕ) (m : ℕ) (t′ : List ℕ) → Grown S t m t′ → m ≤ 2048 → Extends S₀ S → FilledAll n first g L S₀ → FilledAll n first g L (keysIn m t′)
+  filled-on n first S₀ S t m t′ k b x f =
       record { at = λ j h. rw (k .keys b) (filled-keeps first (g .multiplier j) (g .basis j) (getD L j []) S₀ S x (f .at j h)) }

@@ -10,7 +10,7 @@ use Rattle.joining_rule.specs.Extend.{extend}
 use Rattle.pair_index.specs.Fresh.{Joins, Through, Blocks, Recent}
 use Rattle.counting.specs.Counting.{Bounded}
 use Rattle.half_rounds.specs.Filled.{Filled}
-use Rattle.joining_rule.specs.Rounds.{Bases, State, Closing, singles, round}
+use Rattle.joining_rule.specs.Rounds.{Bases, State, Closing, singles, addingBases, round}
 use Rattle.joining_rule.specs.Bytes.{blockBytes}
 use Rattle.whole_rounds.specs.Parts.{basesIn, labelsIn}
 use Rattle.whole_rounds.specs.declared.Closed.{Closed}
@@ -41,9 +41,9 @@ joinAt g S j L = set L j (join S (g .multiplier j) (g .basis j) (getD L j []))
 abbrev pub extendAt : Bases → List (List ℕ) → ℕ → List ℕ → List ℕ
 extendAt g L j S = extend (g .multiplier j) (g .basis j) (getD L j []) S
 
--- after the first round, S is full for the blocks of the round before, of every basis
-pub record FilledAll (first : Bool) (g : Bases) (L : List (List ℕ)) (S : List ℕ) : Type 0 where
-  pub at : (j : ℕ) → j < 9 → Filled first (g .multiplier j) (g .basis j) (getD L j []) S
+-- after the first round, S is full for the blocks of the round before, of the bases before n
+pub record FilledAll (n : ℕ) (first : Bool) (g : Bases) (L : List (List ℕ)) (S : List ℕ) : Type 0 where
+  pub at : (j : ℕ) → j < n → Filled first (g .multiplier j) (g .basis j) (getD L j []) S
 
 -- what a joining asks: the support in its table, with its index, the arrays, and the blocks
 pub record JoiningAll (t idx : List ℕ) (len : ℕ) (keys sizes exponents counts l : List ℕ) : Type 0 where
@@ -89,23 +89,34 @@ pub record FreshAt (g : Bases) (L : List (List ℕ)) (j : ℕ) (F l′ : List �
   pub bytes : l′ ≡ blockBytes (set L j new)
   pub joins : Joins (Through (g .multiplier j) (g .basis j) F) (length (g .basis j)) (getD L j []) new
 
--- what an extension asks: what a joining asks, and the blocks of the round before
-pub record ExtendingAll (first : Bool) (t idx : List ℕ) (len : ℕ) (keys sizes exponents counts l l₀ : List ℕ) : Type
-    0 where
+-- what the extension by basis j asks: what a joining asks, and the blocks of the round before
+pub record ExtendingAt (first : Bool) (t idx : List ℕ) (len : ℕ) (keys sizes exponents counts l l₀ : List ℕ) (j : ℕ)
+    : Type 0 where
   pub joining : JoiningAll t idx len keys sizes exponents counts l
   pub before : Labelled sizes l₀
-  pub filled : FilledAll first (basesIn keys sizes exponents counts) (labelsIn sizes l₀) (keysIn len t)
+  pub basis : j < 9
+  pub filled : Filled first (basesIn keys sizes exponents counts .multiplier j)
+      (basesIn keys sizes exponents counts .basis j) (getD (labelsIn sizes l₀) j []) (keysIn len t)
 
--- what a round asks: what an extension asks, and that the members after the first `since` came last
-pub record RoundAsks (first : Bool) (t idx : List ℕ) (since len : ℕ) (keys sizes exponents counts l l₀ : List ℕ) :
-    Type 0 where
-  pub extending : ExtendingAll first t idx len keys sizes exponents counts l l₀
+-- and that by the bases before n
+pub record ExtendingAll (n : ℕ) (first : Bool) (t idx : List ℕ) (len : ℕ) (keys sizes exponents counts l l₀ : List ℕ)
+    : Type 0 where
+  pub joining : JoiningAll t idx len keys sizes exponents counts l
+  pub before : Labelled sizes l₀
+  pub bases : n ≤ 9
+  pub filled : FilledAll n first (basesIn keys sizes exponents counts) (labelsIn sizes l₀) (keysIn len t)
+
+-- what a round asks: what the extension by the bases that the rule names asks, and that the members after the first
+-- `since` came last
+pub record RoundAsks (rule : ℕ) (first : Bool) (t idx : List ℕ) (since len : ℕ)
+    (keys sizes exponents counts l l₀ : List ℕ) : Type 0 where
+  pub extending : ExtendingAll (addingBases rule) first t idx len keys sizes exponents counts l l₀
   pub upto : since ≤ len
   pub recent : RecentAll (basesIn keys sizes exponents counts) (keysIn len t) (labelsIn sizes l) (latest t since len)
 
 -- a round from the blocks L and the set S
-abbrev pub roundFrom : Bases → List (List ℕ) → List ℕ → State
-roundFrom g L S = round g (record { labels = L; support = S })
+abbrev pub roundFrom : ℕ → Bases → List (List ℕ) → List ℕ → State
+roundFrom rule g L S = round rule g (record { labels = L; support = S })
 
 -- what a round leaves: the state s′, where the table had n keys
 pub record Rounded (s′ : State) (n : ℕ) (t : List ℕ) (r : ℕ) (t′ idx′ l′ : List ℕ) : Type 0 where

@@ -3,18 +3,18 @@
 // numbers stand from place 64j on in `labels`. The first `len` numbers of `table` are the support, in the order in
 // which they came, with `index`.
 ghost use mathlib.Core.Path.{_≡_};
-ghost use Prim.Native.Nat.{_+_, _*_, _≤_, _<_};
+ghost use Prim.Native.Nat.{_+_, _*_, _≤_, _<_, min};
 ghost use lib.ListN.{length, getD, replicate};
 ghost use lib.Dec.{ltb, eqb};
 ghost use mathlib.Core.Bool.{true, false, cond};
 ghost use Rattle.counting.specs.Counting.{listed, sumTo};
 ghost use Rattle.key_set.specs.Table.{keysIn, Holds, Stored};
 ghost use Rattle.half_rounds.specs.Ruled.{Present};
-ghost use Rattle.joining_rule.specs.Rounds.{joinAll, extendAll, same, closingOf};
+ghost use Rattle.joining_rule.specs.Rounds.{joinAll, extendTo, addingBases, same, closingOf};
 ghost use Rattle.joining_rule.proofs.Numbered.{lowestIn};
 ghost use Rattle.joining_rule.specs.Bytes.{blockBytes};
 ghost use Rattle.whole_rounds.specs.Parts.{part, basesIn, labelsIn};
-ghost use Rattle.whole_rounds.specs.Arrays.{Sizes, joinAt, extendAt, JoiningAll, JoiningFresh, JoiningAt, JoiningSince, FreshAt, roundFrom, ExtendingAll, RoundAsks, Rounded, Starting, Settled};
+ghost use Rattle.whole_rounds.specs.Arrays.{Sizes, joinAt, extendAt, JoiningAll, JoiningFresh, JoiningAt, JoiningSince, FreshAt, roundFrom, ExtendingAt, ExtendingAll, RoundAsks, Rounded, Starting, Settled};
 ghost use Rattle.whole_rounds.specs.Lookup.{BasisKeys, PairedTo, Lookup};
 ghost use Rattle.whole_rounds.specs.Between.{closeAfter, Running, Advanced};
 
@@ -277,9 +277,8 @@ fn extend_at(
     j: usize,
 ) -> usize
     requires { ⌜
-        ExtendingAll first (now table) (now index) len (now keys) (now sizes) (now exponents) (now counts)
-        (now labels) (now old)
-        × (j < 9)
+        ExtendingAt first (now table) (now index) len (now keys) (now sizes) (now exponents) (now counts)
+        (now labels) (now old) j
         ⌝ }
     ensures { λ r. ⌜
         Stored len
@@ -304,7 +303,7 @@ fn extend_at(
     )
 }
 
-// The support's extension by every basis.
+// The support's extension by the bases before `bases`.
 fn extend_all(
     table: &mut [u64],
     index: &mut [u16],
@@ -316,21 +315,23 @@ fn extend_all(
     sizes: &[usize],
     exponents: &[u64],
     counts: &[usize],
+    bases: usize,
 ) -> usize
     requires { ⌜
-        ExtendingAll first (now table) (now index) len (now keys) (now sizes) (now exponents) (now counts)
+        ExtendingAll bases first (now table) (now index) len (now keys) (now sizes) (now exponents) (now counts)
         (now labels) (now old)
         ⌝ }
     ensures { λ r. ⌜
         Stored len
-        (extendAll (basesIn (now (keys .entry)) (now (sizes .entry)) (now (exponents .entry)) (now (counts .entry)))
+        (extendTo bases
+        (basesIn (now (keys .entry)) (now (sizes .entry)) (now (exponents .entry)) (now (counts .entry)))
         (labelsIn (now (sizes .entry)) (now (labels .entry))) (keysIn len (now (table .entry)))) (now (table .entry))
         r (now (table .exit)) (now (index .exit))
         ⌝ }
 {
     let mut n = len;
     let mut j = 0;
-    while j < 9 {
+    while j < bases {
         n = extend_at(
             table,
             index,
@@ -352,8 +353,51 @@ fn extend_all(
     n
 }
 
-// A round: every basis joins, and then every basis extends the support. `old` has the blocks before it, and the members
-// after the first `since` came in the round before.
+// All products t + b + b' with b and b' in one block put in, of every basis, whether it adds under the rule or not.
+pub fn put_products(
+    table: &mut [u64],
+    index: &mut [u16],
+    len: usize,
+    labels: &[u8],
+    keys: &[u64],
+    sizes: &[usize],
+    exponents: &[u64],
+    counts: &[usize],
+) -> usize
+    requires { ⌜
+        JoiningAll (now table) (now index) len (now keys) (now sizes) (now exponents) (now counts) (now labels)
+        ⌝ }
+    ensures { λ r. ⌜
+        Stored len
+        (extendTo 9 (basesIn (now (keys .entry)) (now (sizes .entry)) (now (exponents .entry)) (now (counts .entry)))
+        (labelsIn (now (sizes .entry)) (now (labels .entry))) (keysIn len (now (table .entry)))) (now (table .entry))
+        r (now (table .exit)) (now (index .exit))
+        ⌝ }
+{
+    extend_all(
+        table,
+        index,
+        len,
+        labels,
+        labels,
+        true,
+        keys,
+        sizes,
+        exponents,
+        counts,
+        9,
+    )
+}
+
+// How many bases add to the support in a round.
+fn adding_bases(rule: usize) -> usize
+    ensures { λ r. ⌜ r ≡ addingBases rule ⌝ }
+{
+    if rule == 2 { 1 } else { 9 }
+}
+
+// A round: every basis joins, and then the bases that the rule names extend the support. `old` has the blocks before
+// it, and the members after the first `since` came in the round before.
 fn round(
     labels: &mut [u8],
     old: &[u8],
@@ -368,15 +412,17 @@ fn round(
     index: &mut [u16],
     since: usize,
     len: usize,
+    rule: usize,
 ) -> usize
     requires { ⌜
-        RoundAsks first (now table) (now index) since len (now keys) (now sizes) (now exponents) (now counts)
+        RoundAsks rule first (now table) (now index) since len (now keys) (now sizes) (now exponents) (now counts)
         (now labels) (now old)
         × Lookup (part 64 (now sizes) (now keys)) (now heads) (now next)
         ⌝ }
     ensures { λ r. ⌜
         Rounded
-        (roundFrom (basesIn (now (keys .entry)) (now (sizes .entry)) (now (exponents .entry)) (now (counts .entry)))
+        (roundFrom rule
+        (basesIn (now (keys .entry)) (now (sizes .entry)) (now (exponents .entry)) (now (counts .entry)))
         (labelsIn (now (sizes .entry)) (now (labels .entry))) (keysIn len (now (table .entry)))) len
         (now (table .entry)) r (now (table .exit)) (now (index .exit)) (now (labels .exit))
         ⌝ }
@@ -394,6 +440,7 @@ fn round(
         since,
         len,
     );
+    let bases = adding_bases(rule);
     extend_all(
         table,
         index,
@@ -405,6 +452,7 @@ fn round(
         sizes,
         exponents,
         counts,
+        bases,
     )
 }
 
@@ -440,6 +488,14 @@ fn is_last(few: usize, len: usize, old: &[u8], labels: &[u8]) -> bool
     }
 }
 
+// The support beside its table: how many keys it has, the joining rule by which it grows, and in how many rounds at
+// most.
+pub struct Support {
+    pub len: usize,
+    pub rule: usize,
+    pub most: usize,
+}
+
 // What the rounds leave beside the block numbers: how many keys the support has (2,049 where it has too many), how many
 // rounds.
 pub struct Closed {
@@ -447,8 +503,8 @@ pub struct Closed {
     pub rounds: usize,
 }
 
-// What some of the rounds leave beside them: `ended`, where one of them was the last; else the members after the first
-// `since` came in the last of them.
+// What some of the rounds leave beside them: `ended`, where one of them was the last, or all were made; else the
+// members after the first `since` came in the last of them.
 struct Progress {
     since: usize,
     len: usize,
@@ -456,9 +512,15 @@ struct Progress {
     ended: bool,
 }
 
-// Rounds after the first `done`, until one is the last, or `most` were made. `heads` and `next` have the pairs of all
-// bases, or are short. The rounds work on a copy of the block numbers: blocks are found some 2 % faster than through
-// the lent array.
+fn smaller(a: usize, b: usize) -> usize
+    ensures { λ r. ⌜ r ≡ min a b ⌝ }
+{
+    if a < b { a } else { b }
+}
+
+// Rounds after the first `done`, until one is the last, or `pause` were made, or all. `heads` and `next` have the pairs
+// of all bases, or are short. The rounds work on a copy of the block numbers: blocks are found some 2 % faster than
+// through the lent array.
 fn run(
     labels: &mut [u8; 576],
     keys: &[u64],
@@ -470,28 +532,31 @@ fn run(
     table: &mut [u64],
     index: &mut [u16],
     came: usize,
-    len: usize,
     done: usize,
-    most: usize,
+    pause: usize,
+    support: Support,
 ) -> Progress
     requires { ⌜
-        Running (now keys) (now sizes) (now exponents) (now counts) (now labels) came len (now table) (now index) done
-        most
+        Running (support .rule) (support .most) (now keys) (now sizes) (now exponents) (now counts) (now labels) came
+        (support .len) (now table) (now index) done pause
         × Lookup (part 64 (now sizes) (now keys)) (now heads) (now next)
         ⌝ }
     ensures { λ r. ⌜
-        Advanced
-        (closeAfter (basesIn (now (keys .entry)) (now (sizes .entry)) (now (exponents .entry)) (now (counts .entry)))
-        done (now (sizes .entry)) (now (labels .entry)) len (now (table .entry))) len (now (table .entry))
-        (now (keys .entry)) (now (sizes .entry)) (now (exponents .entry)) (now (counts .entry)) most r
-        (now (table .exit)) (now (index .exit)) (now (labels .exit))
+        Advanced (support .rule) (support .most)
+        (closeAfter (support .rule) (support .most)
+        (basesIn (now (keys .entry)) (now (sizes .entry)) (now (exponents .entry)) (now (counts .entry))) done
+        (now (sizes .entry)) (now (labels .entry)) (support .len) (now (table .entry))) (support .len)
+        (now (table .entry)) (now (keys .entry)) (now (sizes .entry)) (now (exponents .entry)) (now (counts .entry))
+        pause r (now (table .exit)) (now (index .exit)) (now (labels .exit))
         ⌝ }
 {
+    let stop = smaller(pause, support.most);
+    let rule = support.rule;
     let mut blocks = *labels;
-    let mut n = len;
+    let mut n = support.len;
     let mut since = came;
     let mut rounds = done;
-    while rounds < most {
+    while rounds < stop {
         let old = blocks;
         let few = n;
         n = round(
@@ -508,6 +573,7 @@ fn run(
             index,
             since,
             n,
+            rule,
         );
         since = few;
         rounds += 1;
@@ -526,7 +592,7 @@ fn run(
         since,
         len: n,
         rounds,
-        ended: false,
+        ended: rounds == support.most,
     }
 }
 
@@ -590,18 +656,19 @@ fn finish(
     table: &mut [u64],
     index: &mut [u16],
     came: usize,
-    len: usize,
     done: usize,
+    support: Support,
 ) -> Closed
     requires { ⌜
-        Running (now keys) (now sizes) (now exponents) (now counts) (now labels) came len (now table) (now index) done
-        578
+        Running (support .rule) (support .most) (now keys) (now sizes) (now exponents) (now counts) (now labels) came
+        (support .len) (now table) (now index) done (support .most)
         ⌝ }
     ensures { λ r. ⌜
         Settled
-        (closeAfter (basesIn (now (keys .entry)) (now (sizes .entry)) (now (exponents .entry)) (now (counts .entry)))
-        done (now (sizes .entry)) (now (labels .entry)) len (now (table .entry))) len (now (table .entry)) r
-        (now (table .exit)) (now (index .exit)) (now (labels .exit))
+        (closeAfter (support .rule) (support .most)
+        (basesIn (now (keys .entry)) (now (sizes .entry)) (now (exponents .entry)) (now (counts .entry))) done
+        (now (sizes .entry)) (now (labels .entry)) (support .len) (now (table .entry))) (support .len)
+        (now (table .entry)) r (now (table .exit)) (now (index .exit)) (now (labels .exit))
         ⌝ }
 {
     let mut heads = [0u16; 18432];
@@ -618,9 +685,9 @@ fn finish(
         table,
         index,
         came,
-        len,
         done,
-        578,
+        support.most,
+        support,
     );
     Closed {
         len: p.len,
@@ -638,17 +705,19 @@ fn go_on(
     table: &mut [u64],
     index: &mut [u16],
     came: usize,
-    len: usize,
     done: usize,
+    support: Support,
 ) -> Closed
     requires { ⌜
-        Running (now keys) (now sizes) (now exponents) (now counts) (now labels) came len (now table) (now index) done 8
+        Running (support .rule) (support .most) (now keys) (now sizes) (now exponents) (now counts) (now labels) came
+        (support .len) (now table) (now index) done 8
         ⌝ }
     ensures { λ r. ⌜
         Settled
-        (closeAfter (basesIn (now (keys .entry)) (now (sizes .entry)) (now (exponents .entry)) (now (counts .entry)))
-        done (now (sizes .entry)) (now (labels .entry)) len (now (table .entry))) len (now (table .entry)) r
-        (now (table .exit)) (now (index .exit)) (now (labels .exit))
+        (closeAfter (support .rule) (support .most)
+        (basesIn (now (keys .entry)) (now (sizes .entry)) (now (exponents .entry)) (now (counts .entry))) done
+        (now (sizes .entry)) (now (labels .entry)) (support .len) (now (table .entry))) (support .len)
+        (now (table .entry)) r (now (table .exit)) (now (index .exit)) (now (labels .exit))
         ⌝ }
 {
     let none = [0u16; 1];
@@ -663,9 +732,9 @@ fn go_on(
         table,
         index,
         came,
-        len,
         done,
         8,
+        support,
     );
     if p.ended {
         return Closed {
@@ -682,13 +751,17 @@ fn go_on(
         table,
         index,
         p.since,
-        p.len,
         p.rounds,
+        Support {
+            len: p.len,
+            rule: support.rule,
+            most: support.most,
+        },
     )
 }
 
-// Rounds until one changes neither a block nor the support, or the support has too many keys. The
-// index of the pairs is made only after two rounds, or eight where the bases are small: most problems end before.
+// Rounds until one changes neither a block nor the support, or the support has too many keys, or the most were made.
+// The index of the pairs is made only after two rounds, or eight where the bases are small: most problems end before.
 pub fn close(
     labels: &mut [u8; 576],
     keys: &[u64],
@@ -697,16 +770,18 @@ pub fn close(
     counts: &[usize],
     table: &mut [u64],
     index: &mut [u16],
-    len: usize,
+    support: Support,
 ) -> Closed
     requires { ⌜
-        Starting (now table) (now index) len (now keys) (now sizes) (now exponents) (now counts) (now labels)
+        Starting (now table) (now index) (support .len) (now keys) (now sizes) (now exponents) (now counts)
+        (now labels)
         ⌝ }
     ensures { λ r. ⌜
         Settled
-        (closingOf (basesIn (now (keys .entry)) (now (sizes .entry)) (now (exponents .entry)) (now (counts .entry)))
-        (keysIn len (now (table .entry)))) len (now (table .entry)) r (now (table .exit)) (now (index .exit))
-        (now (labels .exit))
+        (closingOf (support .rule) (support .most)
+        (basesIn (now (keys .entry)) (now (sizes .entry)) (now (exponents .entry)) (now (counts .entry)))
+        (keysIn (support .len) (now (table .entry)))) (support .len) (now (table .entry)) r (now (table .exit))
+        (now (index .exit)) (now (labels .exit))
         ⌝ }
 {
     let none = [0u16; 1];
@@ -721,9 +796,9 @@ pub fn close(
         table,
         index,
         0,
-        len,
         0,
         2,
+        support,
     );
     if p.ended {
         return Closed {
@@ -731,6 +806,11 @@ pub fn close(
             rounds: p.rounds,
         };
     }
+    let left = Support {
+        len: p.len,
+        rule: support.rule,
+        most: support.most,
+    };
     if is_large(sizes) {
         finish(
             labels,
@@ -741,8 +821,8 @@ pub fn close(
             table,
             index,
             p.since,
-            p.len,
             p.rounds,
+            left,
         )
     } else {
         go_on(
@@ -754,8 +834,8 @@ pub fn close(
             table,
             index,
             p.since,
-            p.len,
             p.rounds,
+            left,
         )
     }
 }

@@ -39,6 +39,14 @@ pub fn equality() -> Vec<u8> {
     vec![0x07]
 }
 
+pub fn rule(number: u8) -> Vec<u8> {
+    vec![0x08, number]
+}
+
+pub fn order(rounds: u8) -> Vec<u8> {
+    vec![0x09, rounds]
+}
+
 /// The commands of a certificate, one function for each.
 pub fn bound(side: u8, denominator: u16, p: i32, q: u16) -> Vec<u8> {
     let denominator = denominator.to_le_bytes();

@@ -21,13 +21,14 @@ const TRIES: usize = 400;
 /// The records next to the pair of this name.
 ///
 /// `f` is case F and `equal_f` the same with an equality, both with all values for every byte;
-/// `two_decks` is the example, and `made` a pair of the generator, both with each bit turned and with
-/// one more and one less.
+/// `two_decks` and `two_decks_rule2` are examples, and `made` is a pair of the generator, all with each
+/// bit turned and with one more and one less.
 pub fn neighbours(name: &str) -> Option<impl Iterator<Item = Record>> {
     let (runs, values): (Runs, Values) = match name {
         "f" => (case_f(), others),
         "equal_f" => (equal_f(), others),
         "two_decks" => (two_decks(), near),
+        "two_decks_rule2" => (two_decks_rule2(), near),
         "made" => (made(), near),
         _ => return None,
     };
@@ -39,13 +40,24 @@ fn case_f() -> Runs {
     [samples::f().bytes(), lower, upper]
 }
 
+/// The streams of an example.
+macro_rules! example {
+    ($name:literal) => {{
+        macro_rules! file {
+            ($file:literal) => {
+                include_bytes!(concat!("../../../examples/", $name, "/", $file)).to_vec()
+            };
+        }
+        [file!("problem.bin"), file!("low.bin"), file!("high.bin")]
+    }};
+}
+
 fn two_decks() -> Runs {
-    macro_rules! file {
-        ($name:literal) => {
-            include_bytes!(concat!("../../../examples/two_decks/", $name)).to_vec()
-        };
-    }
-    [file!("problem.bin"), file!("low.bin"), file!("high.bin")]
+    example!("two_decks")
+}
+
+fn two_decks_rule2() -> Runs {
+    example!("two_decks_rule2")
 }
 
 /// The longest accepted pair of some made by the generator.
@@ -107,7 +119,8 @@ mod tests {
 
     #[test]
     fn the_pairs_are_accepted() {
-        for runs in [case_f(), equal_f(), two_decks(), made()] {
+        let examples = [two_decks(), two_decks_rule2()];
+        for runs in [case_f(), equal_f(), made()].into_iter().chain(examples) {
             let [problem, first, second] = runs;
             assert!(answer(&Record::pair(problem, first, second)).is_ok());
         }

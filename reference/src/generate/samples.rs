@@ -184,12 +184,12 @@ mod tests {
     fn checks_of_the_samples() {
         let lines: Vec<String> = checks().iter().map(line).collect();
         let expected = [
-            "check 0 2/1 rounds 2",
+            "check 0 2/1 rounds 2 rule 1",
             "refused 9 1 0 0",
             "refused 8 1 18 0",
-            "check 0 -1/1 rounds 2",
-            "check 1 1/1 rounds 2",
-            "check 0 0/1 rounds 2",
+            "check 0 -1/1 rounds 2 rule 1",
+            "check 1 1/1 rounds 2 rule 1",
+            "check 0 0/1 rounds 2 rule 1",
             "refused 7 0 0 0",
             "refused 4 1 0 0",
             "refused 2 1 0 0",
@@ -202,7 +202,7 @@ mod tests {
     fn pairs_of_the_samples() {
         let lines: Vec<String> = pairs().iter().map(line).collect();
         let expected = [
-            "pair -1/1 1/1 gap 2/1 rounds 2",
+            "pair -1/1 1/1 gap 2/1 rounds 2 rule 1",
             "refused 10 1 0 0",
             "refused 10 2 0 0",
             "refused 10 1 0 0",

@@ -44,6 +44,18 @@ fn outside(rng: &mut Rng, count: usize) -> Vec<(Monomial, i32)> {
     all
 }
 
+/// A problem whose S with zero has `size` + 6 members after round 1, one more after round 2, and then
+/// no more. Most are those of a problem like H in which all have x8, and where nothing joins. Beside
+/// them, without x8: the constraint x1 on the basis x1 adds x1³ in round 1, which in round 2 joins 1
+/// with x1³ on the basis of the constraint 1 + x2, and these add x1³ x2.
+pub fn late(size: usize) -> Draft {
+    let mut draft = like_h(&mut Rng::new(size as u64), size, false);
+    draft.constrain(vec![(power(1, 1), 1)], vec![power(1, 1)]);
+    let terms = vec![(Monomial::ONE, 1), (power(2, 1), 1)];
+    draft.constrain(terms, vec![Monomial::ONE, power(1, 3)]);
+    draft
+}
+
 /// A problem with joined blocks, filled up by objective terms to 2,048 members with zero, or more.
 pub fn joined(rng: &mut Rng, over: usize) -> Draft {
     loop {

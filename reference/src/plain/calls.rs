@@ -31,10 +31,12 @@ impl Fraction {
 }
 
 /// "Blocks (problem, 576 bytes out): byte 64j + i gets the block number of index i in basis j, all
-/// others 255. Also the number of blocks and the rounds."
+/// others 255. Also the number of blocks and the rounds."; "Each verdict of the blocks call, the check
+/// and the pair says the rule used" (Req 08).
 pub struct Blocks {
     pub count: usize,
     pub rounds: usize,
+    pub rule: u8,
     pub bytes: [u8; 576],
 }
 
@@ -43,6 +45,7 @@ pub struct Check {
     pub side: u8,
     pub bound: Fraction,
     pub rounds: usize,
+    pub rule: u8,
 }
 
 /// "Pair: both bounds, gap, rounds."
@@ -52,19 +55,20 @@ pub struct Pair {
     /// None where it is marked as empty: "The pair now marks a negative gap as 'empty'" (Req 06).
     pub gap: Option<Fraction>,
     pub rounds: usize,
+    pub rule: u8,
 }
 
 /// A problem that was read, with its blocks and S.
 pub struct Closed {
-    problem: Problem,
-    joined: Joined,
+    pub problem: Problem,
+    pub joined: Joined,
 }
 
 /// "the problem by commands, ..; 7"
 pub fn close(problem: &[u8]) -> Result<Closed, Refusal> {
     let problem = Problem::read(problem)?;
     let joined = Joined::of(&problem);
-    if joined.is_too_large() {
+    if joined.is_too_large(&problem) {
         return Err(Refusal::new(SUPPORT, PROBLEM, 0));
     }
     Ok(Closed { problem, joined })
@@ -82,12 +86,13 @@ pub fn judge(closed: &Closed, certificate: &[u8], stream: u8) -> Result<Check, R
             denominator: i64::from(certificate.q),
         },
         rounds: closed.joined.rounds,
+        rule: closed.problem.rule,
     })
 }
 
 /// The blocks call.
 pub fn blocks(problem: &[u8]) -> Result<Blocks, Refusal> {
-    let Closed { joined, .. } = close(problem)?;
+    let Closed { problem, joined } = close(problem)?;
     let mut bytes = [255; 576];
     for (j, blocks) in joined.blocks.iter().enumerate() {
         for (i, &block) in blocks.iter().enumerate() {
@@ -97,6 +102,7 @@ pub fn blocks(problem: &[u8]) -> Result<Blocks, Refusal> {
     Ok(Blocks {
         count: joined.count(),
         rounds: joined.rounds,
+        rule: problem.rule,
         bytes,
     })
 }
@@ -124,5 +130,6 @@ pub fn pair(problem: &[u8], first: &[u8], second: &[u8]) -> Result<Pair, Refusal
         upper: second.bound,
         gap: (gap.numerator >= 0).then_some(gap),
         rounds: closed.joined.rounds,
+        rule: closed.problem.rule,
     })
 }

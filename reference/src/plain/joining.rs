@@ -14,7 +14,9 @@ pub struct Joined {
     pub rounds: usize,
 }
 
-/// "The closed S with the zero exponent added may have at most 2,048 members."
+/// "The limit of 2,048 counts the closed S with the zero exponent and all in-block products
+/// t + b + b'" (Req 08), and at an order "the S reached, with zero and its in-block products" (Req 09).
+/// Under rule 1 these products are in S.
 const MEMBERS: usize = 2_048;
 
 impl Joined {
@@ -23,7 +25,8 @@ impl Joined {
         Joined::by(problem, Joined::round)
     }
 
-    /// "Rounds repeat until one changes neither a block nor S; that one counts too."
+    /// "Rounds repeat until one changes neither a block nor S; that one counts too"; an order k "ends
+    /// the rounds after k, if they haven't ended sooner" (Req 09).
     pub fn by(problem: &Problem, round: fn(&mut Joined, &Problem)) -> Joined {
         let mut joined = start(problem);
         loop {
@@ -31,16 +34,21 @@ impl Joined {
             round(&mut joined, problem);
             joined.rounds += 1;
             let after = (joined.blocks.clone(), joined.support.len());
-            if before == after || joined.is_too_large() {
+            let ended = before == after || problem.order == Some(joined.rounds);
+            if ended || joined.support.len() > MEMBERS {
                 return joined;
             }
         }
     }
 
-    /// Whether S with the zero exponent has too many members.
-    pub fn is_too_large(&self) -> bool {
-        let zero = usize::from(!self.support.contains(&Monomial::ONE));
-        self.support.len() + zero > MEMBERS
+    /// Whether S with the zero exponent and the in-block products has too many members.
+    pub fn is_too_large(&self, problem: &Problem) -> bool {
+        let mut counted = self.support.clone();
+        counted.insert(Monomial::ONE);
+        for j in 0..problem.bases.len() {
+            counted.extend(self.products(problem, j));
+        }
+        counted.len() > MEMBERS
     }
 
     /// The number of blocks of all bases.
@@ -50,13 +58,19 @@ impl Joined {
         self.blocks.iter().map(basis).sum()
     }
 
-    /// One round: all bases join by the same S, and then all add to it.
+    /// One round: all bases join by the same S, and then all add to it; by rule 2, which "adds to S
+    /// only the products of basis 0", that one alone.
     fn round(&mut self, problem: &Problem) {
         for j in 0..problem.bases.len() {
             self.join(problem, j);
         }
-        for j in 0..problem.bases.len() {
-            self.add(problem, j);
+        let adding = if problem.rule == 1 {
+            problem.bases.len()
+        } else {
+            1
+        };
+        for j in 0..adding {
+            self.support.extend(self.products(problem, j));
         }
     }
 
@@ -65,7 +79,7 @@ impl Joined {
     pub fn round_basis_by_basis(&mut self, problem: &Problem) {
         for j in 0..problem.bases.len() {
             self.join(problem, j);
-            self.add(problem, j);
+            self.support.extend(self.products(problem, j));
         }
     }
 
@@ -87,18 +101,20 @@ impl Joined {
         }
     }
 
-    /// "add to S every t + b + b' with b, b' in one block of the same j (b = b' included) and t an
+    /// "every t + b + b' with b, b' in one block of the same j (b = b' included) and t an
     /// exponent of g_j"
-    fn add(&mut self, problem: &Problem, j: usize) {
+    fn products(&self, problem: &Problem, j: usize) -> BTreeSet<Monomial> {
+        let mut products = BTreeSet::new();
         let (basis, exponents) = (&problem.bases[j], problem.exponents(j));
         for (i, b) in basis.iter().enumerate() {
             for (k, c) in basis.iter().enumerate().take(i + 1) {
                 if self.blocks[j][i] == self.blocks[j][k] {
                     let sums = exponents.iter().map(|t| t.times(b).times(c));
-                    self.support.extend(sums);
+                    products.extend(sums);
                 }
             }
         }
+        products
     }
 }
 

@@ -13,24 +13,43 @@ impl Display for Fraction {
 
 impl Display for Blocks {
     fn fmt(&self, out: &mut Formatter) -> Result {
-        let Blocks { count, rounds, .. } = self;
-        let digits = hexadecimal(&self.bytes);
-        write!(out, "blocks {count} rounds {rounds} {digits}")
+        let Blocks {
+            count,
+            rounds,
+            rule,
+            bytes,
+        } = self;
+        let digits = hexadecimal(bytes);
+        write!(out, "blocks {count} rounds {rounds} rule {rule} {digits}")
     }
 }
 
 impl Display for Check {
     fn fmt(&self, out: &mut Formatter) -> Result {
-        let Check { side, rounds, .. } = self;
-        write!(out, "check {side} {} rounds {rounds}", self.bound)
+        let Check {
+            side,
+            bound,
+            rounds,
+            rule,
+        } = self;
+        write!(out, "check {side} {bound} rounds {rounds} rule {rule}")
     }
 }
 
 impl Display for Pair {
     fn fmt(&self, out: &mut Formatter) -> Result {
-        let Pair { lower, upper, .. } = self;
-        let (gap, rounds) = (self.gap_text(), self.rounds);
-        write!(out, "pair {lower} {upper} gap {gap} rounds {rounds}")
+        let Pair {
+            lower,
+            upper,
+            rounds,
+            rule,
+            ..
+        } = self;
+        let gap = self.gap_text();
+        write!(
+            out,
+            "pair {lower} {upper} gap {gap} rounds {rounds} rule {rule}"
+        )
     }
 }
 

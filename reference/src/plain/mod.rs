@@ -12,15 +12,19 @@ mod joining;
 mod lines;
 mod polynomial;
 mod problem;
+mod report;
 mod stream;
 mod superseding;
+mod symmetries;
 #[cfg(test)]
 mod tests;
 mod window;
 
 pub use calls::{blocks, pair};
 
-use crate::records::{hexadecimal, Record, BLOCKS, CHECK, PAIR, TIGHTER, WINDOW};
+use crate::records::{
+    hexadecimal, Record, BLOCKS, CHECK, PAIR, REPORT, SYMMETRIES, TIGHTER, WINDOW,
+};
 use crate::refusal::Refusal;
 
 /// What a record asks for: the line that answers it, or its refusal.
@@ -33,6 +37,8 @@ pub fn answer(record: &Record) -> Result<String, Refusal> {
         WINDOW => Ok(window::window(run(0))),
         TIGHTER => superseding::tighter(run(0), run(1), run(2))
             .map(|bytes| format!("tighter {}", hexadecimal(bytes))),
+        SYMMETRIES => symmetries::symmetries(run(0)).map(|verdict| verdict.to_string()),
+        REPORT => report::report(run(0), run(1)).map(|report| report.to_string()),
         other => unreachable!("no record has the kind {other}"),
     }
 }

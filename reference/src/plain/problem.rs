@@ -28,6 +28,10 @@ pub struct Condition {
 pub struct Problem {
     /// The number of variables, n.
     pub variables: usize,
+    /// The joining rule, 1 or 2: "absent means 1" (Req 08).
+    pub rule: u8,
+    /// The sparse order k, which "ends the rounds after k": "Leaving it out keeps full closure" (Req 09).
+    pub order: Option<usize>,
     pub objective: Terms,
     /// Condition j at place j - 1: "Constraints are numbered from 1."
     pub conditions: Vec<Condition>,
@@ -39,6 +43,7 @@ impl Problem {
     /// Reads a problem stream.
     pub fn read(bytes: &[u8]) -> Result<Problem, Refusal> {
         let nothing = Problem {
+            rule: 1,
             bases: vec![Vec::new()],
             ..Problem::default()
         };
@@ -110,6 +115,10 @@ pub enum Command {
     End,
     /// 07
     Equality,
+    /// 08 rule(u8)
+    Rule(u8),
+    /// 09 k(u8)
+    Order(u8),
 }
 
 use Command::*;
@@ -125,6 +134,10 @@ impl Reader for Problem {
             // "04, which from now on needs a 03 or 07 before it"
             0x04 => before.is_some() && !self.conditions.is_empty(),
             0x02 | 0x03 | 0x05 | 0x06 | 0x07 => before.is_some(),
+            // "stands directly after 01 and only there"
+            0x08 => before == Some(0x01),
+            // "stands directly after 01 or 08"
+            0x09 => [Some(0x01), Some(0x08)].contains(&before),
             _ => false,
         }
     }
@@ -135,6 +148,8 @@ impl Reader for Problem {
             0x02 => 8 + 4,
             0x04 => 8 + 2,
             0x05 => 1 + 8,
+            0x08 => 1,
+            0x09 => 1,
             _ => 0,
         }
     }
@@ -147,6 +162,8 @@ impl Reader for Problem {
             0x04 => ConstraintTerm(operands.monomial(), operands.i16()),
             0x05 => BasisMonomial(operands.u8(), operands.monomial()),
             0x07 => Equality,
+            0x08 => Rule(operands.u8()),
+            0x09 => Order(operands.u8()),
             _ => End,
         }
     }
@@ -163,6 +180,10 @@ impl Reader for Problem {
             BasisMonomial(j, monomial) => {
                 usize::from(*j) <= self.conditions.len() && self.allows(monomial, 8)
             }
+            // "value 1 or 2"
+            Rule(rule) => (1..=2).contains(rule),
+            // "from 1 to 255"
+            Order(k) => *k >= 1,
             Constraint | Equality | End => true,
         }
     }
@@ -173,7 +194,7 @@ impl Reader for Problem {
             ObjectiveTerm(monomial, _) => has(&self.objective, monomial),
             ConstraintTerm(monomial, _) => self.last().is_some_and(|g| has(&g.terms, monomial)),
             BasisMonomial(j, monomial) => self.bases[usize::from(*j)].contains(monomial),
-            Variables(_) | Constraint | Equality | End => false,
+            Variables(_) | Constraint | Equality | Rule(_) | Order(_) | End => false,
         }
     }
 
@@ -187,13 +208,15 @@ impl Reader for Problem {
             ConstraintTerm(..) => self.last().is_some_and(|g| g.terms.len() == 32),
             // "at most 64 each"
             BasisMonomial(j, _) => self.bases[usize::from(*j)].len() == 64,
-            Variables(_) | End => false,
+            Variables(_) | Rule(_) | Order(_) | End => false,
         }
     }
 
     fn take(&mut self, command: Command, _place: usize) {
         match command {
             Variables(n) => self.variables = usize::from(n),
+            Rule(rule) => self.rule = rule,
+            Order(k) => self.order = Some(usize::from(k)),
             ObjectiveTerm(monomial, c) => self.objective.push((monomial, c)),
             Constraint => self.begin(Kind::Inequality),
             Equality => self.begin(Kind::Equality),

@@ -2,23 +2,26 @@
 
 use super::accepting::difference;
 use super::answer;
+use super::calls::{close, Closed};
 use super::certificate::Certificate;
 use super::joining::Joined;
 use super::problem::Problem;
+use super::symmetries::{meets_evenly, symmetries};
 use crate::baseline::Checker;
 use crate::generate::corpus;
 use crate::records::Record;
 use crate::refusal::{Refusal, IDENTITY, MISPLACED, PROBLEM};
 
-/// The baseline knows document 01 alone: it refuses by 3 a command that came with a request, and says
-/// a gap below 0.
+/// The baseline knows document 01 alone: it refuses by 3 a command that came with a request, says a
+/// gap below 0, and says no rule, which is 1 in all that it answers.
 #[test]
 fn the_baseline_answers_alike() {
     let checker = &mut Checker::default();
     for record in corpus("bcp") {
         let other = checker.answer(&record).map(with_mark);
         let unknown = matches!(other, Err(refusal) if is_of_a_request(&record, refusal));
-        assert!(unknown || other == answer(&record), "{other:?}");
+        let plain = answer(&record).map(|line| line.replacen(" rule 1", "", 1));
+        assert!(unknown || other == plain, "{other:?}");
     }
 }
 
@@ -35,11 +38,11 @@ fn rounds(line: &str) -> &str {
     line.rsplit(' ').next().unwrap_or_default()
 }
 
-/// Whether it is refusal 3 at a 07 of the problem, or at a 14 or a 15 of a certificate, behind the
-/// first command.
+/// Whether it is refusal 3 at a 07, an 08 or a 09 of the problem, or at a 14 or a 15 of a certificate,
+/// behind the first command.
 fn is_of_a_request(record: &Record, refusal: Refusal) -> bool {
     let commands: &[u8] = if refusal.stream == PROBLEM {
-        &[0x07]
+        &[0x07, 0x08, 0x09]
     } else {
         &[0x14, 0x15]
     };
@@ -76,6 +79,30 @@ fn the_corpus_tells_whether_all_bases_join_by_the_same_s() {
     };
     let telling = problems().filter(tells).take(50).count();
     assert_eq!(telling, 50);
+}
+
+/// "Two monomials of one block must give a sum that every listed mask meets evenly" (Req 01).
+#[test]
+fn symmetries_meet_the_blocks_evenly() {
+    let mut split = 0;
+    for record in corpus("s") {
+        let Ok(listed) = symmetries(&record.runs[0]) else {
+            continue;
+        };
+        let Closed { problem, joined } = close(&record.runs[0]).unwrap();
+        for (basis, blocks) in problem.bases.iter().zip(&joined.blocks) {
+            for (b, block) in basis.iter().zip(blocks) {
+                let sum = b.times(&basis[*block]);
+                let masks = listed.bytes[..listed.count].iter();
+                assert!(masks.into_iter().all(|&mask| meets_evenly(mask, &sum)));
+            }
+        }
+        split += usize::from(listed.count > 1 && joined.count() > 1);
+    }
+    assert!(
+        split > 100,
+        "{split} problems with more than one mask and block"
+    );
 }
 
 /// The difference of the two sides of a record that is refused with 9, where it is one at a single

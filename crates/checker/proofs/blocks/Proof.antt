@@ -4,9 +4,10 @@ use native.Mathlib.Omega.{arith}
 use mathlib.Core.Path.{_≡_, refl, sym, _∙_}
 use mathlib.Core.Bool.{Bool, true, false}
 use Rattle.calls.specs.Tables.{Tables, tables, tablesShort}
-use Rattle.checker.specs.Tables.{Long}
+use Rattle.work_tables.specs.Tables.{Long}
 use Rattle.calls.specs.Blocks.{blocksShort, blocksVerdict, bytesLeft}
-use Rattle.checker.proofs.Tables.{tables-long, tables-kept, out-short, out-long, tables-cleared}
+use Rattle.work_tables.proofs.Tables.{tables-long, tables-kept, tables-cleared}
+use Rattle.checker.proofs.Tables.{out-short, out-long}
 use Rattle.calls.proofs.Promised.{clauses}
 use Rattle.checker.proofs.blocks.Statement.{statement}
 use Rattle.checker.proofs.blocks.Tie as tie

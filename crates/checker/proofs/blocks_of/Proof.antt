@@ -1,9 +1,10 @@
 -- `blocks_of`: refusal 7, or the block numbers copied.
 use borrow.Author.Needs.{needs}
+use native.Mathlib.Omega.{arith}
 use mathlib.Core.Path.{_≡_, sym, _∙_}
 use mathlib.Core.Bool.{true}
 use lib.ListN.{length}
-use Rattle.joining_rule.specs.Joining.{closing, tooLarge}
+use Rattle.joining_rule.specs.Joining.{basesOf, closing, tooLarge}
 use Rattle.key_set.proofs.Index.{indexed-start}
 use Rattle.closure.specs.Tables.{ClosureLeft}
 use Rattle.checker.proofs.Joins.{full-is, left-long}
@@ -16,7 +17,7 @@ module _ (j : tie.After-join) where
   abbrev s : tie.Start
   s = j .before .before .before .before .before .before .before .before
 
-  left : ClosureLeft (closing (s .pre .0 .readable .problem)) (s .args .table .now) (j .join .result) (j .join .last .1 .1 .1 .0) (j .join .last .1 .1 .1 .1 .0) (j .join .last .1 .1 .0)
+  left : ClosureLeft (basesOf (s .pre .0 .readable .problem)) (closing (s .pre .0 .readable .problem)) (s .args .table .now) (j .join .result) (j .join .last .1 .1 .1 .0) (j .join .last .1 .1 .1 .1 .0) (j .join .last .1 .1 .0)
   left = let w = s .pre .0 in j .join .ensures (w .readable .problem) (w .coefficients) (w .readable .flat)
 
 abbrev joining : tie.Else1 → tie.After-join
@@ -55,6 +56,11 @@ slice-aggregate-copy c = sym (labels-long (c .before .before))
 copy-requires : tie.Need-copy-requires
 copy-requires c κs = let e = c .before .before in (s (joining e) .pre .1, labels-long e)
 
+shared-slice-read-rule : tie.Need-shared-slice-read-rule
+shared-slice-read-rule c =
+    let e = c .before .before .before .before .before .before in
+    omega (arith, s (joining e) .pre .0 .readable .flat .limits .sizes-length)
+
 same-length-2 : tie.Need-same-length-2
 same-length-2 c = search needs
 
@@ -63,12 +69,12 @@ same-length-3 c = search needs
 
 returns-2 : tie.Need-returns-2
 returns-2 c =
-    let d = c .before .before in
+    let d = c .before .before .before in
     let e = d .before .before .before in
     let j = joining e in (
       (λ p k f.
           let q = j .join .ensures p k f in
-          (blocks-found p q (e .if1 .left), bytes-found p q (e .if1 .left) (s j .args .out .now) _ (d .copy .ensures))),
+          (blocks-found p q (e .if1 .left) _ (f .rule), bytes-found p q (e .if1 .left) (s j .args .out .now) _ (d .copy .ensures))),
       left j .rest,
     )
 
@@ -83,6 +89,7 @@ blocks-of-spec =
     returns
     slice-aggregate-copy
     copy-requires
+    shared-slice-read-rule
     same-length-2
     same-length-3
     returns-2)

@@ -1,8 +1,9 @@
 -- `check_of`: refusal 7, or what was joined and judged.
 use borrow.Author.Needs.{needs}
+use native.Mathlib.Omega.{arith}
 use mathlib.Core.Path.{refl, sym, _∙_}
 use Rattle.format.specs.ProblemRules.{Problem}
-use Rattle.joining_rule.specs.Joining.{closing}
+use Rattle.joining_rule.specs.Joining.{basesOf, closing}
 use Rattle.accepting.specs.Judgement.{judge}
 use Rattle.flat.specs.Flat.{FlatProblem}
 use Rattle.key_set.proofs.Index.{indexed-start}
@@ -18,11 +19,11 @@ module _ (j : tie.After-join) where
   s = j .before .before .before .before .before .before .before .before
 
   left : (p : Problem) → FlatProblem p (s .args .keys .now) (s .args .coefficients .now) (s .args .sizes .now)
-      → ClosureLeft (closing p) (s .args .table .now) (j .join .result) (j .join .last .1 .1 .1 .0) (j .join .last .1 .1 .1 .1 .0) (j .join .last .1 .1 .0)
+      → ClosureLeft (basesOf p) (closing p) (s .args .table .now) (j .join .result) (j .join .last .1 .1 .1 .0) (j .join .last .1 .1 .1 .1 .0) (j .join .last .1 .1 .0)
   left p f = j .join .ensures p _ f
 
   -- and for the one that was read
-  read-left : ClosureLeft (closing (s .pre .0 .problem)) (s .args .table .now) (j .join .result) (j .join .last .1 .1 .1 .0) (j .join .last .1 .1 .1 .1 .0) (j .join .last .1 .1 .0)
+  read-left : ClosureLeft (basesOf (s .pre .0 .problem)) (closing (s .pre .0 .problem)) (s .args .table .now) (j .join .result) (j .join .last .1 .1 .1 .0) (j .join .last .1 .1 .1 .1 .0) (j .join .last .1 .1 .0)
   read-left = left (s .pre .0 .problem) (s .pre .0 .flat)
 
 abbrev joining : tie.Else1 → tie.After-join
@@ -66,6 +67,11 @@ judge-requires c κs =
       record { high-long = p .1 .high; low-long = p .1 .low },
     )
 
+shared-slice-read-check-one : tie.Need-shared-slice-read-check-one
+shared-slice-read-check-one c =
+    let e = c .before .before .before .before .before .before .before .before .before in
+    omega (arith, s (joining e) .pre .0 .flat .limits .sizes-length)
+
 check-one-requires : tie.Need-check-one-requires
 check-one-requires c κs = search needs
 
@@ -80,7 +86,7 @@ same-length-4 c = search needs
 
 returns-2 : tie.Need-returns-2
 returns-2 c =
-    let d = c .before .before .before in
+    let d = c .before .before .before .before in
     let e = d .before .before .before .before .before .before in
     let few = e .if1 .left in
     let j = joining e in
@@ -88,7 +94,7 @@ returns-2 c =
     let v = d .judge .ensures in (
       (λ p l f.
           let q = left j p f in
-          c .check-one .ensures ∙ check-judged p (judge p t) _ _ (v .0 p (joins p q l f (s j .pre .1 .keys) few)) (q .rounds few) ∙ check-within p t (within p q few)),
+          c .check-one .ensures ∙ check-judged p (judge p t) _ _ _ (v .0 p (joins p q l f (s j .pre .1 .keys) few)) (q .rounds few) (f .rule) ∙ check-within p t (within p q few)),
       record { keys = read-left j .rest; high = v .1 .high-rest; low = v .1 .low-rest },
     )
 
@@ -104,6 +110,7 @@ check-of-spec =
     returns
     slice-aggregate-judge
     judge-requires
+    shared-slice-read-check-one
     check-one-requires
     same-length-2
     same-length-3

@@ -17,11 +17,11 @@ use Rattle.checker.specs.Steps.{checkFrom}
 use Rattle.checker.proofs.check_one.Statement.{statement}
 use Rattle.checker.proofs.check_one.Tie as tie
 
-is-refused : (d : Judged) (f : Refusal) (rounds : ℕ) (v : CheckVerdict) → d ≡ Judged.Refused f → v ≡ refusedCheck f → v ≡ checkFrom d rounds
-is-refused d f rounds v e g = rw e g
+is-refused : (d : Judged) (f : Refusal) (rounds rule : ℕ) (v : CheckVerdict) → d ≡ Judged.Refused f → v ≡ refusedCheck f → v ≡ checkFrom d rounds rule
+is-refused d f rounds rule v e g = rw e g
 
-is-accepted : (d : Judged) (t : Header) (rounds : ℕ) (r : Refusal) (b : Fraction) → d ≡ Judged.Accepted t → r ≡ noRefusal → b ≡ fraction (t .p) (t .q) → record { refusal = r; side = t .side; bound = b; rounds = rounds } ≡ checkFrom d rounds
-is-accepted d t rounds r b e f g = rw (e, f, g) refl
+is-accepted : (d : Judged) (t : Header) (rounds rule : ℕ) (r : Refusal) (b : Fraction) → d ≡ Judged.Accepted t → r ≡ noRefusal → b ≡ fraction (t .p) (t .q) → record { refusal = r; side = t .side; bound = b; rounds = rounds; rule = rule } ≡ checkFrom d rounds rule
+is-accepted d t rounds rule r b e f g = rw (e, f, g) refl
 
 p-kept : (c : tie.After-struct-told) → let p = c .before .before .before .judged2 .given .0 .0 .p in toZ w32 (ofZ w32 p) ≡ p
 p-kept c = search needs
@@ -42,12 +42,12 @@ bound-requires : tie.Need-bound-requires
 bound-requires c κs = search needs
 
 returns : tie.Need-returns
-returns c = is-refused _ _ _ _ (c .before .before .judged .given .1) (c .refuse-check .ensures)
+returns c = is-refused _ _ _ _ _ (c .before .before .judged .given .1) (c .refuse-check .ensures)
 
 returns-2 : tie.Need-returns-2
 returns-2 c =
     let r = c .before .before in
-    is-accepted _ _ _ _ _ (r .before .before .judged2 .given .1) (r .problem-refusal .ensures) (rw (p-kept (c .before)) at (c .bound .ensures .0))
+    is-accepted _ _ _ _ _ _ (r .before .before .judged2 .given .1) (r .problem-refusal .ensures) (rw (p-kept (c .before)) at (c .bound .ensures .0))
 
 pub check-one-spec : {M : Type 1} → statement M
 check-one-spec =

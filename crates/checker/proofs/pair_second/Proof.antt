@@ -12,11 +12,11 @@ use Rattle.checker.specs.Steps.{pairFrom}
 use Rattle.checker.proofs.pair_second.Statement.{statement}
 use Rattle.checker.proofs.pair_second.Tie as tie
 
-module _ (t : Header) (d : Judged) (rounds : ℕ) (v : PairVerdict) where
-  is-refused : (f : Refusal) → d ≡ Judged.Refused f → v ≡ refusedPair f → v ≡ pairFrom t d rounds
+module _ (t : Header) (d : Judged) (rounds rule : ℕ) (v : PairVerdict) where
+  is-refused : (f : Refusal) → d ≡ Judged.Refused f → v ≡ refusedPair f → v ≡ pairFrom t d rounds rule
   is-refused f e g = rw e g
 
-  is-accepted : (u : Header) → d ≡ Judged.Accepted u → v ≡ pairSides t u rounds → v ≡ pairFrom t d rounds
+  is-accepted : (u : Header) → d ≡ Judged.Accepted u → v ≡ pairSides t u rounds rule → v ≡ pairFrom t d rounds rule
   is-accepted u e g = rw e g
 
 enum-known-judged : tie.Need-enum-known-judged
@@ -32,10 +32,10 @@ pair-sides-requires : tie.Need-pair-sides-requires
 pair-sides-requires c κs = search needs
 
 returns : tie.Need-returns
-returns c = is-refused _ _ _ _ _ (c .before .before .judged .given .1) (c .refuse-pair .ensures)
+returns c = is-refused _ _ _ _ _ _ (c .before .before .judged .given .1) (c .refuse-pair .ensures)
 
 returns-2 : tie.Need-returns-2
-returns-2 c = is-accepted _ _ _ _ _ (c .before .before .judged2 .given .1) (c .pair-sides .ensures)
+returns-2 c = is-accepted _ _ _ _ _ _ (c .before .before .judged2 .given .1) (c .pair-sides .ensures)
 
 pub pair-second-spec : {M : Type 1} → statement M
 pair-second-spec =

@@ -15,19 +15,19 @@ use Rattle.calls.specs.Pair.{refusedPair, pairSides}
 use Rattle.checker.proofs.pair_sides.Statement.{statement}
 use Rattle.checker.proofs.pair_sides.Tie as tie
 
-module _ (t u : Header) (rounds : ℕ) where
-  first-wrong : (t .side ≡ 0 → ⊥) → refusedPair (certificateRefusal 1 10 0 0) ≡ pairSides t u rounds
+module _ (t u : Header) (rounds rule : ℕ) where
+  first-wrong : (t .side ≡ 0 → ⊥) → refusedPair (certificateRefusal 1 10 0 0) ≡ pairSides t u rounds rule
   unfolding pairSides
   first-wrong h = rw (ne-eqb (t .side) 0 h) refl
 
   module _ (z : t .side ≡ 0) where
-    second-wrong : (u .side ≡ 1 → ⊥) → refusedPair (certificateRefusal 2 10 0 0) ≡ pairSides t u rounds
+    second-wrong : (u .side ≡ 1 → ⊥) → refusedPair (certificateRefusal 2 10 0 0) ≡ pairSides t u rounds rule
     unfolding pairSides
     second-wrong h = rw (eq-eqb (t .side) 0 z, ne-eqb (u .side) 1 h) refl
 
     both-right : (r : Refusal) (a b g f : Fraction) (m : Bool) → u .side ≡ 1 → a ≡ fraction (t .p) (t .q)
         → b ≡ fraction (u .p) (u .q) → g ≡ gapOf a b → r ≡ noRefusal → f ≡ unlessNegative g → m ≡ isNegative g
-        → record { refusal = r; lower = a; upper = b; gap = f; empty = m; rounds = rounds } ≡ pairSides t u rounds
+        → record { refusal = r; lower = a; upper = b; gap = f; empty = m; rounds = rounds; rule = rule } ≡ pairSides t u rounds rule
     unfolding pairSides
     both-right r a b g f m o x y k e h i = rw (eq-eqb (t .side) 0 z, eq-eqb (u .side) 1 o, e, h, i, k, x, y) refl
 
@@ -41,7 +41,7 @@ refuse-side-requires : tie.Need-refuse-side-requires
 refuse-side-requires c κs = search needs
 
 returns : tie.Need-returns
-returns c = let s = c .before .before .before in c .refuse-side .ensures ∙ first-wrong (s .args .lower) (s .args .upper) (s .args .rounds) (c .before .if1 .taken)
+returns c = let s = c .before .before .before in c .refuse-side .ensures ∙ first-wrong (s .args .lower) (s .args .upper) (s .args .rounds) (s .args .rule) (c .before .if1 .taken)
 
 refuse-side-requires-2 : tie.Need-refuse-side-requires-2
 refuse-side-requires-2 c κs = search needs
@@ -50,7 +50,7 @@ returns-2 : tie.Need-returns-2
 returns-2 c =
     let i = c .before .before .before in
     let s = i .before .before in
-    c .refuse-side2 .ensures ∙ second-wrong (s .args .lower) (s .args .upper) (s .args .rounds) (i .if1 .left) (c .before .if2 .taken)
+    c .refuse-side2 .ensures ∙ second-wrong (s .args .lower) (s .args .upper) (s .args .rounds) (s .args .rule) (i .if1 .left) (c .before .if2 .taken)
 
 bound-requires : tie.Need-bound-requires
 bound-requires c κs = search needs
@@ -78,7 +78,7 @@ returns-3 c =
     let a = b .before .before in
     let i = a .before .before in
     let s = i .before .before .before .before in
-    both-right (s .args .lower) (s .args .upper) (s .args .rounds) (i .before .before .if1 .left) _ _ _ _ _ _
+    both-right (s .args .lower) (s .args .upper) (s .args .rounds) (s .args .rule) (i .before .before .if1 .left) _ _ _ _ _ _
     (i .if2 .left) (rw (lower-kept (a .before)) at (a .bound .ensures .0))
     (rw (upper-kept (b .before)) at (b .bound2 .ensures .0)) (g .gap .ensures) (n .before .problem-refusal .ensures)
     (n .unless-negative .ensures) (c .is-negative .ensures)

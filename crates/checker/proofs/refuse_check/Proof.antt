@@ -10,7 +10,7 @@ no-fraction-requires : tie.Need-no-fraction-requires
 no-fraction-requires c κs = search needs
 
 returns : tie.Need-returns
-returns c = ap (λ (b : Fraction). let v : CheckVerdict = record { refusal = c .before .args .refusal; side = 0; bound = b; rounds = 0 } in v) (c .no-fraction .ensures)
+returns c = ap (λ (b : Fraction). let v : CheckVerdict = record { refusal = c .before .args .refusal; side = 0; bound = b; rounds = 0; rule = 0 } in v) (c .no-fraction .ensures)
 
 pub refuse-check-spec : {M : Type 1} → statement M
 refuse-check-spec = tie.close (tie.spec no-fraction-requires returns)

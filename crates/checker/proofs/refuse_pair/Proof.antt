@@ -10,7 +10,7 @@ use Rattle.checker.proofs.refuse_pair.Statement.{statement}
 use Rattle.checker.proofs.refuse_pair.Tie as tie
 
 all-none : (r : Refusal) (a b g : Fraction) → a ≡ none → b ≡ none → g ≡ none
-    → record { refusal = r; lower = a; upper = b; gap = g; empty = false; rounds = 0 } ≡ refusedPair r
+    → record { refusal = r; lower = a; upper = b; gap = g; empty = false; rounds = 0; rule = 0 } ≡ refusedPair r
 all-none r a b g x y z = rw (x, y, z) refl
 
 no-fraction-requires : tie.Need-no-fraction-requires

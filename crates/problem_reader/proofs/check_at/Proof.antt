@@ -15,7 +15,7 @@ is-placed-requires : tie.Need-is-placed-requires
 is-placed-requires c κs = search needs
 
 placed-as : (c : tie.After-is-placed) (p : Problem) → length (p .conditions) ≡ c .before .before .args .count → {b : Bool} → c .is-placed .result ≡ b
-    → problemPlaced p (c .before .before .args .at) (problemCommandAt (c .before .before .args .s .now) (c .before .before .args .at)) ≡ b
+    → problemPlaced p (c .before .before .args .s .now) (c .before .before .args .at) (problemCommandAt (c .before .before .args .s .now) (c .before .before .args .at)) ≡ b
 placed-as c p h e = rw (c .before .before .pre .1) at (sym (c .is-placed .ensures p h) ∙ e)
 
 returns : tie.Need-returns

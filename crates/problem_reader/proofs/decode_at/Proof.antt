@@ -80,6 +80,24 @@ enum-told-7 c = search needs
 enum-told-8 : tie.Need-enum-told-8
 enum-told-8 c = search needs
 
+enum-told-9 : tie.Need-enum-told-9
+enum-told-9 c = search needs
+
+add-number-at-8 : tie.Need-add-number-at-8
+add-number-at-8 c = search needs
+
+number-at-requires-8 : tie.Need-number-at-requires-8
+number-at-requires-8 c κs = let e = ap problemSize (c .enum-told9 .given .1) in omega arith
+
+enum-told-10 : tie.Need-enum-told-10
+enum-told-10 c = search needs
+
+add-number-at-9 : tie.Need-add-number-at-9
+add-number-at-9 c = search needs
+
+number-at-requires-9 : tie.Need-number-at-requires-9
+number-at-requires-9 c κs = let e = ap problemSize (c .enum-told10 .given .1) in omega arith
+
 returns : tie.Need-returns
 returns c = rw (c .before .enum-told .given .1, c .number-at .ensures .0)
 
@@ -118,6 +136,12 @@ returns-7 c = search needs
 returns-8 : tie.Need-returns-8
 returns-8 c = search needs
 
+returns-9 : tie.Need-returns-9
+returns-9 c = rw (c .before .enum-told9 .given .1, c .number-at8 .ensures .0)
+
+returns-10 : tie.Need-returns-10
+returns-10 c = rw (c .before .enum-told10 .given .1, c .number-at9 .ensures .0)
+
 pub decode-at-spec : {M : Type 1} → statement M
 decode-at-spec =
     tie.close
@@ -146,6 +170,12 @@ decode-at-spec =
     enum-told-6
     enum-told-7
     enum-told-8
+    enum-told-9
+    add-number-at-8
+    number-at-requires-8
+    enum-told-10
+    add-number-at-9
+    number-at-requires-9
     returns
     returns-2
     returns-3
@@ -153,4 +183,6 @@ decode-at-spec =
     returns-5
     returns-6
     returns-7
-    returns-8)
+    returns-8
+    returns-9
+    returns-10)

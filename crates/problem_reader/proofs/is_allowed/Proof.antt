@@ -43,6 +43,12 @@ enum-told-2 c = search needs
 enum-told-3 : tie.Need-enum-told-3
 enum-told-3 c = search needs
 
+enum-known-i-5 : tie.Need-enum-known-i-5
+enum-known-i-5 c = search needs
+
+enum-known-i-6 : tie.Need-enum-known-i-6
+enum-known-i-6 c = search needs
+
 returns : tie.Need-returns
 returns c = λ p e h. rw (c .before .before .i .given .1, le-leb 1 (c .before .before .i .given .0 .0) (c .if1 .taken))
 
@@ -90,6 +96,18 @@ returns-10 c = λ p e h. cc
 returns-11 : tie.Need-returns-11
 returns-11 c = λ p e h. cc
 
+returns-12 : tie.Need-returns-12
+returns-12 c = λ p e h. rw (c .before .before .i5 .given .1, le-leb 1 (c .before .before .i5 .given .0 .0) (c .if5 .taken))
+
+returns-13 : tie.Need-returns-13
+returns-13 c = λ p e h. rw (c .before .before .i5 .given .1, lt-leb 1 (c .before .before .i5 .given .0 .0) (c .if5 .left))
+
+returns-14 : tie.Need-returns-14
+returns-14 c = λ p e h. rw (c .before .before .i6 .given .1, le-leb 1 (c .before .before .i6 .given .0 .0) (c .if6 .taken))
+
+returns-15 : tie.Need-returns-15
+returns-15 c = λ p e h. rw (c .before .before .i6 .given .1, lt-leb 1 (c .before .before .i6 .given .0 .0) (c .if6 .left))
+
 pub is-allowed-spec : {M : Type 1} → statement M
 is-allowed-spec =
     tie.close
@@ -106,6 +124,8 @@ is-allowed-spec =
     is-fitting-requires-3
     enum-told-2
     enum-told-3
+    enum-known-i-5
+    enum-known-i-6
     returns
     returns-2
     returns-3
@@ -116,4 +136,8 @@ is-allowed-spec =
     returns-8
     returns-9
     returns-10
-    returns-11)
+    returns-11
+    returns-12
+    returns-13
+    returns-14
+    returns-15)

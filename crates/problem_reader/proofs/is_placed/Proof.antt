@@ -28,6 +28,15 @@ enum-told-7 c = search needs
 enum-told-8 : tie.Need-enum-told-8
 enum-told-8 c = search needs
 
+enum-told-9 : tie.Need-enum-told-9
+enum-told-9 c = search needs
+
+enum-told-10 : tie.Need-enum-told-10
+enum-told-10 c = search needs
+
+order-place-requires : tie.Need-order-place-requires
+order-place-requires c κs = search needs
+
 returns : tie.Need-returns
 returns c = λ p h. cc
 
@@ -38,10 +47,10 @@ returns-3 : tie.Need-returns-3
 returns-3 c = λ p h. cc
 
 returns-4 : tie.Need-returns-4
-returns-4 c = λ p h. rw (c .before .enum-told4 .given .1, h, lt-ltb 0 (c .before .before .before .args .at) (c .if1 .taken))
+returns-4 c = λ p h. rw (c .before .enum-told4 .given .1, h, lt-ltb 0 (c .before .before .before .before .args .at) (c .if1 .taken))
 
 returns-5 : tie.Need-returns-5
-returns-5 c = λ p h. rw (c .before .enum-told4 .given .1, le-ltb 0 (c .before .before .before .args .at) (c .if1 .left))
+returns-5 c = λ p h. rw (c .before .enum-told4 .given .1, le-ltb 0 (c .before .before .before .before .args .at) (c .if1 .left))
 
 returns-6 : tie.Need-returns-6
 returns-6 c = λ p h. cc
@@ -55,6 +64,12 @@ returns-8 c = λ p h. cc
 returns-9 : tie.Need-returns-9
 returns-9 c = λ p h. cc
 
+returns-10 : tie.Need-returns-10
+returns-10 c = λ p h. cc
+
+returns-11 : tie.Need-returns-11
+returns-11 c = λ p h. rw (c .before .enum-told10 .given .1, c .order-place .ensures)
+
 pub is-placed-spec : {M : Type 1} → statement M
 is-placed-spec =
     tie.close
@@ -67,6 +82,9 @@ is-placed-spec =
     enum-told-6
     enum-told-7
     enum-told-8
+    enum-told-9
+    enum-told-10
+    order-place-requires
     returns
     returns-2
     returns-3
@@ -75,4 +93,6 @@ is-placed-spec =
     returns-6
     returns-7
     returns-8
-    returns-9)
+    returns-9
+    returns-10
+    returns-11)

@@ -22,7 +22,7 @@ equality K.Equality e = refl
 
 -- the numbers of the other variants
 abbrev others : List ℕ
-others = 0 ∷ 1 ∷ 2 ∷ 3 ∷ 4 ∷ 5 ∷ []
+others = 0 ∷ 1 ∷ 2 ∷ 3 ∷ 4 ∷ 5 ∷ 7 ∷ 8 ∷ []
 
 other : (k : Kind) (i : Instruction) → i ≡ beginning k → OneOf others (tagOf the-type i) → 0 ≡ kindNumber k
 other K.Inequality i e h = refl

@@ -21,7 +21,7 @@ use Rattle.problem_reader.specs.Checks.{early}
 use Rattle.problem_reader.proofs.Checks.{Passes, passes, early-refusal, early-whole, operands-refusal, passes-longer, space}
 use Rattle.problem_reader.proofs.Problems.{begins}
 use Rattle.problem_reader.proofs.Held.{Held}
-use Rattle.problem_reader.proofs.Steps.{Going, Stepped, stepped-as, starting, ended, first-refusing, late-refusing, going-on, extra, complete, stepped-variables, stepped-objective, stepped-full, stepped-begun, stepped-refused, stepped-term, named, stepped-member}
+use Rattle.problem_reader.proofs.Steps.{Going, Stepped, stepped-as, starting, ended, first-refusing, late-refusing, going-on, extra, complete, stepped-variables, stepped-rule, stepped-order, stepped-objective, stepped-full, stepped-begun, stepped-refused, stepped-term, named, stepped-member}
 use Rattle.problem_reader.proofs.read.Statement.{statement}
 use Rattle.problem_reader.proofs.read.Tie as tie
 
@@ -85,6 +85,9 @@ passed c i e =
 shorter : (c : Told) → length (bytes (head c)) - next c < length (bytes (head c)) - head c .loop .at
 shorter c = let t = passed c (told c) refl in let l = passes-longer _ _ _ _ _ t in let w = t .whole in omega arith
 
+element-write-sizes : tie.Need-element-write-sizes Inv-loop μ-loop
+element-write-sizes c = search needs
+
 one-requires : tie.Need-one-requires Inv-loop μ-loop
 one-requires c κs = search needs
 
@@ -138,8 +141,8 @@ add-sizes c = search needs
 mul-sizes : tie.Need-mul-sizes Inv-loop μ-loop
 mul-sizes c = search needs
 
-element-write-sizes : tie.Need-element-write-sizes Inv-loop μ-loop
-element-write-sizes c = search needs
+element-write-sizes-2 : tie.Need-element-write-sizes-2 Inv-loop μ-loop
+element-write-sizes-2 c = search needs
 
 empty-requires : tie.Need-empty-requires Inv-loop μ-loop
 empty-requires c κs = search needs
@@ -156,8 +159,8 @@ add-sizes-2 c = search needs
 mul-sizes-2 : tie.Need-mul-sizes-2 Inv-loop μ-loop
 mul-sizes-2 c = search needs
 
-element-write-sizes-2 : tie.Need-element-write-sizes-2 Inv-loop μ-loop
-element-write-sizes-2 c = search needs
+element-write-sizes-3 : tie.Need-element-write-sizes-3 Inv-loop μ-loop
+element-write-sizes-3 c = search needs
 
 enum-known-told-3 : tie.Need-enum-known-told-3 Inv-loop μ-loop
 enum-known-told-3 c = search needs
@@ -217,11 +220,23 @@ add-sizes-3 c = search needs
 mul-sizes-3 : tie.Need-mul-sizes-3 Inv-loop μ-loop
 mul-sizes-3 c = search needs
 
-element-write-sizes-3 : tie.Need-element-write-sizes-3 Inv-loop μ-loop
-element-write-sizes-3 c = search needs
-
 element-write-sizes-4 : tie.Need-element-write-sizes-4 Inv-loop μ-loop
 element-write-sizes-4 c = search needs
+
+element-write-sizes-5 : tie.Need-element-write-sizes-5 Inv-loop μ-loop
+element-write-sizes-5 c = search needs
+
+enum-known-told-5 : tie.Need-enum-known-told-5 Inv-loop μ-loop
+enum-known-told-5 c = search needs
+
+element-write-sizes-6 : tie.Need-element-write-sizes-6 Inv-loop μ-loop
+element-write-sizes-6 c = search needs
+
+enum-known-told-6 : tie.Need-enum-known-told-6 Inv-loop μ-loop
+enum-known-told-6 c = search needs
+
+element-write-sizes-7 : tie.Need-element-write-sizes-7 Inv-loop μ-loop
+element-write-sizes-7 c = search needs
 
 -- ---- what the arms leave, where they meet
 -- a coefficient is what its bits stand for
@@ -267,7 +282,15 @@ stepped c =
     (λ x.
     ⊎-elim
     (λ w. stepped-as (w .1 .given .1) (w .8) (w .9) (w .10) (w .11) (w .12) (w .13) (w .14) (stepped-refused (kept (head d)) (passed d _ (w .1 .given .1)) _ (w .7 .left) (w .6 .ensures)))
+    (λ x.
+    ⊎-elim
     (λ w. stepped-as (w .1 .given .1) (w .6) (w .7) (w .8) (w .9) (w .10) (w .11) (w .12) (stepped-member (kept (head d)) (passed d _ (w .1 .given .1)) _ (w .5 .last .0) (w .5 .last .1 .0) (w .5 .ensures .0) (w .5 .ensures .1) (w .5 .ensures .2)))
+    (λ x.
+    ⊎-elim
+    (λ w. stepped-as (w .1 .given .1) (w .3) (w .4) (w .5) (w .6) (w .7) (w .8) (w .9) (stepped-rule (kept (head d)) (passed d _ (w .1 .given .1)) _ z))
+    (λ w. stepped-as (w .1 .given .1) (w .3) (w .4) (w .5) (w .6) (w .7) (w .8) (w .9) (stepped-order (kept (head d)) (passed d _ (w .1 .given .1)) _ z))
+    x)
+    x)
     x)
     x)
     x)
@@ -318,6 +341,7 @@ read-spec =
     (tie.spec
     Inv-loop
     μ-loop
+    element-write-sizes
     one-requires
     loop-holds
     shared-slice-read-byte
@@ -333,13 +357,13 @@ read-spec =
     lay-out-requires
     add-sizes
     mul-sizes
-    element-write-sizes
+    element-write-sizes-2
     empty-requires
     add-count
     kind-of-requires
     add-sizes-2
     mul-sizes-2
-    element-write-sizes-2
+    element-write-sizes-3
     enum-known-told-3
     check-room-requires
     mul-last
@@ -354,8 +378,12 @@ read-spec =
     lay-out-requires-2
     add-sizes-3
     mul-sizes-3
-    element-write-sizes-3
     element-write-sizes-4
+    element-write-sizes-5
+    enum-known-told-5
+    element-write-sizes-6
+    enum-known-told-6
+    element-write-sizes-7
     loop-less
     loop-again
     returns

@@ -4,7 +4,7 @@ use borrow.Author.Tests.{eq-eqb, ne-eqb}
 use mathlib.Core.Path.{_≡_, refl, _∙_}
 use mathlib.Core.List.{List, []}
 use Prim.Native.Nat.{ℕ}
-use Rattle.replay.specs.Records.{blocksAnswer, checkAnswer, pairAnswer, recordAnswer}
+use Rattle.replay.specs.Records.{blocksAnswer, checkAnswer, pairAnswer, symmetriesAnswer, recordAnswer}
 use Rattle.replay.proofs.answer_record.Statement.{statement}
 use Rattle.replay.proofs.answer_record.Tie as tie
 
@@ -23,9 +23,14 @@ module _ (kind : ℕ) (problem first second : List ℕ) where
       unfolding recordAnswer
       of-pair e = rw (ne-eqb kind 0x62 b, ne-eqb kind 0x63 c, eq-eqb kind 0x70 e) refl
 
-      of-none : (kind ≡ 0x70 → ⊥) → [] ≡ recordAnswer kind problem first second
-      unfolding recordAnswer
-      of-none p = rw (ne-eqb kind 0x62 b, ne-eqb kind 0x63 c, ne-eqb kind 0x70 p) refl
+      module _ (p : kind ≡ 0x70 → ⊥) where
+        of-symmetries : kind ≡ 0x73 → symmetriesAnswer problem ≡ recordAnswer kind problem first second
+        unfolding recordAnswer
+        of-symmetries e = rw (ne-eqb kind 0x62 b, ne-eqb kind 0x63 c, ne-eqb kind 0x70 p, eq-eqb kind 0x73 e) refl
+
+        of-none : (kind ≡ 0x73 → ⊥) → [] ≡ recordAnswer kind problem first second
+        unfolding recordAnswer
+        of-none s = rw (ne-eqb kind 0x62 b, ne-eqb kind 0x63 c, ne-eqb kind 0x70 p, ne-eqb kind 0x73 s) refl
 
 answer-blocks-requires : tie.Need-answer-blocks-requires
 answer-blocks-requires c κs = search needs
@@ -55,12 +60,22 @@ returns-3 c =
     c .answer-pair .ensures ∙ of-pair (s .kind) (s .problem .now) (s .first .now) (s .second .now) (i .if1 .left)
     (c .before .before .if2 .left) (c .before .if3 .taken)
 
+answer-symmetries-requires : tie.Need-answer-symmetries-requires
+answer-symmetries-requires c κs = search needs
+
 returns-4 : tie.Need-returns-4
 returns-4 c =
-    let i = c .before .before in
+    let i = c .before .before .before .before in
     let s = i .before .before .before .before .args in
-    of-none (s .kind) (s .problem .now) (s .first .now) (s .second .now) (i .if1 .left) (c .before .if2 .left)
-    (c .if3 .left)
+    c .answer-symmetries .ensures ∙ of-symmetries (s .kind) (s .problem .now) (s .first .now) (s .second .now)
+    (i .if1 .left) (c .before .before .before .if2 .left) (c .before .before .if3 .left) (c .before .if4 .taken)
+
+returns-5 : tie.Need-returns-5
+returns-5 c =
+    let i = c .before .before .before in
+    let s = i .before .before .before .before .args in
+    of-none (s .kind) (s .problem .now) (s .first .now) (s .second .now) (i .if1 .left) (c .before .before .if2 .left)
+    (c .before .if3 .left) (c .if4 .left)
 
 pub answer-record-spec : {M : Type 1} → statement M
 answer-record-spec =
@@ -72,4 +87,6 @@ answer-record-spec =
     returns-2
     answer-pair-requires
     returns-3
-    returns-4)
+    answer-symmetries-requires
+    returns-4
+    returns-5)

@@ -33,6 +33,15 @@ slice-aggregate-append-with-number-4 c = search needs
 append-with-number-requires-2 : tie.Need-append-with-number-requires-2
 append-with-number-requires-2 c κs = search needs
 
+slice-aggregate-append-with-number-5 : tie.Need-slice-aggregate-append-with-number-5
+slice-aggregate-append-with-number-5 c = search needs
+
+slice-aggregate-append-with-number-6 : tie.Need-slice-aggregate-append-with-number-6
+slice-aggregate-append-with-number-6 c = search needs
+
+append-with-number-requires-3 : tie.Need-append-with-number-requires-3
+append-with-number-requires-3 c κs = search needs
+
 slice-aggregate-append : tie.Need-slice-aggregate-append
 slice-aggregate-append c = search needs
 
@@ -65,11 +74,13 @@ returns-2 c =
     let p3 = p2 .before .before .before .before in
     let p4 = p3 .before .before .before .before in
     let p5 = p4 .before .before .before .before in
-    let t = p5 .before .before .before in
+    let p6 = p5 .before .before .before .before in
+    let t = p6 .before .before .before in
     let s = t .before .before .before in
-    let two = appended-text (p5 .append-with-number .ensures .0) (p4 .append-with-number2 .ensures .0) in
-    let four = appended-text (appended-text two (p3 .append .ensures)) (p2 .append-hexadecimal .ensures .0) in
-    rw (le-ltb 0 (s .args .v .refusal .number) (t .if1 .left)) (appended-text four (p1 .append2 .ensures) .bytes)
+    let two = appended-text (p6 .append-with-number .ensures .0) (p5 .append-with-number2 .ensures .0) in
+    let four = appended-text (appended-text two (p4 .append-with-number3 .ensures .0)) (p3 .append .ensures) in
+    let five = appended-text four (p2 .append-hexadecimal .ensures .0) in
+    rw (le-ltb 0 (s .args .v .refusal .number) (t .if1 .left)) (appended-text five (p1 .append2 .ensures) .bytes)
 
 pub blocks-line-spec : {M : Type 1} → statement M
 blocks-line-spec =
@@ -83,6 +94,9 @@ blocks-line-spec =
     slice-aggregate-append-with-number-3
     slice-aggregate-append-with-number-4
     append-with-number-requires-2
+    slice-aggregate-append-with-number-5
+    slice-aggregate-append-with-number-6
+    append-with-number-requires-3
     slice-aggregate-append
     slice-aggregate-append-2
     append-requires

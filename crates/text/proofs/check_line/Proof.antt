@@ -42,6 +42,15 @@ slice-aggregate-append-with-number-4 c = search needs
 append-with-number-requires-2 : tie.Need-append-with-number-requires-2
 append-with-number-requires-2 c κs = search needs
 
+slice-aggregate-append-with-number-5 : tie.Need-slice-aggregate-append-with-number-5
+slice-aggregate-append-with-number-5 c = search needs
+
+slice-aggregate-append-with-number-6 : tie.Need-slice-aggregate-append-with-number-6
+slice-aggregate-append-with-number-6 c = search needs
+
+append-with-number-requires-3 : tie.Need-append-with-number-requires-3
+append-with-number-requires-3 c κs = search needs
+
 slice-aggregate-append : tie.Need-slice-aggregate-append
 slice-aggregate-append c = search needs
 
@@ -58,11 +67,13 @@ returns-2 c =
     let p2 = p1 .before .before .before .before in
     let p3 = p2 .before .before .before .before in
     let p4 = p3 .before .before .before .before in
-    let t = p4 .before .before .before in
+    let p5 = p4 .before .before .before .before in
+    let t = p5 .before .before .before in
     let s = t .before .before .before in
-    let two = appended-text (p4 .append-with-number .ensures .0) (p3 .append-with-ratio .ensures .0) in
-    let three = appended-text two (p2 .append-with-number2 .ensures .0) in
-    rw (le-ltb 0 (s .args .v .refusal .number) (t .if1 .left)) (appended-text three (p1 .append .ensures) .bytes)
+    let two = appended-text (p5 .append-with-number .ensures .0) (p4 .append-with-ratio .ensures .0) in
+    let three = appended-text two (p3 .append-with-number2 .ensures .0) in
+    let four = appended-text three (p2 .append-with-number3 .ensures .0) in
+    rw (le-ltb 0 (s .args .v .refusal .number) (t .if1 .left)) (appended-text four (p1 .append .ensures) .bytes)
 
 pub check-line-spec : {M : Type 1} → statement M
 check-line-spec =
@@ -79,6 +90,9 @@ check-line-spec =
     slice-aggregate-append-with-number-3
     slice-aggregate-append-with-number-4
     append-with-number-requires-2
+    slice-aggregate-append-with-number-5
+    slice-aggregate-append-with-number-6
+    append-with-number-requires-3
     slice-aggregate-append
     slice-aggregate-append-2
     append-requires

@@ -19,7 +19,7 @@ shared-slice-read-e : tie.Need-shared-slice-read-e
 shared-slice-read-e c = search needs
 
 add-e : tie.Need-add-e
-add-e c = let s = c .before .before .before .before .before .before .before .before .before in omega (arith, s .pre .0 .joining .arrays .sized .small (s .args .j))
+add-e c = let s = c .before .before .before .before .before .before .before .before .before in omega (arith, s .pre .joining .arrays .sized .small (s .args .j))
 
 mul-b : tie.Need-mul-b
 mul-b c = search needs
@@ -31,7 +31,7 @@ shared-slice-read-f : tie.Need-shared-slice-read-f
 shared-slice-read-f c = search needs
 
 add-f : tie.Need-add-f
-add-f c = let s = c .before .before .before .before .before .before .before .before .before .before in omega (arith, s .pre .0 .joining .arrays .counts-small (s .args .j))
+add-f c = let s = c .before .before .before .before .before .before .before .before .before .before in omega (arith, s .pre .joining .arrays .counts-small (s .args .j))
 
 sub-extend-pass : tie.Need-sub-extend-pass
 sub-extend-pass c = search needs
@@ -40,7 +40,7 @@ part-extend-pass-start : tie.Need-part-extend-pass-start
 part-extend-pass-start c = search needs
 
 part-extend-pass-end : tie.Need-part-extend-pass-end
-part-extend-pass-end c = let s = c .before .before .before .before .before .before .before .before .before .before .before .before in omega (arith, s .pre .0 .joining .arrays .sized .small (s .args .j), labelled-long (s .pre .0 .joining .labels), labelled-long (s .pre .0 .before))
+part-extend-pass-end c = let s = c .before .before .before .before .before .before .before .before .before .before .before .before in omega (arith, s .pre .joining .arrays .sized .small (s .args .j), labelled-long (s .pre .joining .labels), labelled-long (s .pre .before))
 
 sub-extend-pass-2 : tie.Need-sub-extend-pass-2
 sub-extend-pass-2 c = search needs
@@ -49,7 +49,7 @@ part-extend-pass-start-2 : tie.Need-part-extend-pass-start-2
 part-extend-pass-start-2 c = search needs
 
 part-extend-pass-end-2 : tie.Need-part-extend-pass-end-2
-part-extend-pass-end-2 c = let s = c .before .before .before .before .before .before .before .before .before .before .before .before .before in omega (arith, s .pre .0 .joining .arrays .sized .small (s .args .j), labelled-long (s .pre .0 .before))
+part-extend-pass-end-2 c = let s = c .before .before .before .before .before .before .before .before .before .before .before .before .before in omega (arith, s .pre .joining .arrays .sized .small (s .args .j), labelled-long (s .pre .before))
 
 mul-extend-pass : tie.Need-mul-extend-pass
 mul-extend-pass c = search needs
@@ -61,7 +61,7 @@ part-extend-pass-start-3 : tie.Need-part-extend-pass-start-3
 part-extend-pass-start-3 c = search needs
 
 part-extend-pass-end-3 : tie.Need-part-extend-pass-end-3
-part-extend-pass-end-3 c = let s = c .before .before .before .before .before .before .before .before .before .before .before .before .before .before in omega (arith, s .pre .0 .joining .arrays .sized .small (s .args .j), s .pre .0 .joining .arrays .keys-long)
+part-extend-pass-end-3 c = let s = c .before .before .before .before .before .before .before .before .before .before .before .before .before .before in omega (arith, s .pre .joining .arrays .sized .small (s .args .j), s .pre .joining .arrays .keys-long)
 
 mul-extend-pass-2 : tie.Need-mul-extend-pass-2
 mul-extend-pass-2 c = search needs
@@ -73,24 +73,24 @@ part-extend-pass-start-4 : tie.Need-part-extend-pass-start-4
 part-extend-pass-start-4 c = search needs
 
 part-extend-pass-end-4 : tie.Need-part-extend-pass-end-4
-part-extend-pass-end-4 c = let s = c .before .before .before .before .before .before .before .before .before .before .before .before .before .before .before in omega (arith, s .pre .0 .joining .arrays .counts-small (s .args .j), s .pre .0 .joining .arrays .exponents-long)
+part-extend-pass-end-4 c = let s = c .before .before .before .before .before .before .before .before .before .before .before .before .before .before .before in omega (arith, s .pre .joining .arrays .counts-small (s .args .j), s .pre .joining .arrays .exponents-long)
 
 extend-pass-requires : tie.Need-extend-pass-requires
 extend-pass-requires c κs =
     let s = c .before .before .before .before .before .before .before .before .before .before .before .before .before .before .before .before in
-    let p = s .pre .0 .joining .arrays in
+    let p = s .pre .joining .arrays in
     let z = p .sized .small (s .args .j) in
     let a = 64 * s .args .j in
     let n = getD (s .args .sizes .now) (s .args .j) 0 in
     let b = 32 * s .args .j in
     let m = getD (s .args .counts .now) (s .args .j) 0 in
     let k = taken-long a n (s .args .keys .now) (omega (arith, p .keys-long)) in
-    let l = labelled-long (s .pre .0 .joining .labels) in
-    let o = labelled-long (s .pre .0 .before) in
+    let l = labelled-long (s .pre .joining .labels) in
+    let o = labelled-long (s .pre .before) in
     record {
       joining = record {
-        support = s .pre .0 .joining .support;
-        index = s .pre .0 .joining .index;
+        support = s .pre .joining .support;
+        index = s .pre .joining .index;
         basis = record {
           keys = bounded-part _ a (a + n - a) (s .args .keys .now) (p .keys-low);
           exponents = bounded-part _ b (b + m - b) (s .args .exponents .now) (p .exponents-low);
@@ -98,7 +98,7 @@ extend-pass-requires c κs =
         };
       };
       before = taken-long a n _ (omega arith) ∙ sym k;
-      filled = filled-at (s .args .keys .now) (s .args .sizes .now) (s .args .exponents .now) (s .args .counts .now) (p .sized) (s .args .j) (s .pre .1) _ _ _ (s .pre .0 .filled);
+      filled = filled-at (s .args .keys .now) (s .args .sizes .now) (s .args .exponents .now) (s .args .counts .now) (p .sized) (s .args .j) (s .pre .basis) _ _ _ (s .pre .filled);
     }
 
 same-length : tie.Need-same-length
@@ -110,7 +110,7 @@ same-length-2 c = search needs
 returns : tie.Need-returns
 returns c =
     let s = c .before .before .before .before .before .before .before .before .before .before .before .before .before .before .before .before .before .before .before .before .before in
-    extended-at (s .args .keys .now) (s .args .sizes .now) (s .args .exponents .now) (s .args .counts .now) (s .pre .0 .joining .arrays .sized) (s .args .j) (s .pre .1) _ _ _ _ _ _ _ (c .before .before .before .before .extend-pass .ensures)
+    extended-at (s .args .keys .now) (s .args .sizes .now) (s .args .exponents .now) (s .args .counts .now) (s .pre .joining .arrays .sized) (s .args .j) (s .pre .basis) _ _ _ _ _ _ _ (c .before .before .before .before .extend-pass .ensures)
 
 pub extend-at-spec : {M : Type 1} → statement M
 extend-at-spec =

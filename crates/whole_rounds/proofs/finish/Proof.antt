@@ -30,7 +30,7 @@ same-length-2 : tie.Need-same-length-2
 same-length-2 c = search needs
 
 returns : tie.Need-returns
-returns c = let s = c .before .before .before .before .before .before .before .before .before .before .before .before .before .before .before .before .before .before .before .before .before in advanced-out (s .args .keys .now) (s .args .sizes .now) (s .args .exponents .now) (s .args .counts .now) _ _ _ _ _ _ _ (c .before .before .before .before .run .ensures)
+returns c = let s = c .before .before .before .before .before .before .before .before .before .before .before .before .before .before .before .before .before .before .before .before .before in advanced-out (s .args .support .rule) (s .args .support .most) (s .args .keys .now) (s .args .sizes .now) (s .args .exponents .now) (s .args .counts .now) _ _ _ _ _ _ _ (c .before .before .before .before .run .ensures)
 
 pub finish-spec : {M : Type 1} → statement M
 finish-spec =

@@ -27,7 +27,7 @@ returns : tie.Need-returns
 returns c = c .before .before .before .before .before .run .ensures .done (c .if1 .taken)
 
 finish-requires : tie.Need-finish-requires
-finish-requires c κs = let w = c .before .before .before .before .before .before .before .before .run .ensures .left (c .before .before .before .if1 .left) in record { asks = w .asks; some = w .upto; most = omega arith }
+finish-requires c κs = let w = c .before .before .before .before .before .before .before .before .run .ensures .left (c .before .before .before .if1 .left) in record { asks = w .asks; some = w .upto; upto = w .upto }
 
 same-length-3 : tie.Need-same-length-3
 same-length-3 c = search needs
@@ -38,7 +38,7 @@ same-length-4 c = search needs
 returns-2 : tie.Need-returns-2
 returns-2 c =
     let s = c .before .before .before .before .before .before .before .before .before .before .before .before .before .before .before .before .before .before .before .before .before .before .before .before .before in
-    between-then (s .args .keys .now) (s .args .sizes .now) (s .args .exponents .now) (s .args .counts .now) _ _ _ _ _ _ _ _ _ (c .before .before .before .before .before .before .before .before .before .before .before .before .before .run .ensures .left (c .before .before .before .before .before .before .before .before .if1 .left)) _ _ _ _ (c .before .before .before .before .finish .ensures)
+    between-then (s .args .support .rule) (s .args .support .most) (s .args .keys .now) (s .args .sizes .now) (s .args .exponents .now) (s .args .counts .now) _ _ _ _ _ _ _ _ _ (c .before .before .before .before .before .before .before .before .before .before .before .before .before .run .ensures .left (c .before .before .before .before .before .before .before .before .if1 .left)) _ _ _ _ (c .before .before .before .before .finish .ensures)
 
 pub go-on-spec : {M : Type 1} → statement M
 go-on-spec =

@@ -198,7 +198,7 @@ pub const ACCEPTED: &[Accepted] = &[
         words: READ,
         kind: BLOCKS,
         streams: ["01 01 | 07 | 06", "", ""],
-        line: "blocks 0 rounds 1 ",
+        line: "blocks 0 rounds 1 rule 1 ",
     },
     Accepted {
         name: "04 and 05 after 07",
@@ -206,7 +206,7 @@ pub const ACCEPTED: &[Accepted] = &[
         words: TERMS,
         kind: BLOCKS,
         streams: [EQUAL_F, "", ""],
-        line: "blocks 2 rounds 2 0000ffffffffffffffffffffffffffffffffffffffffffffffffffffffffffffffffffffffffffffffffffffffffffffffffffffffffffffffffffffffffffff00",
+        line: "blocks 2 rounds 2 rule 1 0000ffffffffffffffffffffffffffffffffffffffffffffffffffffffffffffffffffffffffffffffffffffffffffffffffffffffffffffffffffffffffffff00",
     },
     Accepted {
         name: "eight of both kinds",
@@ -214,7 +214,7 @@ pub const ACCEPTED: &[Accepted] = &[
         words: AMONG_8,
         kind: BLOCKS,
         streams: ["01 01 | 03 | 07 | 03 | 07 | 03 | 07 | 03 | 07 | 05 00 0⁸ | 06", "", ""],
-        line: "blocks 1 rounds 1 00",
+        line: "blocks 1 rounds 1 rule 1 00",
     },
     Accepted {
         name: "12 after 14",
@@ -222,7 +222,7 @@ pub const ACCEPTED: &[Accepted] = &[
         words: ROW,
         kind: CHECK,
         streams: [EQUAL_F, ON_EQUAL_F, ""],
-        line: "check 0 -1/1 rounds 2",
+        line: "check 0 -1/1 rounds 2 rule 1",
     },
     Accepted {
         name: "14 with −32,768, accepted",
@@ -230,7 +230,7 @@ pub const ACCEPTED: &[Accepted] = &[
         words: ROW,
         kind: CHECK,
         streams: [LARGE, LARGE_LOW, ""],
-        line: "check 0 32768/1 rounds 1",
+        line: "check 0 32768/1 rounds 1 rule 1",
     },
     Accepted {
         name: "14 with 32,767 and −32,768",
@@ -243,7 +243,7 @@ pub const ACCEPTED: &[Accepted] = &[
              | 11 00 01 00 | 12 00 01 00 | 12 01 01 00 | 14 01 01 00 | 12 00 01 00 | 13",
             "",
         ],
-        line: "check 0 -1/1 rounds 2",
+        line: "check 0 -1/1 rounds 2 rule 1",
     },
     Accepted {
         name: "a pair on an equality",
@@ -251,7 +251,7 @@ pub const ACCEPTED: &[Accepted] = &[
         words: ROW,
         kind: PAIR,
         streams: [EQUAL_F, ON_EQUAL_F, ABOVE_EQUAL_F],
-        line: "pair -1/1 1/1 gap 2/1 rounds 2",
+        line: "pair -1/1 1/1 gap 2/1 rounds 2 rule 1",
     },
     Accepted {
         name: "rows of both signs",
@@ -259,6 +259,6 @@ pub const ACCEPTED: &[Accepted] = &[
         words: ROW,
         kind: PAIR,
         streams: [LARGE, LARGE_LOW, LARGE_HIGH],
-        line: "pair 32768/1 32768/1 gap 0/1 rounds 1",
+        line: "pair 32768/1 32768/1 gap 0/1 rounds 1 rule 1",
     },
 ];

@@ -33,7 +33,7 @@ pub const ACCEPTED: &[Accepted] = &[
             "10 00 01 00 01 00 00 00 01 00 | 11 01 01 00 | 12 00 01 00 | 11 02 01 00 | 12 00 01 00 | 13",
             "10 01 01 00 FF FF FF FF 01 00 | 11 01 01 00 | 12 00 01 00 | 11 02 01 00 | 12 00 01 00 | 13",
         ],
-        line: "pair 1/1 -1/1 gap empty rounds 1",
+        line: "pair 1/1 -1/1 gap empty rounds 1 rule 1",
     },
     Accepted {
         name: "a gap of 0",
@@ -45,7 +45,7 @@ pub const ACCEPTED: &[Accepted] = &[
             "10 00 01 00 00 00 00 00 01 00 | 13",
             "10 01 01 00 00 00 00 00 01 00 | 13",
         ],
-        line: "pair 0/1 0/1 gap 0/1 rounds 1",
+        line: "pair 0/1 0/1 gap 0/1 rounds 1 rule 1",
     },
     Accepted {
         name: "a gap of 0 that is not reduced",
@@ -57,7 +57,7 @@ pub const ACCEPTED: &[Accepted] = &[
             "10 00 01 00 01 00 00 00 02 00 | 11 01 01 00 | 12 00 01 00 | 11 02 01 00 | 12 00 01 00 | 13",
             "10 01 01 00 02 00 00 00 04 00 | 11 00 02 00 | 12 00 01 00 | 13",
         ],
-        line: "pair 1/2 2/4 gap 0/8 rounds 1",
+        line: "pair 1/2 2/4 gap 0/8 rounds 1 rule 1",
     },
     Accepted {
         name: "just below 0, both bounds above it",
@@ -69,7 +69,7 @@ pub const ACCEPTED: &[Accepted] = &[
             "10 00 01 00 01 00 00 00 02 00 | 11 01 01 00 | 12 00 01 00 | 11 02 01 00 | 12 00 01 00 | 13",
             "10 01 01 00 01 00 00 00 03 00 | 11 00 01 00 | 12 00 01 00 | 13",
         ],
-        line: "pair 1/2 1/3 gap empty rounds 1",
+        line: "pair 1/2 1/3 gap empty rounds 1 rule 1",
     },
     Accepted {
         name: "just below 0, both bounds below it",
@@ -81,7 +81,7 @@ pub const ACCEPTED: &[Accepted] = &[
             "10 00 01 00 FF FF FF FF 03 00 | 11 00 01 00 | 12 00 01 00 | 13",
             "10 01 01 00 FF FF FF FF 02 00 | 11 01 01 00 | 12 00 01 00 | 11 02 01 00 | 12 00 01 00 | 13",
         ],
-        line: "pair -1/3 -1/2 gap empty rounds 1",
+        line: "pair -1/3 -1/2 gap empty rounds 1 rule 1",
     },
     Accepted {
         name: "no point, and a gap above 0",
@@ -93,7 +93,7 @@ pub const ACCEPTED: &[Accepted] = &[
             "10 00 01 00 FF FF FF FF 01 00 | 11 00 01 00 | 12 00 01 00 | 13",
             "10 01 01 00 01 00 00 00 01 00 | 11 00 01 00 | 12 00 01 00 | 13",
         ],
-        line: "pair -1/1 1/1 gap 2/1 rounds 1",
+        line: "pair -1/1 1/1 gap 2/1 rounds 1 rule 1",
     },
     Accepted {
         name: "the largest lower bound",
@@ -106,7 +106,7 @@ pub const ACCEPTED: &[Accepted] = &[
              | 11 02 02 00 | 12 00 FF 7F | 11 02 FF FF | 12 00 01 00 | 11 02 FE FF | 12 00 01 00 | 13",
             "10 01 01 00 00 00 00 80 FF FF | 11 01 02 00 | 12 00 00 80 | 11 02 02 00 | 12 00 00 80 | 13",
         ],
-        line: "pair 2147483647/1 -2147483648/65535 gap empty rounds 1",
+        line: "pair 2147483647/1 -2147483648/65535 gap empty rounds 1 rule 1",
     },
     Accepted {
         name: "a numerator of −2^32",
@@ -118,7 +118,7 @@ pub const ACCEPTED: &[Accepted] = &[
             "10 00 01 00 00 00 00 00 02 00 | 13",
             "10 01 01 00 00 00 00 80 01 00 | 11 01 02 00 | 12 00 00 80 | 11 02 02 00 | 12 00 00 80 | 13",
         ],
-        line: "pair 0/2 -2147483648/1 gap empty rounds 1",
+        line: "pair 0/2 -2147483648/1 gap empty rounds 1 rule 1",
     },
     Accepted {
         name: "a numerator of 2^32",
@@ -130,7 +130,7 @@ pub const ACCEPTED: &[Accepted] = &[
             "10 00 01 00 00 00 00 80 01 00 | 11 00 02 00 | 12 00 00 80 | 13",
             "10 01 01 00 00 00 00 00 02 00 | 13",
         ],
-        line: "pair -2147483648/1 0/2 gap 4294967296/2 rounds 1",
+        line: "pair -2147483648/1 0/2 gap 4294967296/2 rounds 1 rule 1",
     },
     Accepted {
         name: "two equalities",
@@ -142,7 +142,7 @@ pub const ACCEPTED: &[Accepted] = &[
             "10 00 01 00 01 00 00 00 01 00 | 14 01 FF FF | 12 00 01 00 | 14 02 01 00 | 12 00 01 00 | 13",
             "10 01 01 00 FF FF FF FF 01 00 | 14 01 FF FF | 12 00 01 00 | 14 02 01 00 | 12 00 01 00 | 13",
         ],
-        line: "pair 1/1 -1/1 gap empty rounds 1",
+        line: "pair 1/1 -1/1 gap empty rounds 1 rule 1",
     },
     Accepted {
         name: "an equality and an inequality",
@@ -154,7 +154,7 @@ pub const ACCEPTED: &[Accepted] = &[
             "10 00 01 00 01 00 00 00 01 00 | 14 01 FF FF | 12 00 01 00 | 11 02 01 00 | 12 00 01 00 | 13",
             "10 01 01 00 00 00 00 00 01 00 | 13",
         ],
-        line: "pair 1/1 0/1 gap empty rounds 1",
+        line: "pair 1/1 0/1 gap empty rounds 1 rule 1",
     },
     Accepted {
         name: "an equality without roots",
@@ -166,6 +166,6 @@ pub const ACCEPTED: &[Accepted] = &[
             "10 00 01 00 01 00 00 00 01 00 | 11 00 01 00 | 12 00 01 00 | 14 01 FF FF | 12 00 01 00 | 13",
             "10 01 01 00 FF FF FF FF 01 00 | 11 00 01 00 | 12 00 01 00 | 14 01 FF FF | 12 00 01 00 | 13",
         ],
-        line: "pair 1/1 -1/1 gap empty rounds 1",
+        line: "pair 1/1 -1/1 gap empty rounds 1 rule 1",
     },
 ];

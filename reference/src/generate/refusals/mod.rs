@@ -7,16 +7,20 @@
 mod certificates;
 pub mod equalities;
 pub mod gaps;
+pub mod joining_rules;
 mod order;
 mod problems;
+pub mod reports;
+pub mod sparse_orders;
 mod sums;
 pub mod superseding;
+pub mod symmetries;
 mod table;
 pub mod wide_factors;
 pub mod windows;
 
 use crate::generate::samples;
-use crate::records::{Record, BLOCKS, CHECK, PAIR, TIGHTER};
+use crate::records::{Record, BLOCKS, CHECK, PAIR, SYMMETRIES, TIGHTER};
 use crate::refusal::Refusal;
 pub use table::print;
 
@@ -51,6 +55,7 @@ impl Case {
         let run = |place: usize| self.runs[place].clone();
         match call {
             BLOCKS => Record::blocks(run(0)),
+            SYMMETRIES => Record::symmetries(run(0)),
             CHECK => Record::check(run(0), run(1)),
             PAIR => Record::pair(run(0), run(1), run(2)),
             // A refusal of the first certificate is seen only where the second is refused as well.
@@ -98,15 +103,29 @@ type Line = (
     &'static str,
 );
 
-/// All cases, by the order of the lists: those of document 01, then those of the requests.
+/// The lists of cases: document 01's as number 0, then those of the requests by their numbers, in the
+/// order in which these landed.
+const LISTS: &[(u8, fn() -> Vec<Case>)] = &[
+    (0, scope),
+    (4, equalities::cases),
+    (5, wide_factors::cases),
+    (2, superseding::cases),
+    (8, joining_rules::cases),
+    (9, sparse_orders::cases),
+    (7, reports::cases),
+];
+
+/// All cases, by the order of the lists.
 pub fn cases() -> Vec<Case> {
-    [
-        scope(),
-        equalities::cases(),
-        wide_factors::cases(),
-        superseding::cases(),
-    ]
-    .concat()
+    LISTS.iter().flat_map(|(_, list)| list()).collect()
+}
+
+/// The cases of the lists up to that of this request. The records of the corpus for a request's call
+/// are made from these, so that they stay when another request lands.
+pub fn cases_to(request: u8) -> Vec<Case> {
+    let last = LISTS.iter().position(|&(number, _)| number == request);
+    let lists = &LISTS[..=last.expect("a request with a list")];
+    lists.iter().flat_map(|(_, list)| list()).collect()
 }
 
 /// The cases of document 01.
@@ -185,7 +204,7 @@ fn written(line: &Line, stream: u8, mut runs: [Vec<u8>; 3]) -> Case {
 
 /// The calls that meet a refusal of this stream.
 fn calls(stream: u8) -> &'static [u8] {
-    [b"bcpt".as_slice(), b"cpt", b"p"][usize::from(stream)]
+    [b"bcpts".as_slice(), b"cpt", b"p"][usize::from(stream)]
 }
 
 #[cfg(test)]
@@ -207,7 +226,14 @@ mod tests {
 
     /// What is accepted beside the refusals, of all requests.
     fn accepted() -> impl Iterator<Item = &'static Accepted> {
-        equalities::ACCEPTED.iter().chain(gaps::ACCEPTED)
+        [
+            equalities::ACCEPTED,
+            gaps::ACCEPTED,
+            joining_rules::ACCEPTED,
+            sparse_orders::ACCEPTED,
+        ]
+        .into_iter()
+        .flatten()
     }
 
     #[test]
@@ -237,7 +263,7 @@ mod tests {
         let in_problem = (2..=7).map(|number| (number, 0));
         let in_certificate = [2, 3, 4, 5, 6, 8, 9, 10];
         let in_certificate = in_certificate.iter().flat_map(|&n| [(n, 1), (n, 2)]);
-        let of_requests = [(11, 2)];
+        let of_requests = [(11, 2), (1, 0), (12, 0)];
         let all = in_problem.chain(in_certificate).chain(of_requests);
         assert_eq!(met, all.collect());
     }

@@ -1,7 +1,8 @@
 //! The table of refusals as a page of markdown.
 
+use super::symmetries::{Symmetric, SYMMETRIC};
 use super::windows::{Arrivals, CASES};
-use super::{cases, equalities, gaps, Accepted, Case};
+use super::{cases, equalities, gaps, joining_rules, sparse_orders, Accepted, Case};
 use crate::generate::corpus;
 use crate::plain;
 use crate::records::Record;
@@ -12,8 +13,8 @@ Every way to be refused, by number and stream, each with the words that it comes
 after its number, of a request (document 02). \
 The answers were found by hand from those words and stand beside the cases in `reference/src/generate/refusals`; a test \
 there holds the reference to them. Each case is in the stored corpus `crates/replay/stdin`, where the proved calls \
-meet it; the last column gives, for each kind of call that meets it (`b` blocks, `c` check, `p` pair, `t` the tighter of two \
-certificates, `w` arrivals at the window of gaps), the number of its record there, which is that of the line in `stdout`. `reference refusals` writes this page, and `./test` compares the two.
+meet it; the last column gives, for each kind of call that meets it (`b` blocks, `c` check, `p` pair, `s` symmetries, `t` the \
+tighter of two certificates, `w` arrivals at the window of gaps, `r` report), the number of its record there, which is that of the line in `stdout`. `reference refusals` writes this page, and `./test` compares the two.
 
 Of two certificates a refusal of the first is seen only where the second is refused as well: where a case names only the first, \
 its record of kind `t` has that one twice.
@@ -23,12 +24,12 @@ hexadecimal, 0⁷ is seven zero bytes and 0⁸ eight, and a bar stands between c
 ";
 
 const ONE: &str = "
-## 1: a lent table or the 576 bytes is too short
+## 1: a lent table, the 576 bytes, the 256 bytes or a report's output is too short
 
-A replayed record is always answered with tables lent in full, so no record meets refusal 1. It is stated in the public \
-contracts in `crates/checker/src/lib.rt` and `crates/superseding/src/lib.rt`: `verdict` or `numbers` of each call says that it is \
-given exactly when the named test holds, and `bytes` and `tables` that nothing is written then; the four numbers lent to \
-`tighter` receive it. `bench short` calls the C functions with each \
+A replayed record is always answered with tables lent in full, so only reports meet refusal 1, by their output. It is stated in the public \
+contracts in `crates/checker/src/lib.rt`, `crates/superseding/src/lib.rt`, `crates/sign_symmetries/src/lib.rt` and `crates/weekly_report/src/lib.rt`: \
+`verdict` or `numbers` of each call says that it is given exactly when the named test holds, and `bytes`, `output` and `tables` that nothing is \
+written then; the four numbers lent to `tighter` receive it. `bench short` calls the C functions with each \
 length one short, and sees refusal 1 and all that was lent untouched.
 
 | case | what is lent | answer | clause |
@@ -46,6 +47,13 @@ length one short, and sees refusal 1 and all that was lent untouched.
 | the tighter of two, keys | 2,047 numbers as the first table | `refused 1 0 0 0` | `numbers` of `tighter`, `tablesShort` |
 | the tighter of two, high | 2,047 numbers as the second table | `refused 1 0 0 0` | `numbers` of `tighter`, `tablesShort` |
 | the tighter of two, low | 2,047 numbers as the third table | `refused 1 0 0 0` | `numbers` of `tighter`, `tablesShort` |
+| symmetries, bytes | 255 bytes for the masks | `refused 1 0 0 0` | `verdict` of `symmetries`, `symmetriesShort` |
+| symmetries, keys | 2,047 numbers as the first table | `refused 1 0 0 0` | `verdict` of `symmetries`, `symmetriesShort` |
+| symmetries, high | 2,047 numbers as the second table | `refused 1 0 0 0` | `verdict` of `symmetries`, `symmetriesShort` |
+| symmetries, low | 2,047 numbers as the third table | `refused 1 0 0 0` | `verdict` of `symmetries`, `symmetriesShort` |
+| report, keys | 2,047 numbers as the first table | `refused 1 0 0 0` | `verdict` of `report`, `checkedRecords` |
+| report, high | 2,047 numbers as the second table | `refused 1 0 0 0` | `verdict` of `report`, `checkedRecords` |
+| report, low | 2,047 numbers as the third table | `refused 1 0 0 0` | `verdict` of `report`, `checkedRecords` |
 ";
 
 const FOURTEEN: &str = "
@@ -78,8 +86,37 @@ contradict each other. The gap tells so where the bounds cross, and only there. 
 |---|---|---|---|---|---|---|
 ";
 
-/// The words of document 01's table, and of request 02, for each number from 2 on.
-const TITLES: [&str; 10] = [
+const RULES: &str = "
+## Beside the refusals: two joining rules
+
+Request 08 lets a problem name its joining rule. These cases stand next to the refusals of 08 above; the answers were found \
+by hand. The bytes of a blocks call are shown to the last that is not 255.
+
+| case | what it has | problem | certificates | words | answer | record |
+|---|---|---|---|---|---|---|
+";
+
+const ORDERS: &str = "
+## Beside the refusals: sparse orders
+
+Request 09 lets a problem end the rounds. These cases stand next to the refusals of 09 above; the answers were found by hand. \
+The bytes of a blocks call are shown to the last that is not 255.
+
+| case | what it has | problem | certificates | words | answer | record |
+|---|---|---|---|---|---|---|
+";
+
+const SYMMETRIES: &str = "
+## Beside the refusals: sign symmetries found by hand
+
+Request 01's call lists the masks of a problem into 256 bytes, which are shown to the last that is not 0.
+
+| case | what it has | problem | words | answer | record |
+|---|---|---|---|---|---|
+";
+
+/// The words of document 01's table, and of the requests, for each number from 2 on.
+const TITLES: [&str; 11] = [
     "stream ends in a command or without its end, or goes on after it",
     "command unknown in this stream or misplaced",
     "operand outside its rule",
@@ -90,10 +127,11 @@ const TITLES: [&str; 10] = [
     "identity false",
     "in a pair, first side not 0 or second not 1",
     "of two certificates, both are accepted and their sides differ",
+    "a record of a report is cut short, or a byte comes after the 64th",
 ];
 
 const STREAMS: [&str; 3] = [
-    "in the problem",
+    "in the problem, or of stream 0",
     "in the first certificate",
     "in the second certificate",
 ];
@@ -103,11 +141,11 @@ const SHORT: usize = 130;
 
 /// Writes the page.
 pub fn print() {
-    let corpus = corpus("bcpwt");
+    let corpus = corpus("bcpwtsr");
     let mut cases = cases();
     cases.sort_by_key(|case| (case.expected.number, case.expected.stream));
     print!("{HEAD}{ONE}");
-    let mut section = (1, 0);
+    let mut section = (1, u8::MAX);
     for case in &cases {
         let number = case.expected.number;
         if number != section.0 {
@@ -125,11 +163,21 @@ pub fn print() {
     for case in CASES {
         println!("{}", window_line(case, &corpus));
     }
-    for (head, cases) in [(EQUALITIES, equalities::ACCEPTED), (GAPS, gaps::ACCEPTED)] {
+    let accepted = [
+        (EQUALITIES, equalities::ACCEPTED),
+        (GAPS, gaps::ACCEPTED),
+        (RULES, joining_rules::ACCEPTED),
+        (ORDERS, sparse_orders::ACCEPTED),
+    ];
+    for (head, cases) in accepted {
         print!("{head}");
         for case in cases {
             println!("{}", accepted_line(case, &corpus));
         }
+    }
+    print!("{SYMMETRIES}");
+    for case in SYMMETRIC {
+        println!("{}", symmetric_line(case, &corpus));
     }
 }
 
@@ -193,6 +241,32 @@ fn accepted_line(case: &Accepted, corpus: &[Record]) -> String {
         &place(&case.record(), corpus),
     ];
     format!("| {} |", cells.join(" | "))
+}
+
+/// The line of a problem with its masks.
+fn symmetric_line(case: &Symmetric, corpus: &[Record]) -> String {
+    let problem = case.problem;
+    let text = match problem.len() <= SHORT {
+        true => code(problem),
+        false => String::new(),
+    };
+    let line = case.line();
+    let cells = [
+        case.name,
+        case.what,
+        &text,
+        &quoted(case.words),
+        &format!("`{}`", short(&line)),
+        &place(&case.record(), corpus),
+    ];
+    format!("| {} |", cells.join(" | "))
+}
+
+/// A line whose bytes end with the last that is not 0, or with the first.
+fn short(line: &str) -> &str {
+    let (head, digits) = line.rsplit_once(' ').expect("digits stand last");
+    let shown = digits.trim_end_matches('0').len().div_ceil(2).max(1);
+    &line[..head.len() + 1 + 2 * shown]
 }
 
 /// A stream as it stands in a cell.

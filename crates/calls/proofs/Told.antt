@@ -1,0 +1,169 @@
+-- What a pair's record tells, for any bytes: each field whole but the place and the key, of which it has the lowest 32
+-- bits. The bounds of an accepted pair are operands of its certificates, so they have the widths of a record's fields.
+use native.Mathlib.Omega.{arith}
+use mathlib.Core.Path.{_≡_, refl, subst}
+use mathlib.Core.Bool.{Bool, true, false, cond}
+use mathlib.Core.List.{List, [], _++_, append-nil}
+use mathlib.Core.Logic.{_⊎_, inl, inr}
+use Prim.Native.Nat.{ℕ, suc, _+_, _-_, _^_, _≤_, _<_}
+use lib.Dec.{lit<, eqb}
+use lib.IntN.{pos, negsuc, _-ℤ_}
+use lib.ListN.{getD}
+use borrow.Author.Tests.{lt-ltb}
+use Rattle.counting.specs.Counting.{Bounded}
+use Rattle.counting.proofs.Bounded.{bounded-part}
+use Rattle.counting.proofs.Cases.{lt-or-le}
+use Rattle.format.specs.All.{All}
+use Rattle.format.specs.Commands.{Outcome, refused, given}
+use Rattle.format.specs.Operands.{number, signed}
+use Rattle.format.specs.ProblemRules.{Problem, readProblem}
+use Rattle.format.specs.CertificateLayout.{certificateDecoded}
+use Rattle.format.specs.CertificateRules.{Certificate, noCertificate, certificateApplied, certificateNext}
+use Rattle.format.specs.CertificateRules.{certificateCommandAt, certificateLanguage, readCertificate}
+use Rattle.format.specs.declared.certificate.Command.{Command}
+use Rattle.format.specs.declared.certificate.Command.the-variants as C
+use Rattle.format.specs.declared.certificate.Header.{Header}
+use Rattle.format.proofs.CertificateLimits.{all-within}
+use Rattle.format.proofs.Numbers.{lower, upper, number-low}
+use Rattle.format.proofs.ProblemLimits.{read-limits}
+use Rattle.format.proofs.Run.{read-induction}
+use Rattle.format.proofs.WithinLimits.{Limits}
+use Rattle.joining_rule.specs.Joining.{closing, tooLarge}
+use Rattle.accepting.specs.Judgement.{Judgement, judge}
+use Rattle.accepting.specs.Judgement as J
+use Rattle.accepting.proofs.Accepted.{judge-accepted}
+use Rattle.calls.specs.declared.PairVerdict.{PairVerdict}
+use Rattle.calls.specs.declared.Refusal.{Refusal}
+use Rattle.calls.specs.Pair.{refusedPair, acceptedPair, pairSides, pairSecond, pairFirst, pairOf, pairRead, pairVerdict}
+use Rattle.calls.specs.Refusals.{problemRefusal, certificateRefusal}
+use Rattle.calls.specs.Report.{Runs, lowStart, highStart, runsAt, recordsOf, pairOn, recordBytes}
+use Rattle.calls.specs.Report.{noRuns, EachRecord, Told, EachTold}
+use Rattle.calls.proofs.Records.{records-induction}
+use Rattle.calls.proofs.Pairing.{pair-clauses}
+use Rattle.calls.proofs.RecordFields.{Small, up, down, record-told}
+
+-- ---- the bound that a certificate states
+record Narrow (h : Header) : Type 0 where
+  p : Small (h .p)
+  q : h .q < 2 ^ 32
+
+small-read : (x : ℕ) → x < 2 ^ 32 → Small (signed 31 x)
+small-read x h = go (lt-or-le x (2 ^ 31))
+  where
+    go : (x < 2 ^ 31) ⊎ (2 ^ 31 ≤ x) → Small (signed 31 x)
+    go (inl k) = subst Small (lower 31 x k) (up x k)
+    go (inr k) =
+        let e : pos x -ℤ pos (2 ^ 32) ≡ negsuc (2 ^ 32 - suc x) = rw (lt-ltb x (2 ^ 32) h) refl in
+        subst Small (upper 31 x k) (rw e (down (2 ^ 32 - suc x) (omega arith)))
+
+module _ (s : List ℕ) (bytes : Bounded 255 s) where
+  applied-narrow : (c : Certificate) (at : ℕ) (k : Command) → Narrow (c .header)
+      → Narrow (certificateApplied c (certificateDecoded k s at) at .header)
+  unfolding certificateApplied
+  applied-narrow c at C.Header n = record {
+    p = small-read (number 4 s (at + 4)) (omega (arith, number-low s bytes 4 (at + 4)));
+    q = omega (arith, number-low s bytes 2 (at + 8));
+  }
+  applied-narrow c at C.Row n = n
+  applied-narrow c at C.Entry n = n
+  applied-narrow c at C.End n = n
+  applied-narrow c at C.Unknown n = n
+  applied-narrow c at C.EqualityRow n = n
+  applied-narrow c at C.WideEntry n = n
+
+  read-narrow : (p : Problem) (c : Certificate) → readCertificate p s ≡ given c → Narrow (c .header)
+  unfolding readCertificate certificateNext
+  read-narrow p c e =
+      read-induction (certificateLanguage p) s (λ a at cs b. Narrow (a .header) → Narrow (b .header))
+      (λ a at t b n. n)
+      (λ a b at cs t n f k. f (applied-narrow a at (certificateCommandAt s at) k))
+      noCertificate c e (record { p = up 0 (lit< tt); q = lit< tt })
+
+-- ---- the fields of a verdict, but for the number
+record Fields (v : PairVerdict) : Type 0 where
+  p : Small (v .lower .num)
+  q : v .lower .den < 2 ^ 32
+  P : Small (v .upper .num)
+  Q : v .upper .den < 2 ^ 32
+  stream : v .refusal .stream < 2 ^ 32
+
+refused-fields : (r : Refusal) → r .stream ≤ 2 → Fields (refusedPair r)
+refused-fields r h = record { p = up 0 (lit< tt); q = lit< tt; P = up 0 (lit< tt); Q = lit< tt; stream = omega arith }
+
+sides-fields : (t u : Header) (rounds rule : ℕ) → Narrow t → Narrow u → Fields (pairSides t u rounds rule)
+unfolding pairSides
+sides-fields t u rounds rule n m = go (eqb (t .side) 0) (eqb (u .side) 1)
+  where
+    go : (a b : Bool) → Fields
+        (cond a
+        (cond b (acceptedPair t u rounds rule) (refusedPair (certificateRefusal 2 10 0 0)))
+        (refusedPair (certificateRefusal 1 10 0 0)))
+    go true true = record { p = n .p; q = n .q; P = m .p; Q = m .q; stream = lit< tt }
+    go true false = refused-fields (certificateRefusal 2 10 0 0) (omega arith)
+    go false b = refused-fields (certificateRefusal 1 10 0 0) (omega arith)
+
+module _ (low high : List ℕ) (low-bytes : Bounded 255 low) (high-bytes : Bounded 255 high) where
+  module _ (p : Problem) (limits : Limits p) where
+    second-fields : (c : Certificate) → Narrow (c .header) → (j : Judgement) → judge p high ≡ j → Fields (pairSecond p c j)
+    second-fields c n (J.refused number place key) e = refused-fields (certificateRefusal 2 number place key) (omega arith)
+    second-fields c n (J.accepted d) e =
+        sides-fields (c .header) (d .header) (closing p .rounds) (p .rule) n
+        (read-narrow high high-bytes p d (judge-accepted p limits high d e .read))
+
+    first-fields : (i : Judgement) → judge p low ≡ i → Fields (pairFirst p i high)
+    first-fields (J.refused number place key) e = refused-fields (certificateRefusal 1 number place key) (omega arith)
+    first-fields (J.accepted c) e =
+        second-fields c (read-narrow low low-bytes p c (judge-accepted p limits low c e .read)) (judge p high) refl
+
+    of-fields : Fields (pairOf p low high)
+    unfolding pairOf
+    of-fields = go (tooLarge p)
+      where
+        go : (large : Bool) → Fields (cond large (refusedPair (problemRefusal 7 0)) (pairFirst p (judge p low) high))
+        go true = refused-fields (problemRefusal 7 0) (omega arith)
+        go false = first-fields (judge p low) refl
+
+  pair-fields : (s : List ℕ) → Fields (pairVerdict false s low high)
+  unfolding pairVerdict
+  pair-fields s = go (readProblem s) refl
+    where
+      go : (o : Outcome Problem) → readProblem s ≡ o → Fields (pairRead o low high)
+      go (refused number place) e = refused-fields (problemRefusal number place) (omega arith)
+      go (given p) e = of-fields p (read-limits s p e)
+
+-- ---- the record of any three runs whose certificates are bytes, whatever stands behind it
+pub record Bytes (r : Runs) : Type 0 where
+  pub low : Bounded 255 (r .low)
+  pub high : Bounded 255 (r .high)
+
+pub pair-told : (r : Runs) → Bytes r → (rest : List ℕ) → Told (recordBytes (pairOn r) ++ rest) (pairOn r)
+unfolding pairOn
+pair-told r b rest =
+    let f = pair-fields (r .low) (r .high) (b .low) (b .high) (r .problem) in
+    record-told (pairOn r) (record {
+      number = omega (arith, pair-clauses false (r .problem) (r .low) (r .high) (pairOn r) refl .0);
+      p = f .p;
+      q = f .q;
+      P = f .P;
+      Q = f .Q;
+      stream = f .stream;
+    }) rest
+
+-- the records of bytes
+module _ (s : List ℕ) (bytes : Bounded 255 s) where
+  runs-bytes : (at : ℕ) → Bytes (runsAt s at)
+  unfolding runsAt
+  runs-bytes at = record {
+    low = bounded-part 255 (lowStart s at) (number 2 s (at + 2)) s bytes;
+    high = bounded-part 255 (highStart s at) (number 2 s (at + 4)) s bytes;
+  }
+
+  records-bytes : (l : List Runs) → recordsOf s ≡ given l → All Bytes l
+  unfolding recordsOf All
+  records-bytes l e =
+      records-induction s (λ left at k. All Bytes k) (λ left at h. tt) (λ left at k h w b. (runs-bytes at, b)) 64 0 l e
+
+  pub each-told : (number : ℕ) (left : List ℕ) → EachRecord s number left → EachTold s number left
+  each-told number left h l e z i k =
+      rw (h l e z i k, ← append-nil (recordBytes (pairOn (getD l i noRuns))))
+      (pair-told (getD l i noRuns) (all-within Bytes l i noRuns k (records-bytes l e)) [])

@@ -1,0 +1,4 @@
+pub mod Parity
+pub mod Gathering
+pub mod Listing
+pub mod Steps

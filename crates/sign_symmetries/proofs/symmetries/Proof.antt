@@ -1,0 +1,104 @@
+-- `symmetries`: the equations from the callees, and the clauses from the equations.
+use borrow.Author.Needs.{needs}
+use native.Mathlib.Omega.{arith}
+use mathlib.Core.Path.{_≡_, refl, sym, _∙_}
+use mathlib.Core.Bool.{Bool, true, false}
+use Rattle.calls.specs.Tables.{Tables, tables, tablesShort}
+use Rattle.work_tables.specs.Tables.{Long}
+use Rattle.calls.specs.Symmetries.{symmetriesShort, symmetriesVerdict, masksLeft}
+use Rattle.work_tables.proofs.Tables.{tables-long, tables-kept, tables-cleared}
+use Rattle.sign_symmetries.proofs.Steps.{masks-short, masks-long}
+use Rattle.calls.proofs.SymmetryClauses.{symmetry-clauses}
+use Rattle.sign_symmetries.proofs.symmetries.Statement.{statement}
+use Rattle.sign_symmetries.proofs.symmetries.Tie as tie
+
+-- whether something lent is too short
+abbrev lent : tie.Start → Tables
+lent s = tables (s .args .keys .now) (s .args .high .now) (s .args .low .now)
+
+abbrev short : tie.Start → Bool
+short s = symmetriesShort (s .args .out .now) (lent s)
+
+refuse-requires : tie.Need-refuse-requires
+refuse-requires c κs = search needs
+
+returns : tie.Need-returns
+unfolding symmetriesVerdict masksLeft
+returns c =
+    let s = c .before .before .before .before .before in
+    let e : short s ≡ true = masks-short (lent s) (s .args .out .now) (c .before .if1 .taken) in
+    let v = c .refuse .ensures in
+    rw e (v, (refl, (tables-kept _, symmetry-clauses true (s .args .problem .now) (s .args .out .now) _ _ v refl)))
+
+is-short-requires : tie.Need-is-short-requires
+is-short-requires c κs = search needs
+
+refuse-requires-2 : tie.Need-refuse-requires-2
+refuse-requires-2 c κs = search needs
+
+returns-2 : tie.Need-returns-2
+unfolding symmetriesVerdict masksLeft
+returns-2 c =
+    let i = c .before .before in
+    let s = i .before .before .before .before .before in
+    let e : short s ≡ true = masks-long (lent s) (s .args .out .now) true (i .before .if1 .left) (sym (i .is-short .ensures) ∙ c .before .if2 .taken) in
+    let v = c .refuse2 .ensures in
+    rw e (v, (refl, (tables-kept _, symmetry-clauses true (s .args .problem .now) (s .args .out .now) _ _ v refl)))
+
+-- with tables that are long enough
+fine : (c : tie.Else2) → tablesShort (lent (c .before .before .before .before .before .before)) ≡ false
+fine c = sym (c .before .is-short .ensures) ∙ c .if2 .left
+
+long : (c : tie.Else2) → Long (lent (c .before .before .before .before .before .before))
+long c = tables-long _ (fine c)
+
+answer-requires : tie.Need-answer-requires
+answer-requires c κs = let e = c .before .before in (e .before .before .if1 .left, long e .keys)
+
+clear-tables-requires : tie.Need-clear-tables-requires
+clear-tables-requires c κs =
+    let a = c .before .before .before .before .before .before .before in
+    let l = long (a .before .before .before) in
+    record { keys = omega (arith, l .keys, a .answer .kept .1 .1 .0); high = l .high; low = l .low }
+
+same-length : tie.Need-same-length
+same-length c = search needs
+
+same-length-2 : tie.Need-same-length-2
+same-length-2 c = search needs
+
+same-length-3 : tie.Need-same-length-3
+same-length-3 c = search needs
+
+same-length-4 : tie.Need-same-length-4
+same-length-4 c = search needs
+
+returns-3 : tie.Need-returns-3
+unfolding symmetriesVerdict masksLeft
+returns-3 c =
+    let k = c .before .before .before .before in
+    let a = k .before .before .before .before .before .before .before .before in
+    let b = a .before .before .before in
+    let s = b .before .before .before .before .before .before in
+    let e : short s ≡ false = masks-long (lent s) (s .args .out .now) false (b .before .before .if1 .left) (fine b) in
+    let v = a .answer .ensures .0 in
+    let o = a .answer .ensures .1 in
+    let t = tables-cleared (record { keys = a .answer .ensures .2; high = refl; low = refl }) (k .clear-tables .ensures) in
+    rw e (v, (o, (t, symmetry-clauses false (s .args .problem .now) (s .args .out .now) _ _ v o)))
+
+pub symmetries-spec : {M : Type 1} → statement M
+symmetries-spec =
+    tie.close
+    (tie.spec
+    refuse-requires
+    returns
+    is-short-requires
+    refuse-requires-2
+    returns-2
+    answer-requires
+    clear-tables-requires
+    same-length
+    same-length-2
+    same-length-3
+    same-length-4
+    returns-3)

@@ -1,0 +1,52 @@
+-- `append_pair`: the pieces, one after the other.
+use borrow.Author.Needs.{needs}
+use native.Mathlib.Omega.{arith}
+use Rattle.lines.specs.Lines.{pairWords}
+use Rattle.text.proofs.Appending.{appended-text}
+use Rattle.text.proofs.append_pair.Statement.{statement}
+use Rattle.text.proofs.append_pair.Tie as tie
+
+append-with-ratio-requires : tie.Need-append-with-ratio-requires
+append-with-ratio-requires c κs = search needs
+
+append-with-ratio-requires-2 : tie.Need-append-with-ratio-requires-2
+append-with-ratio-requires-2 c κs = search needs
+
+append-with-gap-requires : tie.Need-append-with-gap-requires
+append-with-gap-requires c κs = search needs
+
+append-with-number-requires : tie.Need-append-with-number-requires
+append-with-number-requires c κs = search needs
+
+same-length : tie.Need-same-length
+same-length c = search needs
+
+returns : tie.Need-returns
+unfolding pairWords
+returns c =
+    let p1 = c .before .before in
+    let p2 = p1 .before .before .before .before in
+    let p3 = p2 .before .before .before .before in
+    let p4 = p3 .before .before .before .before in
+    let two = appended-text (p4 .append-with-ratio .ensures .0) (p3 .append-with-ratio2 .ensures .0) in
+    let three = appended-text two (p2 .append-with-gap .ensures .0) in (
+      appended-text three (p1 .append-with-number .ensures .0),
+      omega (
+        arith,
+        p4 .append-with-ratio .ensures .1,
+        p3 .append-with-ratio2 .ensures .1,
+        p2 .append-with-gap .ensures .1,
+        p1 .append-with-number .ensures .1,
+      ),
+    )
+
+pub append-pair-spec : {M : Type 1} → statement M
+append-pair-spec =
+    tie.close
+    (tie.spec
+    append-with-ratio-requires
+    append-with-ratio-requires-2
+    append-with-gap-requires
+    append-with-number-requires
+    same-length
+    returns)

@@ -1,0 +1,5 @@
+pub mod Tables
+pub mod Ends
+pub mod Counts
+pub mod Answers
+pub mod Promised

@@ -1,0 +1,5 @@
+title  Chained Wood function of 4 variables, on a simplex
+# paper 004, section 5.2.1, with n = 4
+var    x1 x2 x3 x4 in [0, 1]
+bound  100*(x2 - x1^2)^2 + (1 - x1)^2 + 90*(x4 - x3^2)^2 + (1 - x3)^2 + 10*(x2 + x4 - 2)^2 + 0.1*(x2 - x4)^2
+where  x1 + x2 + x3 + x4 <= 1
