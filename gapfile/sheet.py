@@ -14,7 +14,7 @@ from typing import Optional
 from .decimals import counted, decimal, digits_for, fraction, is_exact
 from .formulas import Scaled, formula, in_the_model, joined, letters, minus, point_html, region, standing
 from .polynomials import evaluate
-from .problem import allowed
+from .problem import allowed, range_of
 from .programs import Verdict
 from .reading import Certificate, Problem
 
@@ -62,7 +62,7 @@ high.bin</code>: it must print the lines above. Nothing else is trusted, neither
 <li>Anything about points outside the region. gapcheck's contract speaks of rational points; of real ones a theorem
 beside it does (docs/WHY.md, part 5).</li></ul>"""
 DENSE = 1500                     # more letters than these are set smaller
-LARGEST = 1.45                   # the picture's scale at most
+LARGEST = 1.2                    # the picture's scale at most
 
 
 @dataclass(frozen=True)
@@ -142,8 +142,9 @@ def _bounded(sheet: Sheet) -> str:
 def _sent(sheet: Sheet) -> str:
     """What the stream says, where that is not the model's own polynomial, and what the variables stand for."""
     if sheet.as_sent:
-        return ('<p class="small">problem.bin has the polynomial itself (recorded factor 1), in the same variables, '
-                "and a range from −1 to 1 as 1 − <i>x</i><sup>2</sup> ≥ 0.</p>")
+        ranges = any(range_of(condition) is not None for condition in sheet.problem.conditions)
+        return ('<p class="small">problem.bin has the polynomial itself (recorded factor 1), in the same variables'
+                + (", and a range from −1 to 1 as 1 − <i>x</i><sup>2</sup> ≥ 0" if ranges else "") + ".</p>")
     names = [v.inner for v in sheet.variables]
     meant = standing(sheet.variables, MEANT)
     of = "the polynomial above" if sheet.factor == 1 else f"{sheet.factor} times the polynomial above"

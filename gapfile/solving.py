@@ -188,11 +188,12 @@ def _least_slack(stream: bytes, program: Program, parts: Parts, solver: Solver, 
                  fixed: Optional[float]) -> Found:
     """The certificate with the least slack that can be rounded and that the checker accepts. Raises RoundingError.
 
-    One with wide factors is kept only if it gains: at a larger slack with the same bound narrow ones may do.
+    One with wide factors is kept only if it gains: at a larger slack with the same bound narrow ones may do. A fixed
+    bound loses nothing by slack, so the largest that works is taken.
     """
     found: Optional[Found] = None
     why = ""
-    for slack in SLACKS:
+    for slack in SLACKS if fixed is None else SLACKS[::-2]:
         absolute = slack * float(program.scale)
         say(f"{WORDS[program.sign < 0]}: solving and rounding with a slack of {slack:.0e}")
         solution = solve(program, solver, absolute, fixed)
