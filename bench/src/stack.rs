@@ -42,6 +42,7 @@ fn run_all(records: &[Record]) {
         (b'p', "pair"),
         (b't', "tighter"),
         (b'r', "report"),
+        (b'x', "record"),
     ];
     for (kind, name) in calls {
         let records = records.iter().filter(|record| record.kind == kind);

@@ -27,8 +27,8 @@ tighterVerdict v first second = tighterLine (v .refusal) (partOf (v .chosen) fir
 abbrev pub tighterAnswer : List ℕ → List ℕ → List ℕ → List ℕ
 tighterAnswer problem first second = tighterVerdict (supersedingVerdict false problem first second) first second
 
--- by the kind: b, c, p, or another, which is not answered. Kinds t, w and r, whose lines may be longer than a text,
--- are answered by `tighterAnswer`, `windowAnswer` and `reportAnswer`
+-- by the kind: b, c, p, or another, which is not answered. Kinds t, w, r and x, whose lines may be longer than a
+-- text, are answered by `tighterAnswer`, `windowAnswer`, `reportAnswer` and `toolAnswer`
 unfoldable pub recordAnswer : ℕ → List ℕ → List ℕ → List ℕ → List ℕ
 recordAnswer kind problem first second =
     cond (eqb kind 0x62) (blocksAnswer problem)

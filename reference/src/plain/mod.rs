@@ -21,7 +21,9 @@ mod window;
 
 pub use calls::{blocks, pair};
 
-use crate::records::{hexadecimal, Record, BLOCKS, CHECK, PAIR, REPORT, TIGHTER, WINDOW};
+use crate::records::{
+    hexadecimal, Record, BLOCKS, CHECK, PAIR, RECORD, REPORT, TIGHTER, WINDOW,
+};
 use crate::refusal::Refusal;
 
 /// What a record asks for: the line that answers it, or its refusal.
@@ -35,6 +37,10 @@ pub fn answer(record: &Record) -> Result<String, Refusal> {
         TIGHTER => superseding::tighter(run(0), run(1), run(2))
             .map(|bytes| format!("tighter {}", hexadecimal(bytes))),
         REPORT => report::report(run(0), run(1)).map(|report| report.to_string()),
+        RECORD => {
+            let (number, output) = report::record_for_c([run(0), run(1), run(2)], run(3));
+            Ok(format!("record {number} {}", hexadecimal(&output)))
+        }
         other => unreachable!("no record has the kind {other}"),
     }
 }
