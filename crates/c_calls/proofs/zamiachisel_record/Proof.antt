@@ -42,8 +42,16 @@ module _ (out problem low high : List ℕ) where
         promised n left (k ∙ rw (le-ltb (length out) recordLength h, e) refl)
         (f ∙ rw (le-ltb (length out) recordLength h, e) refl)
 
+-- the certificates are bytes
+known : (c : tie.After-slice-known)
+    → let a = c .before .before .before .before .args in Bytes (threeRuns (a .problem .now) (a .low .now) (a .high .now))
+known c = record {
+  low = λ i. omega (arith, c .before .before .shared-slice-known2 .given i);
+  high = λ i. omega (arith, c .before .shared-slice-known3 .given i);
+}
+
 returns : tie.Need-returns
-returns c = ?
+returns c = short _ _ _ _ (known (c .before)) (c .if1 .taken)
 
 slice-aggregate-pair : tie.Need-slice-aggregate-pair
 slice-aggregate-pair c = search needs
@@ -67,7 +75,12 @@ same-length : tie.Need-same-length
 same-length c = search needs
 
 returns-2 : tie.Need-returns-2
-returns-2 c = ?
+returns-2 c =
+    let p = c .before .before .before in
+    let q = p .before .before .before .before .before in
+    let e = q .before .before .before .before in
+    long _ _ _ _ (known (e .before)) (e .if1 .left) _ _ _ (q .pair .ensures .0) (c .number-of .ensures)
+    (p .put-record .ensures)
 
 pub zamiachisel-record-spec : {M : Type 1} → statement M
 zamiachisel-record-spec =
