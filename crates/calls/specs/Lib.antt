@@ -9,3 +9,4 @@ pub mod Promises
 pub mod RingPromises
 pub mod Superseding
 pub mod Rules
+pub mod AddedBounds
