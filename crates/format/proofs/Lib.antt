@@ -4,12 +4,10 @@ pub mod Run
 pub mod ProblemLimits
 pub mod CertificateChecks
 pub mod CertificateLimits
-pub mod CertificateWidths
 pub mod Numbers
 pub mod Lengths
 pub mod ProblemCounts
 pub mod ProblemRule
-pub mod ProblemVariables
 pub mod RuleExchanged
 pub mod Alike
 pub mod All
