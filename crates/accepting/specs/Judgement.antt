@@ -50,7 +50,8 @@ unfoldable pub firstDifference : List Term → List Term → List ℕ → Option
 firstDifference P Q [] = none
 firstDifference P Q (k ∷ ks) = cond (sameNumber (coefficient k P) (coefficient k Q)) (firstDifference P Q ks) (some k)
 
--- the keys that are counted for refusal 7, from the smallest on. Outside them neither side has a term: proofs/Reach.antt
+-- the keys that are counted for refusal 7, from the smallest on. Outside them neither side has a term
+-- (proofs/Reach.antt)
 unfoldable pub comparedKeys : Problem → List ℕ
 comparedKeys p = countedKeys (basesOf p) (closing p .state)
 

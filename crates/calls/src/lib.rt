@@ -35,9 +35,9 @@ pub struct CheckVerdict {
     pub rule: usize,
 }
 
-// What the pair returns: the bounds p/q and P/Q that the certificates state, their gap, the rounds and the rule used. A
-// gap below 0 is marked as empty, with 0 over 0 in its place. With a refusal there is no mark, rounds and rule are 0 and
-// the fractions 0 over 0.
+// What the pair returns: the bounds p/q and P/Q that the certificates state, their gap, the rounds and the rule used.
+// A gap below 0 is marked as empty, with 0 over 0 in its place. With a refusal there is no mark, rounds and rule are 0
+// and the fractions 0 over 0.
 pub struct PairVerdict {
     pub refusal: Refusal,
     pub lower: Fraction,

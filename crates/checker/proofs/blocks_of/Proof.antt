@@ -1,5 +1,6 @@
 -- `blocks_of`: refusal 7, or the block numbers copied.
 use borrow.Author.Needs.{needs}
+use native.Mathlib.Omega.{arith}
 use mathlib.Core.Path.{_≡_, sym, _∙_}
 use mathlib.Core.Bool.{true}
 use lib.ListN.{length}
@@ -55,6 +56,11 @@ slice-aggregate-copy c = sym (labels-long (c .before .before))
 copy-requires : tie.Need-copy-requires
 copy-requires c κs = let e = c .before .before in (s (joining e) .pre .1, labels-long e)
 
+shared-slice-read-rule : tie.Need-shared-slice-read-rule
+shared-slice-read-rule c =
+    let e = c .before .before .before .before .before .before in
+    omega (arith, s (joining e) .pre .0 .readable .flat .limits .sizes-length)
+
 same-length-2 : tie.Need-same-length-2
 same-length-2 c = search needs
 
@@ -63,7 +69,7 @@ same-length-3 c = search needs
 
 returns-2 : tie.Need-returns-2
 returns-2 c =
-    let d = c .before .before in
+    let d = c .before .before .before in
     let e = d .before .before .before in
     let j = joining e in (
       (λ p k f.
@@ -83,6 +89,7 @@ blocks-of-spec =
     returns
     slice-aggregate-copy
     copy-requires
+    shared-slice-read-rule
     same-length-2
     same-length-3
     returns-2)

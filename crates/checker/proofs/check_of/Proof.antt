@@ -1,5 +1,6 @@
 -- `check_of`: refusal 7, or what was joined and judged.
 use borrow.Author.Needs.{needs}
+use native.Mathlib.Omega.{arith}
 use mathlib.Core.Path.{refl, sym, _∙_}
 use Rattle.format.specs.ProblemRules.{Problem}
 use Rattle.joining_rule.specs.Joining.{basesOf, closing}
@@ -66,6 +67,11 @@ judge-requires c κs =
       record { high-long = p .1 .high; low-long = p .1 .low },
     )
 
+shared-slice-read-check-one : tie.Need-shared-slice-read-check-one
+shared-slice-read-check-one c =
+    let e = c .before .before .before .before .before .before .before .before .before in
+    omega (arith, s (joining e) .pre .0 .flat .limits .sizes-length)
+
 check-one-requires : tie.Need-check-one-requires
 check-one-requires c κs = search needs
 
@@ -80,7 +86,7 @@ same-length-4 c = search needs
 
 returns-2 : tie.Need-returns-2
 returns-2 c =
-    let d = c .before .before .before in
+    let d = c .before .before .before .before in
     let e = d .before .before .before .before .before .before in
     let few = e .if1 .left in
     let j = joining e in
@@ -104,6 +110,7 @@ check-of-spec =
     returns
     slice-aggregate-judge
     judge-requires
+    shared-slice-read-check-one
     check-one-requires
     same-length-2
     same-length-3

@@ -1,5 +1,6 @@
 -- `pair_both`: the first certificate, then the second.
 use borrow.Author.Needs.{needs}
+use native.Mathlib.Omega.{arith}
 use mathlib.Core.Path.{sym, _∙_}
 use Rattle.accepting.specs.Judgement.{judge}
 use Rattle.checker.proofs.Steps.{pair-first-refused, pair-both}
@@ -23,6 +24,11 @@ enum-known-lower c = search needs
 
 judge-requires-2 : tie.Need-judge-requires-2
 judge-requires-2 c κs = search needs
+
+shared-slice-read-pair-second : tie.Need-shared-slice-read-pair-second
+shared-slice-read-pair-second c =
+    let j = c .before .before .before .before .before .before .before .before .before .before .before in
+    omega (arith, start j .pre .0 .joined .flat .limits .sizes-length)
 
 pair-second-requires : tie.Need-pair-second-requires
 pair-second-requires c κs = search needs
@@ -50,7 +56,7 @@ same-length-4 c = search needs
 
 returns-2 : tie.Need-returns-2
 returns-2 c =
-    let k = c .before .before .before in
+    let k = c .before .before .before .before in
     let l = k .before .before .before .before in
     let j = l .before .before .before .before in
     let a = start j .args in
@@ -69,6 +75,7 @@ pair-both-spec =
     refuse-pair-requires
     enum-known-lower
     judge-requires-2
+    shared-slice-read-pair-second
     pair-second-requires
     same-length
     same-length-2

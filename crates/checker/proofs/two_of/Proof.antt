@@ -2,7 +2,7 @@
 use borrow.Author.Needs.{needs}
 use mathlib.Core.Path.{refl, sym, _∙_}
 use Rattle.format.specs.ProblemRules.{Problem}
-use Rattle.joining_rule.specs.Joining.{closing}
+use Rattle.joining_rule.specs.Joining.{basesOf, closing}
 use Rattle.flat.specs.Flat.{FlatProblem}
 use Rattle.key_set.proofs.Index.{indexed-start}
 use Rattle.closure.specs.Tables.{ClosureLeft}
@@ -17,13 +17,13 @@ module _ (j : tie.After-join) where
   s = j .before .before .before .before .before .before .before .before .before
 
   left : (p : Problem) → FlatProblem p (s .args .keys .now) (s .args .coefficients .now) (s .args .sizes .now)
-      → ClosureLeft (closing p) (s .args .table .now) (j .join .result) (j .join .last .1 .1 .1 .0)
+      → ClosureLeft (basesOf p) (closing p) (s .args .table .now) (j .join .result) (j .join .last .1 .1 .1 .0)
       (j .join .last .1 .1 .1 .1 .0) (j .join .last .1 .1 .0)
   left p f = j .join .ensures p _ f
 
   -- and for the one that was read
-  read-left : ClosureLeft (closing (s .pre .0 .problem)) (s .args .table .now) (j .join .result)
-      (j .join .last .1 .1 .1 .0) (j .join .last .1 .1 .1 .1 .0) (j .join .last .1 .1 .0)
+  read-left : ClosureLeft (basesOf (s .pre .0 .problem)) (closing (s .pre .0 .problem)) (s .args .table .now)
+      (j .join .result) (j .join .last .1 .1 .1 .0) (j .join .last .1 .1 .1 .1 .0) (j .join .last .1 .1 .0)
   read-left = left (s .pre .0 .problem) (s .pre .0 .flat)
 
 abbrev joining : tie.Else1 → tie.After-join

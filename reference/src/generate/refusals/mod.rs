@@ -99,16 +99,27 @@ type Line = (
     &'static str,
 );
 
-/// All cases, by the order of the lists: those of document 01, then those of the requests.
+/// The lists of cases: document 01's as number 0, then those of the requests by their numbers, in the
+/// order in which these landed.
+const LISTS: &[(u8, fn() -> Vec<Case>)] = &[
+    (0, scope),
+    (4, equalities::cases),
+    (5, wide_factors::cases),
+    (2, superseding::cases),
+    (8, joining_rules::cases),
+];
+
+/// All cases, by the order of the lists.
 pub fn cases() -> Vec<Case> {
-    [
-        scope(),
-        equalities::cases(),
-        wide_factors::cases(),
-        superseding::cases(),
-        joining_rules::cases(),
-    ]
-    .concat()
+    LISTS.iter().flat_map(|(_, list)| list()).collect()
+}
+
+/// The cases of the lists up to that of this request. The records of the corpus for a request's call
+/// are made from these, so that they stay when another request lands.
+pub fn cases_to(request: u8) -> Vec<Case> {
+    let last = LISTS.iter().position(|&(number, _)| number == request);
+    let lists = &LISTS[..=last.expect("a request with a list")];
+    lists.iter().flat_map(|(_, list)| list()).collect()
 }
 
 /// The cases of document 01.

@@ -20,8 +20,8 @@ pub struct Call {
     pub kind: u8,
     /// The records of the corpus that are made for it.
     pub special: fn() -> Vec<Record>,
-    /// A random record.
-    pub random: fn(&mut Rng) -> Record,
+    /// A random record, with commands of some of these requests.
+    pub random: fn(&mut Rng, Vec<&'static Change>) -> Record,
     /// How many of these the corpus has.
     pub count: usize,
 }
@@ -29,9 +29,10 @@ pub struct Call {
 /// The commands of a problem and of its two certificates.
 pub type Streams = [Vec<Vec<u8>>; 3];
 
-/// What a request does to the calls of document 01.
+/// What a request does to the calls that were there before it.
 pub struct Change {
-    /// The kinds of these calls, in the order of the corpus.
+    /// The kinds of the calls that it changes, in the order of the corpus: those of document 01, and of
+    /// the requests that landed before it.
     pub kinds: &'static [u8],
     /// The records of the corpus of this kind that are made for it.
     pub special: fn(u8) -> Vec<Record>,
@@ -81,7 +82,7 @@ const LANDED: &[Landed] = &[
         count: 300,
     }),
     Landed::Change(Change {
-        kinds: &[BLOCKS, CHECK, PAIR],
+        kinds: &[BLOCKS, CHECK, PAIR, TIGHTER],
         special: joining_rules::special,
         put: joining_rules::put,
         count: 200,
@@ -101,14 +102,15 @@ pub fn corpus(kinds: &str) -> Vec<Record> {
             Landed::Call(call) if asked(&call.kind) => {
                 let rng = &mut seeded(call.kind);
                 all.extend((call.special)());
-                all.extend((0..call.count).map(|_| (call.random)(rng)));
+                let before = changes_before(call.kind);
+                all.extend((0..call.count).map(|_| (call.random)(rng, before.clone())));
             }
             Landed::Call(_) => {}
             Landed::Change(change) => {
                 for &kind in change.kinds.iter().filter(|kind| asked(kind)) {
                     let rng = &mut seeded(kind);
                     all.extend((change.special)(kind));
-                    all.extend((0..change.count).map(|_| changed(rng, kind, &[change])));
+                    all.extend((0..change.count).map(|_| with(rng, kind, vec![change])));
                 }
             }
         }
@@ -117,26 +119,35 @@ pub fn corpus(kinds: &str) -> Vec<Record> {
 }
 
 /// A fresh record: of the call of this kind, when a request added it; otherwise, of a call of
-/// document 01, with commands of some of the requests.
+/// document 01, now and then with commands of some of the requests.
 pub fn record(rng: &mut Rng, kind: u8) -> Option<Record> {
-    let call = |landed: &Landed| match landed {
-        Landed::Call(call) if call.kind == kind => Some(call.random),
-        _ => None,
-    };
-    if let Some(random) = LANDED.iter().find_map(call) {
-        return Some(random(rng));
+    let changes = changes_of(kind);
+    if call(kind).is_some() {
+        return Some(with(rng, kind, changes));
     }
     if !rng.once_in(2) {
         return None;
     }
-    let change = |landed: &'static Landed| match landed {
-        Landed::Change(change) if change.kinds.contains(&kind) => Some(change),
-        _ => None,
-    };
-    let mut changes: Vec<&Change> = LANDED.iter().filter_map(change).collect();
+    let mut changes = changes;
     rng.shuffle(&mut changes);
     changes.truncate(rng.between(1, 3));
-    Some(changed(rng, kind, &changes))
+    Some(with(rng, kind, changes))
+}
+
+/// A random record of a call with these requests in it; the call of a request takes some of them.
+fn with(rng: &mut Rng, kind: u8, changes: Vec<&'static Change>) -> Record {
+    match call(kind) {
+        Some(call) => (call.random)(rng, changes),
+        None => changed(rng, kind, &changes),
+    }
+}
+
+/// The call of this kind, when a request added it.
+fn call(kind: u8) -> Option<&'static Call> {
+    LANDED.iter().find_map(|landed| match landed {
+        Landed::Call(call) if call.kind == kind => Some(call),
+        _ => None,
+    })
 }
 
 fn as_change(landed: &'static Landed) -> Option<&'static Change> {
@@ -152,6 +163,17 @@ fn changes_before(kind: u8) -> Vec<&'static Change> {
     let before = |landed: &&Landed| !matches!(landed, Landed::Call(call) if call.kind == kind);
     let landed = LANDED.iter().take_while(before);
     landed.filter_map(as_change).collect()
+}
+
+/// The changes that a call of this kind meets: those that name it, and those that landed before it.
+fn changes_of(kind: u8) -> Vec<&'static Change> {
+    let mut changes = match call(kind) {
+        Some(_) => changes_before(kind),
+        None => Vec::new(),
+    };
+    let named = |change: &&Change| change.kinds.contains(&kind);
+    changes.extend(LANDED.iter().filter_map(as_change).filter(named));
+    changes
 }
 
 /// A record with these requests in it, now and then with a damaged stream.

@@ -1,10 +1,10 @@
 //! Request 02: records of two certificates for one problem.
 
-use super::{changes_before, Streams};
+use super::{Change, Streams};
 use crate::generate::accepted::case;
 use crate::generate::blocks;
 use crate::generate::draft::{Draft, DraftCertificate, DraftRow};
-use crate::generate::refusals::{bytes, case_f, cases, equalities, met};
+use crate::generate::refusals::{bytes, case_f, cases_to, equalities, met};
 use crate::generate::rng::Rng;
 use crate::monomial::Monomial;
 use crate::records::{Record, TIGHTER};
@@ -81,13 +81,13 @@ fn choices() -> Vec<Choice> {
 pub fn special() -> Vec<Record> {
     let record = |([problem, first, second], _): Choice| Record::tighter(problem, first, second);
     let mut all: Vec<Record> = choices().into_iter().map(record).collect();
-    all.extend(met(cases(), TIGHTER));
+    all.extend(met(cases_to(2), TIGHTER));
     all
 }
 
 /// Two certificates of a case: the same bound, a looser one, the same as another fraction, the other
-/// side, or a false one; with commands of the requests that landed before, and now and then cut.
-pub fn random(rng: &mut Rng) -> Record {
+/// side, or a false one; with commands of some of these requests, and now and then cut.
+pub fn random(rng: &mut Rng, mut changes: Vec<&Change>) -> Record {
     let case = case(rng);
     let side = rng.below(2);
     let mut draw = || {
@@ -107,7 +107,6 @@ pub fn random(rng: &mut Rng) -> Record {
     };
     let [first, second] = [draw(), draw()];
     let mut streams: Streams = [case.problem.commands(), first, second];
-    let mut changes = changes_before(TIGHTER);
     rng.shuffle(&mut changes);
     changes.truncate(rng.below(3));
     for change in changes {

@@ -1,5 +1,6 @@
 //! Request 11: gaps that arrive one after another.
 
+use super::Change;
 use crate::generate::refusals::windows::records as refused;
 use crate::generate::rng::Rng;
 use crate::records::{Record, RUN};
@@ -41,7 +42,7 @@ pub fn special() -> Vec<Record> {
 
 /// Up to 100 arrivals: from a few values, with many ties, or from many; and as many as the record's
 /// share says that are refused, or near the largest that are allowed, which are hardest to compare.
-pub fn random(rng: &mut Rng) -> Record {
+pub fn random(rng: &mut Rng, _: Vec<&Change>) -> Record {
     let most = *rng.pick(&[3, 40, 1 << 20, 1 << 32]);
     let [refused, large] = *rng.pick(&[[0, 0], [2, 0], [2, 1], [2, 14], [8, 4]]);
     let count = rng.below(101);
