@@ -1,2 +1,1 @@
-pub mod ProblemVariables
 pub mod CertificateWidths

@@ -1,0 +1,2 @@
+pub mod ProblemVariables
+pub mod Compared
