@@ -15,12 +15,16 @@ pub const PAIR: u8 = b'p';
 pub const WINDOW: u8 = b'w';
 /// That of request 02.
 pub const TIGHTER: u8 = b't';
+/// That of request 12.
+pub const SUM: u8 = b'd';
 
 /// The number of runs of a kind: problem, first certificate and second certificate for the calls of
-/// document 01 and of request 02. There is none for a byte that is no kind.
+/// document 01 and of request 02, and these twice for request 12. There is none for a byte that is no
+/// kind.
 pub fn run_count(kind: u8) -> Option<usize> {
     match kind {
         BLOCKS | CHECK | PAIR | WINDOW | TIGHTER => Some(3),
+        SUM => Some(6),
         _ => None,
     }
 }
@@ -62,6 +66,14 @@ impl Record {
         Record {
             kind: TIGHTER,
             runs: vec![problem, first, second],
+        }
+    }
+
+    /// Two problems, each with a lower and an upper certificate, whose bounds are added.
+    pub fn sum(first: [Vec<u8>; 3], second: [Vec<u8>; 3]) -> Self {
+        Record {
+            kind: SUM,
+            runs: [first, second].concat(),
         }
     }
 

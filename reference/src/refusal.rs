@@ -8,6 +8,8 @@ pub const PROBLEM: u8 = 0;
 pub const FIRST: u8 = 1;
 /// The second certificate.
 pub const SECOND: u8 = 2;
+/// Request 12: the streams of the second problem come after those of the first.
+pub const OTHER: u8 = 3;
 
 /// Stream ends in a command or without its end, or goes on after it.
 pub const CUT: u8 = 2;
@@ -29,6 +31,8 @@ pub const IDENTITY: u8 = 9;
 pub const SIDES: u8 = 10;
 /// Request 02: both certificates are accepted and their sides differ.
 pub const DIFFERENT_SIDES: u8 = 11;
+/// Request 12: the regions of two problems differ.
+pub const REGIONS: u8 = 15;
 
 /// The four fields of a refusal.
 #[derive(Clone, Copy, Debug, PartialEq, Eq)]

@@ -1,2 +1,3 @@
 pub mod ProblemVariables
 pub mod Compared
+pub mod Reading

@@ -1,74 +1,104 @@
+-- `is_same`: each return by what was read of the two streams.
 use borrow.Author.Needs.{needs}
 use native.Mathlib.Omega.{arith}
-use mathlib.Core.Path.{_≡_, refl, sym, ap, _∙_, subst}
-use Prim.Native.Nat.{ℕ, zero, suc, _+_, _-_, _*_, _≤_, _<_}
-use lib.ListN.{length, getD, take, drop, set, length-set}
+use mathlib.Core.Path.{refl, sym}
+use Rattle.problem_reader.specs.Storing.{GivenFlat}
+use Rattle.regions.proofs.Reading.{first-refused, second-refused, long, variables-differ, variables-same}
 use Rattle.regions.proofs.is_same.Statement.{statement}
 use Rattle.regions.proofs.is_same.Tie as tie
-use Rattle.regions.proofs.is_same.Reads as reads
-use Rattle.regions.proofs.is_same.Lts as lts
-use Rattle.problem_reader.proofs.read.Reads as read-reads
-use Rattle.regions.proofs.same_conditions.Reads as same-conditions-reads
 
--- src/lib.rt:121:9
+abbrev start : tie.After-read → tie.Start
+start c = c .before .before .before .before .before .before
+
+-- the call's beginning, seen from the second reading
+abbrev read-first : tie.After-read2 → tie.Else1
+read-first c = c .before .before .before .before
+
+abbrev first-read : tie.After-read2 → tie.After-read
+first-read c = read-first c .before .before
+
+-- the problems that the streams give, in the arrays
+first-given : (c : tie.Else1) → let r = c .before .before in GivenFlat (start r .args .problem1 .now) (r .read .last .1 .0) (r .read .last .1 .1 .0) (r .read .last .1 .1 .1 .0)
+first-given c = c .before .before .read .ensures .gives (omega (arith, c .if1 .left))
+
+second-given : (c : tie.Else2) → let r = c .before .before in GivenFlat (start (first-read r) .args .problem2 .now) (r .read2 .last .1 .0) (r .read2 .last .1 .1 .0) (r .read2 .last .1 .1 .1 .0)
+second-given c = c .before .before .read2 .ensures .gives (omega (arith, c .if2 .left))
+
 read-requires : tie.Need-read-requires
-read-requires c κs = search needs
+read-requires c κs = record { keys-zero = refl; coefficients-zero = refl; sizes-zero = refl }
 
--- src/lib.rt:123:9
 returns : tie.Need-returns
-returns c = search needs
+returns c =
+    let r = c .before .before in
+    first-refused _ (start r .args .problem2 .now) (r .read .ensures .refuses (c .if1 .taken))
 
--- src/lib.rt:128:9
 read-requires-2 : tie.Need-read-requires-2
-read-requires-2 c κs = search needs
+read-requires-2 c κs = record { keys-zero = refl; coefficients-zero = refl; sizes-zero = refl }
 
--- src/lib.rt:130:9
 returns-2 : tie.Need-returns-2
-returns-2 c = search needs
+returns-2 c =
+    let r = c .before .before in
+    second-refused (start (first-read r) .args .problem1 .now) _ (r .read2 .ensures .refuses (c .if2 .taken))
 
--- src/lib.rt:132:8
 shared-slice-read-if3 : tie.Need-shared-slice-read-if3
-shared-slice-read-if3 c = search needs
+shared-slice-read-if3 c =
+    let e = c .before in
+    long (first-given (read-first (e .before .before))) (second-given e) .0
 
--- src/lib.rt:132:23
 shared-slice-read-if3-2 : tie.Need-shared-slice-read-if3-2
-shared-slice-read-if3-2 c = search needs
+shared-slice-read-if3-2 c =
+    let e = c .before .before in
+    long (first-given (read-first (e .before .before))) (second-given e) .1
 
--- src/lib.rt:133:9
 returns-3 : tie.Need-returns-3
-returns-3 c = search needs
+returns-3 c =
+    let e = c .before .before .before in
+    variables-differ (first-given (read-first (e .before .before))) (second-given e) (c .if3 .taken)
 
--- src/lib.rt:136:9
 slice-aggregate-same-conditions : tie.Need-slice-aggregate-same-conditions
-slice-aggregate-same-conditions c = search needs
+slice-aggregate-same-conditions c =
+    let e = c .before .before .before .before in
+    sym (first-read (e .before .before) .read .ensures .limits .keys-length)
 
--- src/lib.rt:137:9
 slice-aggregate-same-conditions-2 : tie.Need-slice-aggregate-same-conditions-2
-slice-aggregate-same-conditions-2 c = search needs
+slice-aggregate-same-conditions-2 c =
+    let e = c .before .before .before .before .before in
+    sym (first-read (e .before .before) .read .ensures .limits .coefficients-length)
 
--- src/lib.rt:138:9
 slice-aggregate-same-conditions-3 : tie.Need-slice-aggregate-same-conditions-3
-slice-aggregate-same-conditions-3 c = search needs
+slice-aggregate-same-conditions-3 c =
+    let e = c .before .before .before .before .before .before in
+    sym (first-read (e .before .before) .read .ensures .limits .sizes-length)
 
--- src/lib.rt:139:9
 slice-aggregate-same-conditions-4 : tie.Need-slice-aggregate-same-conditions-4
-slice-aggregate-same-conditions-4 c = search needs
+slice-aggregate-same-conditions-4 c =
+    let e = c .before .before .before .before .before .before .before in
+    sym (e .before .before .read2 .ensures .limits .keys-length)
 
--- src/lib.rt:140:9
 slice-aggregate-same-conditions-5 : tie.Need-slice-aggregate-same-conditions-5
-slice-aggregate-same-conditions-5 c = search needs
+slice-aggregate-same-conditions-5 c =
+    let e = c .before .before .before .before .before .before .before .before in
+    sym (e .before .before .read2 .ensures .limits .coefficients-length)
 
--- src/lib.rt:141:9
 slice-aggregate-same-conditions-6 : tie.Need-slice-aggregate-same-conditions-6
-slice-aggregate-same-conditions-6 c = search needs
+slice-aggregate-same-conditions-6 c =
+    let e = c .before .before .before .before .before .before .before .before .before in
+    sym (e .before .before .read2 .ensures .limits .sizes-length)
 
--- src/lib.rt:135:5
 same-conditions-requires : tie.Need-same-conditions-requires
-same-conditions-requires c κs = search needs
+same-conditions-requires c κs =
+    let e = c .before .before .before .before .before .before .before .before .before in
+    let r = e .before .before in
+    (first-read r .read .ensures .limits, r .read2 .ensures .limits)
 
--- src/lib.rt:113:1
 returns-4 : tie.Need-returns-4
-returns-4 c = search needs
+returns-4 c =
+    let i = c .before .before .before .before .before .before .before in
+    let e = i .before .before .before in
+    let g = first-given (read-first (e .before .before)) in
+    let h = second-given e in
+    variables-same g h (i .if3 .left) (c .same-conditions .result)
+    (c .same-conditions .ensures (g .problem) (h .problem) (g .flat) (h .flat))
 
 pub is-same-spec : {M : Type 1} → statement M
 is-same-spec =
