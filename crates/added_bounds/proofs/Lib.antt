@@ -1,1 +1,3 @@
 pub mod CertificateWidths
+pub mod Bounds
+pub mod Twice

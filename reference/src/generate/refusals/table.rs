@@ -1,7 +1,7 @@
 //! The table of refusals as a page of markdown.
 
-use super::windows::{Arrivals, CASES};
 use super::regions::{Added, ADDED};
+use super::windows::{Arrivals, CASES};
 use super::{cases, equalities, gaps, joining_rules, regions, Accepted, Case};
 use crate::generate::corpus;
 use crate::plain;
@@ -108,7 +108,10 @@ Request 12 adds the bounds of two problems. These cases stand next to refusal 15
 
 /// The words of document 01's table, and of the requests, for the numbers with cases here.
 const TITLES: &[(u8, &str)] = &[
-    (2, "stream ends in a command or without its end, or goes on after it"),
+    (
+        2,
+        "stream ends in a command or without its end, or goes on after it",
+    ),
     (3, "command unknown in this stream or misplaced"),
     (4, "operand outside its rule"),
     (5, "monomial repeated, or index not rising"),
@@ -117,7 +120,10 @@ const TITLES: &[(u8, &str)] = &[
     (8, "a row in two blocks"),
     (9, "identity false"),
     (10, "in a pair, first side not 0 or second not 1"),
-    (11, "of two certificates, both are accepted and their sides differ"),
+    (
+        11,
+        "of two certificates, both are accepted and their sides differ",
+    ),
     (15, "the regions of two problems differ"),
 ];
 

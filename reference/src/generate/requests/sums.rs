@@ -109,7 +109,11 @@ fn change_one(rng: &mut Rng, problem: &mut Vec<Vec<u8>>) {
         0 | 1 => problem.insert(1, rule(2)),
         2 => problem[0][1] = (problem[0][1] % 8) + 1,
         3 => {
-            let condition = if rng.once_in(2) { equality() } else { vec![0x03] };
+            let condition = if rng.once_in(2) {
+                equality()
+            } else {
+                vec![0x03]
+            };
             let end = problem.len() - 1;
             problem.insert(end, condition);
         }
