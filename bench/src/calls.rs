@@ -44,6 +44,27 @@ extern "C" {
         low_length: usize,
     ) -> u64;
 
+    fn zamiachisel_sum(
+        problem1: *const u8,
+        problem1_length: usize,
+        low1: *const u8,
+        low1_length: usize,
+        high1: *const u8,
+        high1_length: usize,
+        problem2: *const u8,
+        problem2_length: usize,
+        low2: *const u8,
+        low2_length: usize,
+        high2: *const u8,
+        high2_length: usize,
+        keys: *mut u64,
+        keys_length: usize,
+        high: *mut i64,
+        high_length: usize,
+        low: *mut i64,
+        low_length: usize,
+    ) -> u64;
+
     fn zamiachisel_tighter(
         problem: *const u8,
         problem_length: usize,
@@ -64,10 +85,10 @@ extern "C" {
     ) -> u64;
 }
 
-/// A record: its kind and its three byte runs.
+/// A record: its kind and its byte runs, six of them for two problems and three otherwise.
 pub struct Record {
     pub kind: u8,
-    pub runs: [Vec<u8>; 3],
+    pub runs: Vec<Vec<u8>>,
 }
 
 /// What is lent to every call.
@@ -99,17 +120,19 @@ pub fn records() -> Vec<Record> {
         .expect("the standard input is read");
     let mut found = Vec::new();
     let mut rest = bytes.as_slice();
-    while rest.len() >= 13 {
-        let kind = rest[0];
-        let lengths: Vec<usize> = (0..3)
-            .map(|i| u32::from_le_bytes(rest[1 + 4 * i..5 + 4 * i].try_into().unwrap()) as usize)
-            .collect();
-        rest = &rest[13..];
-        let runs = [0, 1, 2].map(|i| {
-            let (run, after) = rest.split_at(lengths[i].min(rest.len()));
+    while let Some((&kind, after)) = rest.split_first() {
+        let count = if kind == b'd' { 6 } else { 3 };
+        let Some((lengths, after)) = after.split_at_checked(4 * count) else {
+            break;
+        };
+        rest = after;
+        let lengths = lengths.chunks(4).map(|bytes| u32::from_le_bytes(bytes.try_into().unwrap()));
+        let runs = lengths.map(|length| {
+            let (run, after) = rest.split_at(rest.len().min(length as usize));
             rest = after;
             run.to_vec()
         });
+        let runs = runs.collect();
         found.push(Record { kind, runs });
     }
     found
@@ -125,19 +148,24 @@ macro_rules! call {
 
 /// Answers a record: the number of the refusal, or 0.
 pub fn answer(record: &Record, lent: &mut Lent) -> u64 {
-    let [problem, first, second] = &record.runs;
-    match record.kind {
-        b'b' => call!(zamiachisel_blocks, problem; lent.out, lent.keys, lent.high, lent.low),
-        b'c' => call!(zamiachisel_check, problem, first; lent.keys, lent.high, lent.low),
-        b'p' => call!(zamiachisel_pair, problem, first, second; lent.keys, lent.high, lent.low),
-        b't' => tighter(&record.runs, lent)[0],
+    let [problem, first, second, others @ ..] = &record.runs[..] else {
+        panic!("a record has three runs at least");
+    };
+    match (record.kind, others) {
+        (b'b', _) => call!(zamiachisel_blocks, problem; lent.out, lent.keys, lent.high, lent.low),
+        (b'c', _) => call!(zamiachisel_check, problem, first; lent.keys, lent.high, lent.low),
+        (b'p', _) => call!(zamiachisel_pair, problem, first, second; lent.keys, lent.high, lent.low),
+        (b't', _) => tighter([problem, first, second], lent)[0],
+        (b'd', [problem2, low2, high2]) => {
+            call!(zamiachisel_sum, problem, first, second, problem2, low2, high2; lent.keys, lent.high, lent.low)
+        }
         _ => 0,
     }
 }
 
 /// The four numbers that the call on two certificates leaves. They are lent with other numbers in them; where the number of
 /// the refusal is 0 a certificate comes back, and nowhere else.
-pub fn tighter([problem, first, second]: &[Vec<u8>; 3], lent: &mut Lent) -> [u64; 4] {
+pub fn tighter([problem, first, second]: [&Vec<u8>; 3], lent: &mut Lent) -> [u64; 4] {
     let [mut number, mut stream, mut place, mut key] = [u64::MAX; 4];
     // As above; the four numbers are apart from each other and from the tables.
     let back = unsafe {

@@ -6,6 +6,7 @@ ghost use Rattle.calls.specs.Blocks.{blocksShort, blocksVerdict, bytesLeft};
 ghost use Rattle.calls.specs.Check.{checkVerdict};
 ghost use Rattle.calls.specs.Pair.{pairVerdict};
 ghost use Rattle.calls.specs.Superseding.{supersedingVerdict, streamOf, refusalIn};
+ghost use Rattle.calls.specs.AddedBounds.{streams, sumVerdict};
 use calls::Chosen;
 use calls::Refusal;
 
@@ -86,6 +87,37 @@ pub extern "C" fn zamiachisel_pair(
         ⌜ TablesLeft (tablesShort lent) lent left ⌝ }
 {
     let v = checker::pair(problem, first, second, keys, high, low);
+    number_of(v.refusal)
+}
+
+// Two problems over one region, with a pair for each: the number of the refusal, or 0.
+// stack: see docs/measured/stack-bound.tsv (at most 205,312 bytes)
+#[no_mangle]
+pub extern "C" fn zamiachisel_sum(
+    problem1: &[u8],
+    low1: &[u8],
+    high1: &[u8],
+    problem2: &[u8],
+    low2: &[u8],
+    high2: &[u8],
+    keys: &mut [u64],
+    high: &mut [i64],
+    low: &mut [i64],
+) -> u64
+    ensures verdict { λ r.
+        let lent = tables (now (keys .entry)) (now (high .entry)) (now (low .entry)) in
+        let a = streams (now (problem1 .entry)) (now (low1 .entry)) (now (high1 .entry)) in
+        let b = streams (now (problem2 .entry)) (now (low2 .entry)) (now (high2 .entry)) in
+        let v = sumVerdict (tablesShort lent) a b in
+        ⌜ r ≡ v .refusal .number ⌝ }
+    ensures tables { λ _.
+        let lent = tables (now (keys .entry)) (now (high .entry)) (now (low .entry)) in
+        let left = tables (now (keys .exit)) (now (high .exit)) (now (low .exit)) in
+        ⌜ TablesLeft (tablesShort lent) lent left ⌝ }
+{
+    let v = added_bounds::sum(
+        problem1, low1, high1, problem2, low2, high2, keys, high, low,
+    );
     number_of(v.refusal)
 }
 

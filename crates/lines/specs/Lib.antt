@@ -1,3 +1,4 @@
 pub mod Lines
+pub mod SumLines
 pub mod Answers
 pub mod Texts
