@@ -116,7 +116,15 @@ pub extern "C" fn zamiachisel_sum(
         ⌜ TablesLeft (tablesShort lent) lent left ⌝ }
 {
     let v = added_bounds::sum(
-        problem1, low1, high1, problem2, low2, high2, keys, high, low,
+        problem1,
+        low1,
+        high1,
+        problem2,
+        low2,
+        high2,
+        keys,
+        high,
+        low,
     );
     number_of(v.refusal)
 }

@@ -235,9 +235,11 @@ module _ (short : Bool) (a b : Streams) (r : SumVerdict) (is : r ≡ sumVerdict 
   -- ---- the pairs' own refusals
   pair-refusals : PairRefusals short a b (r .refusal)
   pair-refusals = record {
-    first = λ n. first n ended;
-    second = λ h n. second h n ended;
-    streams = (kept short a .stream, kept short b .stream);
+    first = λ n. let e = first n ended in (e, omega (arith, ap (λ (u : Refusal). u .stream) e, kept short a .stream));
+    second = λ h n.
+        let e = second h n ended in
+        let s = ap (λ (u : Refusal). u .stream) e in
+        (e, (omega arith, omega (arith, kept short b .stream)));
   }
     where
       first : (v .refusal .number ≡ 0 → ⊥) → Ended same v w r → r .refusal ≡ v .refusal

@@ -11,3 +11,4 @@ pub mod RingPairs
 pub mod Superseded
 pub mod Regions
 pub mod BoundsAdded
+pub mod RingSums

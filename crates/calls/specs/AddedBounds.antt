@@ -161,10 +161,9 @@ pub record FifteenExactly (short : Bool) (a b : Streams) (f : Refusal) : Type 0 
 
 -- "Refusals of the first problem's pair come before the second's, whose streams are 3 to 5"
 pub record PairRefusals (short : Bool) (a b : Streams) (f : Refusal) : Type 0 where
-  pub first : (pairBy short a .refusal .number ≡ 0 → ⊥) → f ≡ pairBy short a .refusal
+  pub first : (pairBy short a .refusal .number ≡ 0 → ⊥) → (f ≡ pairBy short a .refusal) × (f .stream ≤ 2)
   pub second : pairBy short a .refusal .number ≡ 0 → (pairBy short b .refusal .number ≡ 0 → ⊥)
-      → f ≡ ofSecond (pairBy short b .refusal)
-  pub streams : (pairBy short a .refusal .stream ≤ 2) × (pairBy short b .refusal .stream ≤ 2)
+      → (f ≡ ofSecond (pairBy short b .refusal)) × ((3 ≤ f .stream) × (f .stream ≤ 5))
 
 -- ---- "At every point of the region the sum of the two objectives is between them"
 -- the sum of the two objectives' values, scaled by c^32

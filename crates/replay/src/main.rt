@@ -203,7 +203,15 @@ fn answer_sum(
     let mut high = [0i64; 2048];
     let mut low = [0i64; 2048];
     let v = added_bounds::sum(
-        problem1, low1, high1, problem2, low2, high2, &mut keys, &mut high, &mut low,
+        problem1,
+        low1,
+        high1,
+        problem2,
+        low2,
+        high2,
+        &mut keys,
+        &mut high,
+        &mut low,
     );
     text::sum_line(v)
 }
