@@ -1,5 +1,5 @@
-// Request 12, two errors added: two problems over one region, with a pair for each. The public call is `sum`. Both pairs
-// are the checker's own.
+// Request 12, two errors added: two problems over one region, with a pair for each. The public call is `sum`. Both
+// pairs are the checker's own.
 ghost use mathlib.Core.Path.{_≡_};
 ghost use Prim.Native.Nat.{_≤_};
 ghost use Rattle.format.specs.ProblemRules.{readProblem};
@@ -101,9 +101,9 @@ fn sum_second(
     add(v, w)
 }
 
-// Two problems over one region and a pair for each: the sum of the lower bounds and that of the upper bounds. `problem1`,
-// `low1` and `high1` are the streams 0 to 2, and `problem2`, `low2` and `high2` the streams 3 to 5; `keys`, `high` and
-// `low` are the work tables.
+// Two problems over one region and a pair for each: the sum of the lower bounds and that of the upper bounds.
+// `problem1`, `low1` and `high1` are the streams 0 to 2, and `problem2`, `low2` and `high2` the streams 3 to 5; `keys`,
+// `high` and `low` are the work tables.
 pub fn sum(
     problem1: &[u8],
     low1: &[u8],

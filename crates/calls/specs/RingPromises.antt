@@ -20,8 +20,8 @@ pub record HoldsIn {A : Type 0} (R : OrderedRing A) (p : Problem) (lower upper :
   -- where the gap's numerator is below 0, no point is allowed
   pub empty : ltZ (gapOf lower upper .num) (pos 0) ≡ true → ZeroBelowOne R → EmptyIn R p
 
--- the same of an accepted call on two problems p and q (request 12), and the sums that it returns: the region is one, and
--- there the sum of the two objectives is between the sums
+-- the same of an accepted call on two problems p and q (request 12), and the sums that it returns: the region is one,
+-- and there the sum of the two objectives is between the sums
 module _ {A : Type 0} (R : OrderedRing A) where
   open OrderedRing R using (ring, order)
   open Ring ring using (𝟘, _+_, -_, _*_)

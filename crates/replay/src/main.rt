@@ -1,8 +1,8 @@
 // Answers the records of the standard input, one line for each, until it ends. A record is a kind byte (b: blocks, c:
-// check, p: pair, t: the tighter of two certificates, w: arrivals at the window of gaps, d: two problems with a pair for
-// each), lengths of 32 bits, little-endian, and as many byte runs, each of at most 65,536 bytes: six for kind d, three
-// for the others. `answer_record` decides, on the kind and the runs, `window_line` on the arrivals, `tighter_line` on
-// two certificates and `answer_sum` on two problems; all else moves bytes.
+// check, p: pair, t: the tighter of two certificates, w: arrivals at the window of gaps, d: two problems with a pair
+// for each), lengths of 32 bits, little-endian, and as many byte runs, each of at most 65,536 bytes: six for kind d,
+// three for the others. `answer_record` decides, on the kind and the runs, `window_line` on the arrivals,
+// `tighter_line` on two certificates and `answer_sum` on two problems; all else moves bytes.
 ghost use mathlib.Core.Path.{_≡_};
 ghost use mathlib.Core.Bool.{true};
 ghost use mathlib.Core.List.{_++_};
