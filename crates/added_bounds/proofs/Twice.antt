@@ -27,7 +27,7 @@ module _ {A : Type 0} (zero : A) where
       ap (λ (l : List A). replicate tableLength zero ++ l)
       (drop-at (replicate tableLength zero) (drop tableLength t) tableLength (length-replicate tableLength zero))
 
-module _ {t t₁ t₂ : Tables} (first : TablesLeft (tablesShort t) t t₁) where
+module _ {t t₁ : Tables} (first : TablesLeft (tablesShort t) t t₁) where
   -- the second call meets tables of the same lengths
   pub short-again : tablesShort t₁ ≡ tablesShort t
   short-again =
@@ -37,7 +37,7 @@ module _ {t t₁ t₂ : Tables} (first : TablesLeft (tablesShort t) t t₁) wher
       let l = ap length (first .low) ∙ left-length (pos 0) (tablesShort t) (t .low) (λ e. long e .low) in
       rw (k, h, l) refl
 
-  pub left-twice : TablesLeft (tablesShort t₁) t₁ t₂ → TablesLeft (tablesShort t) t t₂
+  pub left-twice : {t₂ : Tables} → TablesLeft (tablesShort t₁) t₁ t₂ → TablesLeft (tablesShort t) t t₂
   left-twice second =
       let s = rw short-again at second in
       record {

@@ -88,7 +88,7 @@ returns-2 c =
     let v = start p .args .v in
     let e = sym (k .is-same .ensures) ∙ not-true _ (d .if2 .taken) in (
       c .refuse2 .ensures ∙ sym (regions-differ (same p) v _ (none (k .before)) e)
-      ∙ ap (sumSecond (same p) v) (p .pair .ensures .0),
+          ∙ ap (sumSecond (same p) v) (p .pair .ensures .0),
       p .pair .ensures .1 .0,
     )
 
@@ -117,7 +117,7 @@ returns-3 c =
     let v = start p .args .v in
     let e = sym (k .is-same .ensures) ∙ not-false _ (d .if2 .left) in (
       c .add .ensures ∙ sym (both-accepted (same p) v _ (none (k .before)) e)
-      ∙ ap (sumSecond (same p) v) (p .pair .ensures .0),
+          ∙ ap (sumSecond (same p) v) (p .pair .ensures .0),
       p .pair .ensures .1 .0,
     )
 
