@@ -9,3 +9,5 @@ pub mod Windows
 pub mod WidestGap
 pub mod RingPairs
 pub mod Superseded
+pub mod AdjustedBounds
+pub mod RingAdjusted

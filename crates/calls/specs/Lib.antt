@@ -9,3 +9,5 @@ pub mod Promises
 pub mod RingPromises
 pub mod Superseding
 pub mod Rules
+pub mod Adjusted
+pub mod RingAdjusted

@@ -93,3 +93,10 @@ pub struct SupersedingVerdict {
     pub refusal: Refusal,
     pub chosen: Chosen,
 }
+
+// What the call on changes of the objective returns: the bound of a lower certificate, moved by the changes. With a
+// refusal the bound is 0 over 0.
+pub struct AdjustedVerdict {
+    pub refusal: Refusal,
+    pub bound: Fraction,
+}
