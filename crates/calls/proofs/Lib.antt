@@ -11,3 +11,6 @@ pub mod RingPairs
 pub mod Superseded
 pub mod AdjustedBounds
 pub mod RingAdjusted
+pub mod Boxes
+pub mod Changes
+pub mod Adjusting

@@ -96,13 +96,13 @@ sameTerms (s ∷ P) [] = false
 sameTerms (s ∷ P) (t ∷ Q) = sameTerm s t && sameTerms P Q
 
 -- exactly these two terms, in either order
-unfoldable pub isBoxed : ℕ → List Term → Bool
-isBoxed i P = sameTerms P (unit ∷ minusSquare i ∷ []) || sameTerms P (minusSquare i ∷ unit ∷ [])
+unfoldable pub isOneMinusSquare : ℕ → List Term → Bool
+isOneMinusSquare i P = sameTerms P (unit ∷ minusSquare i ∷ []) || sameTerms P (minusSquare i ∷ unit ∷ [])
 
 -- "some inequality": an equality with these terms is none
 unfoldable pub hasBox : ℕ → List Condition → Bool
 hasBox i [] = false
-hasBox i (g ∷ gs) = (not (isEquality (g .kind)) && isBoxed i (g .terms)) || hasBox i gs
+hasBox i (g ∷ gs) = (not (isEquality (g .kind)) && isOneMinusSquare i (g .terms)) || hasBox i gs
 
 -- "for every variable": 1 to n
 unfoldable pub boxedTo : ℕ → List Condition → Bool

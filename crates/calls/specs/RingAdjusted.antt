@@ -1,5 +1,5 @@
--- What the call on changes says over an ordered ring: its bound holds there too. A contract's clause cannot speak of all
--- rings; proofs/RingAdjusted.antt has this for each of them, from what the clause `accepted` gives.
+-- What the call on changes says over an ordered ring: its bound holds there too. A contract's clause cannot speak of
+-- all rings; proofs/RingAdjusted.antt has this for each of them, from what the clause `accepted` gives.
 use mathlib.Core.List.{List, _++_}
 use Prim.Native.Nat.{ℕ}
 use lib.IntN.{ℤ, pos}

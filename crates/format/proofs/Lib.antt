@@ -11,3 +11,5 @@ pub mod ProblemRule
 pub mod RuleExchanged
 pub mod Alike
 pub mod All
+pub mod ProblemVariables
+pub mod HeaderRange

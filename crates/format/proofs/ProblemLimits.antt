@@ -249,7 +249,7 @@ pub kept-next : (p : Problem) (s : List ℕ) (at : ℕ) → Kept p at → proble
 kept-next p s at k v = record { first = λ z. let n = taken-size p s at v in absurd (omega arith); later = λ _. next-limits p s at k v }
 
 -- the end command leaves the problem
-end-leaves : (p : Problem) (s : List ℕ) (at : ℕ) → getD s at 0 ≡ 6 → problemNext p s at ≡ p
+pub end-leaves : (p : Problem) (s : List ℕ) (at : ℕ) → getD s at 0 ≡ 6 → problemNext p s at ≡ p
 unfolding problemNext problemApplied problemCommand
 end-leaves p s at e = rw e
 
