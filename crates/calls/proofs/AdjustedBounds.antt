@@ -69,8 +69,16 @@ module _ {A : Type 0} (N : Numbers A) (O : Order (N .ring)) where
     where
       less : - (whole (p -ℤ pos (q *ℕ S)) * s) ≡ - (whole p * s) + whole (pos q) * (whole (pos S) * s)
       less =
-          rw (whole-+ p (negℤ (pos (q *ℕ S))), whole-minus N (pos (q *ℕ S)), whole-* (pos q) (pos S), +-* ring,
-          minus-* ring, minus-+ ring, minus-minus ring, *-assoc)
+          rw (
+            whole-+ p (negℤ (pos (q *ℕ S))),
+            whole-minus N (pos (q *ℕ S)),
+            whole-* (pos q) (pos S),
+            +-* ring,
+            minus-* ring,
+            minus-+ ring,
+            minus-minus ring,
+            *-assoc,
+          )
 
       same : (whole (pos q) * v + - (whole p * s)) + whole (pos q) * (whole (pos S) * s + w)
           ≡ whole (pos q) * (v + w) + - (whole (p -ℤ pos (q *ℕ S)) * s)

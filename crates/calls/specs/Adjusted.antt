@@ -79,12 +79,16 @@ changesRefusal n s =
     (unfitRefusal (firstUnfit n 0 (changesOf s))))
 
 -- ---- refusal 16: "unless for every variable some inequality is exactly 1 − x_i²"
--- the terms 1 and − x_i²: "A monomial's key is the sum of e_i × 256^(i−1)"
+-- the key of x_i²: "A monomial's key is the sum of e_i × 256^(i−1)"
+abbrev pub squareKey : ℕ → ℕ
+squareKey i = 2 * 256 ^ (i - 1)
+
+-- the terms 1 and − x_i²
 abbrev pub unit : Term
 unit = term 0 (pos 1)
 
 abbrev pub minusSquare : ℕ → Term
-minusSquare i = term (2 * 256 ^ (i - 1)) (negsuc 0)
+minusSquare i = term (squareKey i) (negsuc 0)
 
 abbrev pub sameTerm : Term → Term → Bool
 sameTerm s t = eqb (s .key) (t .key) && J.sameNumber (s .coefficient) (t .coefficient)
