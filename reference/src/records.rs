@@ -15,12 +15,14 @@ pub const PAIR: u8 = b'p';
 pub const WINDOW: u8 = b'w';
 /// That of request 02.
 pub const TIGHTER: u8 = b't';
+/// That of request 13.
+pub const ADJUSTED: u8 = b'a';
 
 /// The number of runs of a kind: problem, first certificate and second certificate for the calls of
 /// document 01 and of request 02. There is none for a byte that is no kind.
 pub fn run_count(kind: u8) -> Option<usize> {
     match kind {
-        BLOCKS | CHECK | PAIR | WINDOW | TIGHTER => Some(3),
+        BLOCKS | CHECK | PAIR | WINDOW | TIGHTER | ADJUSTED => Some(3),
         _ => None,
     }
 }

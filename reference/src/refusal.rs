@@ -29,6 +29,10 @@ pub const IDENTITY: u8 = 9;
 pub const SIDES: u8 = 10;
 /// Request 02: both certificates are accepted and their sides differ.
 pub const DIFFERENT_SIDES: u8 = 11;
+/// Request 13: some variable has no inequality that is exactly 1 - x_i².
+pub const NO_BOX: u8 = 16;
+/// Request 13: an upper certificate.
+pub const NOT_LOWER: u8 = 17;
 
 /// The four fields of a refusal.
 #[derive(Clone, Copy, Debug, PartialEq, Eq)]

@@ -6,6 +6,7 @@
 //! the baseline but monomials and the four fields of a refusal.
 
 mod accepting;
+mod adjusting;
 mod calls;
 mod certificate;
 mod joining;
@@ -20,7 +21,7 @@ mod window;
 
 pub use calls::{blocks, pair};
 
-use crate::records::{hexadecimal, Record, BLOCKS, CHECK, PAIR, TIGHTER, WINDOW};
+use crate::records::{hexadecimal, Record, ADJUSTED, BLOCKS, CHECK, PAIR, TIGHTER, WINDOW};
 use crate::refusal::Refusal;
 
 /// What a record asks for: the line that answers it, or its refusal.
@@ -33,6 +34,9 @@ pub fn answer(record: &Record) -> Result<String, Refusal> {
         WINDOW => Ok(window::window(run(0))),
         TIGHTER => superseding::tighter(run(0), run(1), run(2))
             .map(|bytes| format!("tighter {}", hexadecimal(bytes))),
+        ADJUSTED => {
+            adjusting::adjusted(run(0), run(1), run(2)).map(|bound| format!("adjusted {bound}"))
+        }
         other => unreachable!("no record has the kind {other}"),
     }
 }

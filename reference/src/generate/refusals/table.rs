@@ -13,7 +13,7 @@ after its number, of a request (document 02). \
 The answers were found by hand from those words and stand beside the cases in `reference/src/generate/refusals`; a test \
 there holds the reference to them. Each case is in the stored corpus `crates/replay/stdin`, where the proved calls \
 meet it; the last column gives, for each kind of call that meets it (`b` blocks, `c` check, `p` pair, `t` the tighter of two \
-certificates, `w` arrivals at the window of gaps), the number of its record there, which is that of the line in `stdout`. `reference refusals` writes this page, and `./test` compares the two.
+certificates, `w` arrivals at the window of gaps, `a` changes of the objective), the number of its record there, which is that of the line in `stdout`. `reference refusals` writes this page, and `./test` compares the two.
 
 Of two certificates a refusal of the first is seen only where the second is refused as well: where a case names only the first, \
 its record of kind `t` has that one twice.
@@ -26,8 +26,8 @@ const ONE: &str = "
 ## 1: a lent table or the 576 bytes is too short
 
 A replayed record is always answered with tables lent in full, so no record meets refusal 1. It is stated in the public \
-contracts in `crates/checker/src/lib.rt` and `crates/superseding/src/lib.rt`: `verdict` or `numbers` of each call says that it is \
-given exactly when the named test holds, and `bytes` and `tables` that nothing is written then; the four numbers lent to \
+contracts in `crates/checker/src/lib.rt`, `crates/superseding/src/lib.rt` and `crates/adjusted_bound/src/lib.rt`: `verdict` or \
+`numbers` of each call says that it is given exactly when the named test holds, and `bytes` and `tables` that nothing is written then; the four numbers lent to \
 `tighter` receive it. `bench short` calls the C functions with each \
 length one short, and sees refusal 1 and all that was lent untouched.
 
@@ -46,6 +46,9 @@ length one short, and sees refusal 1 and all that was lent untouched.
 | the tighter of two, keys | 2,047 numbers as the first table | `refused 1 0 0 0` | `numbers` of `tighter`, `tablesShort` |
 | the tighter of two, high | 2,047 numbers as the second table | `refused 1 0 0 0` | `numbers` of `tighter`, `tablesShort` |
 | the tighter of two, low | 2,047 numbers as the third table | `refused 1 0 0 0` | `numbers` of `tighter`, `tablesShort` |
+| changes, keys | 2,047 numbers as the first table | `refused 1 0 0 0` | `verdict` of `moved_bound`, `tablesShort` |
+| changes, high | 2,047 numbers as the second table | `refused 1 0 0 0` | `verdict` of `moved_bound`, `tablesShort` |
+| changes, low | 2,047 numbers as the third table | `refused 1 0 0 0` | `verdict` of `moved_bound`, `tablesShort` |
 ";
 
 const FOURTEEN: &str = "
@@ -88,24 +91,26 @@ by hand. The bytes of a blocks call are shown to the last that is not 255.
 |---|---|---|---|---|---|---|
 ";
 
-/// The words of document 01's table, and of request 02, for each number from 2 on.
-const TITLES: [&str; 10] = [
-    "stream ends in a command or without its end, or goes on after it",
-    "command unknown in this stream or misplaced",
-    "operand outside its rule",
-    "monomial repeated, or index not rising",
-    "one more than a count allows",
-    "closed S with zero above 2,048",
-    "a row in two blocks",
-    "identity false",
-    "in a pair, first side not 0 or second not 1",
-    "of two certificates, both are accepted and their sides differ",
+/// The words of document 01's table, and of the requests, for each number from 2 on but 14.
+const TITLES: &[(u8, &str)] = &[
+    (2, "stream ends in a command or without its end, or goes on after it"),
+    (3, "command unknown in this stream or misplaced"),
+    (4, "operand outside its rule"),
+    (5, "monomial repeated, or index not rising"),
+    (6, "one more than a count allows"),
+    (7, "closed S with zero above 2,048"),
+    (8, "a row in two blocks"),
+    (9, "identity false"),
+    (10, "in a pair, first side not 0 or second not 1"),
+    (11, "of two certificates, both are accepted and their sides differ"),
+    (16, "some variable has no inequality that is exactly 1 − x_i²"),
+    (17, "an upper certificate where a lower one is asked for"),
 ];
 
 const STREAMS: [&str; 3] = [
-    "in the problem",
+    "in the problem, or of stream 0",
     "in the first certificate",
-    "in the second certificate",
+    "in the second certificate, or of stream 2",
 ];
 
 /// Longer streams are not written out.
@@ -113,28 +118,17 @@ const SHORT: usize = 130;
 
 /// Writes the page.
 pub fn print() {
-    let corpus = corpus("bcpwt");
+    let corpus = corpus("bcpwta");
     let mut cases = cases();
     cases.sort_by_key(|case| (case.expected.number, case.expected.stream));
+    let (before, after) = cases.split_at(cases.partition_point(|case| case.expected.number < 14));
     print!("{HEAD}{ONE}");
-    let mut section = (1, 0);
-    for case in &cases {
-        let number = case.expected.number;
-        if number != section.0 {
-            println!("\n## {number}: {}", TITLES[usize::from(number) - 2]);
-        }
-        if (number, case.expected.stream) != section {
-            println!("\n### {}", STREAMS[usize::from(case.expected.stream)]);
-            println!("\n| case | what the stream has | stream | words | answer | records |");
-            println!("|---|---|---|---|---|---|");
-        }
-        section = (number, case.expected.stream);
-        println!("{}", line(case, &corpus));
-    }
+    print_numbers(before, &corpus);
     print!("{FOURTEEN}");
     for case in CASES {
         println!("{}", window_line(case, &corpus));
     }
+    print_numbers(after, &corpus);
     let accepted = [
         (EQUALITIES, equalities::ACCEPTED),
         (GAPS, gaps::ACCEPTED),
@@ -145,6 +139,25 @@ pub fn print() {
         for case in cases {
             println!("{}", accepted_line(case, &corpus));
         }
+    }
+}
+
+/// Writes the cases, which are sorted, under a head for each number and one for each stream.
+fn print_numbers(cases: &[Case], corpus: &[Record]) {
+    let mut section = (0, 0);
+    for case in cases {
+        let number = case.expected.number;
+        if number != section.0 {
+            let title = TITLES.iter().find(|title| title.0 == number);
+            println!("\n## {number}: {}", title.expect("a title").1);
+        }
+        if (number, case.expected.stream) != section {
+            println!("\n### {}", STREAMS[usize::from(case.expected.stream)]);
+            println!("\n| case | what the stream has | stream | words | answer | records |");
+            println!("|---|---|---|---|---|---|");
+        }
+        section = (number, case.expected.stream);
+        println!("{}", line(case, corpus));
     }
 }
 
