@@ -1,6 +1,6 @@
 //! Refusal 1: each call with each of the lent tables one short.
 
-use crate::calls::{answer, tighter, Lent, Record};
+use crate::calls::{answer, moved_bound, tighter, Lent, Record};
 
 /// Case F: a problem and its two certificates, all of which hold.
 const PROBLEM: [&[u8]; 9] = [
@@ -23,6 +23,8 @@ const ROWS: [&[u8]; 6] = [
     &[0x13],
 ];
 
+const CHANGE: [u8; 12] = [1, 0, 0, 0, 0, 0, 0, 0, 251, 255, 255, 255];
+
 fn case_f(kind: u8) -> Record {
     let low = [
         &[0x10, 0, 2, 0, 255, 255, 255, 255, 1, 0],
@@ -31,8 +33,12 @@ fn case_f(kind: u8) -> Record {
     .concat();
     let mut high = [&[0x10, 1, 2, 0, 1, 0, 0, 0, 1, 0], &ROWS.concat()[..]].concat();
     high[20..22].copy_from_slice(&[255, 255]);
-    // The call on two certificates takes two of one side.
-    let second = if kind == b't' { low.clone() } else { high };
+    // The call on two certificates takes two of one side, and the call on changes takes changes: 5 x and -5 x.
+    let second = match kind {
+        b't' => low.clone(),
+        b'a' => [[1, 0, 0, 0, 0, 0, 0, 0, 5, 0, 0, 0], CHANGE].concat(),
+        _ => high,
+    };
     Record {
         kind,
         runs: [PROBLEM.concat(), low, second],
@@ -88,7 +94,7 @@ pub fn run() {
         |lent| lent.low.truncate(2_047),
         |lent| lent.keys.clear(),
     ];
-    for kind in *b"bcpt" {
+    for kind in *b"bcpta" {
         full(kind);
         for shorten in tables {
             shortened(kind, shorten);
@@ -97,6 +103,11 @@ pub fn run() {
     let mut lent = filled();
     lent.low.truncate(2_047);
     assert_eq!(tighter(&case_f(b't').runs, &mut lent), [1, 0, 0, 0]);
+    assert_eq!(moved_bound(&case_f(b'a').runs, &mut lent), (1, 0, 0));
+    assert_eq!(
+        moved_bound(&case_f(b'a').runs, &mut filled()),
+        (0, -11, 1)
+    );
     shortened(b'b', |lent| lent.out.truncate(575));
-    println!("refusal 1 for each short table of each call, and nothing written but the four numbers of the call on two");
+    println!("refusal 1 for each short table of each call, and nothing written but the numbers that two calls lend singly");
 }

@@ -1,15 +1,18 @@
 // Request 13: how far an adjusted coefficient moves the bound. The check decides on the certificate first; then the
 // changes are looked at, then the boxes, in the problem read once more, and then the side.
 ghost use mathlib.Core.Path.{_≡_};
-ghost use Prim.Native.Nat.{_*_, _^_, _/_, _≤_, _<_};
-ghost use lib.ListN.{length};
-ghost use Rattle.polynomial.specs.Terms.{term};
+ghost use mathlib.Core.Bool.{_&&_};
+ghost use mathlib.Core.List.{List};
+ghost use Prim.Native.Nat.{ℕ, _^_, _≤_, _<_};
+ghost use lib.IntN.{negsuc};
+ghost use Rattle.polynomial.specs.Terms.{Term, term};
 ghost use Rattle.format.specs.ProblemRules.{Problem, readProblem};
 ghost use Rattle.flat.specs.Flat.{FlatLimits, FlatProblem};
 ghost use Rattle.fractions.specs.Ranges.{Bound};
+ghost use Rattle.calls.specs.Refusals.{problemRefusal};
 ghost use Rattle.calls.specs.Tables.{tables, tablesShort, TablesLeft};
 ghost use Rattle.calls.specs.Adjusted.{changeCount, changesOf, mostChanges, changeRefusal, firstUnfit, unfitRefusal};
-ghost use Rattle.calls.specs.Adjusted.{changesRefusal, squareKey, sameTerm, hasBox, boxedTo, absoluteSum, movedBound};
+ghost use Rattle.calls.specs.Adjusted.{changesRefusal, squareKey, unit, sameTerm, hasBox, boxedTo, absoluteSum, movedBound};
 ghost use Rattle.calls.specs.Adjusted.{refusedAdjusted, adjustedOf, adjustedRead, adjustedVerdict};
 ghost use Rattle.calls.specs.Adjusted.{AdjustedNumber, AdjustedExactly, HoldsChanged, InOrder};
 ghost use Rattle.adjusted_bound.specs.Boxes.{boxIn};
@@ -101,6 +104,13 @@ fn is_term(key: u64, c: i32, other: u64, d: i32) -> bool
     key == other && c == d
 }
 
+// Whether two terms are 1 and − x², where `square` is the key of x².
+fn are_terms(k: u64, c: i32, l: u64, d: i32, square: u64) -> bool
+    ensures { λ r. ⌜ r ≡ (sameTerm (term k c) unit && sameTerm (term l d) (term square (negsuc 0))) ⌝ }
+{
+    is_term(k, c, 0, 1) && is_term(l, d, square, -1)
+}
+
 // Whether g_j is an inequality that is exactly 1 − x², where `square` is the key of x².
 fn is_box(keys: &[u64], coefficients: &[i32], sizes: &[usize], j: usize, square: u64) -> bool
     requires { ⌜ FlatLimits (now keys) (now coefficients) (now sizes) × (j < 9) ⌝ }
@@ -120,21 +130,20 @@ fn is_box(keys: &[u64], coefficients: &[i32], sizes: &[usize], j: usize, square:
     let l = keys[TERMS + at + 1];
     let c = coefficients[at];
     let d = coefficients[at + 1];
-    if is_term(k, c, 0, 1) && is_term(l, d, square, -1) {
+    if are_terms(k, c, l, d, square) {
         return true;
     }
-    is_term(k, c, square, -1) && is_term(l, d, 0, 1)
+    are_terms(l, d, k, c, square)
 }
 
-// Whether some inequality is exactly 1 − x_i².
-fn has_box(keys: &[u64], coefficients: &[i32], sizes: &[usize], i: usize) -> bool
-    requires { ⌜ FlatLimits (now keys) (now coefficients) (now sizes) × (1 ≤ i) × (i ≤ 8) ⌝ }
+// Whether some inequality is exactly 1 − x², where `square` is the key of x².
+fn has_box(keys: &[u64], coefficients: &[i32], sizes: &[usize], square: u64) -> bool
+    requires { ⌜ FlatLimits (now keys) (now coefficients) (now sizes) ⌝ }
     ensures { λ r. ⌜
         ((p : Problem) → FlatProblem p (now (keys .entry)) (now (coefficients .entry)) (now (sizes .entry))
-        → r ≡ hasBox i (p .conditions))
+        → (i : ℕ) → square ≡ squareKey i → r ≡ hasBox i (p .conditions))
         ⌝ }
 {
-    let square = 2u64 << (8 * (i - 1));
     let count = sizes[CONDITIONS];
     let mut j = 0;
     while j < count {
@@ -146,22 +155,24 @@ fn has_box(keys: &[u64], coefficients: &[i32], sizes: &[usize], i: usize) -> boo
     false
 }
 
-// Whether every variable up to n has one.
+// Whether every variable up to n has one. The key of x_n² is the last that is asked for, and the largest.
 fn are_boxed(keys: &[u64], coefficients: &[i32], sizes: &[usize], n: usize) -> bool
-    requires { ⌜ FlatLimits (now keys) (now coefficients) (now sizes) × (n ≤ 8) ⌝ }
+    requires { ⌜ FlatLimits (now keys) (now coefficients) (now sizes) × (1 ≤ n) × (n ≤ 8) ⌝ }
     ensures { λ r. ⌜
         ((p : Problem) → FlatProblem p (now (keys .entry)) (now (coefficients .entry)) (now (sizes .entry))
         → r ≡ boxedTo n (p .conditions))
         ⌝ }
 {
-    let mut i = 0;
+    let mut square: u64 = 2;
+    let mut i = 1;
     while i < n {
-        if !has_box(keys, coefficients, sizes, i + 1) {
+        if !has_box(keys, coefficients, sizes, square) {
             return false;
         }
+        square *= 256;
         i += 1;
     }
-    true
+    has_box(keys, coefficients, sizes, square)
 }
 
 fn refuse(refusal: Refusal) -> AdjustedVerdict
@@ -195,7 +206,7 @@ fn decide(
     changes: &[u8],
 ) -> AdjustedVerdict
     requires { ⌜
-        FlatLimits (now keys) (now coefficients) (now sizes) × (n ≤ 8) × Bound (v .bound)
+        FlatLimits (now keys) (now coefficients) (now sizes) × (1 ≤ n) × (n ≤ 8) × Bound (v .bound)
         ⌝ }
     ensures { λ r. ⌜
         ((p : Problem) → FlatProblem p (now (keys .entry)) (now (coefficients .entry)) (now (sizes .entry))

@@ -6,6 +6,8 @@ ghost use Rattle.calls.specs.Blocks.{blocksShort, blocksVerdict, bytesLeft};
 ghost use Rattle.calls.specs.Check.{checkVerdict};
 ghost use Rattle.calls.specs.Pair.{pairVerdict};
 ghost use Rattle.calls.specs.Superseding.{supersedingVerdict, streamOf, refusalIn};
+ghost use Rattle.calls.specs.Fractions.{fraction};
+ghost use Rattle.calls.specs.Adjusted.{adjustedVerdict};
 use calls::Chosen;
 use calls::Refusal;
 
@@ -137,4 +139,40 @@ pub extern "C" fn zamiachisel_tighter(
         Chosen::Second => 2,
         Chosen::Neither => 0,
     }
+}
+
+// The call on changes of the objective: the number of the refusal, or 0. Two numbers receive the moved bound, 0 over 0
+// with a refusal.
+// stack: see docs/measured/stack-bound.tsv (at most 205,312 bytes)
+#[no_mangle]
+pub extern "C" fn zamiachisel_moved_bound(
+    problem: &[u8],
+    certificate: &[u8],
+    changes: &[u8],
+    numerator: &mut i64,
+    denominator: &mut u64,
+    keys: &mut [u64],
+    high: &mut [i64],
+    low: &mut [i64],
+) -> u64
+    ensures verdict { λ r.
+        let lent = tables (now (keys .entry)) (now (high .entry)) (now (low .entry)) in
+        let s = now (problem .entry) in
+        let v = adjustedVerdict (tablesShort lent) s (now (certificate .entry)) (now (changes .entry)) in
+        ⌜ r ≡ v .refusal .number ⌝ }
+    ensures bound { λ _.
+        let lent = tables (now (keys .entry)) (now (high .entry)) (now (low .entry)) in
+        let s = now (problem .entry) in
+        let v = adjustedVerdict (tablesShort lent) s (now (certificate .entry)) (now (changes .entry)) in
+        ⌜ fraction (now (numerator .exit)) (now (denominator .exit)) ≡ v .bound ⌝ }
+    ensures tables { λ _.
+        let lent = tables (now (keys .entry)) (now (high .entry)) (now (low .entry)) in
+        let left = tables (now (keys .exit)) (now (high .exit)) (now (low .exit)) in
+        ⌜ TablesLeft (tablesShort lent) lent left ⌝ }
+{
+    let v = adjusted_bound::moved_bound(problem, certificate, changes, keys, high, low);
+    let f = v.bound;
+    *numerator = f.num;
+    *denominator = f.den;
+    number_of(v.refusal)
 }

@@ -50,10 +50,10 @@ terms-same [] = refl
 terms-same (s ∷ P) = rw (eq-eqb (s .key) (s .key) refl, same-self (s .coefficient)) (terms-same P)
 
 -- ---- one condition
-abbrev Exactly : ℕ → List Term → Type 0
+abbrev pub Exactly : ℕ → List Term → Type 0
 Exactly i P = (P ≡ unit ∷ minusSquare i ∷ []) ⊎ (P ≡ minusSquare i ∷ unit ∷ [])
 
-boxed-exactly : (i : ℕ) (P : List Term) → isOneMinusSquare i P ≡ true → Exactly i P
+pub boxed-exactly : (i : ℕ) (P : List Term) → isOneMinusSquare i P ≡ true → Exactly i P
 unfolding isOneMinusSquare
 boxed-exactly i P h = ⊎-elim (λ e. inl (same-terms _ _ e)) (λ e. inr (same-terms _ _ e)) (or-cases _ _ h)
 

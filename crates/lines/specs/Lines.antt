@@ -14,6 +14,7 @@ use Rattle.calls.specs.declared.BlocksVerdict.{BlocksVerdict}
 use Rattle.calls.specs.declared.CheckVerdict.{CheckVerdict}
 use Rattle.calls.specs.declared.PairVerdict.{PairVerdict}
 use Rattle.calls.specs.declared.WindowVerdict.{WindowVerdict}
+use Rattle.calls.specs.declared.AdjustedVerdict.{AdjustedVerdict}
 
 -- the bytes of a text, one for each character
 abbrev pub ascii : String → List ℕ
@@ -125,3 +126,7 @@ windowLine l = ascii "window" ++ (arrivalWords (ascii " ") l ++ ascii "\n")
 -- the bytes that came back of two certificates
 unfoldable pub tighterLine : Refusal → List ℕ → List ℕ
 tighterLine r part = unlessRefused r (ascii "tighter " ++ hexadecimal part ++ ascii "\n")
+
+-- the moved bound
+unfoldable pub adjustedLine : AdjustedVerdict → List ℕ
+adjustedLine v = unlessRefused (v .refusal) (withRatio "adjusted " (v .bound) ++ ascii "\n")

@@ -8,8 +8,9 @@ use Rattle.calls.specs.Blocks.{blocksVerdict, bytesLeft}
 use Rattle.calls.specs.Check.{checkVerdict}
 use Rattle.calls.specs.Pair.{pairVerdict}
 use Rattle.calls.specs.Superseding.{supersedingVerdict, partOf}
+use Rattle.calls.specs.Adjusted.{adjustedVerdict}
 use Rattle.calls.specs.declared.SupersedingVerdict.{SupersedingVerdict}
-use Rattle.lines.specs.Lines.{blocksLine, checkLine, pairLine, tighterLine}
+use Rattle.lines.specs.Lines.{blocksLine, checkLine, pairLine, tighterLine, adjustedLine}
 
 abbrev pub blocksAnswer : List ℕ → List ℕ
 blocksAnswer problem = blocksLine (blocksVerdict false problem) (bytesLeft false problem (replicate 576 0))
@@ -27,10 +28,15 @@ tighterVerdict v first second = tighterLine (v .refusal) (partOf (v .chosen) fir
 abbrev pub tighterAnswer : List ℕ → List ℕ → List ℕ → List ℕ
 tighterAnswer problem first second = tighterVerdict (supersedingVerdict false problem first second) first second
 
--- by the kind: b, c, p, or another, which is not answered. Kinds t and w, whose lines may be longer than a text, are
+-- a certificate, and changes in the place of the second
+abbrev pub adjustedAnswer : List ℕ → List ℕ → List ℕ → List ℕ
+adjustedAnswer problem certificate changes = adjustedLine (adjustedVerdict false problem certificate changes)
+
+-- by the kind: b, c, p, a, or another, which is not answered. Kinds t and w, whose lines may be longer than a text, are
 -- answered by `tighterAnswer` and `windowAnswer`
 unfoldable pub recordAnswer : ℕ → List ℕ → List ℕ → List ℕ → List ℕ
 recordAnswer kind problem first second =
     cond (eqb kind 0x62) (blocksAnswer problem)
     (cond (eqb kind 0x63) (checkAnswer problem first)
-    (cond (eqb kind 0x70) (pairAnswer problem first second) []))
+    (cond (eqb kind 0x70) (pairAnswer problem first second)
+    (cond (eqb kind 0x61) (adjustedAnswer problem first second) [])))

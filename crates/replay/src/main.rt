@@ -1,7 +1,7 @@
 // Answers the records of the standard input, one line for each, until it ends. A record is a kind byte (b: blocks, c:
-// check, p: pair, t: the tighter of two certificates, w: arrivals at the window of gaps), three lengths of 32 bits,
-// little-endian, and three byte runs, each of at most 65,536 bytes. `answer_record` decides, on the kind and the runs,
-// `window_line` on the arrivals and `tighter_line` on two certificates; all else moves bytes.
+// check, p: pair, t: the tighter of two certificates, w: arrivals at the window of gaps, a: changes of the objective),
+// three lengths of 32 bits, little-endian, and three byte runs, each of at most 65,536 bytes. `answer_record` decides,
+// on the kind and the runs, `window_line` on the arrivals and `tighter_line` on two certificates; all else moves bytes.
 ghost use mathlib.Core.Path.{_≡_};
 ghost use mathlib.Core.Bool.{true};
 ghost use mathlib.Core.List.{_++_};
@@ -12,7 +12,8 @@ ghost use Rattle.lines.specs.Lines.{arrivalWord};
 ghost use Rattle.lines.specs.Texts.{textOf};
 ghost use Rattle.text.specs.Appending.{Appended};
 ghost use Rattle.replay.specs.Arrivals.{arrivalAt, separator, windowAnswer};
-ghost use Rattle.replay.specs.Records.{blocksAnswer, checkAnswer, pairAnswer, recordAnswer, tighterAnswer};
+ghost use Rattle.replay.specs.Records.{blocksAnswer, checkAnswer, pairAnswer, adjustedAnswer, recordAnswer};
+ghost use Rattle.replay.specs.Records.{tighterAnswer};
 use calls::Fraction;
 use calls::WindowVerdict;
 use libc::STDIN_FILENO;
@@ -50,6 +51,25 @@ fn answer_pair(problem: &[u8], first: &[u8], second: &[u8]) -> Text
     text::pair_line(v)
 }
 
+fn answer_adjusted(problem: &[u8], certificate: &[u8], changes: &[u8]) -> Text
+    ensures { λ t. ⌜
+        textOf t ≡ adjustedAnswer (now (problem .entry)) (now (certificate .entry)) (now (changes .entry))
+        ⌝ }
+{
+    let mut keys = [0u64; 2048];
+    let mut high = [0i64; 2048];
+    let mut low = [0i64; 2048];
+    let v = adjusted_bound::moved_bound(
+        problem,
+        certificate,
+        changes,
+        &mut keys,
+        &mut high,
+        &mut low,
+    );
+    text::adjusted_line(v)
+}
+
 // The line for a record, or none where its kind is unknown.
 fn answer_record(kind: u8, problem: &[u8], first: &[u8], second: &[u8]) -> Text
     ensures { λ t. ⌜
@@ -64,6 +84,9 @@ fn answer_record(kind: u8, problem: &[u8], first: &[u8], second: &[u8]) -> Text
     }
     if kind == b'p' {
         return answer_pair(problem, first, second);
+    }
+    if kind == b'a' {
+        return answer_adjusted(problem, first, second);
     }
     Text {
         bytes: [0u8; 1280],
