@@ -12,8 +12,8 @@ ghost use Rattle.fractions.specs.Ranges.{Bound};
 ghost use Rattle.calls.specs.Refusals.{problemRefusal};
 ghost use Rattle.calls.specs.Tables.{tables, tablesShort, TablesLeft};
 ghost use Rattle.calls.specs.Adjusted.{changeCount, changesOf, mostChanges, changeRefusal, firstUnfit, unfitRefusal};
-ghost use Rattle.calls.specs.Adjusted.{changesRefusal, squareKey, unit, sameTerm, hasBox, boxedTo, absoluteSum, movedBound};
-ghost use Rattle.calls.specs.Adjusted.{refusedAdjusted, adjustedOf, adjustedRead, adjustedVerdict};
+ghost use Rattle.calls.specs.Adjusted.{changesRefusal, squareKey, unit, sameTerm, hasBox, boxedTo, absoluteSum};
+ghost use Rattle.calls.specs.Adjusted.{movedBound, refusedAdjusted, adjustedOf, adjustedRead, adjustedVerdict};
 ghost use Rattle.calls.specs.Adjusted.{AdjustedNumber, AdjustedExactly, HoldsChanged, InOrder};
 ghost use Rattle.adjusted_bound.specs.Boxes.{boxIn};
 use calls::AdjustedVerdict;
@@ -217,7 +217,8 @@ fn decide(
     if f.number != 0 {
         return refuse(f);
     }
-    if !are_boxed(keys, coefficients, sizes, n) {
+    let boxed = are_boxed(keys, coefficients, sizes, n);
+    if !boxed {
         return refuse_problem(16, 0);
     }
     if v.side != 0 {

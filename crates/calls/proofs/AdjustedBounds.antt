@@ -54,7 +54,10 @@ module _ {A : Type 0} (N : Numbers A) (O : Order (N .ring)) where
   sum-size m s [] h =
       rw (whole-zero N, zero-* ring) (rw (whole-zero N) at (size-multiple N O 0))
   sum-size m s (t ∷ P) h =
-      rw (whole-+ (pos (natAbs (t .coefficient))) (pos (absoluteSum P)), +-* ring)
+      let same : whole (pos (natAbs (t .coefficient) +ℕ absoluteSum P)) * s
+      ≡ whole (pos (natAbs (t .coefficient))) * s + whole (pos (absoluteSum P)) * s =
+      rw (whole-+ (pos (natAbs (t .coefficient))) (pos (absoluteSum P)), +-* ring) in
+      subst (Size N O _) (sym same)
       (size-+ N O (size-* N O (size-whole N O (t .coefficient)) (h .0)) (sum-size m s P (h .1)))
 
   -- ---- the bound: from q v ≥ p s and |w| ≤ S s, q (v + w) ≥ (p − q S) s
