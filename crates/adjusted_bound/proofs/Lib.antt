@@ -1,0 +1,5 @@
+pub mod Scanned
+pub mod Coefficients
+pub mod Boxes
+pub mod Searched
+pub mod Decided
