@@ -75,16 +75,19 @@ loop-less c = search needs
 loop-again : tie.Need-loop-again Inv-loop μ-loop
 loop-again c =
     let d = c .before in
-    let l = d .before .before .before in
-    (omega arith, summed-more (l .before .before .args .changes .now) (l .loop .i) (l .loop .sum) (c .magnitude .result)
-    (omega (arith, d .before .before .loop-test .taken)) (l .loop .inv .1) (size c ∙ ap natAbs (change d)) (small c))
+    let l = d .before .before .before in (
+      omega arith,
+      summed-more (l .before .before .args .changes .now) (l .loop .i) (l .loop .sum) (c .magnitude .result)
+          (omega (arith, d .before .before .loop-test .taken)) (l .loop .inv .1) (size c ∙ ap natAbs (change d)) (small c),
+    )
 
 returns : tie.Need-returns Inv-loop μ-loop
 returns c =
     let l = c .before in
-    let s = l .before .before in
-    (summed-all (s .args .changes .now) (l .loop .i) (l .loop .sum) (omega (arith, c .loop-test .left)) (l .loop .inv .1),
-    omega (arith, l .loop .inv .1 .small, l .loop .inv .0, s .pre))
+    let s = l .before .before in (
+      summed-all (s .args .changes .now) (l .loop .i) (l .loop .sum) (omega (arith, c .loop-test .left)) (l .loop .inv .1),
+      omega (arith, l .loop .inv .1 .small, l .loop .inv .0, s .pre),
+    )
 
 pub absolute-sum-spec : {M : Type 1} → statement M
 absolute-sum-spec =

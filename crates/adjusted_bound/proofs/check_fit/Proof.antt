@@ -60,9 +60,11 @@ loop-again : tie.Need-loop-again Inv-loop μ-loop
 loop-again c =
     let f = c .before in
     let l = f .before .before .before in
-    let a = l .before .before .args in
-    (omega arith, fit-here (a .changes .now) (a .n) (l .loop .i) (omega (arith, f .before .before .loop-test .taken))
-    (l .loop .inv .1) (sym (fits-here f) ∙ not-false _ (c .if1 .left)))
+    let a = l .before .before .args in (
+      omega arith,
+      fit-here (a .changes .now) (a .n) (l .loop .i) (omega (arith, f .before .before .loop-test .taken))
+          (l .loop .inv .1) (sym (fits-here f) ∙ not-false _ (c .if1 .left)),
+    )
 
 returns-2 : tie.Need-returns-2 Inv-loop μ-loop
 returns-2 c =
