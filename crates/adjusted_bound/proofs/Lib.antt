@@ -4,3 +4,4 @@ pub mod Boxes
 pub mod Searched
 pub mod Decided
 pub mod Read
+pub mod Checked
