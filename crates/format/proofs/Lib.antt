@@ -11,3 +11,4 @@ pub mod ProblemRule
 pub mod RuleExchanged
 pub mod Alike
 pub mod All
+pub mod Walk

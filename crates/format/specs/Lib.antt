@@ -10,3 +10,4 @@ pub mod ProblemCounts
 pub mod ProblemRule
 pub mod CertificateLayout
 pub mod CertificateRules
+pub mod Notes

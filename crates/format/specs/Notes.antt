@@ -1,0 +1,98 @@
+-- Request 10 of document 02, "Notes that only the office sees": which bytes of a certificate stream are notes, the
+-- stream with notes removed, and where its bytes stand in the stream as sent.
+use mathlib.Core.Bool.{Bool, false, cond, _&&_, _||_}
+use mathlib.Core.List.{List, [], _∷_, _++_}
+use Prim.Native.Nat.{ℕ, zero, suc, _+_}
+use lib.Dec.{eqb, leb, ltb}
+use lib.ListN.{length, getD}
+use lib.Seq.{slice}
+use Rattle.format.specs.Layouts.{Layout, line, lengthOf, hasByte}
+use Rattle.format.specs.declared.certificate.Command.the-variants as C
+use Rattle.format.specs.CertificateLayout.{certificateLayout, certificateCommand, certificateSize}
+
+-- "Certificate command 40 carries 8 bytes of note"
+abbrev pub noteText : ℕ
+noteText = 8
+
+abbrev pub noteLayout : Layout
+noteLayout = line 0x40 (noteText ∷ [])
+
+-- a note with its command's byte
+abbrev pub noteLength : ℕ
+noteLength = lengthOf noteLayout
+
+abbrev pub isNote : ℕ → Bool
+isNote b = hasByte noteLayout b
+
+-- ---- the walk over the commands: "allowed anywhere between commands after command 10 and before command 13; elsewhere
+-- it is no note"
+-- the length of the note or of the command that a byte begins; 0 where it is neither
+abbrev pub officeSize : ℕ → ℕ
+officeSize b = cond (isNote b) noteLength (certificateSize (certificateCommand b))
+
+-- where the walk begins: "after command 10". A stream that does not begin with a whole 10 has no notes
+unfoldable pub walkStart : List ℕ → ℕ
+walkStart s =
+    cond (hasByte (certificateLayout C.Header) (getD s 0 0) && leb (certificateSize C.Header) (length s))
+    (certificateSize C.Header) (length s)
+
+-- how far it goes at an offset: the length of the note or of the command there. It ends, which is 0, "before command
+-- 13", at a command that is unknown, at one that is cut, and at the end of the stream
+unfoldable pub stepAt : List ℕ → ℕ → ℕ
+stepAt s at =
+    let n = officeSize (getD s at 0) in
+    cond (hasByte (certificateLayout C.End) (getD s at 0) || ltb (length s) (at + n)) 0 n
+
+-- the offsets of the notes from an offset of the walk on. A step has at least one byte, so the number of steps left is
+-- never used up
+abbrev pub notedAt : List ℕ → ℕ → List ℕ → List ℕ
+notedAt s at rest = cond (isNote (getD s at 0)) (at ∷ rest) rest
+
+unfoldable pub notesFrom : ℕ → List ℕ → ℕ → List ℕ
+notesFrom zero s at = []
+notesFrom (suc left) s at = cond (eqb (stepAt s at) 0) [] (notedAt s at (notesFrom left s (at + stepAt s at)))
+
+-- and where the walk ends
+unfoldable pub endFrom : ℕ → List ℕ → ℕ → ℕ
+endFrom zero s at = at
+endFrom (suc left) s at = cond (eqb (stepAt s at) 0) at (endFrom left s (at + stepAt s at))
+
+-- the offsets of all notes, in their order
+unfoldable pub noteOffsets : List ℕ → List ℕ
+noteOffsets s = notesFrom (length s) s (walkStart s)
+
+unfoldable pub walkEnd : List ℕ → ℕ
+walkEnd s = endFrom (length s) s (walkStart s)
+
+-- where the commands end: at the stream's end, or at the start of a note that is cut, where the walk then ends: "A note
+-- cut short is refusal 2 at its start". So it ranks as a missing end does
+unfoldable pub bodyEnd : List ℕ → ℕ
+bodyEnd s = cond (isNote (getD s (walkEnd s) 0)) (walkEnd s) (length s)
+
+-- ---- "the stream with notes removed": the bytes from an offset to the end, but for the notes at the offsets between
+unfoldable pub outside : ℕ → List ℕ → ℕ → List ℕ → List ℕ
+outside from [] end s = slice from end s
+outside from (a ∷ l) end s = slice from a s ++ outside (a + noteLength) l end s
+
+unfoldable pub withoutNotes : List ℕ → List ℕ
+withoutNotes s = outside 0 (noteOffsets s) (bodyEnd s) s
+
+-- ---- "places count the bytes as sent": of a place in that stream, with each note from the first on. What stands behind
+-- a note stands so much further
+unfoldable pub placeSent : List ℕ → ℕ → ℕ
+placeSent [] x = x
+placeSent (a ∷ l) x = placeSent l (cond (leb a x) (x + noteLength) x)
+
+-- ---- the 8 bytes of each note, "in order"
+unfoldable pub textsAt : List ℕ → List ℕ → List ℕ
+textsAt [] s = []
+textsAt (a ∷ l) s = slice (a + 1) (a + noteLength) s ++ textsAt l s
+
+unfoldable pub noteTexts : List ℕ → List ℕ
+noteTexts s = textsAt (noteOffsets s) s
+
+-- ---- streams that differ in their notes alone: "Different notes at the same positions"
+-- whether an offset is that of one of the 8 bytes of a note
+abbrev pub inText : List ℕ → ℕ → Bool
+inText [] x = false
+inText (a ∷ l) x = (ltb a x && ltb x (a + noteLength)) || inText l x
