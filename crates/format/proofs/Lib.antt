@@ -12,3 +12,4 @@ pub mod RuleExchanged
 pub mod Alike
 pub mod All
 pub mod Walk
+pub mod Notes

@@ -1,8 +1,9 @@
 -- Request 10 of document 02, "Notes that only the office sees": which bytes of a certificate stream are notes, the
 -- stream with notes removed, and where its bytes stand in the stream as sent.
+use mathlib.Core.Path.{_≡_}
 use mathlib.Core.Bool.{Bool, false, cond, _&&_, _||_}
 use mathlib.Core.List.{List, [], _∷_, _++_}
-use Prim.Native.Nat.{ℕ, zero, suc, _+_}
+use Prim.Native.Nat.{ℕ, zero, suc, _+_, _*_, _<_}
 use lib.Dec.{eqb, leb, ltb}
 use lib.ListN.{length, getD}
 use lib.Seq.{slice}
@@ -91,8 +92,27 @@ textsAt (a ∷ l) s = slice (a + 1) (a + noteLength) s ++ textsAt l s
 unfoldable pub noteTexts : List ℕ → List ℕ
 noteTexts s = textsAt (noteOffsets s) s
 
--- ---- streams that differ in their notes alone: "Different notes at the same positions"
+-- ---- what this means
+-- every byte of the stream with notes removed stands in the stream as sent at its place there, these places rise, behind
+-- the last one the commands end, and nothing but the notes is left out
+pub record RemovesNotes (s : List ℕ) : Type 0 where
+  pub bytes : (x : ℕ) → x < length (withoutNotes s)
+      → getD (withoutNotes s) x 0 ≡ getD s (placeSent (noteOffsets s) x) 0
+  pub rising : (x y : ℕ) → x < y → placeSent (noteOffsets s) x < placeSent (noteOffsets s) y
+  pub ends : placeSent (noteOffsets s) (length (withoutNotes s)) ≡ bodyEnd s
+  pub count : length (withoutNotes s) + noteLength * length (noteOffsets s) ≡ bodyEnd s
+
+-- a stream without notes: none is found, and none is cut
+pub record NoNotes (s : List ℕ) : Type 0 where
+  pub none : noteOffsets s ≡ []
+  pub whole : bodyEnd s ≡ length s
+
 -- whether an offset is that of one of the 8 bytes of a note
 abbrev pub inText : List ℕ → ℕ → Bool
 inText [] x = false
 inText (a ∷ l) x = (ltb a x && ltb x (a + noteLength)) || inText l x
+
+-- "Different notes at the same positions": two streams of one length, with the same bytes but for the 8 of each note
+pub record OtherNotes (s t : List ℕ) : Type 0 where
+  pub long : length t ≡ length s
+  pub bytes : (x : ℕ) → inText (noteOffsets s) x ≡ false → getD t x 0 ≡ getD s x 0
