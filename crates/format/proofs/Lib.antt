@@ -13,3 +13,6 @@ pub mod Alike
 pub mod All
 pub mod Walk
 pub mod Notes
+pub mod SameBytes
+pub mod Meets
+pub mod Longest

@@ -11,7 +11,7 @@ use lib.ListN.{length, getD, take, drop, length-append, List·getD-append}
 use lib.Seq.{slice, length-slice, getD-drop, getD-take, getD-append-add, ext-getD, take-length}
 use borrow.Author.Tests.{le-leb, lt-leb, leb-true, leb-false, le-ltb, lt-ltb, ltb-false, eqb-true}
 use Rattle.counting.proofs.Cases.{lt-or-le}
-use Rattle.format.specs.Notes.{noteLength, isNote, stepAt, walkStart, noteOffsets, walkEnd, bodyEnd, outside, withoutNotes, placeSent, textsAt, noteTexts, RemovesNotes, NoNotes, inText, OtherNotes}
+use Rattle.format.specs.Notes.{noteText, noteLength, isNote, stepAt, walkStart, noteOffsets, walkEnd, bodyEnd, outside, withoutNotes, placeSent, textsAt, noteTexts, RemovesNotes, NoNotes, inText, OtherNotes}
 use Rattle.format.proofs.Walk.{start-inside, Walking, walking-start, walking-end, walking-command, walking-note, walk-induction}
 
 -- ---- offsets of notes between two offsets, in their order and without overlap
@@ -325,3 +325,17 @@ module _ (s t : List ℕ) (other : OtherNotes s t) where
       rw (same-offsets, same-end)
       (outside-same s t (bodyEnd s) (end-inside s) (rw (other .long) (end-inside s)) 0 (noteOffsets s) (spaced s)
       (λ x h. other .bytes x))
+
+-- ---- each note has its 8 bytes
+texts-length : (s : List ℕ) (end : ℕ) → end ≤ length s → (from : ℕ) (l : List ℕ) → Spaced from l end
+    → length (textsAt l s) ≡ noteText * length l
+unfolding textsAt Spaced
+texts-length s end h from [] q = refl
+texts-length s end h from (a ∷ l) q =
+    let b = spaced-most (a + noteLength) l end (q .1) in
+    rw (length-append (slice (a + 1) (a + noteLength) s), length-slice (a + 1) (a + noteLength) s (omega arith))
+    (omega (arith, texts-length s end h (a + noteLength) l (q .1)))
+
+pub note-texts-length : (s : List ℕ) → length (noteTexts s) ≡ noteText * length (noteOffsets s)
+unfolding noteTexts
+note-texts-length s = texts-length s (bodyEnd s) (end-inside s) 0 (noteOffsets s) (spaced s)
