@@ -16,3 +16,4 @@ pub mod Notes
 pub mod SameBytes
 pub mod Meets
 pub mod Longest
+pub mod Places
