@@ -17,3 +17,5 @@ pub mod SameBytes
 pub mod Meets
 pub mod Longest
 pub mod Places
+pub mod NotesRead
+pub mod CutNotes

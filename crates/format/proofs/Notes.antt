@@ -12,14 +12,14 @@ use lib.Seq.{slice, length-slice, getD-drop, getD-take, getD-append-add, ext-get
 use borrow.Author.Tests.{le-leb, lt-leb, leb-true, leb-false, le-ltb, lt-ltb, ltb-false, eqb-true}
 use Rattle.counting.proofs.Cases.{lt-or-le}
 use Rattle.format.specs.Notes.{noteText, noteLength, isNote, stepAt, walkStart, noteOffsets, walkEnd, bodyEnd, outside, withoutNotes, placeSent, textsAt, noteTexts, RemovesNotes, NoNotes, inText, OtherNotes}
-use Rattle.format.proofs.Walk.{start-inside, Walking, walking-start, walking-end, walking-command, walking-note, walk-induction}
+use Rattle.format.proofs.Walk.{start-inside, Walking, walking-start, walking-end, walking-command, walking-note, walking-induction, walk-induction}
 
 -- ---- offsets of notes between two offsets, in their order and without overlap
 unfoldable pub Spaced : ℕ → List ℕ → ℕ → Type 0
 Spaced from [] end = from ≤ end
 Spaced from (a ∷ l) end = (from ≤ a) × Spaced (a + noteLength) l end
 
-spaced-lower : (b from : ℕ) (l : List ℕ) (end : ℕ) → b ≤ from → Spaced from l end → Spaced b l end
+pub spaced-lower : (b from : ℕ) (l : List ℕ) (end : ℕ) → b ≤ from → Spaced from l end → Spaced b l end
 unfolding Spaced
 spaced-lower b from [] end h q = omega arith
 spaced-lower b from (a ∷ l) end h q = (omega arith, q .1)
@@ -35,17 +35,20 @@ spaced-most from [] end q = q
 spaced-most from (a ∷ l) end q = omega (arith, spaced-most (a + noteLength) l end (q .1))
 
 -- the walk finds such
-record Found (s : List ℕ) (at : ℕ) (l : List ℕ) (e : ℕ) : Type 0 where
-  inside : e ≤ length s
-  spaced : Spaced at l e
+pub record Found (s : List ℕ) (at : ℕ) (l : List ℕ) (e : ℕ) : Type 0 where
+  pub inside : e ≤ length s
+  pub spaced : Spaced at l e
 
-found : (s : List ℕ) → Found s (walkStart s) (noteOffsets s) (walkEnd s)
+pub walking-found : (s : List ℕ) (at : ℕ) (l : List ℕ) (e : ℕ) → at ≤ length s → Walking s at l e → Found s at l e
 unfolding Spaced
-found s =
-    walk-induction s (Found s)
+walking-found s =
+    walking-induction s (Found s)
     (λ at h z. record { inside = h; spaced = omega arith })
     (λ at l e q t r. record { inside = r .inside; spaced = spaced-lower at (at + stepAt s at) l e (omega arith) (r .spaced) })
     (λ at l e q t r. record { inside = r .inside; spaced = (omega arith, r .spaced) })
+
+found : (s : List ℕ) → Found s (walkStart s) (noteOffsets s) (walkEnd s)
+found s = walking-found s (walkStart s) (noteOffsets s) (walkEnd s) (start-inside s) (walking-start s)
 
 pub end-inside : (s : List ℕ) → bodyEnd s ≤ length s
 unfolding bodyEnd
@@ -107,7 +110,7 @@ place-low from (a ∷ l) end x q h =
     rw (lt-leb a x (omega arith)) (place-low (a + noteLength) l end x (q .1) (omega arith))
 
 -- ---- the bytes outside the notes
-part-byte : (from to : ℕ) (s : List ℕ) (x : ℕ) → from + x < to → getD (slice from to s) x 0 ≡ getD s (from + x) 0
+pub part-byte : (from to : ℕ) (s : List ℕ) (x : ℕ) → from + x < to → getD (slice from to s) x 0 ≡ getD s (from + x) 0
 part-byte from to s x h = getD-drop from (take to s) x 0 ∙ getD-take to s (from + x) 0 h
 
 module _ (s : List ℕ) (end : ℕ) (inside : end ≤ length s) where

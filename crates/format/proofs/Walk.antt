@@ -147,6 +147,9 @@ module _ (s : List ℕ) (R : ℕ → List ℕ → ℕ → Type 0)
   walk-steps zero at l e b h w = walk-step at l e h w (λ c k q r v. absurd (omega arith))
   walk-steps (suc f) at l e b h w = walk-step at l e h w (λ c k q r v. walk-steps f c k e (omega arith) r v)
 
+  pub walking-induction : (at : ℕ) (l : List ℕ) (e : ℕ) → at ≤ length s → Walking s at l e → R at l e
+  walking-induction at l e h w = walk-steps (length s) at l e (omega arith) h w
+
   pub walk-induction : R (walkStart s) (noteOffsets s) (walkEnd s)
   walk-induction =
-      walk-steps (length s) (walkStart s) (noteOffsets s) (walkEnd s) (omega arith) (start-inside s) (walking-start s)
+      walking-induction (walkStart s) (noteOffsets s) (walkEnd s) (start-inside s) (walking-start s)
