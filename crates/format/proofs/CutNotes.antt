@@ -9,15 +9,15 @@ use lib.ListN.{length, getD, take, drop, length-drop, List·getD-append, List·g
 use lib.Seq.{slice, length-slice, slice-empty, getD-drop, drop-drop, drop-append-le}
 use borrow.Author.Tests.{eqb-true}
 use Rattle.counting.proofs.Cases.{clash, lt-or-le}
-use Rattle.format.specs.Commands.{refused, given, Language}
+use Rattle.format.specs.Commands.{given, Language}
 use Rattle.format.specs.ProblemRules.{Problem}
 use Rattle.format.specs.CertificateLayout.{certificateCommand, certificateSize}
-use Rattle.format.specs.CertificateRules.{Certificate, noCertificate, certificateCommandAt, certificateRefusalAt, certificateNext, certificateLanguage, readCertificate}
+use Rattle.format.specs.CertificateRules.{Certificate, noCertificate, certificateCommandAt, certificateNext, certificateLanguage, readCertificate}
 use Rattle.format.specs.Notes.{noteLength, isNote, walkStart, stepAt, noteOffsets, walkEnd, bodyEnd, outside, withoutNotes}
 use Rattle.format.proofs.Run.{Left, left-start, left-next}
 use Rattle.format.proofs.CertificateChecks.{taken-size}
 use Rattle.format.proofs.Meets.{Meets, past, stopped, extra, finished, taken, meets}
-use Rattle.format.proofs.Walk.{stepped, start-inside, walk-induction}
+use Rattle.format.proofs.Walk.{stepped, walk-induction}
 use Rattle.format.proofs.Notes.{Spaced, spaced-most, spaced-lower, end-inside, notes-spaced, part-byte}
 use Rattle.format.proofs.NotesRead.{headed}
 

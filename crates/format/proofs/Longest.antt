@@ -1,5 +1,5 @@
 -- The longest certificate: 128 rows of 64 entries with 32-bit factors. A longer stream is refused by its first bytes.
-use mathlib.Core.Path.{_≡_, refl, sym, ap, subst, _∙_}
+use mathlib.Core.Path.{_≡_, refl, sym, _∙_}
 use mathlib.Core.List.{List, [], _∷_, _++_}
 use mathlib.Core.Logic.{⊎-elim}
 use Prim.Native.Nat.{ℕ, zero, suc, _+_, _-_, _*_, _≤_, _<_}
@@ -7,26 +7,24 @@ use native.Mathlib.Omega.{arith}
 use mathlib.Core.Bool.{true}
 use lib.Dec.{ltb}
 use lib.IntN.{ℤ}
-use lib.ListN.{length, getD, take, set, length-append, length-set, length-take}
+use lib.ListN.{length, getD, take, set, length-append}
 use lib.Seq.{take-all, getD-take, length-take-le}
 use borrow.Author.Tests.{ltb-true, eqb-true}
 use Rattle.counting.proofs.Cases.{clash, and-right, lt-or-le}
-use Rattle.counting.proofs.Listed.{same-or-not}
 use Rattle.format.specs.All.{All}
-use Rattle.format.specs.Commands.{Outcome, refused, given, Language, run, readWhole}
+use Rattle.format.specs.Commands.{refused, given, Language}
 use Rattle.format.specs.ProblemRules.{Problem}
-use Rattle.format.specs.ProblemBases.{basisOf}
 use Rattle.format.proofs.WithinLimits.{Limits}
 use Rattle.format.proofs.ProblemLimits.{basis-few}
 use Rattle.format.specs.declared.certificate.Command.{Command}
 use Rattle.format.specs.declared.certificate.Command.the-variants as C
-use Rattle.format.specs.CertificateLayout.{certificateCommand, certificateSize, certificateDecoded}
+use Rattle.format.specs.CertificateLayout.{certificateSize, certificateDecoded}
 use Rattle.format.specs.CertificateRules.{Entry, Row, Certificate, noCertificate, noRow, entryPlaced, withEntry, entered, certificateApplied, certificateCommandAt, certificateRefusalAt, certificateNext, certificateLanguage, readCertificate}
 use Rattle.format.proofs.Run.{Left, left-start, left-refused, left-extra, left-next}
 use Rattle.format.proofs.Meets.{Meets, past, stopped, extra, finished, taken, reading-induction}
 use Rattle.format.proofs.Lengths.{certificate-byte}
-use Rattle.format.proofs.CertificateChecks.{Passed, passed, taken-size, taken-whole}
-use Rattle.format.proofs.CertificateLimits.{IndicesRise, SoundRow, Sound, Kept, kept-start, kept-next}
+use Rattle.format.proofs.CertificateChecks.{Passed, passed, taken-size}
+use Rattle.format.proofs.CertificateLimits.{IndicesRise, SoundRow, Kept, kept-start, kept-next}
 use Rattle.format.proofs.SameBytes.{SameBytes, same-refusal, same-next}
 
 -- ---- indices that rise below n are at most n

@@ -1,15 +1,15 @@
 -- What the stream with notes removed is: its bytes stand in the stream as sent at the places that are told, in their
 -- order, and between them stand the notes alone. Streams without notes, and streams that differ in their notes alone.
-use mathlib.Core.Path.{_≡_, refl, sym, ap, ap₂, subst, _∙_}
-use mathlib.Core.Bool.{Bool, true, false, cond, _&&_, _||_}
+use mathlib.Core.Path.{_≡_, refl, sym, ap, ap₂, _∙_}
+use mathlib.Core.Bool.{Bool, true, false, cond}
 use mathlib.Core.List.{List, [], _∷_, _++_}
 use mathlib.Core.Logic.{⊎-elim}
-use Prim.Native.Nat.{ℕ, zero, suc, _+_, _-_, _*_, _≤_, _<_}
+use Prim.Native.Nat.{ℕ, _+_, _-_, _*_, _≤_, _<_}
 use native.Mathlib.Omega.{arith}
-use lib.Dec.{eqb, leb, ltb}
-use lib.ListN.{length, getD, take, drop, length-append, List·getD-append}
+use lib.Dec.{leb}
+use lib.ListN.{length, getD, take, length-append, List·getD-append}
 use lib.Seq.{slice, length-slice, getD-drop, getD-take, getD-append-add, ext-getD, take-length}
-use borrow.Author.Tests.{le-leb, lt-leb, leb-true, leb-false, le-ltb, lt-ltb, ltb-false, eqb-true}
+use borrow.Author.Tests.{le-leb, lt-leb, leb-true, leb-false, le-ltb, lt-ltb}
 use Rattle.counting.proofs.Cases.{lt-or-le}
 use Rattle.format.specs.Notes.{noteText, noteLength, isNote, stepAt, walkStart, noteOffsets, walkEnd, bodyEnd, outside, withoutNotes, placeSent, textsAt, noteTexts, RemovesNotes, NoNotes, inText, OtherNotes}
 use Rattle.format.proofs.Walk.{start-inside, Walking, walking-start, walking-end, walking-command, walking-note, walking-induction, walk-induction}

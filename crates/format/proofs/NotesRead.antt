@@ -1,26 +1,26 @@
 -- How the strict reader reads a stream with notes: it refuses the first note with 3, unless it refuses something before
 -- it.
-use mathlib.Core.Path.{_≡_, refl, sym, ap, subst, _∙_}
+use mathlib.Core.Path.{_≡_, refl, sym, _∙_}
 use mathlib.Core.Bool.{Bool, true, false, cond, _&&_}
-use mathlib.Core.List.{List, [], _∷_, _++_}
+use mathlib.Core.List.{List, _∷_}
 use mathlib.Core.Logic.{_⊎_, inl, inr, ⊎-elim}
-use Prim.Native.Nat.{ℕ, zero, suc, _+_, _-_, _*_, _≤_, _<_}
+use Prim.Native.Nat.{ℕ, _+_, _-_, _≤_, _<_}
 use native.Mathlib.Omega.{arith}
 use lib.Dec.{eqb, leb}
 use lib.ListN.{length, getD, length-append}
 use lib.Seq.{slice, length-slice}
-use borrow.Author.Tests.{eqb-true, leb-true}
+use borrow.Author.Tests.{eqb-true}
 use Rattle.counting.proofs.Cases.{clash, lt-or-le}
-use Rattle.format.specs.Commands.{Outcome, refused, given, firstRefusal, Language}
+use Rattle.format.specs.Commands.{refused, firstRefusal, Language}
 use Rattle.format.specs.ProblemRules.{Problem}
 use Rattle.format.specs.CertificateLayout.{certificateCommand, certificateSize}
 use Rattle.format.specs.CertificateRules.{Certificate, noCertificate, certificateCommandAt, certificateRefusalAt, certificateNext, certificateLanguage, readCertificate}
-use Rattle.format.specs.Notes.{noteLength, isNote, walkStart, stepAt, noteOffsets, walkEnd, bodyEnd, outside, withoutNotes, placeSent}
+use Rattle.format.specs.Notes.{noteLength, isNote, walkStart, stepAt, noteOffsets, walkEnd, bodyEnd, outside, withoutNotes}
 use Rattle.format.proofs.Run.{Left, left-start, left-refused, left-next}
 use Rattle.format.proofs.CertificateChecks.{taken-size}
 use Rattle.format.proofs.SameBytes.{SameBytes, same-refusal, same-next}
 use Rattle.format.proofs.Meets.{Meets, past, stopped, extra, finished, taken, reading-induction}
-use Rattle.format.proofs.Walk.{stepped, start-inside, Walking, walking-start, walking-end, walking-command, walking-note}
+use Rattle.format.proofs.Walk.{stepped, Walking, walking-start, walking-end, walking-command, walking-note}
 use Rattle.format.proofs.Notes.{Spaced, spaced-most, walking-found, end-inside, notes-spaced, spaced, place-low, removes-notes}
 
 -- the strict check knows no 40: "The strict check refuses it as before, with 3"

@@ -1,9 +1,9 @@
 -- The places of a certificate stream: those of its refusals and of its entries lie within it.
-use mathlib.Core.Path.{_≡_, refl, sym, subst, _∙_}
+use mathlib.Core.Path.{_≡_}
 use mathlib.Core.Bool.{true}
-use mathlib.Core.List.{List, [], _∷_, _++_}
+use mathlib.Core.List.{List}
 use mathlib.Core.Logic.{_⊎_, inl, inr}
-use Prim.Native.Nat.{ℕ, _+_, _-_, _≤_, _<_}
+use Prim.Native.Nat.{ℕ, _+_, _-_, _<_}
 use native.Mathlib.Omega.{arith}
 use lib.Dec.{ltb}
 use lib.IntN.{ℤ}
@@ -11,7 +11,7 @@ use lib.ListN.{length, getD}
 use borrow.Author.Tests.{ltb-true}
 use Rattle.counting.proofs.Cases.{clash, and-right}
 use Rattle.format.specs.All.{All}
-use Rattle.format.specs.Commands.{Outcome, refused, given}
+use Rattle.format.specs.Commands.{refused, given}
 use Rattle.format.specs.ProblemRules.{Problem}
 use Rattle.format.specs.declared.certificate.Command.{Command}
 use Rattle.format.specs.declared.certificate.Command.the-variants as C

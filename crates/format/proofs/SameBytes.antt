@@ -1,12 +1,10 @@
 -- Two certificate streams that begin with the same bytes: a command within these is checked and taken in the same way.
-use mathlib.Core.Path.{_≡_, refl, sym, ap, ap₂, _∙_}
+use mathlib.Core.Path.{_≡_, refl, ap, ap₂}
 use mathlib.Core.List.{List}
-use Prim.Native.Nat.{ℕ, zero, suc, _+_, _*_, _≤_, _<_}
+use Prim.Native.Nat.{ℕ, zero, suc, _+_, _≤_, _<_}
 use native.Mathlib.Omega.{arith}
-use lib.Dec.{leb}
 use lib.ListN.{length, getD}
 use borrow.Author.Tests.{le-leb}
-use Rattle.format.specs.Commands.{firstRefusal}
 use Rattle.format.specs.Operands.{number, signed}
 use Rattle.format.specs.ProblemRules.{Problem}
 use Rattle.format.specs.declared.certificate.Command.{Command}

@@ -1,15 +1,15 @@
 -- Laws of the walk over a certificate stream that tells its notes.
-use mathlib.Core.Path.{_≡_, refl, sym, ap, subst, _∙_}
+use mathlib.Core.Path.{_≡_, refl, sym, _∙_}
 use mathlib.Core.Bool.{Bool, true, false, cond, _&&_, _||_}
 use mathlib.Core.List.{List, [], _∷_}
 use mathlib.Core.Logic.{⊎-elim}
-use Prim.Native.Nat.{ℕ, zero, suc, _+_, _*_, _≤_, _<_}
+use Prim.Native.Nat.{ℕ, zero, suc, _+_, _≤_, _<_}
 use native.Mathlib.Omega.{arith}
 use lib.Dec.{eqb, leb, ltb}
 use lib.ListN.{length, getD}
-use borrow.Author.Tests.{eq-eqb, ne-eqb, eqb-true, eqb-false, leb-true, ltb-false}
-use Rattle.counting.proofs.Cases.{and-right, lt-or-le}
-use Rattle.format.specs.Notes.{noteLength, isNote, officeSize, walkStart, stepAt, notedAt, notesFrom, endFrom, noteOffsets, walkEnd, bodyEnd}
+use borrow.Author.Tests.{ne-eqb, eqb-false, leb-true, ltb-false}
+use Rattle.counting.proofs.Cases.{lt-or-le}
+use Rattle.format.specs.Notes.{noteLength, isNote, officeSize, walkStart, stepAt, notedAt, notesFrom, endFrom, noteOffsets, walkEnd}
 
 -- ---- one step
 -- where the walk goes on at an offset, a note or a command stands there whole, and it is not the end command
