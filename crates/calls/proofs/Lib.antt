@@ -9,3 +9,4 @@ pub mod Windows
 pub mod WidestGap
 pub mod RingPairs
 pub mod Superseded
+pub mod Office

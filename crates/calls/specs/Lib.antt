@@ -8,4 +8,5 @@ pub mod Window
 pub mod Promises
 pub mod RingPromises
 pub mod Superseding
+pub mod Office
 pub mod Rules
