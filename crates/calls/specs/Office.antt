@@ -85,13 +85,19 @@ pub record StrictBeside (short : Bool) (s t : List ℕ) (v : OfficeVerdict) : Ty
 abbrev pub SameForOthers : Bool → List ℕ → List ℕ → ℕ → OfficeVerdict → Type 0
 SameForOthers short s t room v = (u : List ℕ) → OtherNotes t u → officeVerdict short s u room ≡ v
 
+-- a refusal of a command of the certificate that stands before an offset
+pub record RefusedBefore (e : ℕ) (f : Refusal) : Type 0 where
+  pub stream : f .stream ≡ 1
+  pub least : 1 ≤ f .number
+  pub most : f .number ≤ 6
+  pub before : f .place < e
+
 -- "A note cut short is refusal 2 at its start", for a problem within its limits and full-length work tables, unless a
 -- command before it is refused
 abbrev pub CutNote : Bool → List ℕ → List ℕ → Refusal → Type 0
 CutNote short s t f =
     (p : Problem) → Within short s p → bodyEnd t < length t
-    → (f ≡ certificateRefusal 1 2 (bodyEnd t) 0)
-    ⊎ ((f .stream ≡ 1) × ((0 < f .number) × ((f .number ≤ 6) × (f .place < bodyEnd t))))
+    → (f ≡ certificateRefusal 1 2 (bodyEnd t) 0) ⊎ RefusedBefore (bodyEnd t) f
 
 -- refusal 13 is given exactly where the stream with notes removed is accepted and the buffer can't hold all notes
 pub record ThirteenExactly (short : Bool) (s t : List ℕ) (room : ℕ) (f : Refusal) : Type 0 where
