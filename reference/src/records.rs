@@ -15,12 +15,15 @@ pub const PAIR: u8 = b'p';
 pub const WINDOW: u8 = b'w';
 /// That of request 02.
 pub const TIGHTER: u8 = b't';
+/// That of request 10.
+pub const OFFICE: u8 = b'n';
 
 /// The number of runs of a kind: problem, first certificate and second certificate for the calls of
-/// document 01 and of request 02. There is none for a byte that is no kind.
+/// document 01 and of request 02; problem, certificate and buffer for that of request 10. There is
+/// none for a byte that is no kind.
 pub fn run_count(kind: u8) -> Option<usize> {
     match kind {
-        BLOCKS | CHECK | PAIR | WINDOW | TIGHTER => Some(3),
+        BLOCKS | CHECK | PAIR | WINDOW | TIGHTER | OFFICE => Some(3),
         _ => None,
     }
 }
@@ -62,6 +65,14 @@ impl Record {
         Record {
             kind: TIGHTER,
             runs: vec![problem, first, second],
+        }
+    }
+
+    /// A certificate that may have notes, and the buffer for them.
+    pub fn office(problem: Vec<u8>, certificate: Vec<u8>, buffer: Vec<u8>) -> Self {
+        Record {
+            kind: OFFICE,
+            runs: vec![problem, certificate, buffer],
         }
     }
 

@@ -29,6 +29,8 @@ pub const IDENTITY: u8 = 9;
 pub const SIDES: u8 = 10;
 /// Request 02: both certificates are accepted and their sides differ.
 pub const DIFFERENT_SIDES: u8 = 11;
+/// Request 10: the buffer can't hold all notes.
+pub const NOTES: u8 = 13;
 
 /// The four fields of a refusal.
 #[derive(Clone, Copy, Debug, PartialEq, Eq)]

@@ -10,6 +10,7 @@ mod calls;
 mod certificate;
 mod joining;
 mod lines;
+mod office;
 mod polynomial;
 mod problem;
 mod stream;
@@ -20,7 +21,7 @@ mod window;
 
 pub use calls::{blocks, pair};
 
-use crate::records::{hexadecimal, Record, BLOCKS, CHECK, PAIR, TIGHTER, WINDOW};
+use crate::records::{hexadecimal, Record, BLOCKS, CHECK, OFFICE, PAIR, TIGHTER, WINDOW};
 use crate::refusal::Refusal;
 
 /// What a record asks for: the line that answers it, or its refusal.
@@ -33,6 +34,7 @@ pub fn answer(record: &Record) -> Result<String, Refusal> {
         WINDOW => Ok(window::window(run(0))),
         TIGHTER => superseding::tighter(run(0), run(1), run(2))
             .map(|bytes| format!("tighter {}", hexadecimal(bytes))),
+        OFFICE => office::office(run(0), run(1), run(2)).map(|verdict| verdict.to_string()),
         other => unreachable!("no record has the kind {other}"),
     }
 }

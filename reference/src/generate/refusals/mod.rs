@@ -8,6 +8,7 @@ mod certificates;
 pub mod equalities;
 pub mod gaps;
 pub mod joining_rules;
+pub mod notes;
 mod order;
 mod problems;
 mod sums;
@@ -17,7 +18,7 @@ pub mod wide_factors;
 pub mod windows;
 
 use crate::generate::samples;
-use crate::records::{Record, BLOCKS, CHECK, PAIR, TIGHTER};
+use crate::records::{Record, BLOCKS, CHECK, OFFICE, PAIR, TIGHTER};
 use crate::refusal::Refusal;
 pub use table::print;
 
@@ -56,6 +57,8 @@ impl Case {
             PAIR => Record::pair(run(0), run(1), run(2)),
             // A refusal of the first certificate is seen only where the second is refused as well.
             TIGHTER if self.calls.len() > 1 => Record::tighter(run(0), run(1), run(1)),
+            // What the check refuses the office refuses, whatever its buffer.
+            OFFICE if self.calls.len() > 1 => Record::office(run(0), run(1), Vec::new()),
             kind => Record {
                 kind,
                 runs: self.runs.clone(),
@@ -65,8 +68,8 @@ impl Case {
 }
 
 /// Something accepted that stands beside the refusals: its name, what it has, the words, the kind of
-/// the call, its streams, and the line; the bytes of a blocks call end there with the last that is
-/// not 255.
+/// the call, its streams, the last of which is the buffer for notes, and the line; the bytes of a
+/// blocks call end there with the last that is not 255.
 pub struct Accepted {
     pub name: &'static str,
     pub what: &'static str,
@@ -83,6 +86,7 @@ impl Accepted {
         match self.kind {
             BLOCKS => Record::blocks(problem),
             CHECK => Record::check(problem, first),
+            OFFICE => Record::office(problem, first, second),
             _ => Record::pair(problem, first, second),
         }
     }
@@ -107,6 +111,7 @@ const LISTS: &[(u8, fn() -> Vec<Case>)] = &[
     (5, wide_factors::cases),
     (2, superseding::cases),
     (8, joining_rules::cases),
+    (10, notes::cases),
 ];
 
 /// All cases, by the order of the lists.
@@ -198,7 +203,7 @@ fn written(line: &Line, stream: u8, mut runs: [Vec<u8>; 3]) -> Case {
 
 /// The calls that meet a refusal of this stream.
 fn calls(stream: u8) -> &'static [u8] {
-    [b"bcpt".as_slice(), b"cpt", b"p"][usize::from(stream)]
+    [b"bcptn".as_slice(), b"cptn", b"p"][usize::from(stream)]
 }
 
 #[cfg(test)]
@@ -224,6 +229,7 @@ mod tests {
             equalities::ACCEPTED,
             gaps::ACCEPTED,
             joining_rules::ACCEPTED,
+            notes::ACCEPTED,
         ]
         .into_iter()
         .flatten()
@@ -256,7 +262,7 @@ mod tests {
         let in_problem = (2..=7).map(|number| (number, 0));
         let in_certificate = [2, 3, 4, 5, 6, 8, 9, 10];
         let in_certificate = in_certificate.iter().flat_map(|&n| [(n, 1), (n, 2)]);
-        let of_requests = [(11, 2)];
+        let of_requests = [(11, 2), (13, 1)];
         let all = in_problem.chain(in_certificate).chain(of_requests);
         assert_eq!(met, all.collect());
     }

@@ -1,7 +1,7 @@
 //! The table of refusals as a page of markdown.
 
 use super::windows::{Arrivals, CASES};
-use super::{cases, equalities, gaps, joining_rules, Accepted, Case};
+use super::{cases, equalities, gaps, joining_rules, notes, Accepted, Case};
 use crate::generate::corpus;
 use crate::plain;
 use crate::records::Record;
@@ -13,10 +13,11 @@ after its number, of a request (document 02). \
 The answers were found by hand from those words and stand beside the cases in `reference/src/generate/refusals`; a test \
 there holds the reference to them. Each case is in the stored corpus `crates/replay/stdin`, where the proved calls \
 meet it; the last column gives, for each kind of call that meets it (`b` blocks, `c` check, `p` pair, `t` the tighter of two \
-certificates, `w` arrivals at the window of gaps), the number of its record there, which is that of the line in `stdout`. `reference refusals` writes this page, and `./test` compares the two.
+certificates, `n` the office's check, `w` arrivals at the window of gaps), the number of its record there, which is that of the line in `stdout`. `reference refusals` writes this page, and `./test` compares the two.
 
 Of two certificates a refusal of the first is seen only where the second is refused as well: where a case names only the first, \
-its record of kind `t` has that one twice.
+its record of kind `t` has that one twice. The office's check refuses what the check refuses: where a case has no notes, \
+its record of kind `n` has no buffer.
 
 An answer is `refused`, number, stream (0 problem, 1 first certificate, 2 second), place and key. Bytes are \
 hexadecimal, 0⁷ is seven zero bytes and 0⁸ eight, and a bar stands between commands.
@@ -26,7 +27,7 @@ const ONE: &str = "
 ## 1: a lent table or the 576 bytes is too short
 
 A replayed record is always answered with tables lent in full, so no record meets refusal 1. It is stated in the public \
-contracts in `crates/checker/src/lib.rt` and `crates/superseding/src/lib.rt`: `verdict` or `numbers` of each call says that it is \
+contracts in `crates/checker/src/lib.rt`, `crates/superseding/src/lib.rt` and `crates/office_check/src/lib.rt`: `verdict` or `numbers` of each call says that it is \
 given exactly when the named test holds, and `bytes` and `tables` that nothing is written then; the four numbers lent to \
 `tighter` receive it. `bench short` calls the C functions with each \
 length one short, and sees refusal 1 and all that was lent untouched.
@@ -46,6 +47,9 @@ length one short, and sees refusal 1 and all that was lent untouched.
 | the tighter of two, keys | 2,047 numbers as the first table | `refused 1 0 0 0` | `numbers` of `tighter`, `tablesShort` |
 | the tighter of two, high | 2,047 numbers as the second table | `refused 1 0 0 0` | `numbers` of `tighter`, `tablesShort` |
 | the tighter of two, low | 2,047 numbers as the third table | `refused 1 0 0 0` | `numbers` of `tighter`, `tablesShort` |
+| the office's check, keys | 2,047 numbers as the first table | `refused 1 0 0 0` | `verdict` of `office`, `tablesShort` |
+| the office's check, high | 2,047 numbers as the second table | `refused 1 0 0 0` | `verdict` of `office`, `tablesShort` |
+| the office's check, low | 2,047 numbers as the third table | `refused 1 0 0 0` | `verdict` of `office`, `tablesShort` |
 ";
 
 const FOURTEEN: &str = "
@@ -88,18 +92,35 @@ by hand. The bytes of a blocks call are shown to the last that is not 255.
 |---|---|---|---|---|---|---|
 ";
 
-/// The words of document 01's table, and of request 02, for each number from 2 on.
-const TITLES: [&str; 10] = [
-    "stream ends in a command or without its end, or goes on after it",
-    "command unknown in this stream or misplaced",
-    "operand outside its rule",
-    "monomial repeated, or index not rising",
-    "one more than a count allows",
-    "closed S with zero above 2,048",
-    "a row in two blocks",
-    "identity false",
-    "in a pair, first side not 0 or second not 1",
-    "of two certificates, both are accepted and their sides differ",
+const NOTES: &str = "
+## Beside the refusals: certificates with notes
+
+Request 10 passes over notes in the office's check. These cases stand next to the refusals above; the answers were found by \
+hand. The last of the streams is the buffer as lent.
+
+| case | what it has | problem | certificate and buffer | words | answer | record |
+|---|---|---|---|---|---|---|
+";
+
+/// The words of document 01's table, and of the requests, for each number from 2 on.
+const TITLES: [(u8, &str); 11] = [
+    (
+        2,
+        "stream ends in a command or without its end, or goes on after it",
+    ),
+    (3, "command unknown in this stream or misplaced"),
+    (4, "operand outside its rule"),
+    (5, "monomial repeated, or index not rising"),
+    (6, "one more than a count allows"),
+    (7, "closed S with zero above 2,048"),
+    (8, "a row in two blocks"),
+    (9, "identity false"),
+    (10, "in a pair, first side not 0 or second not 1"),
+    (
+        11,
+        "of two certificates, both are accepted and their sides differ",
+    ),
+    (13, "the buffer can't hold all notes"),
 ];
 
 const STREAMS: [&str; 3] = [
@@ -113,7 +134,7 @@ const SHORT: usize = 130;
 
 /// Writes the page.
 pub fn print() {
-    let corpus = corpus("bcpwt");
+    let corpus = corpus("bcpwtn");
     let mut cases = cases();
     cases.sort_by_key(|case| (case.expected.number, case.expected.stream));
     print!("{HEAD}{ONE}");
@@ -121,7 +142,8 @@ pub fn print() {
     for case in &cases {
         let number = case.expected.number;
         if number != section.0 {
-            println!("\n## {number}: {}", TITLES[usize::from(number) - 2]);
+            let title = TITLES.iter().find(|title| title.0 == number);
+            println!("\n## {number}: {}", title.expect("a title").1);
         }
         if (number, case.expected.stream) != section {
             println!("\n### {}", STREAMS[usize::from(case.expected.stream)]);
@@ -139,6 +161,7 @@ pub fn print() {
         (EQUALITIES, equalities::ACCEPTED),
         (GAPS, gaps::ACCEPTED),
         (RULES, joining_rules::ACCEPTED),
+        (NOTES, notes::ACCEPTED),
     ];
     for (head, cases) in accepted {
         print!("{head}");

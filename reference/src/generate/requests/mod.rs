@@ -3,6 +3,7 @@
 mod empty_region;
 mod equalities;
 mod joining_rules;
+mod notes;
 mod superseding;
 mod wide_factors;
 mod windows;
@@ -13,7 +14,7 @@ use crate::generate::certificates::{as_record, streams};
 use crate::generate::changes::{change_case, CHANGES};
 use crate::generate::damage::{self, damaged};
 use crate::generate::rng::Rng;
-use crate::records::{Record, BLOCKS, CHECK, PAIR, TIGHTER, WINDOW};
+use crate::records::{Record, BLOCKS, CHECK, OFFICE, PAIR, TIGHTER, WINDOW};
 
 /// A call that a request added.
 pub struct Call {
@@ -86,6 +87,12 @@ const LANDED: &[Landed] = &[
         special: joining_rules::special,
         put: joining_rules::put,
         count: 200,
+    }),
+    Landed::Call(Call {
+        kind: OFFICE,
+        special: notes::special,
+        random: notes::random,
+        count: 300,
     }),
 ];
 
