@@ -14,6 +14,7 @@ use Rattle.calls.specs.declared.BlocksVerdict.{BlocksVerdict}
 use Rattle.calls.specs.declared.CheckVerdict.{CheckVerdict}
 use Rattle.calls.specs.declared.PairVerdict.{PairVerdict}
 use Rattle.calls.specs.declared.WindowVerdict.{WindowVerdict}
+use Rattle.calls.specs.declared.OfficeVerdict.{OfficeVerdict}
 
 -- the bytes of a text, one for each character
 abbrev pub ascii : String → List ℕ
@@ -125,3 +126,16 @@ windowLine l = ascii "window" ++ (arrivalWords (ascii " ") l ++ ascii "\n")
 -- the bytes that came back of two certificates
 unfoldable pub tighterLine : Refusal → List ℕ → List ℕ
 tighterLine r part = unlessRefused r (ascii "tighter " ++ hexadecimal part ++ ascii "\n")
+
+-- what the check says of a certificate with its notes removed, their number, and the buffer at exit
+unfoldable pub officeLine : OfficeVerdict → List ℕ → List ℕ
+officeLine v buffer =
+    unlessRefused (v .check .refusal)
+    (withNumber "office " (v .check .side)
+    ++ withRatio " " (v .check .bound)
+    ++ withNumber " rounds " (v .check .rounds)
+    ++ withNumber " rule " (v .check .rule)
+    ++ withNumber " notes " (v .notes)
+    ++ ascii " "
+    ++ hexadecimal buffer
+    ++ ascii "\n")

@@ -1,2 +1,2 @@
 -- The definitions that the contracts here cite.
-pub mod Copies
+pub mod Steps

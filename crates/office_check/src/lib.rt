@@ -2,18 +2,19 @@
 // lent buffer. A walk over the commands tells the notes. Where there are none, the certificate itself is checked; else a
 // copy without them, of as many bytes as a certificate is read by.
 ghost use mathlib.Core.Path.{_≡_};
-ghost use mathlib.Core.List.{_++_};
-ghost use Prim.Native.Nat.{_+_, _*_, _≤_};
+ghost use mathlib.Core.List.{List, _++_};
+ghost use Prim.Native.Nat.{ℕ, _*_, _≤_};
 ghost use lib.ListN.{length, take, drop};
 ghost use lib.Seq.{slice};
 ghost use Rattle.format.specs.Notes.{noteText, officeSize, walkStart, stepAt, noteOffsets, walkEnd, bodyEnd};
 ghost use Rattle.format.specs.Notes.{withoutNotes, placeSent, noteTexts, RemovesNotes};
+ghost use Rattle.format.proofs.Walk.{Walking};
 ghost use Rattle.calls.specs.Tables.{tables, tablesShort, TablesLeft};
 ghost use Rattle.calls.specs.Check.{checkVerdict};
 ghost use Rattle.calls.specs.Promises.{HoldsBySide};
 ghost use Rattle.calls.specs.Office.{verdictSent, noteCount, refusedNotes, officeOf, officeVerdict, bufferLeft};
 ghost use Rattle.calls.specs.Office.{OfficeNumbered, StrictBeside, SameForOthers, CutNote, ThirteenExactly, Untouched};
-ghost use Rattle.office_check.specs.Copies.{Filled, Sendable, bufferTold};
+ghost use Rattle.office_check.specs.Steps.{noteHere, Reached, Least, Filled, Sendable, bufferTold};
 use calls::CheckVerdict;
 use calls::Fraction;
 use calls::OfficeVerdict;
@@ -61,41 +62,84 @@ fn step_at(s: &[u8], at: usize) -> usize
     n
 }
 
+// Whether a whole note stands at an offset of the walk.
+fn note_at(s: &[u8], at: usize) -> bool
+    requires { ⌜ at ≤ length (now s) ⌝ }
+    ensures { λ r. ⌜ r ≡ noteHere (now (s .entry)) at ⌝ }
+{
+    if s.len() - at < 9 {
+        return false;
+    }
+    s[at] == 0x40
+}
+
+// The walk from an offset on, to the next note or to its end.
+fn next_note(s: &[u8], from: usize) -> usize
+    requires { ⌜ from ≤ length (now s) ⌝ }
+    ensures { λ r. ⌜ ((l : List ℕ) (e : ℕ) → Walking (now (s .entry)) from l e → Reached (now (s .entry)) l e r) ⌝ }
+    ensures inside { λ r. ⌜ (from ≤ r) × (r ≤ length (now (s .entry))) ⌝ }
+{
+    let mut at = from;
+    loop {
+        let n = step_at(s, at);
+        if n == 0 {
+            return at;
+        }
+        if s[at] == 0x40 {
+            return at;
+        }
+        at += n;
+    }
+}
+
+// The first note, or the end of the walk.
+fn first_note(s: &[u8]) -> usize
+    ensures { λ r. ⌜
+        Reached (now (s .entry)) (noteOffsets (now (s .entry))) (walkEnd (now (s .entry))) r
+        × (r ≤ length (now (s .entry)))
+        ⌝ }
+{
+    next_note(s, walk_start(s))
+}
+
 // What the walk finds: the number of notes, and where the commands end.
-struct Walked {
+struct Findings {
     notes: usize,
     end: usize,
 }
 
-// At its end: behind it stands a note that is cut, or what is no note.
-fn walked(s: &[u8], at: usize, notes: usize) -> Walked
+// At the end of the walk: a note that is cut stands there, or none.
+fn at_end(s: &[u8], at: usize, notes: usize) -> Findings
     requires { ⌜ at ≡ walkEnd (now s) ⌝ }
     ensures { λ r. ⌜ (r .notes ≡ notes) × (r .end ≡ bodyEnd (now (s .entry))) ⌝ }
 {
     let len = s.len();
     if at < len {
         if s[at] == 0x40 {
-            return Walked { notes, end: at };
+            return Findings { notes, end: at };
         }
     }
-    Walked { notes, end: len }
+    Findings { notes, end: len }
 }
 
 // The walk over a certificate stream.
-fn walk(s: &[u8]) -> Walked
+fn walk(s: &[u8]) -> Findings
     ensures { λ r. ⌜ (r .notes ≡ noteCount (now (s .entry))) × (r .end ≡ bodyEnd (now (s .entry))) ⌝ }
 {
-    let mut at = walk_start(s);
     let mut notes = 0;
-    let mut n = step_at(s, at);
-    while 0 < n {
-        if s[at] == 0x40 {
-            notes += 1;
-        }
-        at += n;
-        n = step_at(s, at);
+    let mut at = first_note(s);
+    while note_at(s, at) {
+        notes += 1;
+        at = next_note(s, at + 9);
     }
-    walked(s, at, notes)
+    at_end(s, at, notes)
+}
+
+// The smaller of two numbers.
+fn least(a: usize, b: usize) -> usize
+    ensures { λ r. ⌜ Least a b r ⌝ }
+{
+    if a < b { a } else { b }
 }
 
 // Puts the bytes between two offsets of a stream behind the first `len` bytes of a copy, as many of them as it holds;
@@ -104,33 +148,27 @@ fn append(s: &[u8], from: usize, to: usize, copy: &mut [u8], len: usize) -> usiz
     requires { ⌜ (from ≤ to) × (to ≤ length (now s)) × (len ≤ length (now copy)) ⌝ }
     ensures { λ r. ⌜ Filled (now (copy .entry)) len (slice from to (now (s .entry))) (now (copy .exit)) r ⌝ }
 {
-    let room = copy.len() - len;
-    let mut end = to;
-    if room < to - from {
-        end = from + room;
-    }
-    len + bytes::copy(&s[from..end], &mut copy[len..])
+    let n = least(to - from, copy.len() - len);
+    let end = from + n;
+    bytes::copy(&s[from..end], &mut copy[len..]);
+    len + n
 }
 
 // A copy of the stream with notes removed, as far as it holds it; how many bytes it has. The commands end at `end`.
 fn remove(s: &[u8], end: usize, copy: &mut [u8]) -> usize
     requires { ⌜ end ≡ bodyEnd (now s) ⌝ }
     ensures { λ r. ⌜
-        take r (now (copy .exit)) ≡ take (length (now (copy .entry))) (withoutNotes (now (s .entry)))
-        × (r ≤ length (now (copy .exit)))
+        (take r (now (copy .exit)) ≡ take (length (now (copy .entry))) (withoutNotes (now (s .entry))))
+        × (r ≤ length (now (copy .entry)))
         ⌝ }
 {
     let mut from = 0;
     let mut len = 0;
-    let mut at = walk_start(s);
-    let mut n = step_at(s, at);
-    while 0 < n {
-        if s[at] == 0x40 {
-            len = append(s, from, at, copy, len);
-            from = at + 9;
-        }
-        at += n;
-        n = step_at(s, at);
+    let mut at = first_note(s);
+    while note_at(s, at) {
+        len = append(s, from, at, copy, len);
+        from = at + 9;
+        at = next_note(s, from);
     }
     append(s, from, end, copy, len)
 }
@@ -141,16 +179,13 @@ fn place_sent(s: &[u8], place: usize) -> usize
     ensures { λ r. ⌜ r ≡ placeSent (noteOffsets (now (s .entry))) place ⌝ }
 {
     let mut x = place;
-    let mut at = walk_start(s);
-    let mut n = step_at(s, at);
-    while 0 < n {
-        if s[at] == 0x40 {
-            if at <= x {
-                x += 9;
-            }
+    let mut at = first_note(s);
+    while note_at(s, at) {
+        if x < at {
+            return x;
         }
-        at += n;
-        n = step_at(s, at);
+        x += 9;
+        at = next_note(s, at + 9);
     }
     x
 }
@@ -163,14 +198,10 @@ fn put_notes(s: &[u8], buffer: &mut [u8])
         ⌜ now (buffer .exit) ≡ noteTexts t ++ drop (noteText * noteCount t) (now (buffer .entry)) ⌝ }
 {
     let mut len = 0;
-    let mut at = walk_start(s);
-    let mut n = step_at(s, at);
-    while 0 < n {
-        if s[at] == 0x40 {
-            len = append(s, at + 1, at + 9, buffer, len);
-        }
-        at += n;
-        n = step_at(s, at);
+    let mut at = first_note(s);
+    while note_at(s, at) {
+        len = append(s, at + 1, at + 9, buffer, len);
+        at = next_note(s, at + 9);
     }
 }
 
@@ -207,6 +238,7 @@ fn verdict_sent(certificate: &[u8], v: CheckVerdict) -> CheckVerdict
         return v;
     }
     let place = place_sent(certificate, f.place);
+    let bound = v.bound;
     CheckVerdict {
         refusal: Refusal {
             number: f.number,
@@ -215,7 +247,7 @@ fn verdict_sent(certificate: &[u8], v: CheckVerdict) -> CheckVerdict
             key: f.key,
         },
         side: v.side,
-        bound: v.bound,
+        bound,
         rounds: v.rounds,
         rule: v.rule,
     }
