@@ -62,6 +62,22 @@ extern "C" {
         low: *mut i64,
         low_length: usize,
     ) -> u64;
+
+    fn zamiachisel_office(
+        problem: *const u8,
+        problem_length: usize,
+        certificate: *const u8,
+        certificate_length: usize,
+        buffer: *mut u8,
+        buffer_length: usize,
+        notes: *mut u64,
+        keys: *mut u64,
+        keys_length: usize,
+        high: *mut i64,
+        high_length: usize,
+        low: *mut i64,
+        low_length: usize,
+    ) -> u64;
 }
 
 /// A record: its kind and its three byte runs.
@@ -131,6 +147,7 @@ pub fn answer(record: &Record, lent: &mut Lent) -> u64 {
         b'c' => call!(zamiachisel_check, problem, first; lent.keys, lent.high, lent.low),
         b'p' => call!(zamiachisel_pair, problem, first, second; lent.keys, lent.high, lent.low),
         b't' => tighter(&record.runs, lent)[0],
+        b'n' => office(&record.runs, lent),
         _ => 0,
     }
 }
@@ -163,4 +180,32 @@ pub fn tighter([problem, first, second]: &[Vec<u8>; 3], lent: &mut Lent) -> [u64
     assert_eq!(number == 0, back == 1 || back == 2);
     assert!(number != 0 || [stream, place, key] == [0; 3]);
     [number, stream, place, key]
+}
+
+/// The number of the refusal of the office's check, or 0, on a buffer as the record has it. The number of notes is lent with
+/// another number in it; with a refusal it is 0, and the buffer stays.
+pub fn office([problem, certificate, buffer]: &[Vec<u8>; 3], lent: &mut Lent) -> u64 {
+    let mut left = buffer.clone();
+    let mut notes = u64::MAX;
+    // As above; the number of notes is apart from the buffer and from the tables.
+    let number = unsafe {
+        zamiachisel_office(
+            problem.as_ptr(),
+            problem.len(),
+            certificate.as_ptr(),
+            certificate.len(),
+            left.as_mut_ptr(),
+            left.len(),
+            &raw mut notes,
+            lent.keys.as_mut_ptr(),
+            lent.keys.len(),
+            lent.high.as_mut_ptr(),
+            lent.high.len(),
+            lent.low.as_mut_ptr(),
+            lent.low.len(),
+        )
+    };
+    assert!(8 * notes as usize <= left.len());
+    assert!(number == 0 || (notes == 0 && left == *buffer));
+    number
 }

@@ -88,7 +88,7 @@ pub fn run() {
         |lent| lent.low.truncate(2_047),
         |lent| lent.keys.clear(),
     ];
-    for kind in *b"bcpt" {
+    for kind in *b"bcptn" {
         full(kind);
         for shorten in tables {
             shortened(kind, shorten);
@@ -98,5 +98,5 @@ pub fn run() {
     lent.low.truncate(2_047);
     assert_eq!(tighter(&case_f(b't').runs, &mut lent), [1, 0, 0, 0]);
     shortened(b'b', |lent| lent.out.truncate(575));
-    println!("refusal 1 for each short table of each call, and nothing written but the four numbers of the call on two");
+    println!("refusal 1 for each short table of each call, and nothing written but the four numbers of the call on two and the number of notes");
 }

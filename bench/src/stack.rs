@@ -41,6 +41,7 @@ fn run_all(records: &[Record]) {
         (b'c', "check"),
         (b'p', "pair"),
         (b't', "tighter"),
+        (b'n', "office"),
     ];
     for (kind, name) in calls {
         let records = records.iter().filter(|record| record.kind == kind);

@@ -9,8 +9,9 @@ use native.Mathlib.Omega.{arith}
 use lib.Dec.{eqb}
 use lib.ListN.{length, take, drop}
 use lib.Seq.{drop-at}
-use borrow.Author.Tests.{eqb-true, eqb-false, ltb-true, ltb-false, ne-eqb}
-use Rattle.counting.proofs.Cases.{clash}
+use borrow.Author.Tests.{eqb-true, eq-eqb, ne-eqb, lt-ltb, le-ltb}
+use Rattle.counting.proofs.Cases.{clash, lt-or-le}
+use Rattle.counting.proofs.Listed.{same-or-not}
 use Rattle.format.specs.All.{All}
 use Rattle.format.specs.Commands.{Outcome}
 use Rattle.format.specs.Commands as Stream
@@ -19,7 +20,7 @@ use Rattle.format.proofs.ProblemLimits.{read-limits}
 use Rattle.format.specs.CertificateRules.{Entry, Row, Certificate, readCertificate}
 use Rattle.format.proofs.Longest.{enoughBytes, read-beginning}
 use Rattle.format.proofs.Places.{refused-within, EntriesWithin, entries-within}
-use Rattle.format.specs.Notes.{noteText, noteOffsets, bodyEnd, withoutNotes, placeSent, noteTexts, NoNotes}
+use Rattle.format.specs.Notes.{noteText, noteOffsets, bodyEnd, withoutNotes, placeSent, textsAt, noteTexts, NoNotes}
 use Rattle.format.proofs.Notes.{Spaced, spaced, place-low, place-inside, removes-notes, without-none, same-offsets, same-removed, note-texts-length}
 use Rattle.format.proofs.NotesRead.{Strict, noted, earlier, strict-reading}
 use Rattle.format.proofs.CutNotes.{read-whole}
@@ -145,7 +146,7 @@ pub sent-within : (short : Bool) (s t : List ℕ) → checkVerdict short s (with
 sent-within short s t h = place-inside t _ (check-within short s (withoutNotes t) h)
 
 -- ---- verdicts with places as sent
-sent-number : (t : List ℕ) (r : Refusal) → refusalSent t r .number ≡ r .number
+pub sent-number : (t : List ℕ) (r : Refusal) → refusalSent t r .number ≡ r .number
 unfolding refusalSent
 sent-number t r = go (eqb (r .stream) 1)
   where
@@ -156,7 +157,7 @@ sent-number t r = go (eqb (r .stream) 1)
     go false = refl
 
 -- where no certificate is refused they are the same
-sent-other : (t : List ℕ) (v : CheckVerdict) → (v .refusal .stream ≡ 1 → ⊥) → verdictSent t v ≡ v
+pub sent-other : (t : List ℕ) (v : CheckVerdict) → (v .refusal .stream ≡ 1 → ⊥) → verdictSent t v ≡ v
 unfolding verdictSent refusalSent
 sent-other t v h = rw (ne-eqb (v .refusal .stream) 1 h)
 
@@ -176,7 +177,46 @@ sent-same t v h = go (eqb (v .refusal .stream) 1)
     go true = rw h
     go false = refl
 
+-- of a refusal of the certificate
+pub sent-first : (t : List ℕ) (v : CheckVerdict) (place : ℕ) → v .refusal .stream ≡ 1
+    → place ≡ placeSent (noteOffsets t) (v .refusal .place)
+    → _≡_ {A = CheckVerdict} (record {
+      refusal =
+          record { number = v .refusal .number; stream = v .refusal .stream; place = place; key = v .refusal .key };
+      side = v .side;
+      bound = v .bound;
+      rounds = v .rounds;
+      rule = v .rule;
+    }) (verdictSent t v)
+unfolding verdictSent refusalSent
+sent-first t v place h e = rw (eq-eqb (v .refusal .stream) 1 h, e)
+
 -- ---- how the call ends, by what the check says of the stream with notes removed
+module _ (t : List ℕ) (room : ℕ) (w : CheckVerdict) where
+  pub office-refused : (w .refusal .number ≡ 0 → ⊥)
+      → officeOf t room w ≡ record { check = verdictSent t w; notes = 0 }
+  unfolding officeOf
+  office-refused h = rw (ne-eqb (w .refusal .number) 0 h)
+
+  pub office-short : w .refusal .number ≡ 0 → room < noteText * noteCount t → officeOf t room w ≡ refusedNotes
+  unfolding officeOf
+  office-short h b = rw (eq-eqb (w .refusal .number) 0 h, lt-ltb room (noteText * noteCount t) b)
+
+  pub office-accepted : w .refusal .number ≡ 0 → noteText * noteCount t ≤ room
+      → officeOf t room w ≡ record { check = verdictSent t w; notes = noteCount t }
+  unfolding officeOf
+  office-accepted h b = rw (eq-eqb (w .refusal .number) 0 h, le-ltb room (noteText * noteCount t) b)
+
+  -- without notes
+  pub office-none : noteOffsets t ≡ [] → officeOf t room w ≡ record { check = w; notes = 0 }
+  unfolding officeOf placeSent
+  office-none e =
+      rw (e, le-ltb room 0 (omega arith), sent-same t w (rw e)) (go (isAccepted w))
+    where
+      go : (b : Bool) → _≡_ {A = OfficeVerdict} (cond (b && false) refusedNotes (record { check = w; notes = cond b 0 0 })) (record { check = w; notes = 0 })
+      go true = refl
+      go false = refl
+
 data Told (t : List ℕ) (room : ℕ) (w : CheckVerdict) (v : OfficeVerdict) : Type 0 where
   refusing : (w .refusal .number ≡ 0 → ⊥) → v ≡ record { check = verdictSent t w; notes = 0 } → Told t room w v
   short-of : w .refusal .number ≡ 0 → room < noteText * noteCount t → v ≡ refusedNotes → Told t room w v
@@ -184,15 +224,14 @@ data Told (t : List ℕ) (room : ℕ) (w : CheckVerdict) (v : OfficeVerdict) : T
       → v ≡ record { check = verdictSent t w; notes = noteCount t } → Told t room w v
 
 told : (t : List ℕ) (room : ℕ) (w : CheckVerdict) → Told t room w (officeOf t room w)
-unfolding officeOf
-told t room w = go (isAccepted w) (cannotHold room t) refl refl
+told t room w = ⊎-elim passed (λ h. refusing h (office-refused t room w h)) (same-or-not (w .refusal .number) 0)
   where
-    go : (x y : Bool) → isAccepted w ≡ x → cannotHold room t ≡ y
-        → Told t room w
-        (cond (x && y) refusedNotes (record { check = verdictSent t w; notes = cond x (noteCount t) 0 }))
-    go true true e f = short-of (eqb-true _ _ e) (ltb-true _ _ f) refl
-    go true false e f = accepting (eqb-true _ _ e) (ltb-false _ _ f) refl
-    go false y e f = refusing (eqb-false _ _ e) refl
+    passed : w .refusal .number ≡ 0 → Told t room w (officeOf t room w)
+    passed h =
+        ⊎-elim
+        (λ b. short-of h b (office-short t room w h b))
+        (λ b. accepting h b (office-accepted t room w h b))
+        (lt-or-le room (noteText * noteCount t))
 
 module _ (short : Bool) (s t : List ℕ) (room : ℕ) (v : OfficeVerdict) (is : v ≡ officeVerdict short s t room) where
   -- what the check says of the stream with notes removed
@@ -257,19 +296,10 @@ module _ (short : Bool) (s t : List ℕ) (room : ℕ) (v : OfficeVerdict) (is : 
 
   -- ---- beside the strict check
   without : NoNotes t → (v .check ≡ checkVerdict short s t) × (v .notes ≡ 0)
-  unfolding placeSent
-  without q = go ended
-    where
-      same : verdictSent t w ≡ checkVerdict short s t
-      same = sent-same t w (rw (q .none)) ∙ rw (without-none t q)
-
-      none-told : noteCount t ≡ 0
-      none-told = ap length (q .none)
-
-      go : Told t room w v → (v .check ≡ checkVerdict short s t) × (v .notes ≡ 0)
-      go (refusing h e) = (check-is _ e ∙ same, ap (λ (x : OfficeVerdict). x .notes) e)
-      go (short-of h k e) = absurd (omega (arith, none-told))
-      go (accepting h k e) = (check-is _ e ∙ same, ap (λ (x : OfficeVerdict). x .notes) e ∙ none-told)
+  unfolding officeVerdict
+  without q =
+      let e = is ∙ office-none t room w (q .none) in
+      (check-is _ e ∙ rw (without-none t q), ap (λ (x : OfficeVerdict). x .notes) e)
 
   module _ (a : ℕ) (l : List ℕ) (first : noteOffsets t ≡ a ∷ l) where
     abbrev Beside : Type 0
@@ -377,6 +407,13 @@ module _ (short : Bool) (s t : List ℕ) (room : ℕ) (v : OfficeVerdict) (is : 
   office-clauses = (numbered, (strict-beside, (same-for-others, (holds, (cut-within, thirteen)))))
 
 -- ---- the buffer
+-- without notes it stays
+pub buffer-none : (t buffer : List ℕ) (b : Bool) → noteOffsets t ≡ []
+    → cond b (noteTexts t ++ drop (noteText * noteCount t) buffer) buffer ≡ buffer
+unfolding noteTexts textsAt
+buffer-none t buffer true e = rw e
+buffer-none t buffer false e = refl
+
 module _ (short : Bool) (s t lent : List ℕ) where
   abbrev verdict : OfficeVerdict
   verdict = officeVerdict short s t (length lent)

@@ -94,14 +94,16 @@ blocksLine v out =
     ++ hexadecimal out
     ++ ascii "\n")
 
-unfoldable pub checkLine : CheckVerdict → List ℕ
-checkLine v =
-    unlessRefused (v .refusal)
-    (withNumber "check " (v .side)
+-- the side, the bound, the rounds and the rule of the check, after a word
+unfoldable pub checkWords : List ℕ → CheckVerdict → List ℕ
+checkWords word v =
+    (word ++ decimal (v .side))
     ++ withRatio " " (v .bound)
     ++ withNumber " rounds " (v .rounds)
     ++ withNumber " rule " (v .rule)
-    ++ ascii "\n")
+
+unfoldable pub checkLine : CheckVerdict → List ℕ
+checkLine v = unlessRefused (v .refusal) (checkWords (ascii "check ") v ++ ascii "\n")
 
 unfoldable pub pairLine : PairVerdict → List ℕ
 pairLine v =
@@ -131,10 +133,7 @@ tighterLine r part = unlessRefused r (ascii "tighter " ++ hexadecimal part ++ as
 unfoldable pub officeLine : OfficeVerdict → List ℕ → List ℕ
 officeLine v buffer =
     unlessRefused (v .check .refusal)
-    (withNumber "office " (v .check .side)
-    ++ withRatio " " (v .check .bound)
-    ++ withNumber " rounds " (v .check .rounds)
-    ++ withNumber " rule " (v .check .rule)
+    (checkWords (ascii "office ") (v .check)
     ++ withNumber " notes " (v .notes)
     ++ ascii " "
     ++ hexadecimal buffer

@@ -3,13 +3,14 @@ use mathlib.Core.Bool.{false, cond}
 use mathlib.Core.List.{List, []}
 use Prim.Native.Nat.{ℕ}
 use lib.Dec.{eqb}
-use lib.ListN.{replicate}
+use lib.ListN.{length, replicate}
 use Rattle.calls.specs.Blocks.{blocksVerdict, bytesLeft}
 use Rattle.calls.specs.Check.{checkVerdict}
 use Rattle.calls.specs.Pair.{pairVerdict}
 use Rattle.calls.specs.Superseding.{supersedingVerdict, partOf}
 use Rattle.calls.specs.declared.SupersedingVerdict.{SupersedingVerdict}
-use Rattle.lines.specs.Lines.{blocksLine, checkLine, pairLine, tighterLine}
+use Rattle.calls.specs.Office.{officeVerdict, bufferLeft}
+use Rattle.lines.specs.Lines.{blocksLine, checkLine, pairLine, tighterLine, officeLine}
 
 abbrev pub blocksAnswer : List ℕ → List ℕ
 blocksAnswer problem = blocksLine (blocksVerdict false problem) (bytesLeft false problem (replicate 576 0))
@@ -27,8 +28,13 @@ tighterVerdict v first second = tighterLine (v .refusal) (partOf (v .chosen) fir
 abbrev pub tighterAnswer : List ℕ → List ℕ → List ℕ → List ℕ
 tighterAnswer problem first second = tighterVerdict (supersedingVerdict false problem first second) first second
 
--- by the kind: b, c, p, or another, which is not answered. Kinds t and w, whose lines may be longer than a text, are
--- answered by `tighterAnswer` and `windowAnswer`
+-- a certificate that may have notes, and the buffer as lent
+abbrev pub officeAnswer : List ℕ → List ℕ → List ℕ → List ℕ
+officeAnswer problem certificate buffer =
+    officeLine (officeVerdict false problem certificate (length buffer)) (bufferLeft false problem certificate buffer)
+
+-- by the kind: b, c, p, or another, which is not answered. Kinds t, n and w, whose lines may be longer than a text, are
+-- answered by `tighterAnswer`, `officeAnswer` and `windowAnswer`
 unfoldable pub recordAnswer : ℕ → List ℕ → List ℕ → List ℕ → List ℕ
 recordAnswer kind problem first second =
     cond (eqb kind 0x62) (blocksAnswer problem)

@@ -1,7 +1,8 @@
 // Answers the records of the standard input, one line for each, until it ends. A record is a kind byte (b: blocks, c:
-// check, p: pair, t: the tighter of two certificates, w: arrivals at the window of gaps), three lengths of 32 bits,
-// little-endian, and three byte runs, each of at most 65,536 bytes. `answer_record` decides, on the kind and the runs,
-// `window_line` on the arrivals and `tighter_line` on two certificates; all else moves bytes.
+// check, p: pair, t: the tighter of two certificates, n: the office's check, w: arrivals at the window of gaps), three
+// lengths of 32 bits, little-endian, and three byte runs, each of at most 65,536 bytes. `answer_record` decides, on the
+// kind and the runs, `window_line` on the arrivals, `tighter_line` on two certificates and `office_line` on one with
+// notes; all else moves bytes.
 ghost use mathlib.Core.Path.{_≡_};
 ghost use mathlib.Core.Bool.{true};
 ghost use mathlib.Core.List.{_++_};
@@ -13,6 +14,7 @@ ghost use Rattle.lines.specs.Texts.{textOf};
 ghost use Rattle.text.specs.Appending.{Appended};
 ghost use Rattle.replay.specs.Arrivals.{arrivalAt, separator, windowAnswer};
 ghost use Rattle.replay.specs.Records.{blocksAnswer, checkAnswer, pairAnswer, recordAnswer, tighterAnswer};
+ghost use Rattle.replay.specs.Records.{officeAnswer};
 use calls::Fraction;
 use calls::WindowVerdict;
 use libc::STDIN_FILENO;
@@ -182,6 +184,41 @@ fn answer_tighter<'a>(
     io::write_all(STDOUT_FILENO, text::cut(&out, len))
 }
 
+// The line for a certificate that may have notes: what the office is told, and the buffer, or the refusal.
+fn office_line(problem: &[u8], certificate: &[u8], buffer: &mut [u8], out: &mut [u8]) -> usize
+    requires { ⌜ 2 * length (now buffer) + 153 ≤ length (now out) ⌝ }
+    ensures { λ r. ⌜
+        take r (now (out .exit)) ≡ officeAnswer (now (problem .entry)) (now (certificate .entry)) (now (buffer .entry))
+        ⌝ }
+{
+    let mut keys = [0u64; 2048];
+    let mut high = [0i64; 2048];
+    let mut low = [0i64; 2048];
+    let v = office_check::office(problem, certificate, buffer, &mut keys, &mut high, &mut low);
+    text::office_line(out, v, buffer)
+}
+
+// Answers a record of a certificate that may have notes; whether its line was written.
+fn answer_office(
+    problem: &[u8; 65536],
+    a: usize,
+    certificate: &[u8; 65536],
+    b: usize,
+    buffer: &mut [u8; 65536],
+    c: usize,
+) -> bool
+    requires { ⌜ c ≤ 65536 ⌝ }
+{
+    let mut out = [0u8; 135168];
+    let len = office_line(
+        text::cut(problem, a),
+        text::cut(certificate, b),
+        &mut buffer[..c],
+        &mut out,
+    );
+    io::write_all(STDOUT_FILENO, text::cut(&out, len))
+}
+
 // The length that four bytes of a record's head give.
 fn length_at(head: &[u8; 13], at: usize) -> usize
     requires { ⌜ at + 4 ≤ 13 ⌝ }
@@ -227,6 +264,9 @@ fn answer_next() -> bool {
     }
     if head[0] == b't' {
         return answer_tighter(&problem, a, &first, b, &second, c);
+    }
+    if head[0] == b'n' {
+        return answer_office(&problem, a, &first, b, &mut second, c);
     }
     let text = answer_record(
         head[0],

@@ -4,7 +4,7 @@ use native.Mathlib.Omega.{arith}
 use mathlib.Core.Path.{_≡_, sym, _∙_}
 use mathlib.Core.Bool.{true, false}
 use mathlib.Core.List.{List}
-use Prim.Native.Nat.{ℕ, _+_, _-_, _<_}
+use Prim.Native.Nat.{ℕ, _+_, _-_, _≤_, _<_}
 use lib.ListN.{length}
 use Rattle.format.specs.Notes.{noteLength}
 use Rattle.office_check.specs.Steps.{noteHere}
@@ -26,8 +26,17 @@ module _ (l : tie.At-loop Inv-loop μ-loop) where
 
 -- at a note
 module _ (c : tie.Then1 Inv-loop μ-loop) where
-  here : noteHere (s (c .before .before)) (c .before .before .loop .at) ≡ true
+  abbrev head : tie.At-loop Inv-loop μ-loop
+  head = c .before .before
+
+  here : noteHere (s head) (head .loop .at) ≡ true
   here = sym (c .before .note-at .ensures) ∙ c .if1 .taken
+
+  within : head .loop .at + noteLength ≤ length (s head)
+  within = here-inside (s head) (head .loop .at) here
+
+  fits : head .loop .at + noteLength < 18446744073709551616
+  fits = omega (arith, within, head .before .before .before .good .0 .0)
 
 -- behind the last
 module _ (c : tie.Else1 Inv-loop μ-loop) where
@@ -45,22 +54,14 @@ loop-holds c =
 note-at-requires : tie.Need-note-at-requires Inv-loop μ-loop
 note-at-requires c κs = c .loop .inv .on .inside
 
--- a note stands within the stream, whose length fits
-fits : (c : tie.Then1 Inv-loop μ-loop) → c .before .before .loop .at + noteLength < 18446744073709551616
-fits c =
-    let l = c .before .before in
-    omega (arith, here-inside (s l) (l .loop .at) (here c), l .before .before .before .good .0 .0)
-
 add-notes : tie.Need-add-notes Inv-loop μ-loop
-add-notes c =
-    let l = c .before .before in
-    record { fits = omega (arith, fits c, l .loop .inv .few) }
+add-notes c = record { fits = omega (arith, fits c, head c .loop .inv .few) }
 
 add-next-note : tie.Need-add-next-note Inv-loop μ-loop
 add-next-note c = record { fits = omega (arith, fits c) }
 
 next-note-requires : tie.Need-next-note-requires Inv-loop μ-loop
-next-note-requires c κs = here-inside _ _ (here c)
+next-note-requires c κs = within c
 
 next : (c : tie.After-next-note Inv-loop μ-loop)
     → Next (s (c .before .before .before)) (c .before .before .before .loop .at) (c .next-note .result)
@@ -69,7 +70,7 @@ next c =
     record { further = k .1 .0; inside = k .1 .1; reached = k .0 }
 
 loop-less : tie.Need-loop-less Inv-loop μ-loop
-loop-less c = let n = next c in let i = here-inside _ _ (here (c .before)) in omega (arith, n .further, n .inside)
+loop-less c = let n = next c in omega (arith, within (c .before), n .further, n .inside)
 
 loop-again : tie.Need-loop-again Inv-loop μ-loop
 loop-again c = counting-next _ _ _ (c .before .before .before .loop .inv) (here (c .before)) _ (next c)
