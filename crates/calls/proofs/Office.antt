@@ -21,7 +21,7 @@ use Rattle.format.specs.CertificateRules.{Entry, Row, Certificate, readCertific
 use Rattle.format.proofs.Longest.{enoughBytes, read-beginning}
 use Rattle.format.proofs.Places.{refused-within, EntriesWithin, entries-within}
 use Rattle.format.specs.Notes.{noteText, noteOffsets, bodyEnd, withoutNotes, placeSent, textsAt, noteTexts, NoNotes}
-use Rattle.format.proofs.Notes.{Spaced, spaced, place-low, place-inside, removes-notes, without-none, same-offsets, same-removed, note-texts-length}
+use Rattle.format.proofs.Notes.{Spaced, spaced, place-low, place-inside, removes-notes, without-none, same-offsets, same-removed, notes-in-order}
 use Rattle.format.proofs.NotesRead.{Strict, noted, earlier, strict-reading}
 use Rattle.format.proofs.CutNotes.{read-whole}
 use Rattle.joining_rule.specs.Joining.{tooLarge}
@@ -440,6 +440,6 @@ module _ (short : Bool) (s t lent : List ℕ) where
           let z = eqb-true (verdict .check .refusal .number) 0 e in
           record {
             refused = λ h. absurd (omega arith);
-            past = rw (notes-told z) (drop-at (noteTexts t) _ _ (note-texts-length t));
+            past = rw (notes-told z) (drop-at (noteTexts t) _ _ (notes-in-order t .count));
           }
       go false e = record { refused = λ h. refl; past = refl }

@@ -1,17 +1,19 @@
 -- What the stream with notes removed is: its bytes stand in the stream as sent at the places that are told, in their
 -- order, and between them stand the notes alone. Streams without notes, and streams that differ in their notes alone.
 use mathlib.Core.Path.{_≡_, refl, sym, ap, ap₂, _∙_}
-use mathlib.Core.Bool.{Bool, true, false, cond}
+use mathlib.Core.Bool.{Bool, true, false, cond, _&&_}
 use mathlib.Core.List.{List, [], _∷_, _++_}
 use mathlib.Core.Logic.{⊎-elim}
-use Prim.Native.Nat.{ℕ, _+_, _-_, _*_, _≤_, _<_}
+use Prim.Native.Nat.{ℕ, zero, suc, _+_, _-_, _*_, _≤_, _<_}
 use native.Mathlib.Omega.{arith}
-use lib.Dec.{leb}
+use lib.Dec.{eqb, leb}
 use lib.ListN.{length, getD, take, length-append, List·getD-append}
 use lib.Seq.{slice, length-slice, getD-drop, getD-take, getD-append-add, ext-getD, take-length}
 use borrow.Author.Tests.{le-leb, lt-leb, leb-true, leb-false, le-ltb, lt-ltb}
 use Rattle.counting.proofs.Cases.{lt-or-le}
-use Rattle.format.specs.Notes.{noteText, noteLength, isNote, stepAt, walkStart, noteOffsets, walkEnd, bodyEnd, outside, withoutNotes, placeSent, textsAt, noteTexts, RemovesNotes, NoNotes, inText, OtherNotes}
+use Rattle.format.specs.Notes.{noteText, noteLength, isNote, stepAt, walkStart, noteOffsets, walkEnd, bodyEnd, outside, withoutNotes, placeSent, textsAt, noteTexts, RemovesNotes, NotesInOrder, NoNotes, inText, OtherNotes}
+use Rattle.format.specs.All.{All}
+use Rattle.format.proofs.CertificateLimits.{all-within}
 use Rattle.format.proofs.Walk.{start-inside, Walking, walking-start, walking-end, walking-command, walking-note, walking-induction, walk-induction}
 
 -- ---- offsets of notes between two offsets, in their order and without overlap
@@ -329,16 +331,88 @@ module _ (s t : List ℕ) (other : OtherNotes s t) where
       (outside-same s t (bodyEnd s) (end-inside s) (rw (other .long) (end-inside s)) 0 (noteOffsets s) (spaced s)
       (λ x h. other .bytes x))
 
--- ---- each note has its 8 bytes
-texts-length : (s : List ℕ) (end : ℕ) → end ≤ length s → (from : ℕ) (l : List ℕ) → Spaced from l end
-    → length (textsAt l s) ≡ noteText * length l
-unfolding textsAt Spaced
-texts-length s end h from [] q = refl
-texts-length s end h from (a ∷ l) q =
-    let b = spaced-most (a + noteLength) l end (q .1) in
-    rw (length-append (slice (a + 1) (a + noteLength) s), length-slice (a + 1) (a + noteLength) s (omega arith))
-    (omega (arith, texts-length s end h (a + noteLength) l (q .1)))
+-- ---- the notes in their order
+spaced-at : (from : ℕ) (l : List ℕ) (end : ℕ) → Spaced from l end → (i : ℕ) → i < length l
+    → (from ≤ getD l i 0) × (getD l i 0 + noteLength ≤ end)
+unfolding Spaced
+spaced-at from [] end q i h = absurd (omega arith)
+spaced-at from (a ∷ l) end q zero h = (q .0, spaced-most (a + noteLength) l end (q .1))
+spaced-at from (a ∷ l) end q (suc i) h =
+    let k = spaced-at (a + noteLength) l end (q .1) i (omega arith) in (omega arith, k .1)
 
-pub note-texts-length : (s : List ℕ) → length (noteTexts s) ≡ noteText * length (noteOffsets s)
+spaced-rising : (from : ℕ) (l : List ℕ) (end : ℕ) → Spaced from l end → (i : ℕ) → i + 1 < length l
+    → getD l i 0 + noteLength ≤ getD l (i + 1) 0
+unfolding Spaced
+spaced-rising from [] end q i h = absurd (omega arith)
+spaced-rising from (a ∷ l) end q zero h = spaced-at (a + noteLength) l end (q .1) 0 (omega arith) .0
+spaced-rising from (a ∷ l) end q (suc i) h =
+    let e : suc i + 1 ≡ suc (i + 1) = omega arith in
+    rw e (spaced-rising (a + noteLength) l end (q .1) i (omega arith))
+
+-- each has its byte
+note-bytes : (s : List ℕ) → All (λ a. isNote (getD s a 0) ≡ true) (noteOffsets s)
+unfolding All
+note-bytes s =
+    walk-induction s (λ at l e. All (λ a. isNote (getD s a 0) ≡ true) l)
+    (λ at h z. tt)
+    (λ at l e q t r. r)
+    (λ at l e q t r. (t, r))
+
+-- where there is one, the walk began behind the 10
+some-headed : (s : List ℕ) → 0 < length (noteOffsets s) → 10 ≤ walkStart s
+unfolding walkStart
+some-headed s h = go (eqb (getD s 0 0) 0x10 && leb 10 (length s)) refl
+  where
+    go : (b : Bool) → (eqb (getD s 0 0) 0x10 && leb 10 (length s)) ≡ b → 10 ≤ cond b 10 (length s)
+    go true e = omega arith
+    go false e =
+        let z : walkStart s ≡ length s = unfold walkStart in rw e in
+        let k = spaced-at (walkStart s) (noteOffsets s) (bodyEnd s) (notes-spaced s) 0 h in
+        absurd (omega (arith, end-inside s))
+
+-- and its 8 bytes
+module _ (s : List ℕ) (end : ℕ) (inside : end ≤ length s) where
+  text-length : (from a : ℕ) (l : List ℕ) → Spaced from (a ∷ l) end
+      → length (slice (a + 1) (a + noteLength) s) ≡ noteText
+  unfolding Spaced
+  text-length from a l q =
+      length-slice (a + 1) (a + noteLength) s (omega (arith, spaced-most (a + noteLength) l end (q .1))) ∙ omega arith
+
+  texts-length : (from : ℕ) (l : List ℕ) → Spaced from l end → length (textsAt l s) ≡ noteText * length l
+  unfolding textsAt Spaced
+  texts-length from [] q = refl
+  texts-length from (a ∷ l) q =
+      simp length-append (omega (arith, text-length from a l q, texts-length (a + noteLength) l (q .1)))
+
+  texts-at : (from : ℕ) (l : List ℕ) → Spaced from l end → (i k : ℕ) → i < length l → k < noteText
+      → getD (textsAt l s) (noteText * i + k) 0 ≡ getD s (getD l i 0 + (1 + k)) 0
+  unfolding textsAt Spaced
+  texts-at from [] q i k h b = absurd (omega arith)
+  texts-at from (a ∷ l) q zero k h b =
+      let n = text-length from a l q in
+      let e : noteText * 0 + k ≡ k = omega arith in
+      let f : a + 1 + k ≡ a + (1 + k) = omega arith in
+      rw (e, ← f)
+      (List·getD-append (slice (a + 1) (a + noteLength) s) (textsAt l s) 0 k (omega arith)
+      ∙ part-byte (a + 1) (a + noteLength) s k (omega arith))
+  texts-at from (a ∷ l) q (suc i) k h b =
+      let n = text-length from a l q in
+      let e : noteText * suc i + k ≡ length (slice (a + 1) (a + noteLength) s) + (noteText * i + k) = omega arith in
+      rw e
+      (getD-append-add (slice (a + 1) (a + noteLength) s) (textsAt l s) (noteText * i + k) 0
+      ∙ texts-at (a + noteLength) l (q .1) i k (omega arith) b)
+
+pub notes-in-order : (s : List ℕ) → NotesInOrder s
 unfolding noteTexts
-note-texts-length s = texts-length s (bodyEnd s) (end-inside s) 0 (noteOffsets s) (spaced s)
+notes-in-order s =
+    let l = noteOffsets s in
+    let end = bodyEnd s in
+    record {
+      behind = λ i h.
+          omega (arith, some-headed s (omega arith), spaced-at (walkStart s) l end (notes-spaced s) i h .0);
+      byte = λ i h. all-within (λ a. isNote (getD s a 0) ≡ true) l i 0 h (note-bytes s);
+      whole = λ i h. spaced-at 0 l end (spaced s) i h .1;
+      rising = λ i h. spaced-rising 0 l end (spaced s) i h;
+      texts = λ i k h b. texts-at s end (end-inside s) 0 l (spaced s) i k h b;
+      count = texts-length s end (end-inside s) 0 l (spaced s);
+    }

@@ -1,9 +1,9 @@
 -- Request 10 of document 02, "Notes that only the office sees": which bytes of a certificate stream are notes, the
 -- stream with notes removed, and where its bytes stand in the stream as sent.
 use mathlib.Core.Path.{_≡_}
-use mathlib.Core.Bool.{Bool, false, cond, _&&_, _||_}
+use mathlib.Core.Bool.{Bool, true, false, cond, _&&_, _||_}
 use mathlib.Core.List.{List, [], _∷_, _++_}
-use Prim.Native.Nat.{ℕ, zero, suc, _+_, _*_, _<_}
+use Prim.Native.Nat.{ℕ, zero, suc, _+_, _*_, _≤_, _<_}
 use lib.Dec.{eqb, leb, ltb}
 use lib.ListN.{length, getD}
 use lib.Seq.{slice}
@@ -101,6 +101,17 @@ pub record RemovesNotes (s : List ℕ) : Type 0 where
   pub rising : (x y : ℕ) → x < y → placeSent (noteOffsets s) x < placeSent (noteOffsets s) y
   pub ends : placeSent (noteOffsets s) (length (withoutNotes s)) ≡ bodyEnd s
   pub count : length (withoutNotes s) + noteLength * length (noteOffsets s) ≡ bodyEnd s
+
+-- the notes are 40s behind the 10, whole, one behind another, and their texts stand in their order, 8 bytes each
+pub record NotesInOrder (s : List ℕ) : Type 0 where
+  pub behind : (i : ℕ) → i < length (noteOffsets s) → certificateSize C.Header ≤ getD (noteOffsets s) i 0
+  pub byte : (i : ℕ) → i < length (noteOffsets s) → isNote (getD s (getD (noteOffsets s) i 0) 0) ≡ true
+  pub whole : (i : ℕ) → i < length (noteOffsets s) → getD (noteOffsets s) i 0 + noteLength ≤ bodyEnd s
+  pub rising : (i : ℕ) → i + 1 < length (noteOffsets s)
+      → getD (noteOffsets s) i 0 + noteLength ≤ getD (noteOffsets s) (i + 1) 0
+  pub texts : (i k : ℕ) → i < length (noteOffsets s) → k < noteText
+      → getD (noteTexts s) (noteText * i + k) 0 ≡ getD s (getD (noteOffsets s) i 0 + (1 + k)) 0
+  pub count : length (noteTexts s) ≡ noteText * length (noteOffsets s)
 
 -- a stream without notes: none is found, and none is cut
 pub record NoNotes (s : List ℕ) : Type 0 where

@@ -7,7 +7,7 @@ ghost use Prim.Native.Nat.{ℕ, _*_, _≤_};
 ghost use lib.ListN.{length, take, drop};
 ghost use lib.Seq.{slice};
 ghost use Rattle.format.specs.Notes.{noteText, officeSize, walkStart, stepAt, noteOffsets, walkEnd, bodyEnd};
-ghost use Rattle.format.specs.Notes.{withoutNotes, placeSent, noteTexts, RemovesNotes};
+ghost use Rattle.format.specs.Notes.{withoutNotes, placeSent, noteTexts, RemovesNotes, NotesInOrder};
 ghost use Rattle.format.proofs.Walk.{Walking};
 ghost use Rattle.calls.specs.Tables.{tables, tablesShort, TablesLeft};
 ghost use Rattle.calls.specs.Check.{checkVerdict};
@@ -34,14 +34,11 @@ fn length_of(byte: u8) -> usize
 fn walk_start(s: &[u8]) -> usize
     ensures { λ r. ⌜ r ≡ walkStart (now (s .entry)) ⌝ }
 {
-    let len = s.len();
-    if len < 10 {
-        return len;
+    if s.len() < 10 {
+        return s.len();
     }
-    if s[0] != 0x10 {
-        return len;
-    }
-    10
+    let first = s[0];
+    if first == 0x10 { 10 } else { s.len() }
 }
 
 // How far the walk goes at an offset; 0 where it ends.
@@ -319,6 +316,7 @@ pub fn office(
         ⌜ TablesLeft (tablesShort lent) lent left ⌝ }
     ensures untouched { λ r. ⌜ Untouched r (now (buffer .entry)) (now (buffer .exit)) ⌝ }
     ensures removes { λ _. ⌜ RemovesNotes (now (certificate .entry)) ⌝ }
+    ensures notes { λ _. ⌜ NotesInOrder (now (certificate .entry)) ⌝ }
     ensures numbered { λ r. ⌜ OfficeNumbered (r .check .refusal .number) ⌝ }
     ensures strict { λ r.
         let lent = tables (now (keys .entry)) (now (high .entry)) (now (low .entry)) in
