@@ -34,7 +34,7 @@ use Rattle.calls.specs.Refusals.{problemRefusal, certificateRefusal}
 use Rattle.calls.specs.Check.{refusedCheck, checkJudged, checkOf, checkVerdict}
 use Rattle.calls.specs.Promises.{Within, HoldsBySide}
 use Rattle.calls.specs.Superseding.{isAccepted}
-use Rattle.calls.specs.Office.{refusalSent, verdictSent, noteCount, cannotHold, refusedNotes, officeOf, officeVerdict, bufferLeft}
+use Rattle.calls.specs.Office.{refusalSent, verdictSent, noteCount, refusedNotes, officeOf, officeVerdict, bufferLeft}
 use Rattle.calls.specs.Office.{OfficeNumbered, StrictBeside, SameForOthers, RefusedBefore, CutNote, ThirteenExactly, Untouched}
 use Rattle.calls.proofs.Judged.{Between, problem-number, certificate-number, judge-number}
 use Rattle.calls.proofs.Checking.{check-found, check-clauses}

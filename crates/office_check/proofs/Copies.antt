@@ -5,7 +5,7 @@ use mathlib.Core.Logic.{_⊎_, ⊎-elim}
 use Prim.Native.Nat.{ℕ, zero, suc, _+_, _-_, _≤_}
 use native.Mathlib.Omega.{arith}
 use lib.ListN.{length, take, drop, length-drop, drop-of-length-le}
-use lib.Seq.{slice, length-slice, take-all, take-take, drop-drop, length-take-le, paste, length-paste, take-paste, drop-paste}
+use lib.Seq.{slice, take-all, take-take, drop-drop, length-take-le, paste, length-paste, take-paste, drop-paste}
 use Rattle.office_check.specs.Steps.{Least, Filled}
 
 -- ---- one part

@@ -6,7 +6,7 @@ use mathlib.Core.List.{List, [], _∷_, _++_, append-assoc, append-nil}
 use Prim.Native.Nat.{ℕ, zero, suc, _+_, _-_, _*_, _≤_, _<_}
 use native.Mathlib.Omega.{arith}
 use lib.ListN.{length, take, drop, take-append-drop}
-use lib.Seq.{slice, length-slice, take-all, take-nil, drop-drop}
+use lib.Seq.{slice, length-slice, take-all, drop-drop}
 use borrow.Author.Tests.{le-leb}
 use Rattle.format.specs.Notes.{noteText, noteLength, noteOffsets, walkEnd, bodyEnd, outside, withoutNotes, placeSent, textsAt, noteTexts}
 use Rattle.format.proofs.Walk.{Walking, NoteMet}

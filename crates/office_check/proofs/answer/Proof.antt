@@ -1,7 +1,7 @@
 -- `answer`: by the refusal and the length of the buffer.
 use borrow.Author.Needs.{needs}
 use native.Mathlib.Omega.{arith}
-use mathlib.Core.Path.{refl, _∙_}
+use mathlib.Core.Path.{_∙_}
 use Rattle.office_check.proofs.Answers.{texts-short, told-refused, told-short, told-accepted, buffer-refused, buffer-short, buffer-accepted}
 use Rattle.office_check.proofs.answer.Statement.{statement}
 use Rattle.office_check.proofs.answer.Tie as tie
@@ -52,7 +52,7 @@ returns-3 c =
     let s = d .before .before .before in
     let a = s .args in (
       told-accepted (a .certificate .now) (a .v) _ (d .verdict-sent .ensures) _ (a .notes) (s .pre .0) (e .if1 .left)
-      (omega (arith, f .if2 .left, s .pre .0)),
+          (omega (arith, f .if2 .left, s .pre .0)),
       buffer-accepted (a .certificate .now) (d .verdict-sent .result) _ _ (e .if1 .left) (c .before .before .put-notes .ensures),
     )
 

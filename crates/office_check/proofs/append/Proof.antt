@@ -1,70 +1,53 @@
+-- `append`: what the copy of the part's first bytes leaves.
 use borrow.Author.Needs.{needs}
 use native.Mathlib.Omega.{arith}
-use mathlib.Core.Path.{_≡_, refl, sym, ap, _∙_, subst}
-use Prim.Native.Nat.{ℕ, zero, suc, _+_, _-_, _*_, _≤_, _<_}
-use lib.ListN.{length, getD, take, drop, set, length-set}
+use mathlib.Core.Path.{_≡_, refl}
+use Prim.Native.Nat.{_+_, _-_}
+use lib.ListN.{take, drop}
 use lib.Seq.{slice, length-slice}
 use Rattle.office_check.proofs.Copies.{part-front, filled-by}
 use Rattle.office_check.proofs.append.Statement.{statement}
 use Rattle.office_check.proofs.append.Tie as tie
-use Rattle.office_check.proofs.append.Reads as reads
-use Rattle.office_check.proofs.append.Lts as lts
-use Rattle.bytes.proofs.copy.Reads as copy-reads
-use Rattle.office_check.proofs.least.Reads as least-reads
 
--- src/lib.rt:151:19
 sub-least : tie.Need-sub-least
 sub-least c = search needs
 
--- src/lib.rt:151:30
 sub-least-2 : tie.Need-sub-least-2
 sub-least-2 c = search needs
 
--- src/lib.rt:151:9
 least-requires : tie.Need-least-requires
 least-requires c κs = search needs
 
--- src/lib.rt:152:15
 add-end : tie.Need-add-end
 add-end c = search needs
 
--- src/lib.rt:153:17
 sub-copy : tie.Need-sub-copy
 sub-copy c = search needs
 
--- src/lib.rt:153:17
 part-copy-start : tie.Need-part-copy-start
 part-copy-start c = search needs
 
--- src/lib.rt:153:17
 part-copy-end : tie.Need-part-copy-end
 part-copy-end c = search needs
 
--- src/lib.rt:153:32
 sub-copy-2 : tie.Need-sub-copy-2
 sub-copy-2 c = search needs
 
--- src/lib.rt:153:32
 part-copy-start-2 : tie.Need-part-copy-start-2
 part-copy-start-2 c = search needs
 
--- src/lib.rt:153:32
 part-copy-end-2 : tie.Need-part-copy-end-2
 part-copy-end-2 c = search needs
 
--- src/lib.rt:153:5
 copy-requires : tie.Need-copy-requires
 copy-requires c κs = search needs
 
--- src/lib.rt:154:5
 add-result : tie.Need-add-result
 add-result c = search needs
 
--- src/lib.rt:147:1
 same-length : tie.Need-same-length
 same-length c = search needs
 
--- src/lib.rt:147:1
 returns : tie.Need-returns
 returns c =
     let a = c .before .before .before .before .before .before .before .before .args in

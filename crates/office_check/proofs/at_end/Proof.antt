@@ -1,6 +1,5 @@
 -- `at_end`: by what stands there.
 use borrow.Author.Needs.{needs}
-use native.Mathlib.Omega.{arith}
 use mathlib.Core.Path.{refl, sym, _∙_}
 use Rattle.office_check.proofs.Walks.{end-cut, end-whole, end-past}
 use Rattle.office_check.proofs.at_end.Statement.{statement}

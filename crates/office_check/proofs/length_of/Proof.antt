@@ -1,7 +1,6 @@
 -- `length_of`: a note's length, or the command's.
 use borrow.Author.Needs.{needs}
 use borrow.Author.Tests.{ne-eqb}
-use mathlib.Core.Path.{refl}
 use Rattle.office_check.proofs.length_of.Statement.{statement}
 use Rattle.office_check.proofs.length_of.Tie as tie
 
