@@ -78,8 +78,8 @@ outside from (a ∷ l) end s = slice from a s ++ outside (a + noteLength) l end 
 unfoldable pub withoutNotes : List ℕ → List ℕ
 withoutNotes s = outside 0 (noteOffsets s) (bodyEnd s) s
 
--- ---- "places count the bytes as sent": of a place in that stream, with each note from the first on. What stands behind
--- a note stands so much further
+-- ---- "places count the bytes as sent": of a place in that stream, with each note from the first on. What stands
+-- behind a note stands so much further
 unfoldable pub placeSent : List ℕ → ℕ → ℕ
 placeSent [] x = x
 placeSent (a ∷ l) x = placeSent l (cond (leb a x) (x + noteLength) x)
@@ -93,8 +93,8 @@ unfoldable pub noteTexts : List ℕ → List ℕ
 noteTexts s = textsAt (noteOffsets s) s
 
 -- ---- what this means
--- every byte of the stream with notes removed stands in the stream as sent at its place there, these places rise, behind
--- the last one the commands end, and nothing but the notes is left out
+-- every byte of the stream with notes removed stands in the stream as sent at its place there, these places rise,
+-- behind the last one the commands end, and nothing but the notes is left out
 pub record RemovesNotes (s : List ℕ) : Type 0 where
   pub bytes : (x : ℕ) → x < length (withoutNotes s)
       → getD (withoutNotes s) x 0 ≡ getD s (placeSent (noteOffsets s) x) 0

@@ -16,8 +16,8 @@ use Rattle.calls.specs.Office.{noteCount}
 abbrev pub noteHere : List ℕ → ℕ → Bool
 noteHere s at = leb (at + noteLength) (length s) && isNote (getD s at 0)
 
--- the walk, with notes l ahead and its end at e, has come to r: to the first of the notes, or, if there are none, to its
--- end
+-- the walk, with notes l ahead and its end at e, has come to r: to the first of the notes, or, if there are none, to
+-- its end
 pub record Reached (s l : List ℕ) (e r : ℕ) : Type 0 where
   pub note : noteHere s r ≡ true → NoteMet s r l e
   pub none : noteHere s r ≡ false → WalkEnded r l e

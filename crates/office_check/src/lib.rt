@@ -1,6 +1,6 @@
 // Request 10, notes that only the office sees: the check of a certificate with its notes removed, and the notes in a
-// lent buffer. A walk over the commands tells the notes. Where there are none, the certificate itself is checked; else a
-// copy without them, of as many bytes as a certificate is read by.
+// lent buffer. A walk over the commands tells the notes. Where there are none, the certificate itself is checked; else
+// a copy without them, of as many bytes as a certificate is read by.
 ghost use mathlib.Core.Path.{_≡_};
 ghost use mathlib.Core.List.{List, _++_};
 ghost use Prim.Native.Nat.{ℕ, _*_, _≤_};

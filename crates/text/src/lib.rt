@@ -310,8 +310,8 @@ pub fn tighter_line(
     append(out, b, b"\n")
 }
 
-// What the office's check says, the number of notes and the buffer that it left, or the line of the refusal, at the start
-// of a buffer.
+// What the office's check says, the number of notes and the buffer that it left, or the line of the refusal, at the
+// start of a buffer.
 pub fn office_line(out: &mut [u8], v: OfficeVerdict, buffer: &[u8]) -> usize
     requires { ⌜ 2 * length (now buffer) + 153 ≤ length (now out) ⌝ }
     ensures { λ r. ⌜ take r (now (out .exit)) ≡ officeLine v (now (buffer .entry)) ⌝ }
