@@ -71,6 +71,14 @@ pub fn contains(table: &[u64], index: &[u16], len: usize, key: u64) -> bool
     }
 }
 
+// Whether a key is among the first `until` of the set.
+pub fn is_before(table: &[u64], index: &[u16], until: usize, len: usize, key: u64) -> bool {
+    match find(table, index, len, key) {
+        Found::At(p) => p < until,
+        Found::Nowhere => false,
+    }
+}
+
 // The index of `len` keys, with one more.
 fn note(index: &mut [u16], len: usize, key: u64)
     requires { ⌜ (length (now index) ≡ 6144) × (len < 2048) ⌝ }
