@@ -1,48 +1,48 @@
-// The joining of one basis: `basis` has the keys of its monomials, `exponents` those of its multiplier, `labels` the
-// block number of each index. The first numbers of `table` are the support, with `index`. Two blocks that are made one
+// The joining of one basis: `basis` has the keys of its monomials, `exponents` those of its multiplier. Byte i of
+// `blocks` is the block number of index i, and byte 64 + i the index that follows it in its block, or 255: a block's
+// list begins with its number. The first numbers of `table` are the support, with `index`. Two blocks that are made one
 // add their cross products to the support at once, behind the members that the joining looks at, so that it always has
 // the products of every pair in one block.
 //
 // A basis above PLAIN monomials joins by the members that came last, through `pairs`, the index of its pairs i < k by
 // their sums; a smaller one by its pairs. Place s % 2039 of `pairs` has one more than the place 64i + k of the last pair
-// whose sum has that remainder, or 0, and place 2048 + p has the same for the pairs before p; to it DONE is added when
-// every t + s is in the support, where p is the last pair with its sum s.
+// whose sum has that remainder, or 0, and place 2048 + p has the same for the pairs before p. To the latter is added,
+// where p is the last pair with its sum s, DONE when every t + s is in the support, and MET when all pairs with the sum s
+// are in one block.
 
 // Up to so many monomials a basis joins by its pairs: that is faster than making their index.
-pub const PLAIN: usize = 16;
+pub const PLAIN: usize = 24;
 
 const PAIR_DIVISOR: u64 = 2039;
+
 const LINKS: usize = 2048;
+
 const DONE: u16 = 8192;
 
+const MET: u16 = 16384;
+
 // How far a joining is: it looks at the members of the support from `since` on, before `until`; the support has `len`
-// keys, 2,049 where they are too many, and the basis `blocks` blocks. `adds` says whether its products are added.
+// keys, 2,049 where they are too many, and the basis `blocks` blocks. No sum of a pair has other bits than `bits`, where
+// the basis is not small. `adds` says whether its products are added.
 pub struct Reach {
     pub since: usize,
     pub until: usize,
     pub len: usize,
-    pub blocks: usize,
+    pub blocks: u64,
+    pub bits: u64,
     pub adds: bool,
 }
 
-// Two blocks whose products are added to a support of `len` keys.
+// Two blocks, by their numbers, the lower one first.
+struct Two {
+    a: u8,
+    b: u8,
+}
+
+// A block by its number, and an index.
 struct Cross {
-    len: usize,
-    low: u8,
-    high: u8,
-}
-
-// A block number, with one replaced by another.
-fn rename(x: u8, from: u8, to: u8) -> u8 {
-    if x == from { to } else { x }
-}
-
-// One block number replaced by another everywhere.
-fn relabel(labels: &mut [u8], from: u8, to: u8) {
-    for i in 0..labels.len() {
-        let x = labels[i];
-        labels[i] = rename(x, from, to);
-    }
+    a: usize,
+    k: usize,
 }
 
 // Whether t + s is among the members before `until` for some exponent t of the multiplier.
@@ -123,95 +123,81 @@ fn add_pair(
         return add_terms(table, index, len, exponents, s);
     }
     let v = pairs[LINKS + p];
-    if DONE <= v {
+    if 1 <= (v / DONE) % 2 {
         return len;
     }
     pairs[LINKS + p] = v + DONE;
     add_terms(table, index, len, exponents, s)
 }
 
-// Those of index k with each index of the lower block.
+// Those of index k with each index of the block a.
 fn add_row(
-    labels: &[u8],
+    blocks: &[u8],
     basis: &[u64],
     exponents: &[u64],
     pairs: &mut [u16],
     table: &mut [u64],
     index: &mut [u16],
+    len: usize,
     c: Cross,
-    k: usize,
 ) -> usize {
-    let mut n = c.len;
-    let mut i = c.low as usize;
-    while i < labels.len() {
-        if labels[i] == c.low {
-            n = add_pair(table, index, n, exponents, basis, pairs, i, k);
-            if 2048 < n {
-                return n;
-            }
+    let k = c.k;
+    let mut n = len;
+    let mut i = c.a;
+    while i < 64 {
+        n = add_pair(table, index, n, exponents, basis, pairs, i, k);
+        if 2048 < n {
+            return n;
         }
-        i += 1;
+        i = blocks[64 + i] as usize;
     }
     n
 }
 
-// Those of each index of one block with each of the other.
-fn add_cross(
-    labels: &[u8],
-    basis: &[u64],
-    exponents: &[u64],
-    pairs: &mut [u16],
-    table: &mut [u64],
-    index: &mut [u16],
-    c: Cross,
-) -> usize {
-    let low = c.low;
-    let high = c.high;
-    let mut n = c.len;
-    let mut k = high as usize;
-    while k < labels.len() {
-        if labels[k] == high {
-            let here = Cross { len: n, low, high };
-            n = add_row(labels, basis, exponents, pairs, table, index, here, k);
-            if 2048 < n {
-                return n;
-            }
-        }
-        k += 1;
-    }
-    n
-}
-
-// The blocks a and b made one under the lower number, with their products put in where the basis adds.
+// The block b put behind the first index of the block a, with their products put in where the basis adds.
 fn merge(
-    labels: &mut [u8],
+    blocks: &mut [u8],
     basis: &[u64],
     exponents: &[u64],
     pairs: &mut [u16],
     table: &mut [u64],
     index: &mut [u16],
     r: Reach,
-    c: Cross,
+    m: Two,
 ) -> Reach {
-    let low = c.low;
-    let high = c.high;
-    let mut len = r.len;
-    if r.adds {
-        len = add_cross(labels, basis, exponents, pairs, table, index, c);
+    let a = m.a as usize;
+    let b = m.b as usize;
+    let adds = r.adds;
+    let mut n = r.len;
+    let mut last = b;
+    let mut k = b;
+    while k < 64 {
+        if adds {
+            let c = Cross { a, k };
+            n = add_row(blocks, basis, exponents, pairs, table, index, n, c);
+        }
+        blocks[k] = m.a;
+        last = k;
+        k = blocks[64 + k] as usize;
+        if 2048 < n {
+            k = 64;
+        }
     }
-    relabel(labels, high, low);
+    blocks[64 + last] = blocks[64 + a];
+    blocks[64 + a] = m.b;
     Reach {
         since: r.since,
         until: r.until,
-        len,
+        len: n,
         blocks: r.blocks - 1,
-        adds: r.adds,
+        bits: r.bits,
+        adds,
     }
 }
 
 // The blocks of two indices made one.
 fn join_two(
-    labels: &mut [u8],
+    blocks: &mut [u8],
     basis: &[u64],
     exponents: &[u64],
     pairs: &mut [u16],
@@ -220,19 +206,17 @@ fn join_two(
     r: Reach,
     p: usize,
 ) -> Reach {
-    let a = labels[p / 64];
-    let b = labels[p % 64];
+    let a = blocks[p / 64];
+    let b = blocks[p % 64];
     if a == b {
         return r;
     }
-    let low = if a < b { a } else { b };
-    let high = if a < b { b } else { a };
-    let c = Cross {
-        len: r.len,
-        low,
-        high,
+    let m = if a < b {
+        Two { a, b }
+    } else {
+        Two { a: b, b: a }
     };
-    merge(labels, basis, exponents, pairs, table, index, r, c)
+    merge(blocks, basis, exponents, pairs, table, index, r, m)
 }
 
 // Whether nothing is left to join, or the support has too many keys.
@@ -242,7 +226,7 @@ fn is_over(r: Reach) -> bool {
 
 // The blocks of every two indices with the sum s made one.
 fn join_sum(
-    labels: &mut [u8],
+    blocks: &mut [u8],
     basis: &[u64],
     exponents: &[u64],
     pairs: &mut [u16],
@@ -251,12 +235,21 @@ fn join_sum(
     start: Reach,
     s: u64,
 ) -> Reach {
+    let first = find_sum(basis, pairs, s);
+    if 4095 < first {
+        return start;
+    }
+    let met = pairs[LINKS + first];
+    if MET <= met {
+        return start;
+    }
+    pairs[LINKS + first] = met + MET;
     let mut r = start;
-    let mut v = pairs[slot(s)] as usize;
+    let mut v = first + 1;
     while 0 < v {
         let p = v - 1;
         if basis[p / 64] + basis[p % 64] == s {
-            r = join_two(labels, basis, exponents, pairs, table, index, r, p);
+            r = join_two(blocks, basis, exponents, pairs, table, index, r, p);
             if 2048 < r.len {
                 return r;
             }
@@ -266,9 +259,22 @@ fn join_sum(
     r
 }
 
+// The next exponent t, from a place on, for which x - t has no bits but those; the number of exponents where there is
+// none.
+fn next_fit(exponents: &[u64], bits: u64, x: u64, from: usize) -> usize {
+    let mut i = from;
+    while i < exponents.len() {
+        if std::num::wrapping_sub_u64(x, exponents[i]) | bits == bits {
+            return i;
+        }
+        i += 1;
+    }
+    i
+}
+
 // The blocks of every two indices that the member x of the support links made one.
 fn join_member(
-    labels: &mut [u8],
+    blocks: &mut [u8],
     basis: &[u64],
     exponents: &[u64],
     pairs: &mut [u16],
@@ -278,23 +284,22 @@ fn join_member(
     x: u64,
 ) -> Reach {
     let mut r = start;
-    let mut i = 0;
+    let bits = r.bits;
+    let mut i = next_fit(exponents, bits, x, 0);
     while i < exponents.len() {
-        if exponents[i] <= x {
-            let s = x - exponents[i];
-            r = join_sum(labels, basis, exponents, pairs, table, index, r, s);
-            if is_over(r) {
-                return r;
-            }
+        let s = x - exponents[i];
+        r = join_sum(blocks, basis, exponents, pairs, table, index, r, s);
+        if is_over(r) {
+            return r;
         }
-        i += 1;
+        i = next_fit(exponents, bits, x, i + 1);
     }
     r
 }
 
 // The joining by the members that came last.
 fn join_members(
-    labels: &mut [u8],
+    blocks: &mut [u8],
     basis: &[u64],
     exponents: &[u64],
     pairs: &mut [u16],
@@ -306,7 +311,7 @@ fn join_members(
     let mut m = start.since;
     while m < start.until {
         let x = table[m];
-        r = join_member(labels, basis, exponents, pairs, table, index, r, x);
+        r = join_member(blocks, basis, exponents, pairs, table, index, r, x);
         if is_over(r) {
             return r;
         }
@@ -317,7 +322,7 @@ fn join_members(
 
 // The blocks of a pair made one, where it is linked.
 fn join_pair(
-    labels: &mut [u8],
+    blocks: &mut [u8],
     basis: &[u64],
     exponents: &[u64],
     pairs: &mut [u16],
@@ -328,25 +333,18 @@ fn join_pair(
 ) -> Reach {
     let i = p / 64;
     let k = p % 64;
-    if labels[i] == labels[k] {
+    if blocks[i] == blocks[k] {
         return r;
     }
-    if is_linked(
-        table,
-        index,
-        r.until,
-        r.len,
-        exponents,
-        basis[i] + basis[k],
-    ) {
-        return join_two(labels, basis, exponents, pairs, table, index, r, p);
+    if is_linked(table, index, r.until, r.len, exponents, basis[i] + basis[k]) {
+        return join_two(blocks, basis, exponents, pairs, table, index, r, p);
     }
     r
 }
 
 // Index i with each index after it.
 fn join_row(
-    labels: &mut [u8],
+    blocks: &mut [u8],
     basis: &[u64],
     exponents: &[u64],
     pairs: &mut [u16],
@@ -359,7 +357,7 @@ fn join_row(
     let mut k = i + 1;
     while k < basis.len() {
         let p = 64 * i + k;
-        r = join_pair(labels, basis, exponents, pairs, table, index, r, p);
+        r = join_pair(blocks, basis, exponents, pairs, table, index, r, p);
         if 2048 < r.len {
             return r;
         }
@@ -370,7 +368,7 @@ fn join_row(
 
 // The joining by the pairs of the basis.
 fn join_rows(
-    labels: &mut [u8],
+    blocks: &mut [u8],
     basis: &[u64],
     exponents: &[u64],
     pairs: &mut [u16],
@@ -381,7 +379,7 @@ fn join_rows(
     let mut r = start;
     let mut i = 0;
     while i < basis.len() {
-        r = join_row(labels, basis, exponents, pairs, table, index, r, i);
+        r = join_row(blocks, basis, exponents, pairs, table, index, r, i);
         if is_over(r) {
             return r;
         }
@@ -392,7 +390,7 @@ fn join_rows(
 
 // The joining of a basis. One block joins nothing.
 pub fn join(
-    labels: &mut [u8],
+    blocks: &mut [u8],
     basis: &[u64],
     exponents: &[u64],
     pairs: &mut [u16],
@@ -404,33 +402,41 @@ pub fn join(
         return r;
     }
     if basis.len() <= PLAIN {
-        return join_rows(labels, basis, exponents, pairs, table, index, r);
+        return join_rows(blocks, basis, exponents, pairs, table, index, r);
     }
-    join_members(labels, basis, exponents, pairs, table, index, r)
+    join_members(blocks, basis, exponents, pairs, table, index, r)
 }
 
-// The index of the pairs before place p, with the pair of that place.
-fn note_pair(pairs: &mut [u16], basis: &[u64], p: usize) {
-    let i = p / 64;
-    let k = p % 64;
-    if i < k {
-        if k < basis.len() {
-            let h = slot(basis[i] + basis[k]);
-            let last = pairs[h];
-            pairs[LINKS + p] = last;
-            pairs[h] = (p + 1) as u16;
-        }
-    }
+// A pair put into the index of those before it.
+fn note_pair(pairs: &mut [u16], s: u64, p: usize) {
+    let h = slot(s);
+    let last = pairs[h];
+    pairs[LINKS + p] = last;
+    pairs[h] = (p + 1) as u16;
 }
 
-// The index of the pairs of a basis, made in one that holds nothing.
-pub fn note_pairs(pairs: &mut [u16], basis: &[u64]) {
-    let places = 64 * basis.len();
-    let mut p = 0;
-    while p < places {
-        note_pair(pairs, basis, p);
-        p += 1;
+// Those of index i with each index after it; the bits of their sums, with those given.
+fn note_row(pairs: &mut [u16], basis: &[u64], i: usize, given: u64) -> u64 {
+    let mut bits = given;
+    let mut k = i + 1;
+    while k < basis.len() {
+        let s = basis[i] + basis[k];
+        note_pair(pairs, s, 64 * i + k);
+        bits = bits | s;
+        k += 1;
     }
+    bits
+}
+
+// The index of the pairs of a basis, made in one that holds nothing; the bits of their sums.
+pub fn note_pairs(pairs: &mut [u16], basis: &[u64]) -> u64 {
+    let mut bits = 0u64;
+    let mut i = 0;
+    while i < basis.len() {
+        bits = note_row(pairs, basis, i, bits);
+        i += 1;
+    }
+    bits
 }
 
 // The products of each index with itself put in.

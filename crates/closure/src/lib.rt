@@ -145,8 +145,6 @@ fn settle(
     index: &mut [u16],
     support: Support,
 ) -> Joined {
-    *labels = [255u8; 576];
-    whole_rounds::start_labels(labels, sizes);
     let c = whole_rounds::close(labels, keys, sizes, table, index, support);
     let m = c.len;
     if 2048 < m {

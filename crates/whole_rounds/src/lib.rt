@@ -5,22 +5,31 @@
 use block_joining::Reach;
 
 // Each index of a basis is a block of its own.
-fn number(part: &mut [u8]) {
+fn number(part: &mut [u8], size: usize) {
     let mut i = 0;
-    while i < part.len() {
+    while i < size {
         part[i] = i as u8;
         i += 1;
     }
 }
 
-// The block numbers at the start, in bytes that are 255 everywhere: each index of each basis.
-pub fn start_labels(labels: &mut [u8], sizes: &[usize]) {
+// The blocks at the start, in bytes that are 255 everywhere: each index of each basis.
+fn start_blocks(blocks: &mut [u8], sizes: &[usize]) {
     let mut j = 0;
     while j < 9 {
-        let a = 64 * j;
-        let e = a + sizes[j];
-        number(&mut labels[a..e]);
+        let a = 128 * j;
+        let e = a + 64;
+        number(&mut blocks[a..e], sizes[j]);
         j += 1;
+    }
+}
+
+// The block numbers of basis j: byte 128j + i of `blocks` is byte 64j + i of `labels`.
+fn write_labels(labels: &mut [u8; 576], blocks: &[u8; 1152]) {
+    let mut x = 0;
+    while x < 576 {
+        labels[x] = blocks[x + 64 * (x / 64)];
+        x += 1;
     }
 }
 
@@ -47,7 +56,7 @@ fn adding_bases(rule: usize) -> usize {
 
 // Basis j joins.
 fn join_at(
-    labels: &mut [u8],
+    blocks: &mut [u8],
     keys: &[u64],
     sizes: &[usize],
     pairs: &mut [u16],
@@ -58,9 +67,9 @@ fn join_at(
 ) -> Reach {
     let basis = flat::basis(keys, sizes, j);
     let exponents = flat::exponents(keys, sizes, j);
-    let a = 64 * j;
-    let e = a + sizes[j];
-    let part = &mut labels[a..e];
+    let a = 128 * j;
+    let e = a + 128;
+    let part = &mut blocks[a..e];
     if sizes[j] <= block_joining::PLAIN {
         let mut none = [0u16; 1];
         return block_joining::join(part, basis, exponents, &mut none, table, index, r);
@@ -79,38 +88,32 @@ struct Stage {
     adding: usize,
 }
 
-// A round: every basis joins by the members before `until`, and adds the products of the blocks that it makes one.
+// A round: every basis joins by the members before `until`, and adds the products of the blocks that it makes one. Of
+// basis j place j of `state` has the number of blocks, and place 9 + j the bits of the sums of its pairs.
 fn round(
-    labels: &mut [u8],
+    blocks: &mut [u8],
     keys: &[u64],
     sizes: &[usize],
     pairs: &mut [u16],
     table: &mut [u64],
     index: &mut [u16],
-    blocks: &mut [usize; 9],
+    state: &mut [u64; 18],
     s: Stage,
 ) -> usize {
     let mut n = s.len;
     let mut j = 0;
     while j < 9 {
-        let r = join_at(
-            labels,
-            keys,
-            sizes,
-            pairs,
-            table,
-            index,
-            Reach {
-                since: s.since,
-                until: s.until,
-                len: n,
-                blocks: blocks[j],
-                adds: j < s.adding,
-            },
-            j,
-        );
+        let reach = Reach {
+            since: s.since,
+            until: s.until,
+            len: n,
+            blocks: state[j],
+            bits: state[9 + j],
+            adds: j < s.adding,
+        };
+        let r = join_at(blocks, keys, sizes, pairs, table, index, reach, j);
         n = r.len;
-        blocks[j] = r.blocks;
+        state[j] = r.blocks;
         if 2048 < n {
             return n;
         }
@@ -120,11 +123,11 @@ fn round(
 }
 
 // How many blocks all bases have.
-fn total(blocks: &[usize; 9]) -> usize {
+fn total(state: &[u64; 18]) -> usize {
     let mut n = 0;
     let mut j = 0;
     while j < 9 {
-        n += blocks[j];
+        n += state[j] as usize;
         j += 1;
     }
     n
@@ -155,30 +158,25 @@ fn add_squares(
 
 // Rounds until one changes neither a block nor the support, or the support has too many keys, or the most were made.
 fn run(
-    labels: &mut [u8],
+    blocks: &mut [u8],
     keys: &[u64],
     sizes: &[usize],
     pairs: &mut [u16],
     table: &mut [u64],
     index: &mut [u16],
+    state: &mut [u64; 18],
     support: Support,
 ) -> Closed {
     let adding = adding_bases(support.rule);
-    let mut blocks = [0usize; 9];
-    let mut j = 0;
-    while j < 9 {
-        blocks[j] = sizes[j];
-        j += 1;
-    }
-    let mut left = total(&blocks);
+    let mut left = total(state);
     let mut since = 0;
     let mut until = support.len;
-    let mut n = add_squares(table, index, until, keys, sizes, adding);
+    let mut len = add_squares(table, index, until, keys, sizes, adding);
     let mut rounds = 0;
     while rounds < support.most {
-        if 2048 < n {
+        if 2048 < len {
             return Closed {
-                len: n,
+                len,
                 rounds,
                 blocks: left,
             };
@@ -186,34 +184,26 @@ fn run(
         let s = Stage {
             since,
             until,
-            len: n,
+            len,
             adding,
         };
-        n = round(
-            labels,
-            keys,
-            sizes,
-            pairs,
-            table,
-            index,
-            &mut blocks,
-            s,
-        );
+        let n = round(blocks, keys, sizes, pairs, table, index, state, s);
         rounds += 1;
-        let now = total(&blocks);
+        let now = total(state);
         if n == until && now == left {
             return Closed {
                 len: n,
                 rounds,
-                blocks: left,
+                blocks: now,
             };
         }
         left = now;
         since = until;
         until = n;
+        len = n;
     }
     Closed {
-        len: n,
+        len,
         rounds,
         blocks: left,
     }
@@ -258,15 +248,15 @@ pub fn put_missing(
     add_missing(labels, keys, sizes, table, index, support.len, adding)
 }
 
-// The pairs of every basis that is not small, put into the index.
-fn note_all(pairs: &mut [u16], keys: &[u64], sizes: &[usize]) {
+// The pairs of every basis that is not small put into the index, and the bits of their sums into `state`.
+fn note_all(pairs: &mut [u16], state: &mut [u64; 18], keys: &[u64], sizes: &[usize]) {
     let mut j = 0;
     while j < 9 {
         if block_joining::PLAIN < sizes[j] {
             let basis = flat::basis(keys, sizes, j);
             let a = 6144 * j;
             let e = a + 6144;
-            block_joining::note_pairs(&mut pairs[a..e], basis);
+            state[9 + j] = block_joining::note_pairs(&mut pairs[a..e], basis);
         }
         j += 1;
     }
@@ -274,16 +264,26 @@ fn note_all(pairs: &mut [u16], keys: &[u64], sizes: &[usize]) {
 
 // The rounds, with the index of the pairs.
 fn run_indexed(
-    labels: &mut [u8],
+    blocks: &mut [u8],
     keys: &[u64],
     sizes: &[usize],
     table: &mut [u64],
     index: &mut [u16],
+    state: &mut [u64; 18],
     support: Support,
 ) -> Closed {
     let mut pairs = [0u16; 55296];
-    note_all(&mut pairs, keys, sizes);
-    run(labels, keys, sizes, &mut pairs, table, index, support)
+    note_all(&mut pairs, state, keys, sizes);
+    run(
+        blocks,
+        keys,
+        sizes,
+        &mut pairs,
+        table,
+        index,
+        state,
+        support,
+    )
 }
 
 // Whether every basis is small.
@@ -298,6 +298,17 @@ fn are_small(sizes: &[usize]) -> bool {
     true
 }
 
+// Each basis has as many blocks as monomials.
+fn start_state(sizes: &[usize]) -> [u64; 18] {
+    let mut state = [0u64; 18];
+    let mut j = 0;
+    while j < 9 {
+        state[j] = sizes[j] as u64;
+        j += 1;
+    }
+    state
+}
+
 // The joining rule from its start to its end.
 pub fn close(
     labels: &mut [u8; 576],
@@ -307,9 +318,24 @@ pub fn close(
     index: &mut [u16],
     support: Support,
 ) -> Closed {
-    if are_small(sizes) {
+    let mut blocks = [255u8; 1152];
+    start_blocks(&mut blocks, sizes);
+    let mut state = start_state(sizes);
+    let c = if are_small(sizes) {
         let mut none = [0u16; 1];
-        return run(labels, keys, sizes, &mut none, table, index, support);
-    }
-    run_indexed(labels, keys, sizes, table, index, support)
+        run(
+            &mut blocks,
+            keys,
+            sizes,
+            &mut none,
+            table,
+            index,
+            &mut state,
+            support,
+        )
+    } else {
+        run_indexed(&mut blocks, keys, sizes, table, index, &mut state, support)
+    };
+    write_labels(labels, &blocks);
+    c
 }
