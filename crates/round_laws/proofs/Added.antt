@@ -1,0 +1,164 @@
+-- The support in the rounds is the start and the products of every pair in one block: a merge that adds its cross
+-- products keeps it so, there is one such set only, and the set after a round is it.
+use mathlib.Core.Path.{_≡_, refl, sym, ap, _∙_}
+use mathlib.Core.Logic.{_⊎_, inl, inr, ⊎-elim}
+use mathlib.Core.List.{List, []}
+use Prim.Native.Nat.{ℕ, _+_, _≤_, _<_, min}
+use native.Mathlib.Nat.{add-comm}
+use native.Mathlib.Omega.{arith}
+use lib.ListN.{length, getD, set}
+use lib.Seq.{getD-set-same, getD-set-other}
+use Rattle.counting.proofs.Cases.{same-or-not}
+use Rattle.joining_rule.specs.Sets.{In}
+use Rattle.joining_rule.specs.Join.{merged}
+use Rattle.joining_rule.specs.Rounds.{Bases, State, joinAll, extendTo, addingBases, round}
+use Rattle.joining_rule.specs.Meaning.{Pair, sumOf}
+use Rattle.joining_rule.proofs.Rising.{Rising}
+use Rattle.joining_rule.proofs.Labels.{inOne, InOne, merged-at, two-low, in-one}
+use Rattle.joining_rule.proofs.Labels.InOne.{two, other}
+use Rattle.joining_rule.proofs.Joined.{merged-equal, join-equal}
+use Rattle.joining_rule.proofs.Full.{full-any}
+use Rattle.joining_rule.proofs.Products.{products-extend, products-full, products-within}
+use Rattle.joining_rule.proofs.Rounds.{Shaped, round-labels, round-shaped, adding-most}
+use Rattle.joining_rule.proofs.Only.{rising-same}
+use Rattle.round_laws.specs.Added.{Product, Products, CrossProduct, Crossed}
+
+module _ (n : ℕ) (g : Bases) (S₀ : List ℕ) where
+  -- there is one such set only
+  pub products-once : (L : List (List ℕ)) (S S′ : List ℕ) → Products n g L S₀ S → Products n g L S₀ S′ → S ≡ S′
+  products-once L S S′ p q =
+      rising-same S S′ (p .rising) (q .rising) (λ x m. ⊎-elim (q .starts x) (q .full x) (p .only x m)) (λ x m. ⊎-elim (p .starts x) (p .full x) (q .only x m))
+
+  -- blocks that are kept together keep their products
+  pub product-grows : (L L′ : List (List ℕ)) (x : ℕ)
+      → ((j i k : ℕ) → j < n → i < length (g .basis j) → k < length (g .basis j) → getD (getD L j []) i 0 ≡ getD (getD L j []) k 0 → getD (getD L′ j []) i 0 ≡ getD (getD L′ j []) k 0)
+      → Product n g L x → Product n g L′ x
+  product-grows L L′ x h c = record {
+    j = c .j;
+    i = c .i;
+    k = c .k;
+    t = c .t;
+    adding = c .adding;
+    pair = c .pair;
+    together = h (c .j) (c .i) (c .k) (c .adding) (c .pair .first) (c .pair .second) (c .together);
+    value = c .value;
+  }
+
+  -- an extension by the blocks L makes it so, of any set between the start and it
+  pub extend-products : n ≤ 9 → (L : List (List ℕ)) (S : List ℕ) → Shaped g L → Rising S → ((x : ℕ) → In x S₀ → In x S) → ((x : ℕ) → In x S → In x S₀ ⊎ Product n g L x)
+      → Products n g L S₀ (extendTo n g L S)
+  extend-products nine L S f r starts only = record {
+    rising = products-extend n g L S .rising r;
+    starts = λ x m. products-extend n g L S .keeps x (starts x m);
+    full = λ x c.
+        rw (← c .value)
+        (full-any (g .multiplier (c .j)) (g .basis (c .j)) (getD L (c .j) []) (extendTo n g L S) (products-full n g L S .at (c .j) (c .adding)) (c .i) (c .k) (c .t) (c .pair .first) (c .pair .second) (c .together) (c .pair .exponent));
+    only = products-within n g L (λ j i k. getD (getD L j []) i 0 ≡ getD (getD L j []) k 0) (λ x. In x S₀ ⊎ Product n g L x)
+        (λ j h.
+        record {
+          adds = λ i k t a b e m.
+              inr (record { j = j; i = i; k = k; t = t; adding = h; pair = record { basis = omega arith; first = a; second = b; exponent = m }; together = e; value = refl });
+        })
+        (λ j h. record { long = f .long j (omega arith); at = λ x y _ _ e. e })
+        S (record { at = only }) .at;
+  }
+
+  -- ---- two blocks a and b of basis j made one
+  module _ (L : List (List ℕ)) (S S′ : List ℕ) (p : Products n g L S₀ S) (j : ℕ) (inside : j < length L) (long : length (getD L j []) ≡ length (g .basis j)) (a b : ℕ) where
+    abbrev L′ : List (List ℕ)
+    L′ = set L j (merged a b (getD L j []))
+
+    here : getD L′ j [] ≡ merged a b (getD L j [])
+    here = getD-set-same L j (merged a b (getD L j [])) [] inside
+
+    elsewhere : (y : ℕ) → (j ≡ y → ⊥) → getD L′ y [] ≡ getD L y []
+    elsewhere y d = getD-set-other L j y (merged a b (getD L j [])) [] d
+
+    kept : (y i k : ℕ) → y < n → i < length (g .basis y) → k < length (g .basis y) → getD (getD L y []) i 0 ≡ getD (getD L y []) k 0 → getD (getD L′ y []) i 0 ≡ getD (getD L′ y []) k 0
+    kept y i k h u v e =
+        ⊎-elim
+        (λ q. rw (← q, here) (merged-equal a b (getD L j []) i k (rw (q, long) at (rw (← q) u)) (rw (← q) v) (rw (← q) at e)))
+        (λ d. rw (elsewhere y d) e)
+        (same-or-not j y)
+
+    -- two that became one were one, or one of each
+    became : {u v w z : ℕ} → InOne a b u w → InOne a b v z → w ≡ z → (u ≡ v) ⊎ (((u ≡ a) × (v ≡ b)) ⊎ ((u ≡ b) × (v ≡ a)))
+    became (two (inl h)) (two (inl k)) e = inl (h ∙ sym k)
+    became (two (inl h)) (two (inr k)) e = inr (inl (h, k))
+    became (two (inr h)) (two (inl k)) e = inr (inr (h, k))
+    became (two (inr h)) (two (inr k)) e = inl (h ∙ sym k)
+    became (two h) (other k l) e = absurd (omega arith)
+    became (other h i) (two k) e = absurd (omega arith)
+    became (other h i) (other k l) e = inl e
+
+    -- products after a merge are those before and the cross products
+    pub merge-products : j < 9 → j < n → Crossed (g .multiplier j) (g .basis j) (getD L j []) a b S S′ → Products n g L′ S₀ S′
+    merge-products nine adding c = record {
+      rising = c .rising (p .rising);
+      starts = λ x m. c .keeps x (p .starts x m);
+      full = λ x q. ⊎-elim (λ e. at-j x q e) (λ d. c .keeps x (p .full x (before x q (rw (elsewhere (q .j) d) at (q .together))))) (same-or-not j (q .j));
+      only = λ x m.
+          ⊎-elim (λ w. ⊎-elim (λ s. inl s) (λ q. inr (product-grows L L′ x kept q)) (p .only x w)) (λ w. inr (crossing x w)) (c .only x m);
+    }
+      where
+        before : (x : ℕ) (q : Product n g L′ x) → getD (getD L (q .j) []) (q .i) 0 ≡ getD (getD L (q .j) []) (q .k) 0 → Product n g L x
+        before x q e = record { j = q .j; i = q .i; k = q .k; t = q .t; adding = q .adding; pair = q .pair; together = e; value = q .value }
+
+        crossing : (x : ℕ) → CrossProduct (g .multiplier j) (g .basis j) (getD L j []) a b x → Product n g L′ x
+        crossing x w = record {
+          j = j;
+          i = w .i;
+          k = w .k;
+          t = w .t;
+          adding = adding;
+          pair = record { basis = nine; first = w .first; second = w .second; exponent = w .exponent };
+          together = rw here (merged-at a b _ (w .i) (omega (arith, w .first)) ∙ two-low a b _ (inl (w .low)) ∙ sym (merged-at a b _ (w .k) (omega (arith, w .second)) ∙ two-low a b _ (inr (w .high))));
+          value = w .value;
+        }
+
+        at-j : (x : ℕ) (q : Product n g L′ x) → j ≡ q .j → In x S′
+        at-j x q e =
+            let i = q .i in
+            let k = q .k in
+            let hi : i < length (g .basis j) = rw e (q .pair .first) in
+            let hk : k < length (g .basis j) = rw e (q .pair .second) in
+            let w : getD (merged a b (getD L j [])) i 0 ≡ getD (merged a b (getD L j [])) k 0 = rw (← here, e) (q .together) in
+            ⊎-elim
+            (λ s. c .keeps x (p .full x (before x q (rw (← e) s))))
+            (⊎-elim
+            (λ s. c .adds x (record { i = i; k = k; t = q .t; first = hi; second = hk; exponent = rw e (q .pair .exponent); low = s .0; high = s .1; value = rw e (q .value) }))
+            (λ s. c .adds x (record { i = k; k = i; t = q .t; first = hk; second = hi; exponent = rw e (q .pair .exponent); low = s .1; high = s .0; value = rw (add-comm (getD (g .basis j) k 0) (getD (g .basis j) i 0)) (rw e (q .value)) })))
+            (became (in-one a b (getD (getD L j []) i 0)) (in-one a b (getD (getD L j []) k 0)) (sym (merged-at a b _ i (omega arith)) ∙ w ∙ merged-at a b _ k (omega arith)))
+
+  -- a basis that does not add may change its blocks
+  pub other-products : (L : List (List ℕ)) (S : List ℕ) (j : ℕ) (M : List ℕ) → n ≤ j → Products n g L S₀ S → Products n g (set L j M) S₀ S
+  other-products L S j M h p = record {
+    rising = p .rising;
+    starts = p .starts;
+    full = λ x c. p .full x (product-grows (set L j M) L x (λ y i k a _ _ e. rw (← away y a) e) c);
+    only = λ x m. ⊎-elim (λ s. inl s) (λ c. inr (product-grows L (set L j M) x (λ y i k a _ _ e. rw (away y a) e) c)) (p .only x m);
+  }
+    where
+      away : (y : ℕ) → y < n → getD (set L j M) y [] ≡ getD L y []
+      away y a = getD-set-other L j y M [] (λ e. omega arith)
+
+-- A round of the definition joins every basis on the set S before it and then adds all products. Where the joining looked
+-- at S alone and left the blocks of the definition, and the set that grew meanwhile is the start and the products of
+-- these blocks, it is the set of the definition. In the first round S is the start itself; later it is the start and
+-- the products of the blocks before.
+pub round-agrees : (rule : ℕ) (g : Bases) (S₀ : List ℕ) (s : State) (S′ : List ℕ) → Shaped g (s .labels) → Rising (s .support) → ((x : ℕ) → In x S₀ → In x (s .support))
+    → ((x : ℕ) → In x (s .support) → In x S₀ ⊎ Product (addingBases rule) g (s .labels) x) → Products (addingBases rule) g (round rule g s .labels) S₀ S′ → S′ ≡ round rule g s .support
+unfolding round
+round-agrees rule g S₀ s S′ f r starts only p =
+    products-once (addingBases rule) g S₀ (joinAll g (s .support) (s .labels)) S′ _ p
+    (extend-products (addingBases rule) g S₀ (adding-most rule) (joinAll g (s .support) (s .labels)) (s .support) (round-shaped rule g s f) r starts
+    (λ x m.
+    ⊎-elim (λ q. inl q)
+    (λ c. inr (product-grows (addingBases rule) g S₀ (s .labels) (joinAll g (s .support) (s .labels)) x (stays rule g s f) c))
+    (only x m)))
+  where
+    stays : (rule : ℕ) (g : Bases) (s : State) → Shaped g (s .labels) → (j i k : ℕ) → j < addingBases rule → i < length (g .basis j) → k < length (g .basis j)
+        → getD (getD (s .labels) j []) i 0 ≡ getD (getD (s .labels) j []) k 0 → getD (getD (joinAll g (s .support) (s .labels)) j []) i 0 ≡ getD (getD (joinAll g (s .support) (s .labels)) j []) k 0
+    stays rule g s f j i k h a b e =
+        let nine : j < 9 = omega (arith, adding-most rule) in
+        rw (round-labels rule g s j nine) (join-equal (s .support) (g .multiplier j) (g .basis j) (getD (s .labels) j []) (f .long j nine) i k a b e)
