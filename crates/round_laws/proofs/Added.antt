@@ -1,14 +1,13 @@
 -- The support in the rounds is the start and the products of every pair in one block: a merge that adds its cross
 -- products keeps it so, there is one such set only, and the set after a round is it.
-use mathlib.Core.Path.{_≡_, refl, sym, ap, _∙_}
+use mathlib.Core.Path.{_≡_, refl, sym, subst, _∙_}
 use mathlib.Core.Logic.{_⊎_, inl, inr, ⊎-elim}
 use mathlib.Core.List.{List, []}
 use Prim.Native.Nat.{ℕ, _+_, _≤_, _<_, min}
-use native.Mathlib.Nat.{add-comm}
 use native.Mathlib.Omega.{arith}
 use lib.ListN.{length, getD, set}
 use lib.Seq.{getD-set-same, getD-set-other}
-use Rattle.counting.proofs.Cases.{same-or-not}
+use Rattle.counting.proofs.Listed.{same-or-not}
 use Rattle.joining_rule.specs.Sets.{In}
 use Rattle.joining_rule.specs.Join.{merged}
 use Rattle.joining_rule.specs.Rounds.{Bases, State, joinAll, extendTo, addingBases, round}
@@ -72,13 +71,16 @@ module _ (n : ℕ) (g : Bases) (S₀ : List ℕ) where
     here = getD-set-same L j (merged a b (getD L j [])) [] inside
 
     elsewhere : (y : ℕ) → (j ≡ y → ⊥) → getD L′ y [] ≡ getD L y []
-    elsewhere y d = getD-set-other L j y (merged a b (getD L j [])) [] d
+    elsewhere y d = getD-set-other L j y (merged a b (getD L j [])) [] (λ q. d (sym q))
+
+    kept-here : (i k : ℕ) → i < length (g .basis j) → k < length (g .basis j) → getD (getD L j []) i 0 ≡ getD (getD L j []) k 0 → getD (getD L′ j []) i 0 ≡ getD (getD L′ j []) k 0
+    kept-here i k u v e = rw here (merged-equal a b (getD L j []) i k (omega (arith, long)) (omega (arith, long)) e)
 
     kept : (y i k : ℕ) → y < n → i < length (g .basis y) → k < length (g .basis y) → getD (getD L y []) i 0 ≡ getD (getD L y []) k 0 → getD (getD L′ y []) i 0 ≡ getD (getD L′ y []) k 0
     kept y i k h u v e =
         ⊎-elim
-        (λ q. rw (← q, here) (merged-equal a b (getD L j []) i k (rw (q, long) at (rw (← q) u)) (rw (← q) v) (rw (← q) at e)))
-        (λ d. rw (elsewhere y d) e)
+        (λ q. subst (λ (z : ℕ). i < length (g .basis z) → k < length (g .basis z) → getD (getD L z []) i 0 ≡ getD (getD L z []) k 0 → getD (getD L′ z []) i 0 ≡ getD (getD L′ z []) k 0) q (kept-here i k) u v e)
+        (λ d. let f = elsewhere y d in rw f e)
         (same-or-not j y)
 
     -- two that became one were one, or one of each
@@ -96,7 +98,13 @@ module _ (n : ℕ) (g : Bases) (S₀ : List ℕ) where
     merge-products nine adding c = record {
       rising = c .rising (p .rising);
       starts = λ x m. c .keeps x (p .starts x m);
-      full = λ x q. ⊎-elim (λ e. at-j x q e) (λ d. c .keeps x (p .full x (before x q (rw (elsewhere (q .j) d) at (q .together))))) (same-or-not j (q .j));
+      full = λ x q.
+          ⊎-elim
+          (λ e.
+          subst (λ (z : ℕ). q .i < length (g .basis z) → q .k < length (g .basis z) → In (q .t) (g .multiplier z) → getD (getD L′ z []) (q .i) 0 ≡ getD (getD L′ z []) (q .k) 0 → sumOf g z (q .i) (q .k) (q .t) ≡ x → In x S′) e
+          (at-here x (q .i) (q .k) (q .t)) (q .pair .first) (q .pair .second) (q .pair .exponent) (q .together) (q .value))
+          (λ d. c .keeps x (p .full x (before x q (let f = elsewhere (q .j) d in rw f at (q .together)))))
+          (same-or-not j (q .j));
       only = λ x m.
           ⊎-elim (λ w. ⊎-elim (λ s. inl s) (λ q. inr (product-grows L L′ x kept q)) (p .only x w)) (λ w. inr (crossing x w)) (c .only x m);
     }
@@ -112,23 +120,19 @@ module _ (n : ℕ) (g : Bases) (S₀ : List ℕ) where
           t = w .t;
           adding = adding;
           pair = record { basis = nine; first = w .first; second = w .second; exponent = w .exponent };
-          together = rw here (merged-at a b _ (w .i) (omega (arith, w .first)) ∙ two-low a b _ (inl (w .low)) ∙ sym (merged-at a b _ (w .k) (omega (arith, w .second)) ∙ two-low a b _ (inr (w .high))));
+          together = rw here (merged-at a b _ (w .i) (omega (arith, long, w .first)) ∙ two-low a b _ (inl (w .low)) ∙ sym (merged-at a b _ (w .k) (omega (arith, long, w .second)) ∙ two-low a b _ (inr (w .high))));
           value = w .value;
         }
 
-        at-j : (x : ℕ) (q : Product n g L′ x) → j ≡ q .j → In x S′
-        at-j x q e =
-            let i = q .i in
-            let k = q .k in
-            let hi : i < length (g .basis j) = rw e (q .pair .first) in
-            let hk : k < length (g .basis j) = rw e (q .pair .second) in
-            let w : getD (merged a b (getD L j [])) i 0 ≡ getD (merged a b (getD L j [])) k 0 = rw (← here, e) (q .together) in
+        at-here : (x i k t : ℕ) → i < length (g .basis j) → k < length (g .basis j) → In t (g .multiplier j) → getD (getD L′ j []) i 0 ≡ getD (getD L′ j []) k 0 → sumOf g j i k t ≡ x → In x S′
+        at-here x i k t hi hk m w v =
+            let u : getD (merged a b (getD L j [])) i 0 ≡ getD (merged a b (getD L j [])) k 0 = rw here at w in
             ⊎-elim
-            (λ s. c .keeps x (p .full x (before x q (rw (← e) s))))
+            (λ s. c .keeps x (p .full x (record { j = j; i = i; k = k; t = t; adding = adding; pair = record { basis = nine; first = hi; second = hk; exponent = m }; together = s; value = v })))
             (⊎-elim
-            (λ s. c .adds x (record { i = i; k = k; t = q .t; first = hi; second = hk; exponent = rw e (q .pair .exponent); low = s .0; high = s .1; value = rw e (q .value) }))
-            (λ s. c .adds x (record { i = k; k = i; t = q .t; first = hk; second = hi; exponent = rw e (q .pair .exponent); low = s .1; high = s .0; value = rw (add-comm (getD (g .basis j) k 0) (getD (g .basis j) i 0)) (rw e (q .value)) })))
-            (became (in-one a b (getD (getD L j []) i 0)) (in-one a b (getD (getD L j []) k 0)) (sym (merged-at a b _ i (omega arith)) ∙ w ∙ merged-at a b _ k (omega arith)))
+            (λ s. c .adds x (record { i = i; k = k; t = t; first = hi; second = hk; exponent = m; low = s .0; high = s .1; value = v }))
+            (λ s. c .adds x (record { i = k; k = i; t = t; first = hk; second = hi; exponent = m; low = s .1; high = s .0; value = omega (arith, v) })))
+            (became (in-one a b (getD (getD L j []) i 0)) (in-one a b (getD (getD L j []) k 0)) (sym (merged-at a b _ i (omega (arith, long))) ∙ u ∙ merged-at a b _ k (omega (arith, long))))
 
   -- a basis that does not add may change its blocks
   pub other-products : (L : List (List ℕ)) (S : List ℕ) (j : ℕ) (M : List ℕ) → n ≤ j → Products n g L S₀ S → Products n g (set L j M) S₀ S
