@@ -5,10 +5,10 @@
 // the products of every pair in one block.
 //
 // A basis above PLAIN monomials joins by the members that came last, through `pairs`, the index of its pairs i < k by
-// their sums; a smaller one by its pairs. Place s % 2039 of `pairs` has one more than the place 64i + k of the last pair
-// whose sum has that remainder, or 0, and place 2048 + p has the same for the pairs before p. To the latter is added,
-// where p is the last pair with its sum s, DONE when every t + s is in the support, and MET when all pairs with the sum s
-// are in one block.
+// their sums; a smaller one by its pairs. Place s % 2039 of `pairs` has one more than the place 64i + k of the last
+// pair whose sum has that remainder, or 0, and place 2048 + p has the same for the pairs before p. To the latter is
+// added, where p is the last pair with its sum s, DONE when every t + s is in the support, and MET when all pairs with
+// the sum s are in one block.
 
 // Up to so many monomials a basis joins by its pairs: that is faster than making their index.
 pub const PLAIN: usize = 24;
@@ -22,8 +22,8 @@ const DONE: u16 = 8192;
 const MET: u16 = 16384;
 
 // How far a joining is: it looks at the members of the support from `since` on, before `until`; the support has `len`
-// keys, 2,049 where they are too many, and the basis `blocks` blocks. No sum of a pair has other bits than `bits`, where
-// the basis is not small. `adds` says whether its products are added.
+// keys, 2,049 where they are too many, and the basis `blocks` blocks. No sum of a pair has other bits than `bits`,
+// where the basis is not small. `adds` says whether its products are added.
 pub struct Reach {
     pub since: usize,
     pub until: usize,

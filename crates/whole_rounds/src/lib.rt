@@ -49,6 +49,14 @@ pub struct Closed {
     pub blocks: usize,
 }
 
+fn closed(len: usize, rounds: usize, blocks: usize) -> Closed {
+    Closed {
+        len,
+        rounds,
+        blocks,
+    }
+}
+
 // How many bases add to the support in a round.
 fn adding_bases(rule: usize) -> usize {
     if rule == 2 { 1 } else { 9 }
@@ -175,11 +183,7 @@ fn run(
     let mut rounds = 0;
     while rounds < support.most {
         if 2048 < len {
-            return Closed {
-                len,
-                rounds,
-                blocks: left,
-            };
+            return closed(len, rounds, left);
         }
         let s = Stage {
             since,
@@ -191,22 +195,14 @@ fn run(
         rounds += 1;
         let now = total(state);
         if n == until && now == left {
-            return Closed {
-                len: n,
-                rounds,
-                blocks: now,
-            };
+            return closed(n, rounds, now);
         }
         left = now;
         since = until;
         until = n;
         len = n;
     }
-    Closed {
-        len,
-        rounds,
-        blocks: left,
-    }
+    closed(len, rounds, left)
 }
 
 // The products of every pair in one block put in, for the bases from `adding` on.

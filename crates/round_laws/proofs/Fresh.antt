@@ -9,9 +9,9 @@ use lib.ListN.{length, getD, take}
 use lib.Seq.{take-suc, take-all}
 use Rattle.joining_rule.specs.Sets.{In}
 use Rattle.joining_rule.proofs.Numbered.{Numbered}
-use Rattle.pair_index.specs.Fresh.{Joins, WithSum, Through}
+use Rattle.round_laws.specs.Joins.{Joins, WithSum, Through}
 use Rattle.joining_rule.proofs.Elements.{not-nil, in-cons, in-here, in-snoc, snoc-keeps, snoc-in}
-use Rattle.pair_index.proofs.Joins.{joins-same, joins-then, joins-as}
+use Rattle.round_laws.proofs.Joins.{joins-same, joins-then, joins-as}
 
 -- ---- what one member links, by the exponents before place j
 

@@ -8,7 +8,7 @@ use lib.ListN.{length, getD}
 use lib.Seq.{ext-getD}
 use Rattle.joining_rule.specs.Join.{merged, joinPair, join}
 use Rattle.joining_rule.proofs.Numbered.{Numbered}
-use Rattle.pair_index.specs.Fresh.{Together, Has, Joins, Two, Through, Blocks, Recent}
+use Rattle.round_laws.specs.Joins.{Together, Has, Joins, Two, Through, Blocks, Recent}
 use Rattle.joining_rule.proofs.Pairs.{pairs-keep}
 use Rattle.joining_rule.proofs.Labels.{merged-long, pair-long, join-long}
 use Rattle.joining_rule.proofs.Lowest.{merged-falls, join-falls}
