@@ -136,7 +136,7 @@ adjustedBy p v l =
     (cond (eqb (v .side) 0) (foundBound (movedBound (v .bound) l)) (refusedAdjusted (problemRefusal 17 0)))
     (refusedAdjusted (problemRefusal 16 0))
 
--- a certificate that the check accepts, by its verdict v on it
+-- a certificate that the check accepts: the refusals of the changes come before 16 and 17. v is the check's verdict
 unfoldable pub adjustedOf : Problem → CheckVerdict → List ℕ → AdjustedVerdict
 adjustedOf p v changes =
     let f = changesRefusal (p .variables) changes in
@@ -147,11 +147,12 @@ abbrev pub adjustedRead : Outcome Problem → CheckVerdict → List ℕ → Adju
 adjustedRead (refused number place) v changes = refusedAdjusted (problemRefusal number place)
 adjustedRead (given p) v changes = adjustedOf p v changes
 
+-- where the check refuses, its refusal
 unfoldable pub adjustedChecked : List ℕ → CheckVerdict → List ℕ → AdjustedVerdict
 adjustedChecked s v changes =
     cond (isAccepted v) (adjustedRead (readProblem s) v changes) (refusedAdjusted (v .refusal))
 
--- "After the check": its refusals come first
+-- "After the check"
 unfoldable pub adjustedVerdict : Bool → List ℕ → List ℕ → List ℕ → AdjustedVerdict
 adjustedVerdict short s t changes = adjustedChecked s (checkVerdict short s t) changes
 
