@@ -76,6 +76,17 @@ extern "C" {
         low_length: usize,
     ) -> u64;
 
+    fn zamiachisel_record(
+        problem: *const u8,
+        problem_length: usize,
+        low: *const u8,
+        low_length: usize,
+        high: *const u8,
+        high_length: usize,
+        out: *mut u8,
+        out_length: usize,
+    ) -> u64;
+
     fn zamiachisel_report(
         records: *const u8,
         records_length: usize,
@@ -90,10 +101,10 @@ extern "C" {
     ) -> u64;
 }
 
-/// A record: its kind and its three byte runs.
+/// A record: its kind and its byte runs, of which all kinds but `x` leave the last empty.
 pub struct Record {
     pub kind: u8,
-    pub runs: [Vec<u8>; 3],
+    pub runs: [Vec<u8>; 4],
 }
 
 /// What is lent to every call.
@@ -127,12 +138,16 @@ pub fn records() -> Vec<Record> {
     let mut rest = bytes.as_slice();
     while rest.len() >= 13 {
         let kind = rest[0];
-        let lengths: Vec<usize> = (0..3)
-            .map(|i| u32::from_le_bytes(rest[1 + 4 * i..5 + 4 * i].try_into().unwrap()) as usize)
-            .collect();
-        rest = &rest[13..];
-        let runs = [0, 1, 2].map(|i| {
-            let (run, after) = rest.split_at(lengths[i].min(rest.len()));
+        let count = if kind == b'x' { 4 } else { 3 };
+        let (head, after) = rest.split_at(1 + 4 * count);
+        rest = after;
+        let mut lengths = head[1..].chunks_exact(4);
+        let runs = [0, 1, 2, 3].map(|_| {
+            let length = lengths
+                .next()
+                .map_or([0; 4], |bytes| bytes.try_into().unwrap());
+            let length = u32::from_le_bytes(length) as usize;
+            let (run, after) = rest.split_at(length.min(rest.len()));
             rest = after;
             run.to_vec()
         });
@@ -151,7 +166,7 @@ macro_rules! call {
 
 /// Answers a record: the number of the refusal, or 0.
 pub fn answer(record: &Record, lent: &mut Lent) -> u64 {
-    let [problem, first, second] = &record.runs;
+    let [problem, first, second, output] = &record.runs;
     match record.kind {
         b'b' => call!(zamiachisel_blocks, problem; lent.out, lent.keys, lent.high, lent.low),
         b'c' => call!(zamiachisel_check, problem, first; lent.keys, lent.high, lent.low),
@@ -159,6 +174,7 @@ pub fn answer(record: &Record, lent: &mut Lent) -> u64 {
         b't' => tighter(&record.runs, lent)[0],
         b's' => call!(zamiachisel_symmetries, problem; lent.out, lent.keys, lent.high, lent.low),
         b'r' => report(problem, &mut first.clone(), lent),
+        b'x' => self::record(&record.runs, &mut output.clone()),
         _ => 0,
     }
 }
@@ -168,9 +184,14 @@ pub fn report(records: &[u8], output: &mut [u8], lent: &mut Lent) -> u64 {
     call!(zamiachisel_report, records; output, lent.keys, lent.high, lent.low)
 }
 
+/// The pair's verdict as a record, which this output gets: the number of the refusal, or 0.
+pub fn record([problem, low, high, _]: &[Vec<u8>; 4], output: &mut [u8]) -> u64 {
+    call!(zamiachisel_record, problem, low, high; output)
+}
+
 /// The four numbers that the call on two certificates leaves. They are lent with other numbers in them; where the number of
 /// the refusal is 0 a certificate comes back, and nowhere else.
-pub fn tighter([problem, first, second]: &[Vec<u8>; 3], lent: &mut Lent) -> [u64; 4] {
+pub fn tighter([problem, first, second, _]: &[Vec<u8>; 4], lent: &mut Lent) -> [u64; 4] {
     let [mut number, mut stream, mut place, mut key] = [u64::MAX; 4];
     // As above; the four numbers are apart from each other and from the tables.
     let back = unsafe {

@@ -1,6 +1,6 @@
 //! Refusal 1: each call with each of the lent tables one short.
 
-use crate::calls::{answer, report, tighter, Lent, Record};
+use crate::calls::{answer, record, report, tighter, Lent, Record};
 
 /// Case F: a problem and its two certificates, all of which hold.
 const PROBLEM: [&[u8]; 9] = [
@@ -35,7 +35,7 @@ fn case_f(kind: u8) -> Record {
     let second = if kind == b't' { low.clone() } else { high };
     Record {
         kind,
-        runs: [PROBLEM.concat(), low, second],
+        runs: [PROBLEM.concat(), low, second, Vec::new()],
     }
 }
 
@@ -97,19 +97,41 @@ const TABLES: [fn(&mut Lent); 4] = [
     |lent| lent.keys.clear(),
 ];
 
+/// An output with the record of case F at its start.
+fn written_to<const N: usize>(mut output: [u8; N]) -> [u8; N] {
+    output[..32].fill(0);
+    output[4..8].fill(255);
+    for at in [8, 12, 16] {
+        output[at] = 1;
+    }
+    output
+}
+
+/// The record of case F in 32 bytes and in more, and no byte written of fewer.
+fn records() {
+    let runs = case_f(b'p').runs;
+    let mut output = [7; 35];
+    assert_eq!(record(&runs, &mut output), 0);
+    assert_eq!(output, written_to([7; 35]));
+    for length in [0, 31] {
+        let mut output = [7; 35];
+        assert_eq!(record(&runs, &mut output[..length]), 1);
+        assert_eq!(output, [7; 35]);
+    }
+}
+
 /// Reports on case F: its record is written and no byte past it; with a short table or output nothing is, and with a record
 /// that is cut the tables alone.
 fn reports() {
     let runs = case_f(b'p').runs;
-    let lengths = runs.iter().flat_map(|run| (run.len() as u16).to_le_bytes());
+    let lengths = runs[..3]
+        .iter()
+        .flat_map(|run| (run.len() as u16).to_le_bytes());
     let records: Vec<u8> = lengths.chain(runs.concat()).collect();
     let (before, mut lent) = (filled(), filled());
     let mut output = [7; 35];
     assert_eq!(report(&records, &mut output, &mut lent), 0);
-    assert_eq!(output[..4], [0; 4]);
-    assert_eq!(output[4..8], [255; 4]);
-    assert_eq!(output[8..20], [1, 0, 0, 0, 1, 0, 0, 0, 1, 0, 0, 0]);
-    assert_eq!(output[20..], [&[0; 12][..], &[7; 3]].concat());
+    assert_eq!(output[..], written_to([7; 35]));
     assert_cleared(&lent, &before);
     let mut output = [7; 31];
     let mut lent = filled();
@@ -137,6 +159,7 @@ pub fn run() {
         }
     }
     reports();
+    records();
     let mut lent = filled();
     lent.low.truncate(2_047);
     assert_eq!(tighter(&case_f(b't').runs, &mut lent), [1, 0, 0, 0]);
@@ -144,4 +167,5 @@ pub fn run() {
     shortened(b's', |lent| lent.out.truncate(255));
     println!("refusal 1 for each short table of each call, and nothing written but the four numbers of the call on two");
     println!("reports: refusal 1 for each short table, then 12, then 1 for the output, and no byte of it written");
+    println!("records: 1 for fewer than 32 bytes, and no byte written of them nor past 32");
 }

@@ -43,6 +43,7 @@ fn run_all(records: &[Record]) {
         (b't', "tighter"),
         (b's', "symmetries"),
         (b'r', "report"),
+        (b'x', "record"),
     ];
     for (kind, name) in calls {
         let records = records.iter().filter(|record| record.kind == kind);

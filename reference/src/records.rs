@@ -11,17 +11,20 @@ pub const RUN: usize = 65_536;
 pub const BLOCKS: u8 = b'b';
 pub const CHECK: u8 = b'c';
 pub const PAIR: u8 = b'p';
-/// Those of the requests: 11, 02, 07.
+/// Those of the requests: 11, 02, 01, 07, 14.
 pub const WINDOW: u8 = b'w';
 pub const TIGHTER: u8 = b't';
 pub const SYMMETRIES: u8 = b's';
 pub const REPORT: u8 = b'r';
+pub const RECORD: u8 = b'x';
 
 /// The number of runs of a kind: problem, first certificate and second certificate for the calls of
-/// document 01 and of the requests 01 and 02. There is none for a byte that is no kind.
+/// document 01 and of the requests 01 and 02, and then the output for that of request 14. There is none
+/// for a byte that is no kind.
 pub fn run_count(kind: u8) -> Option<usize> {
     match kind {
         BLOCKS | CHECK | PAIR | WINDOW | TIGHTER | SYMMETRIES | REPORT => Some(3),
+        RECORD => Some(4),
         _ => None,
     }
 }

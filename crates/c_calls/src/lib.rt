@@ -7,7 +7,8 @@ ghost use Rattle.calls.specs.Check.{checkVerdict};
 ghost use Rattle.calls.specs.Pair.{pairVerdict};
 ghost use Rattle.calls.specs.Superseding.{supersedingVerdict, streamOf, refusalIn};
 ghost use Rattle.calls.specs.Symmetries.{symmetriesShort, symmetriesVerdict, masksLeft};
-ghost use Rattle.calls.specs.Report.{checkedRecords, reportVerdict, outputLeft, isShort};
+ghost use Rattle.calls.specs.Report.{threeRuns, checkedRecords, reportVerdict, outputLeft, isShort};
+ghost use Rattle.calls.specs.BidTool.{toolNumber, toolBytes, OneRecord, AnyOrder};
 use calls::Chosen;
 use calls::Refusal;
 
@@ -194,5 +195,34 @@ pub extern "C" fn zamiachisel_report(
         ⌜ TablesLeft (isShort o) lent left ⌝ }
 {
     let v = weekly_report::report(records, out, keys, high, low);
+    number_of(v.refusal)
+}
+
+// The call for the bid tool (request 14): the pair's verdict as one record. The tables are the call's own. The number of
+// the refusal comes back, or 0, or 1 where fewer than 32 bytes are lent.
+// stack: see docs/measured/stack-bound.tsv
+#[no_mangle]
+pub extern "C" fn zamiachisel_record(problem: &[u8], low: &[u8], high: &[u8], out: &mut [u8]) -> u64
+    ensures number { λ r.
+        let runs = threeRuns (now (problem .entry)) (now (low .entry)) (now (high .entry)) in
+        ⌜ r ≡ toolNumber (now (out .entry)) runs ⌝ }
+    ensures bytes { λ _.
+        let runs = threeRuns (now (problem .entry)) (now (low .entry)) (now (high .entry)) in
+        ⌜ now (out .exit) ≡ toolBytes (now (out .entry)) runs ⌝ }
+    ensures told { λ r.
+        let runs = threeRuns (now (problem .entry)) (now (low .entry)) (now (high .entry)) in
+        ⌜ OneRecord (now (out .entry)) runs (now (out .exit)) r ⌝ }
+    ensures order { λ r.
+        let runs = threeRuns (now (problem .entry)) (now (low .entry)) (now (high .entry)) in
+        ⌜ AnyOrder (now (out .entry)) runs r ⌝ }
+{
+    if out.len() < 32 {
+        return 1;
+    }
+    let mut keys = [0u64; 2048];
+    let mut high_sums = [0i64; 2048];
+    let mut low_sums = [0i64; 2048];
+    let v = checker::pair(problem, low, high, &mut keys, &mut high_sums, &mut low_sums);
+    record_writer::put_record(out, v);
     number_of(v.refusal)
 }

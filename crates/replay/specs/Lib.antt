@@ -2,3 +2,4 @@
 pub mod Records
 pub mod Arrivals
 pub mod Reports
+pub mod Tool

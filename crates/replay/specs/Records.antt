@@ -33,8 +33,8 @@ abbrev pub symmetriesAnswer : List ℕ → List ℕ
 symmetriesAnswer problem =
     symmetriesLine (symmetriesVerdict false problem) (masksLeft false problem (replicate 256 0))
 
--- by the kind: b, c, p, s, or another, which is not answered. Kinds t, w and r, whose lines may be longer than a text,
--- are answered by `tighterAnswer`, `windowAnswer` and `reportAnswer`
+-- by the kind: b, c, p, s, or another, which is not answered. Kinds t, w, r and x, whose lines may be longer than a
+-- text, are answered by `tighterAnswer`, `windowAnswer`, `reportAnswer` and `toolAnswer`
 unfoldable pub recordAnswer : ℕ → List ℕ → List ℕ → List ℕ → List ℕ
 recordAnswer kind problem first second =
     cond (eqb kind 0x62) (blocksAnswer problem)

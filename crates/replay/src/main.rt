@@ -1,8 +1,8 @@
 // Answers the records of the standard input, one line for each, until it ends. A record is a kind byte (b: blocks, c:
-// check, p: pair, s: symmetries, t: the tighter of two certificates, w: arrivals at the window of gaps, r: a report),
-// three lengths of 32 bits, little-endian, and three byte runs, each of at most 65,536 bytes. `answer_record` decides,
-// on the kind and the runs, `window_line` on the arrivals, `tighter_line` on two certificates and `report_line` on a
-// report; all else moves bytes.
+// check, p: pair, s: symmetries, t: the tighter of two certificates, w: arrivals at the window of gaps, r: a report, x:
+// the call for a C program), three lengths of 32 bits, little-endian, or four for x, and as many byte runs, each of at
+// most 65,536 bytes. `answer_record` decides, on the kind and the runs, `window_line` on the arrivals, `tighter_line` on
+// two certificates, `report_line` on a report and `tool_line` on the call for a C program; all else moves bytes.
 ghost use mathlib.Core.Path.{_≡_};
 ghost use mathlib.Core.Bool.{true};
 ghost use mathlib.Core.List.{_++_};
@@ -16,6 +16,7 @@ ghost use Rattle.replay.specs.Arrivals.{arrivalAt, separator, windowAnsw
 ghost use Rattle.replay.specs.Records.{blocksAnswer, checkAnswer, pairAnswer, symmetriesAnswer, recordAnswer};
 ghost use Rattle.replay.specs.Records.{tighterAnswer};
 ghost use Rattle.replay.specs.Reports.{reportAnswer};
+ghost use Rattle.replay.specs.Tool.{toolAnswer};
 use calls::Fraction;
 use calls::WindowVerdict;
 use libc::STDIN_FILENO;
@@ -224,6 +225,31 @@ fn answer_report(records: &[u8], output: &mut [u8], n: usize) -> bool {
     io::write_all(STDOUT_FILENO, text::cut(&line, len))
 }
 
+// The line for the call for a C program, with the output as it was lent.
+fn tool_line(problem: &[u8], low: &[u8], high: &[u8], output: &mut [u8], line: &mut [u8]) -> usize
+    requires { ⌜ 2 * length (now output) + 29 ≤ length (now line) ⌝ }
+    ensures { λ r. ⌜
+        take r (now (line .exit))
+        ≡ toolAnswer (now (problem .entry)) (now (low .entry)) (now (high .entry)) (now (output .entry))
+        ⌝ }
+{
+    let number = c_calls::zamiachisel_record(problem, low, high, output);
+    text::reports::tool_line(line, number, output)
+}
+
+// Writes that line, where the output is the first n bytes; whether it was written.
+fn write_tool(problem: &[u8], low: &[u8], high: &[u8], output: &mut [u8], n: usize) -> bool {
+    if output.len() < n {
+        return false;
+    }
+    if 65536 < n {
+        return false;
+    }
+    let mut line = [0u8; 131200];
+    let len = tool_line(problem, low, high, &mut output[..n], &mut line);
+    io::write_all(STDOUT_FILENO, text::cut(&line, len))
+}
+
 // The length that four bytes of a record's head give.
 fn length_at(head: &[u8; 13], at: usize) -> usize
     requires { ⌜ at + 4 ≤ 13 ⌝ }
@@ -243,11 +269,50 @@ fn fill(bytes: &mut [u8], n: usize) -> bool
     }
 }
 
+// Answers a record of the call for a C program, whose head has one length more; whether it was whole and its line was
+// written.
+fn answer_tool(head: &[u8; 13]) -> bool {
+    let mut more = [0u8; 4];
+    if io::read_full(STDIN_FILENO, &mut more) < 4 {
+        return false;
+    }
+    let a = length_at(head, 1);
+    let b = length_at(head, 5);
+    let c = length_at(head, 9);
+    let d = operand_reader::number_at(&more, 0, 4) as usize;
+    let mut problem = io::large_buffer();
+    let mut low = io::large_buffer();
+    let mut high = io::large_buffer();
+    let mut output = io::large_buffer();
+    if !fill(&mut problem, a) {
+        return false;
+    }
+    if !fill(&mut low, b) {
+        return false;
+    }
+    if !fill(&mut high, c) {
+        return false;
+    }
+    if !fill(&mut output, d) {
+        return false;
+    }
+    write_tool(
+        text::cut(&problem, a),
+        text::cut(&low, b),
+        text::cut(&high, c),
+        &mut output,
+        d,
+    )
+}
+
 // Answers the next record; whether there was a whole one of a known kind, and its line was written.
 fn answer_next() -> bool {
     let mut head = [0u8; 13];
     if io::read_full(STDIN_FILENO, &mut head) < 13 {
         return false;
+    }
+    if head[0] == b'x' {
+        return answer_tool(&head);
     }
     let a = length_at(&head, 1);
     let b = length_at(&head, 5);

@@ -23,7 +23,7 @@ mod window;
 pub use calls::{blocks, pair};
 
 use crate::records::{
-    hexadecimal, Record, BLOCKS, CHECK, PAIR, REPORT, SYMMETRIES, TIGHTER, WINDOW,
+    hexadecimal, Record, BLOCKS, CHECK, PAIR, RECORD, REPORT, SYMMETRIES, TIGHTER, WINDOW,
 };
 use crate::refusal::Refusal;
 
@@ -39,6 +39,10 @@ pub fn answer(record: &Record) -> Result<String, Refusal> {
             .map(|bytes| format!("tighter {}", hexadecimal(bytes))),
         SYMMETRIES => symmetries::symmetries(run(0)).map(|verdict| verdict.to_string()),
         REPORT => report::report(run(0), run(1)).map(|report| report.to_string()),
+        RECORD => {
+            let (number, output) = report::record_for_c([run(0), run(1), run(2)], run(3));
+            Ok(format!("record {number} {}", hexadecimal(&output)))
+        }
         other => unreachable!("no record has the kind {other}"),
     }
 }

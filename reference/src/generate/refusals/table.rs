@@ -14,7 +14,7 @@ after its number, of a request (document 02). \
 The answers were found by hand from those words and stand beside the cases in `reference/src/generate/refusals`; a test \
 there holds the reference to them. Each case is in the stored corpus `crates/replay/stdin`, where the proved calls \
 meet it; the last column gives, for each kind of call that meets it (`b` blocks, `c` check, `p` pair, `s` symmetries, `t` the \
-tighter of two certificates, `w` arrivals at the window of gaps, `r` report), the number of its record there, which is that of the line in `stdout`. `reference refusals` writes this page, and `./test` compares the two.
+tighter of two certificates, `w` arrivals at the window of gaps, `r` report, `x` record for a C program), the number of its record there, which is that of the line in `stdout`. `reference refusals` writes this page, and `./test` compares the two.
 
 Of two certificates a refusal of the first is seen only where the second is refused as well: where a case names only the first, \
 its record of kind `t` has that one twice.
@@ -26,7 +26,7 @@ hexadecimal, 0⁷ is seven zero bytes and 0⁸ eight, and a bar stands between c
 const ONE: &str = "
 ## 1: a lent table, the 576 bytes, the 256 bytes or a report's output is too short
 
-A replayed record is always answered with tables lent in full, so only reports meet refusal 1, by their output. It is stated in the public \
+A replayed record is always answered with tables lent in full, so only reports meet refusal 1, by their output; for a record of kind `x` it is the number in its line. It is stated in the public \
 contracts in `crates/checker/src/lib.rt`, `crates/superseding/src/lib.rt`, `crates/sign_symmetries/src/lib.rt` and `crates/weekly_report/src/lib.rt`: \
 `verdict` or `numbers` of each call says that it is given exactly when the named test holds, and `bytes`, `output` and `tables` that nothing is \
 written then; the four numbers lent to `tighter` receive it. `bench short` calls the C functions with each \
@@ -141,7 +141,7 @@ const SHORT: usize = 130;
 
 /// Writes the page.
 pub fn print() {
-    let corpus = corpus("bcpwtsr");
+    let corpus = corpus("bcpwtsrx");
     let mut cases = cases();
     cases.sort_by_key(|case| (case.expected.number, case.expected.stream));
     print!("{HEAD}{ONE}");

@@ -2,6 +2,7 @@
 
 mod empty_region;
 mod equalities;
+mod for_c;
 mod joining_rules;
 mod reports;
 mod sparse_orders;
@@ -16,7 +17,7 @@ use crate::generate::certificates::{as_record, streams};
 use crate::generate::changes::{change_case, CHANGES};
 use crate::generate::damage::{self, damaged};
 use crate::generate::rng::Rng;
-use crate::records::{Record, BLOCKS, CHECK, PAIR, REPORT, SYMMETRIES, TIGHTER, WINDOW};
+use crate::records::{Record, BLOCKS, CHECK, PAIR, RECORD, REPORT, SYMMETRIES, TIGHTER, WINDOW};
 
 pub use reports::packed;
 
@@ -109,6 +110,12 @@ const LANDED: &[Landed] = &[
         special: reports::special,
         random: reports::random,
         count: 200,
+    }),
+    Landed::Call(Call {
+        kind: RECORD,
+        special: for_c::special,
+        random: for_c::random,
+        count: 250,
     }),
 ];
 
