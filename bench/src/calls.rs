@@ -57,6 +57,27 @@ extern "C" {
         low_length: usize,
     ) -> u64;
 
+    fn zamiachisel_sum(
+        problem1: *const u8,
+        problem1_length: usize,
+        low1: *const u8,
+        low1_length: usize,
+        high1: *const u8,
+        high1_length: usize,
+        problem2: *const u8,
+        problem2_length: usize,
+        low2: *const u8,
+        low2_length: usize,
+        high2: *const u8,
+        high2_length: usize,
+        keys: *mut u64,
+        keys_length: usize,
+        high: *mut i64,
+        high_length: usize,
+        low: *mut i64,
+        low_length: usize,
+    ) -> u64;
+
     fn zamiachisel_tighter(
         problem: *const u8,
         problem_length: usize,
@@ -101,10 +122,10 @@ extern "C" {
     ) -> u64;
 }
 
-/// A record: its kind and its byte runs, of which all kinds but `x` leave the last empty.
+/// A record: its kind and its byte runs, as many as the kind has.
 pub struct Record {
     pub kind: u8,
-    pub runs: [Vec<u8>; 4],
+    pub runs: Vec<Vec<u8>>,
 }
 
 /// What is lent to every call.
@@ -136,21 +157,25 @@ pub fn records() -> Vec<Record> {
         .expect("the standard input is read");
     let mut found = Vec::new();
     let mut rest = bytes.as_slice();
-    while rest.len() >= 13 {
-        let kind = rest[0];
-        let count = if kind == b'x' { 4 } else { 3 };
-        let (head, after) = rest.split_at(1 + 4 * count);
+    while let Some((&kind, after)) = rest.split_first() {
+        let count = match kind {
+            b'x' => 4,
+            b'd' => 6,
+            _ => 3,
+        };
+        let Some((lengths, after)) = after.split_at_checked(4 * count) else {
+            break;
+        };
         rest = after;
-        let mut lengths = head[1..].chunks_exact(4);
-        let runs = [0, 1, 2, 3].map(|_| {
-            let length = lengths
-                .next()
-                .map_or([0; 4], |bytes| bytes.try_into().unwrap());
-            let length = u32::from_le_bytes(length) as usize;
-            let (run, after) = rest.split_at(length.min(rest.len()));
+        let lengths = lengths
+            .chunks(4)
+            .map(|bytes| u32::from_le_bytes(bytes.try_into().unwrap()));
+        let runs = lengths.map(|length| {
+            let (run, after) = rest.split_at(rest.len().min(length as usize));
             rest = after;
             run.to_vec()
         });
+        let runs = runs.collect();
         found.push(Record { kind, runs });
     }
     found
@@ -166,15 +191,24 @@ macro_rules! call {
 
 /// Answers a record: the number of the refusal, or 0.
 pub fn answer(record: &Record, lent: &mut Lent) -> u64 {
-    let [problem, first, second, output] = &record.runs;
-    match record.kind {
-        b'b' => call!(zamiachisel_blocks, problem; lent.out, lent.keys, lent.high, lent.low),
-        b'c' => call!(zamiachisel_check, problem, first; lent.keys, lent.high, lent.low),
-        b'p' => call!(zamiachisel_pair, problem, first, second; lent.keys, lent.high, lent.low),
-        b't' => tighter(&record.runs, lent)[0],
-        b's' => call!(zamiachisel_symmetries, problem; lent.out, lent.keys, lent.high, lent.low),
-        b'r' => report(problem, &mut first.clone(), lent),
-        b'x' => self::record(&record.runs, &mut output.clone()),
+    let [problem, first, second, others @ ..] = &record.runs[..] else {
+        panic!("a record has three runs at least");
+    };
+    match (record.kind, others) {
+        (b'b', _) => call!(zamiachisel_blocks, problem; lent.out, lent.keys, lent.high, lent.low),
+        (b'c', _) => call!(zamiachisel_check, problem, first; lent.keys, lent.high, lent.low),
+        (b'p', _) => {
+            call!(zamiachisel_pair, problem, first, second; lent.keys, lent.high, lent.low)
+        }
+        (b't', _) => tighter([problem, first, second], lent)[0],
+        (b's', _) => {
+            call!(zamiachisel_symmetries, problem; lent.out, lent.keys, lent.high, lent.low)
+        }
+        (b'r', _) => report(problem, &mut first.clone(), lent),
+        (b'x', [output]) => self::record([problem, first, second], &mut output.clone()),
+        (b'd', [problem2, low2, high2]) => {
+            call!(zamiachisel_sum, problem, first, second, problem2, low2, high2; lent.keys, lent.high, lent.low)
+        }
         _ => 0,
     }
 }
@@ -185,13 +219,13 @@ pub fn report(records: &[u8], output: &mut [u8], lent: &mut Lent) -> u64 {
 }
 
 /// The pair's verdict as a record, which this output gets: the number of the refusal, or 0.
-pub fn record([problem, low, high, _]: &[Vec<u8>; 4], output: &mut [u8]) -> u64 {
+pub fn record([problem, low, high]: [&Vec<u8>; 3], output: &mut [u8]) -> u64 {
     call!(zamiachisel_record, problem, low, high; output)
 }
 
 /// The four numbers that the call on two certificates leaves. They are lent with other numbers in them; where the number of
 /// the refusal is 0 a certificate comes back, and nowhere else.
-pub fn tighter([problem, first, second, _]: &[Vec<u8>; 4], lent: &mut Lent) -> [u64; 4] {
+pub fn tighter([problem, first, second]: [&Vec<u8>; 3], lent: &mut Lent) -> [u64; 4] {
     let [mut number, mut stream, mut place, mut key] = [u64::MAX; 4];
     // As above; the four numbers are apart from each other and from the tables.
     let back = unsafe {

@@ -44,6 +44,7 @@ fn run_all(records: &[Record]) {
         (b's', "symmetries"),
         (b'r', "report"),
         (b'x', "record"),
+        (b'd', "sum"),
     ];
     for (kind, name) in calls {
         let records = records.iter().filter(|record| record.kind == kind);

@@ -9,6 +9,7 @@ ghost use Rattle.calls.specs.Superseding.{supersedingVerdict, streamOf, refusal
 ghost use Rattle.calls.specs.Symmetries.{symmetriesShort, symmetriesVerdict, masksLeft};
 ghost use Rattle.calls.specs.Report.{threeRuns, checkedRecords, reportVerdict, outputLeft, isShort};
 ghost use Rattle.calls.specs.BidTool.{toolNumber, toolBytes, OneRecord, AnyOrder};
+ghost use Rattle.calls.specs.AddedBounds.{streams, sumVerdict};
 use calls::Chosen;
 use calls::Refusal;
 
@@ -89,6 +90,45 @@ pub extern "C" fn zamiachisel_pair(
         ⌜ TablesLeft (tablesShort lent) lent left ⌝ }
 {
     let v = checker::pair(problem, first, second, keys, high, low);
+    number_of(v.refusal)
+}
+
+// Two problems over one region, with a pair for each: the number of the refusal, or 0.
+// stack: see docs/measured/stack-bound.tsv
+#[no_mangle]
+pub extern "C" fn zamiachisel_sum(
+    problem1: &[u8],
+    low1: &[u8],
+    high1: &[u8],
+    problem2: &[u8],
+    low2: &[u8],
+    high2: &[u8],
+    keys: &mut [u64],
+    high: &mut [i64],
+    low: &mut [i64],
+) -> u64
+    ensures verdict { λ r.
+        let lent = tables (now (keys .entry)) (now (high .entry)) (now (low .entry)) in
+        let a = streams (now (problem1 .entry)) (now (low1 .entry)) (now (high1 .entry)) in
+        let b = streams (now (problem2 .entry)) (now (low2 .entry)) (now (high2 .entry)) in
+        let v = sumVerdict (tablesShort lent) a b in
+        ⌜ r ≡ v .refusal .number ⌝ }
+    ensures tables { λ _.
+        let lent = tables (now (keys .entry)) (now (high .entry)) (now (low .entry)) in
+        let left = tables (now (keys .exit)) (now (high .exit)) (now (low .exit)) in
+        ⌜ TablesLeft (tablesShort lent) lent left ⌝ }
+{
+    let v = added_bounds::sum(
+        problem1,
+        low1,
+        high1,
+        problem2,
+        low2,
+        high2,
+        keys,
+        high,
+        low,
+    );
     number_of(v.refusal)
 }
 

@@ -23,3 +23,6 @@ pub mod RecordFields
 pub mod Told
 pub mod Reports
 pub mod BidTools
+pub mod Regions
+pub mod BoundsAdded
+pub mod RingSums

@@ -12,3 +12,4 @@ pub mod Rules
 pub mod Symmetries
 pub mod Report
 pub mod BidTool
+pub mod AddedBounds

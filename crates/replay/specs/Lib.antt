@@ -3,3 +3,4 @@ pub mod Records
 pub mod Arrivals
 pub mod Reports
 pub mod Tool
+pub mod Sums

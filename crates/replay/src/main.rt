@@ -1,8 +1,9 @@
 // Answers the records of the standard input, one line for each, until it ends. A record is a kind byte (b: blocks, c:
 // check, p: pair, s: symmetries, t: the tighter of two certificates, w: arrivals at the window of gaps, r: a report, x:
-// the call for a C program), three lengths of 32 bits, little-endian, or four for x, and as many byte runs, each of at
-// most 65,536 bytes. `answer_record` decides, on the kind and the runs, `window_line` on the arrivals, `tighter_line` on
-// two certificates, `report_line` on a report and `tool_line` on the call for a C program; all else moves bytes.
+// the call for a C program, d: two problems with a pair for each), lengths of 32 bits, little-endian, and as many byte
+// runs, each of at most 65,536 bytes: four for x, six for d, three for the others. `answer_record` decides, on the kind
+// and the runs, `window_line` on the arrivals, `tighter_line` on two certificates, `report_line` on a report, `tool_line`
+// on the call for a C program and `answer_sum` on two problems; all else moves bytes.
 ghost use mathlib.Core.Path.{_≡_};
 ghost use mathlib.Core.Bool.{true};
 ghost use mathlib.Core.List.{_++_};
@@ -12,11 +13,13 @@ ghost use Rattle.format.specs.Operands.{number, signed};
 ghost use Rattle.lines.specs.Lines.{arrivalWord};
 ghost use Rattle.lines.specs.Texts.{textOf};
 ghost use Rattle.text.specs.Appending.{Appended};
+ghost use Rattle.calls.specs.AddedBounds.{streams};
 ghost use Rattle.replay.specs.Arrivals.{arrivalAt, separator, windowAnswer};
 ghost use Rattle.replay.specs.Records.{blocksAnswer, checkAnswer, pairAnswer, symmetriesAnswer, recordAnswer};
 ghost use Rattle.replay.specs.Records.{tighterAnswer};
 ghost use Rattle.replay.specs.Reports.{reportAnswer};
 ghost use Rattle.replay.specs.Tool.{toolAnswer};
+ghost use Rattle.replay.specs.Sums.{sumAnswer};
 use calls::Fraction;
 use calls::WindowVerdict;
 use libc::STDIN_FILENO;
@@ -250,6 +253,37 @@ fn write_tool(problem: &[u8], low: &[u8], high: &[u8], output: &mut [u8], n: usi
     io::write_all(STDOUT_FILENO, text::cut(&line, len))
 }
 
+// The line for two problems with a pair for each.
+fn answer_sum(
+    problem1: &[u8],
+    low1: &[u8],
+    high1: &[u8],
+    problem2: &[u8],
+    low2: &[u8],
+    high2: &[u8],
+) -> Text
+    ensures { λ t.
+        let a = streams (now (problem1 .entry)) (now (low1 .entry)) (now (high1 .entry)) in
+        let b = streams (now (problem2 .entry)) (now (low2 .entry)) (now (high2 .entry)) in
+        ⌜ textOf t ≡ sumAnswer a b ⌝ }
+{
+    let mut keys = [0u64; 2048];
+    let mut high = [0i64; 2048];
+    let mut low = [0i64; 2048];
+    let v = added_bounds::sum(
+        problem1,
+        low1,
+        high1,
+        problem2,
+        low2,
+        high2,
+        &mut keys,
+        &mut high,
+        &mut low,
+    );
+    text::sum_line(v)
+}
+
 // The length that four bytes of a record's head give.
 fn length_at(head: &[u8; 13], at: usize) -> usize
     requires { ⌜ at + 4 ≤ 13 ⌝ }
@@ -269,28 +303,37 @@ fn fill(bytes: &mut [u8], n: usize) -> bool
     }
 }
 
-// Answers a record of the call for a C program, whose head has one length more; whether it was whole and its line was
-// written.
-fn answer_tool(head: &[u8; 13]) -> bool {
+// The same for three runs, one after the other.
+fn fill_three(
+    first: &mut [u8],
+    a: usize,
+    second: &mut [u8],
+    b: usize,
+    third: &mut [u8],
+    c: usize,
+) -> bool {
+    if !fill(first, a) {
+        return false;
+    }
+    if !fill(second, b) {
+        return false;
+    }
+    fill(third, c)
+}
+
+// Answers a record of the call for a C program, of which three lengths are read and one more follows; whether it was
+// whole and its line was written.
+fn answer_tool(a: usize, b: usize, c: usize) -> bool {
     let mut more = [0u8; 4];
     if io::read_full(STDIN_FILENO, &mut more) < 4 {
         return false;
     }
-    let a = length_at(head, 1);
-    let b = length_at(head, 5);
-    let c = length_at(head, 9);
     let d = operand_reader::number_at(&more, 0, 4) as usize;
     let mut problem = io::large_buffer();
     let mut low = io::large_buffer();
     let mut high = io::large_buffer();
     let mut output = io::large_buffer();
-    if !fill(&mut problem, a) {
-        return false;
-    }
-    if !fill(&mut low, b) {
-        return false;
-    }
-    if !fill(&mut high, c) {
+    if !fill_three(&mut problem, a, &mut low, b, &mut high, c) {
         return false;
     }
     if !fill(&mut output, d) {
@@ -305,28 +348,66 @@ fn answer_tool(head: &[u8; 13]) -> bool {
     )
 }
 
+// Writes a text, which is empty where a record's kind is unknown; whether it was written.
+fn write(t: Text) -> bool {
+    if t.len == 0 {
+        return false;
+    }
+    let bytes = t.bytes;
+    io::write_all(STDOUT_FILENO, text::cut(&bytes, t.len))
+}
+
+// Answers a record of two problems, of which the first three lengths are read; whether it was whole and its line was
+// written.
+fn answer_two_problems(a: usize, b: usize, c: usize) -> bool {
+    let mut rest = [0u8; 13];
+    if !fill(&mut rest, 12) {
+        return false;
+    }
+    let d = length_at(&rest, 0);
+    let e = length_at(&rest, 4);
+    let f = length_at(&rest, 8);
+    let mut problem1 = io::large_buffer();
+    let mut low1 = io::large_buffer();
+    let mut high1 = io::large_buffer();
+    let mut problem2 = io::large_buffer();
+    let mut low2 = io::large_buffer();
+    let mut high2 = io::large_buffer();
+    if !fill_three(&mut problem1, a, &mut low1, b, &mut high1, c) {
+        return false;
+    }
+    if !fill_three(&mut problem2, d, &mut low2, e, &mut high2, f) {
+        return false;
+    }
+    write(answer_sum(
+        text::cut(&problem1, a),
+        text::cut(&low1, b),
+        text::cut(&high1, c),
+        text::cut(&problem2, d),
+        text::cut(&low2, e),
+        text::cut(&high2, f),
+    ))
+}
+
 // Answers the next record; whether there was a whole one of a known kind, and its line was written.
 fn answer_next() -> bool {
     let mut head = [0u8; 13];
     if io::read_full(STDIN_FILENO, &mut head) < 13 {
         return false;
     }
-    if head[0] == b'x' {
-        return answer_tool(&head);
-    }
     let a = length_at(&head, 1);
     let b = length_at(&head, 5);
     let c = length_at(&head, 9);
+    if head[0] == b'x' {
+        return answer_tool(a, b, c);
+    }
+    if head[0] == b'd' {
+        return answer_two_problems(a, b, c);
+    }
     let mut problem = io::large_buffer();
     let mut first = io::large_buffer();
     let mut second = io::large_buffer();
-    if !fill(&mut problem, a) {
-        return false;
-    }
-    if !fill(&mut first, b) {
-        return false;
-    }
-    if !fill(&mut second, c) {
+    if !fill_three(&mut problem, a, &mut first, b, &mut second, c) {
         return false;
     }
     if head[0] == b'w' {
@@ -338,17 +419,12 @@ fn answer_next() -> bool {
     if head[0] == b'r' {
         return answer_report(text::cut(&problem, a), &mut first, b);
     }
-    let text = answer_record(
+    write(answer_record(
         head[0],
         text::cut(&problem, a),
         text::cut(&first, b),
         text::cut(&second, c),
-    );
-    if text.len == 0 {
-        return false;
-    }
-    let bytes = text.bytes;
-    io::write_all(STDOUT_FILENO, text::cut(&bytes, text.len))
+    ))
 }
 
 fn main() {

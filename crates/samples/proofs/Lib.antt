@@ -1,3 +1,4 @@
 pub mod Table
 pub mod Roots
 pub mod Symmetries
+pub mod Sums

@@ -10,6 +10,7 @@ ghost use Rattle.calls.specs.Superseding.{refusalIn};
 ghost use Rattle.lines.specs.Lines.{decimal, signedDecimal, ratio, hexadecimal, refusalLine, gapWord, pairWords};
 ghost use Rattle.lines.specs.Lines.{pairLines, blocksLine, checkLine, pairLine, arrivalWord, tighterLine};
 ghost use Rattle.lines.specs.Lines.{symmetriesLine};
+ghost use Rattle.lines.specs.SumLines.{sumLine};
 ghost use Rattle.lines.specs.Texts.{textOf};
 ghost use Rattle.text.specs.Appending.{Appended};
 use calls::BlocksVerdict;
@@ -18,6 +19,7 @@ use calls::Fraction;
 use calls::PairVerdict;
 use calls::Refusal;
 use calls::SymmetriesVerdict;
+use calls::SumVerdict;
 use calls::WindowVerdict;
 use lines::Text;
 
@@ -258,6 +260,24 @@ pub fn pair_line(v: PairVerdict) -> Text
     let a = append_pair(&mut out, 0, v, b"pair ", b" ", b" gap ", b" rounds ");
     let b = append_with_number(&mut out, a, b" rule ", v.rule as u64);
     let len = append(&mut out, b, b"\n");
+    Text { bytes: out, len }
+}
+
+// The line of two problems with a pair for each, or that of the refusal.
+pub fn sum_line(v: SumVerdict) -> Text
+    ensures { λ t. ⌜ textOf t ≡ sumLine v ⌝ }
+{
+    let r = v.refusal;
+    if 0 < r.number {
+        return refusal_line(r);
+    }
+    let rules = v.rules;
+    let mut out = [0u8; 1280];
+    let a = append_with_ratio(&mut out, 0, b"sum ", v.lower);
+    let b = append_with_ratio(&mut out, a, b" ", v.upper);
+    let c = append_with_number(&mut out, b, b" rules ", rules.first as u64);
+    let d = append_with_number(&mut out, c, b" ", rules.second as u64);
+    let len = append(&mut out, d, b"\n");
     Text { bytes: out, len }
 }
 

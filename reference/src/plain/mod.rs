@@ -14,6 +14,7 @@ mod polynomial;
 mod problem;
 mod report;
 mod stream;
+mod sum;
 mod superseding;
 mod symmetries;
 #[cfg(test)]
@@ -23,7 +24,7 @@ mod window;
 pub use calls::{blocks, pair};
 
 use crate::records::{
-    hexadecimal, Record, BLOCKS, CHECK, PAIR, RECORD, REPORT, SYMMETRIES, TIGHTER, WINDOW,
+    hexadecimal, Record, BLOCKS, CHECK, PAIR, RECORD, REPORT, SUM, SYMMETRIES, TIGHTER, WINDOW,
 };
 use crate::refusal::Refusal;
 
@@ -43,6 +44,7 @@ pub fn answer(record: &Record) -> Result<String, Refusal> {
             let (number, output) = report::record_for_c([run(0), run(1), run(2)], run(3));
             Ok(format!("record {number} {}", hexadecimal(&output)))
         }
+        SUM => sum::sum([0, 1, 2, 3, 4, 5].map(run)).map(|sum| sum.to_string()),
         other => unreachable!("no record has the kind {other}"),
     }
 }

@@ -12,6 +12,7 @@ mod order;
 mod problems;
 pub mod reports;
 pub mod sparse_orders;
+pub mod regions;
 mod sums;
 pub mod superseding;
 pub mod symmetries;
@@ -113,6 +114,7 @@ const LISTS: &[(u8, fn() -> Vec<Case>)] = &[
     (8, joining_rules::cases),
     (9, sparse_orders::cases),
     (7, reports::cases),
+    (12, regions::cases),
 ];
 
 /// All cases, by the order of the lists.
@@ -263,7 +265,7 @@ mod tests {
         let in_problem = (2..=7).map(|number| (number, 0));
         let in_certificate = [2, 3, 4, 5, 6, 8, 9, 10];
         let in_certificate = in_certificate.iter().flat_map(|&n| [(n, 1), (n, 2)]);
-        let of_requests = [(11, 2), (1, 0), (12, 0)];
+        let of_requests = [(11, 2), (1, 0), (12, 0), (15, 0), (2, 3), (2, 4), (2, 5), (10, 4), (10, 5)];
         let all = in_problem.chain(in_certificate).chain(of_requests);
         assert_eq!(met, all.collect());
     }

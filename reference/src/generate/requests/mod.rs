@@ -6,6 +6,7 @@ mod for_c;
 mod joining_rules;
 mod reports;
 mod sparse_orders;
+mod sums;
 mod superseding;
 mod symmetries;
 mod wide_factors;
@@ -17,7 +18,9 @@ use crate::generate::certificates::{as_record, streams};
 use crate::generate::changes::{change_case, CHANGES};
 use crate::generate::damage::{self, damaged};
 use crate::generate::rng::Rng;
-use crate::records::{Record, BLOCKS, CHECK, PAIR, RECORD, REPORT, SYMMETRIES, TIGHTER, WINDOW};
+use crate::records::{
+    Record, BLOCKS, CHECK, PAIR, RECORD, REPORT, SUM, SYMMETRIES, TIGHTER, WINDOW,
+};
 
 pub use reports::packed;
 
@@ -116,6 +119,12 @@ const LANDED: &[Landed] = &[
         special: for_c::special,
         random: for_c::random,
         count: 250,
+    }),
+    Landed::Call(Call {
+        kind: SUM,
+        special: sums::special,
+        random: sums::random,
+        count: 300,
     }),
 ];
 

@@ -1,0 +1,4 @@
+pub mod CertificateWidths
+pub mod Bounds
+pub mod Twice
+pub mod Ends
