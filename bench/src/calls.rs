@@ -120,6 +120,23 @@ extern "C" {
         low: *mut i64,
         low_length: usize,
     ) -> u64;
+
+    fn zamiachisel_moved_bound(
+        problem: *const u8,
+        problem_length: usize,
+        certificate: *const u8,
+        certificate_length: usize,
+        changes: *const u8,
+        changes_length: usize,
+        numerator: *mut i64,
+        denominator: *mut u64,
+        keys: *mut u64,
+        keys_length: usize,
+        high: *mut i64,
+        high_length: usize,
+        low: *mut i64,
+        low_length: usize,
+    ) -> u64;
 }
 
 /// A record: its kind and its byte runs, as many as the kind has.
@@ -209,6 +226,7 @@ pub fn answer(record: &Record, lent: &mut Lent) -> u64 {
         (b'd', [problem2, low2, high2]) => {
             call!(zamiachisel_sum, problem, first, second, problem2, low2, high2; lent.keys, lent.high, lent.low)
         }
+        (b'a', _) => moved_bound([problem, first, second], lent).0,
         _ => 0,
     }
 }
@@ -251,4 +269,34 @@ pub fn tighter([problem, first, second]: [&Vec<u8>; 3], lent: &mut Lent) -> [u64
     assert_eq!(number == 0, back == 1 || back == 2);
     assert!(number != 0 || [stream, place, key] == [0; 3]);
     [number, stream, place, key]
+}
+
+/// The number of the refusal and the moved bound that the call on changes leaves, which is 0 over 0 exactly with a refusal.
+pub fn moved_bound(
+    [problem, certificate, changes]: [&Vec<u8>; 3],
+    lent: &mut Lent,
+) -> (u64, i64, u64) {
+    let (mut numerator, mut denominator) = (i64::MIN, u64::MAX);
+    // As above.
+    let number = unsafe {
+        zamiachisel_moved_bound(
+            problem.as_ptr(),
+            problem.len(),
+            certificate.as_ptr(),
+            certificate.len(),
+            changes.as_ptr(),
+            changes.len(),
+            &raw mut numerator,
+            &raw mut denominator,
+            lent.keys.as_mut_ptr(),
+            lent.keys.len(),
+            lent.high.as_mut_ptr(),
+            lent.high.len(),
+            lent.low.as_mut_ptr(),
+            lent.low.len(),
+        )
+    };
+    assert_eq!(number == 0, denominator != 0);
+    assert!(number == 0 || numerator == 0);
+    (number, numerator, denominator)
 }

@@ -1,6 +1,6 @@
 //! Refusal 1: each call with each of the lent tables one short.
 
-use crate::calls::{answer, record, report, tighter, Lent, Record};
+use crate::calls::{answer, moved_bound, record, report, tighter, Lent, Record};
 
 /// Case F: a problem and its two certificates, all of which hold.
 const PROBLEM: [&[u8]; 9] = [
@@ -23,6 +23,8 @@ const ROWS: [&[u8]; 6] = [
     &[0x13],
 ];
 
+const CHANGE: [u8; 12] = [1, 0, 0, 0, 0, 0, 0, 0, 251, 255, 255, 255];
+
 fn case_f(kind: u8) -> Record {
     let low = [
         &[0x10, 0, 2, 0, 255, 255, 255, 255, 1, 0],
@@ -31,8 +33,12 @@ fn case_f(kind: u8) -> Record {
     .concat();
     let mut high = [&[0x10, 1, 2, 0, 1, 0, 0, 0, 1, 0], &ROWS.concat()[..]].concat();
     high[20..22].copy_from_slice(&[255, 255]);
-    // The call on two certificates takes two of one side.
-    let second = if kind == b't' { low.clone() } else { high };
+    // The call on two certificates takes two of one side, and the call on changes takes changes: 5 x and -5 x.
+    let second = match kind {
+        b't' => low.clone(),
+        b'a' => [[1, 0, 0, 0, 0, 0, 0, 0, 5, 0, 0, 0], CHANGE].concat(),
+        _ => high,
+    };
     let mut runs = vec![PROBLEM.concat(), low, second];
     if kind == b'd' {
         runs.extend(runs.clone());
@@ -153,7 +159,7 @@ fn reports() {
 
 /// Ends with status 101 where a call does otherwise.
 pub fn run() {
-    for kind in *b"bcptsd" {
+    for kind in *b"bcptsda" {
         full(kind);
         for shorten in TABLES {
             shortened(kind, shorten);
@@ -166,9 +172,16 @@ pub fn run() {
     let runs = case_f(b't').runs;
     let numbers = tighter([&runs[0], &runs[1], &runs[2]], &mut lent);
     assert_eq!(numbers, [1, 0, 0, 0]);
+    let runs = case_f(b'a').runs;
+    let [problem, low, changes] = [&runs[0], &runs[1], &runs[2]];
+    assert_eq!(moved_bound([problem, low, changes], &mut lent), (1, 0, 0));
+    assert_eq!(
+        moved_bound([problem, low, changes], &mut filled()),
+        (0, -11, 1)
+    );
     shortened(b'b', |lent| lent.out.truncate(575));
     shortened(b's', |lent| lent.out.truncate(255));
-    println!("refusal 1 for each short table of each call, and nothing written but the four numbers of the call on two");
+    println!("refusal 1 for each short table of each call, and nothing written but the numbers that two calls lend singly");
     println!("reports: refusal 1 for each short table, then 12, then 1 for the output, and no byte of it written");
     println!("records: 1 for fewer than 32 bytes, and no byte written of them nor past 32");
 }

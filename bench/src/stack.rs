@@ -45,6 +45,7 @@ fn run_all(records: &[Record]) {
         (b'r', "report"),
         (b'x', "record"),
         (b'd', "sum"),
+        (b'a', "moved_bound"),
     ];
     for (kind, name) in calls {
         let records = records.iter().filter(|record| record.kind == kind);

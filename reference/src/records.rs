@@ -18,13 +18,14 @@ pub const SYMMETRIES: u8 = b's';
 pub const REPORT: u8 = b'r';
 pub const RECORD: u8 = b'x';
 pub const SUM: u8 = b'd';
+pub const ADJUSTED: u8 = b'a';
 
 /// The number of runs of a kind: problem, first certificate and second certificate for the calls of
 /// document 01 and of the requests 01 and 02, and then the output for that of request 14; these three
 /// twice for request 12. There is none for a byte that is no kind.
 pub fn run_count(kind: u8) -> Option<usize> {
     match kind {
-        BLOCKS | CHECK | PAIR | WINDOW | TIGHTER | SYMMETRIES | REPORT => Some(3),
+        BLOCKS | CHECK | PAIR | WINDOW | TIGHTER | SYMMETRIES | REPORT | ADJUSTED => Some(3),
         RECORD => Some(4),
         SUM => Some(6),
         _ => None,

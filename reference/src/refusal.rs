@@ -37,6 +37,10 @@ pub const DIFFERENT_SIDES: u8 = 11;
 pub const RECORDS: u8 = 12;
 /// Request 12: the regions of two problems differ.
 pub const REGIONS: u8 = 15;
+/// Request 13: some variable has no inequality that is exactly 1 - x_i².
+pub const NO_BOX: u8 = 16;
+/// Request 13: an upper certificate.
+pub const NOT_LOWER: u8 = 17;
 
 /// The four fields of a refusal.
 #[derive(Clone, Copy, Debug, PartialEq, Eq)]

@@ -10,6 +10,8 @@ ghost use Rattle.calls.specs.Symmetries.{symmetriesShort, symmetriesVerdict, ma
 ghost use Rattle.calls.specs.Report.{threeRuns, checkedRecords, reportVerdict, outputLeft, isShort};
 ghost use Rattle.calls.specs.BidTool.{toolNumber, toolBytes, OneRecord, AnyOrder};
 ghost use Rattle.calls.specs.AddedBounds.{streams, sumVerdict};
+ghost use Rattle.calls.specs.Fractions.{fraction};
+ghost use Rattle.calls.specs.Adjusted.{adjustedVerdict};
 use calls::Chosen;
 use calls::Refusal;
 
@@ -264,5 +266,41 @@ pub extern "C" fn zamiachisel_record(problem: &[u8], low: &[u8], high: &[u8], ou
     let mut low_sums = [0i64; 2048];
     let v = checker::pair(problem, low, high, &mut keys, &mut high_sums, &mut low_sums);
     record_writer::put_record(out, v);
+    number_of(v.refusal)
+}
+
+// The call on changes of the objective: the number of the refusal, or 0. Two numbers receive the moved bound, 0 over 0
+// with a refusal.
+// stack: see docs/measured/stack-bound.tsv
+#[no_mangle]
+pub extern "C" fn zamiachisel_moved_bound(
+    problem: &[u8],
+    certificate: &[u8],
+    changes: &[u8],
+    numerator: &mut i64,
+    denominator: &mut u64,
+    keys: &mut [u64],
+    high: &mut [i64],
+    low: &mut [i64],
+) -> u64
+    ensures verdict { λ r.
+        let lent = tables (now (keys .entry)) (now (high .entry)) (now (low .entry)) in
+        let s = now (problem .entry) in
+        let v = adjustedVerdict (tablesShort lent) s (now (certificate .entry)) (now (changes .entry)) in
+        ⌜ r ≡ v .refusal .number ⌝ }
+    ensures bound { λ _.
+        let lent = tables (now (keys .entry)) (now (high .entry)) (now (low .entry)) in
+        let s = now (problem .entry) in
+        let v = adjustedVerdict (tablesShort lent) s (now (certificate .entry)) (now (changes .entry)) in
+        ⌜ fraction (now (numerator .exit)) (now (denominator .exit)) ≡ v .bound ⌝ }
+    ensures tables { λ _.
+        let lent = tables (now (keys .entry)) (now (high .entry)) (now (low .entry)) in
+        let left = tables (now (keys .exit)) (now (high .exit)) (now (low .exit)) in
+        ⌜ TablesLeft (tablesShort lent) lent left ⌝ }
+{
+    let v = adjusted_bound::moved_bound(problem, certificate, changes, keys, high, low);
+    let f = v.bound;
+    *numerator = f.num;
+    *denominator = f.den;
     number_of(v.refusal)
 }

@@ -26,3 +26,8 @@ pub mod BidTools
 pub mod Regions
 pub mod BoundsAdded
 pub mod RingSums
+pub mod AdjustedBounds
+pub mod RingAdjusted
+pub mod Boxes
+pub mod Changes
+pub mod Adjusting

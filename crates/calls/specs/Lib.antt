@@ -13,3 +13,5 @@ pub mod Symmetries
 pub mod Report
 pub mod BidTool
 pub mod AddedBounds
+pub mod Adjusted
+pub mod RingAdjusted

@@ -125,3 +125,10 @@ pub struct SumVerdict {
     pub upper: Fraction,
     pub rules: RulesUsed,
 }
+
+// What the call on changes of the objective returns: the bound of a lower certificate, moved by the changes. With a
+// refusal the bound is 0 over 0.
+pub struct AdjustedVerdict {
+    pub refusal: Refusal,
+    pub bound: Fraction,
+}

@@ -13,3 +13,4 @@ pub mod Exchanged
 pub mod Alike
 pub mod All
 pub mod ProblemVariables
+pub mod HeaderRange

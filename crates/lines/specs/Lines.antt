@@ -15,6 +15,7 @@ use Rattle.calls.specs.declared.CheckVerdict.{CheckVerdict}
 use Rattle.calls.specs.declared.PairVerdict.{PairVerdict}
 use Rattle.calls.specs.declared.WindowVerdict.{WindowVerdict}
 use Rattle.calls.specs.declared.SymmetriesVerdict.{SymmetriesVerdict}
+use Rattle.calls.specs.declared.AdjustedVerdict.{AdjustedVerdict}
 
 -- the bytes of a text, one for each character
 abbrev pub ascii : String → List ℕ
@@ -132,3 +133,7 @@ unfoldable pub symmetriesLine : SymmetriesVerdict → List ℕ → List ℕ
 symmetriesLine v out =
     unlessRefused (v .refusal)
     (withNumber "symmetries " (v .masks) ++ ascii " " ++ hexadecimal out ++ ascii "\n")
+
+-- the moved bound
+unfoldable pub adjustedLine : AdjustedVerdict → List ℕ
+adjustedLine v = unlessRefused (v .refusal) (withRatio "adjusted " (v .bound) ++ ascii "\n")

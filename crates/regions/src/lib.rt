@@ -117,14 +117,14 @@ pub fn is_same(problem1: &[u8], problem2: &[u8]) -> bool
 {
     let mut keys1 = [0u64; 1120];
     let mut coefficients1 = [0i32; 544];
-    let mut sizes1 = [0usize; 30];
+    let mut sizes1 = [0usize; 31];
     let first = problem_reader::read(problem1, &mut keys1, &mut coefficients1, &mut sizes1);
     if 0 < first.number {
         return false;
     }
     let mut keys2 = [0u64; 1120];
     let mut coefficients2 = [0i32; 544];
-    let mut sizes2 = [0usize; 30];
+    let mut sizes2 = [0usize; 31];
     let second = problem_reader::read(problem2, &mut keys2, &mut coefficients2, &mut sizes2);
     if 0 < second.number {
         return false;

@@ -9,9 +9,10 @@ use Rattle.calls.specs.Blocks.{blocksVerdict, bytesLeft}
 use Rattle.calls.specs.Check.{checkVerdict}
 use Rattle.calls.specs.Pair.{pairVerdict}
 use Rattle.calls.specs.Superseding.{supersedingVerdict, partOf}
+use Rattle.calls.specs.Adjusted.{adjustedVerdict}
 use Rattle.calls.specs.declared.SupersedingVerdict.{SupersedingVerdict}
 use Rattle.calls.specs.Symmetries.{symmetriesVerdict, masksLeft}
-use Rattle.lines.specs.Lines.{blocksLine, checkLine, pairLine, tighterLine, symmetriesLine}
+use Rattle.lines.specs.Lines.{blocksLine, checkLine, pairLine, tighterLine, symmetriesLine, adjustedLine}
 
 abbrev pub blocksAnswer : List ℕ → List ℕ
 blocksAnswer problem = blocksLine (blocksVerdict false problem) (bytesLeft false problem (replicate 576 0))
@@ -33,11 +34,17 @@ abbrev pub symmetriesAnswer : List ℕ → List ℕ
 symmetriesAnswer problem =
     symmetriesLine (symmetriesVerdict false problem) (masksLeft false problem (replicate 256 0))
 
--- by the kind: b, c, p, s, or another, which is not answered. Kinds t, w, r and x, whose lines may be longer than a
--- text, are answered by `tighterAnswer`, `windowAnswer`, `reportAnswer` and `toolAnswer`
+-- a certificate, and changes in the place of the second
+abbrev pub adjustedAnswer : List ℕ → List ℕ → List ℕ → List ℕ
+adjustedAnswer problem certificate changes = adjustedLine (adjustedVerdict false problem certificate changes)
+
+-- by the kind: b, c, p, s, a, or another, which is not answered. Kinds t, w, r and x, whose lines may be longer than a
+-- text, and d, which has six runs, are answered by `tighterAnswer`, `windowAnswer`, `reportAnswer`, `toolAnswer` and
+-- `sumAnswer`
 unfoldable pub recordAnswer : ℕ → List ℕ → List ℕ → List ℕ → List ℕ
 recordAnswer kind problem first second =
     cond (eqb kind 0x62) (blocksAnswer problem)
     (cond (eqb kind 0x63) (checkAnswer problem first)
     (cond (eqb kind 0x70) (pairAnswer problem first second)
-    (cond (eqb kind 0x73) (symmetriesAnswer problem) [])))
+    (cond (eqb kind 0x73) (symmetriesAnswer problem)
+    (cond (eqb kind 0x61) (adjustedAnswer problem first second) []))))

@@ -1,9 +1,10 @@
 // Answers the records of the standard input, one line for each, until it ends. A record is a kind byte (b: blocks, c:
 // check, p: pair, s: symmetries, t: the tighter of two certificates, w: arrivals at the window of gaps, r: a report, x:
-// the call for a C program, d: two problems with a pair for each), lengths of 32 bits, little-endian, and as many byte
-// runs, each of at most 65,536 bytes: four for x, six for d, three for the others. `answer_record` decides, on the kind
-// and the runs, `window_line` on the arrivals, `tighter_line` on two certificates, `report_line` on a report, `tool_line`
-// on the call for a C program and `answer_sum` on two problems; all else moves bytes.
+// the call for a C program, d: two problems with a pair for each, a: changes of the objective), lengths of 32 bits,
+// little-endian, and as many byte runs, each of at most 65,536 bytes: four for x, six for d, three for the others.
+// `answer_record` decides, on the kind and the runs, `window_line` on the arrivals, `tighter_line` on two certificates,
+// `report_line` on a report, `tool_line` on the call for a C program and `answer_sum` on two problems; all else moves
+// bytes.
 ghost use mathlib.Core.Path.{_≡_};
 ghost use mathlib.Core.Bool.{true};
 ghost use mathlib.Core.List.{_++_};
@@ -16,7 +17,7 @@ ghost use Rattle.text.specs.Appending.{Appended};
 ghost use Rattle.calls.specs.AddedBounds.{streams};
 ghost use Rattle.replay.specs.Arrivals.{arrivalAt, separator, windowAnswer};
 ghost use Rattle.replay.specs.Records.{blocksAnswer, checkAnswer, pairAnswer, symmetriesAnswer, recordAnswer};
-ghost use Rattle.replay.specs.Records.{tighterAnswer};
+ghost use Rattle.replay.specs.Records.{adjustedAnswer, tighterAnswer};
 ghost use Rattle.replay.specs.Reports.{reportAnswer};
 ghost use Rattle.replay.specs.Tool.{toolAnswer};
 ghost use Rattle.replay.specs.Sums.{sumAnswer};
@@ -68,6 +69,25 @@ fn answer_symmetries(problem: &[u8]) -> Text
     text::symmetries_line(v, &out)
 }
 
+fn answer_adjusted(problem: &[u8], certificate: &[u8], changes: &[u8]) -> Text
+    ensures { λ t. ⌜
+        textOf t ≡ adjustedAnswer (now (problem .entry)) (now (certificate .entry)) (now (changes .entry))
+        ⌝ }
+{
+    let mut keys = [0u64; 2048];
+    let mut high = [0i64; 2048];
+    let mut low = [0i64; 2048];
+    let v = adjusted_bound::moved_bound(
+        problem,
+        certificate,
+        changes,
+        &mut keys,
+        &mut high,
+        &mut low,
+    );
+    text::adjusted_line(v)
+}
+
 // The line for a record, or none where its kind is unknown.
 fn answer_record(kind: u8, problem: &[u8], first: &[u8], second: &[u8]) -> Text
     ensures { λ t. ⌜
@@ -85,6 +105,9 @@ fn answer_record(kind: u8, problem: &[u8], first: &[u8], second: &[u8]) -> Text
     }
     if kind == b's' {
         return answer_symmetries(problem);
+    }
+    if kind == b'a' {
+        return answer_adjusted(problem, first, second);
     }
     Text {
         bytes: [0u8; 1280],

@@ -2,3 +2,4 @@ pub mod Table
 pub mod Roots
 pub mod Symmetries
 pub mod Sums
+pub mod Adjusted

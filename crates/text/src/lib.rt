@@ -9,10 +9,11 @@ ghost use Rattle.io.specs.Digits.{glyph};
 ghost use Rattle.calls.specs.Superseding.{refusalIn};
 ghost use Rattle.lines.specs.Lines.{decimal, signedDecimal, ratio, hexadecimal, refusalLine, gapWord, pairWords};
 ghost use Rattle.lines.specs.Lines.{pairLines, blocksLine, checkLine, pairLine, arrivalWord, tighterLine};
-ghost use Rattle.lines.specs.Lines.{symmetriesLine};
+ghost use Rattle.lines.specs.Lines.{symmetriesLine, adjustedLine};
 ghost use Rattle.lines.specs.SumLines.{sumLine};
 ghost use Rattle.lines.specs.Texts.{textOf};
 ghost use Rattle.text.specs.Appending.{Appended};
+use calls::AdjustedVerdict;
 use calls::BlocksVerdict;
 use calls::CheckVerdict;
 use calls::Fraction;
@@ -319,6 +320,20 @@ pub fn tighter_line(
     let a = append(out, 0, b"tighter ");
     let b = append_hexadecimal(out, a, part);
     append(out, b, b"\n")
+}
+
+// The line of the moved bound, or that of the refusal.
+pub fn adjusted_line(v: AdjustedVerdict) -> Text
+    ensures { λ t. ⌜ textOf t ≡ adjustedLine v ⌝ }
+{
+    let r = v.refusal;
+    if 0 < r.number {
+        return refusal_line(r);
+    }
+    let mut out = [0u8; 1280];
+    let a = append_with_ratio(&mut out, 0, b"adjusted ", v.bound);
+    let len = append(&mut out, a, b"\n");
+    Text { bytes: out, len }
 }
 
 // The first n bytes, or all.

@@ -79,6 +79,11 @@ pub fn certificate_end() -> Vec<u8> {
     vec![0x13]
 }
 
+/// A change of the objective (Req 13).
+pub fn adjustment(monomial: Monomial, d: i32) -> Vec<u8> {
+    [&monomial.0[..], &d.to_le_bytes()].concat()
+}
+
 /// A monomial from the exponents of its first variables.
 pub fn monomial(exponents: &[u8]) -> Monomial {
     let mut all = [0; VARIABLES];

@@ -6,6 +6,7 @@
 //! the baseline but monomials and the four fields of a refusal.
 
 mod accepting;
+mod adjusting;
 mod calls;
 mod certificate;
 mod joining;
@@ -24,7 +25,8 @@ mod window;
 pub use calls::{blocks, pair};
 
 use crate::records::{
-    hexadecimal, Record, BLOCKS, CHECK, PAIR, RECORD, REPORT, SUM, SYMMETRIES, TIGHTER, WINDOW,
+    hexadecimal, Record, ADJUSTED, BLOCKS, CHECK, PAIR, RECORD, REPORT, SUM, SYMMETRIES, TIGHTER,
+    WINDOW,
 };
 use crate::refusal::Refusal;
 
@@ -45,6 +47,9 @@ pub fn answer(record: &Record) -> Result<String, Refusal> {
             Ok(format!("record {number} {}", hexadecimal(&output)))
         }
         SUM => sum::sum([0, 1, 2, 3, 4, 5].map(run)).map(|sum| sum.to_string()),
+        ADJUSTED => {
+            adjusting::adjusted(run(0), run(1), run(2)).map(|bound| format!("adjusted {bound}"))
+        }
         other => unreachable!("no record has the kind {other}"),
     }
 }

@@ -4,6 +4,7 @@
 //! The answers stand in the lists and not in the program: the test below holds the reference to
 //! them, and the stored corpus holds the proved calls to them.
 
+pub mod adjusted;
 mod certificates;
 pub mod equalities;
 pub mod gaps;
@@ -115,6 +116,7 @@ const LISTS: &[(u8, fn() -> Vec<Case>)] = &[
     (9, sparse_orders::cases),
     (7, reports::cases),
     (12, regions::cases),
+    (13, adjusted::cases),
 ];
 
 /// All cases, by the order of the lists.
@@ -265,7 +267,19 @@ mod tests {
         let in_problem = (2..=7).map(|number| (number, 0));
         let in_certificate = [2, 3, 4, 5, 6, 8, 9, 10];
         let in_certificate = in_certificate.iter().flat_map(|&n| [(n, 1), (n, 2)]);
-        let of_requests = [(11, 2), (1, 0), (12, 0), (15, 0), (2, 3), (2, 4), (2, 5), (10, 4), (10, 5)];
+        let of_requests = [
+            (11, 2),
+            (1, 0),
+            (12, 0),
+            (15, 0),
+            (2, 3),
+            (2, 4),
+            (2, 5),
+            (10, 4),
+            (10, 5),
+            (16, 0),
+            (17, 0),
+        ];
         let all = in_problem.chain(in_certificate).chain(of_requests);
         assert_eq!(met, all.collect());
     }

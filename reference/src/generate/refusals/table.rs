@@ -15,7 +15,7 @@ after its number, of a request (document 02). \
 The answers were found by hand from those words and stand beside the cases in `reference/src/generate/refusals`; a test \
 there holds the reference to them. Each case is in the stored corpus `crates/replay/stdin`, where the proved calls \
 meet it; the last column gives, for each kind of call that meets it (`b` blocks, `c` check, `p` pair, `s` symmetries, `t` the \
-tighter of two certificates, `w` arrivals at the window of gaps, `r` report, `x` record for a C program, `d` two problems with a pair for each), the number of its record there, which is that of the line in `stdout`. `reference refusals` writes this page, and `./test` compares the two.
+tighter of two certificates, `w` arrivals at the window of gaps, `r` report, `x` record for a C program, `d` two problems with a pair for each, `a` changes of the objective), the number of its record there, which is that of the line in `stdout`. `reference refusals` writes this page, and `./test` compares the two.
 
 Of two certificates a refusal of the first is seen only where the second is refused as well: where a case names only the first, \
 its record of kind `t` has that one twice.
@@ -33,7 +33,7 @@ const ONE: &str = "
 
 A replayed record is always answered with tables lent in full, so only reports meet refusal 1, by their output; for a record of kind `x` it is the number in its line. It is stated in the public \
 contracts in `crates/checker/src/lib.rt`, `crates/superseding/src/lib.rt`, `crates/sign_symmetries/src/lib.rt`, \
-`crates/weekly_report/src/lib.rt` and `crates/added_bounds/src/lib.rt`: \
+`crates/weekly_report/src/lib.rt`, `crates/added_bounds/src/lib.rt` and `crates/adjusted_bound/src/lib.rt`: \
 `verdict` or `numbers` of each call says that it is given exactly when the named test holds, and `bytes`, `output` and `tables` that nothing is \
 written then; the four numbers lent to `tighter` receive it. `bench short` calls the C functions with each \
 length one short, and sees refusal 1 and all that was lent untouched.
@@ -63,6 +63,9 @@ length one short, and sees refusal 1 and all that was lent untouched.
 | two problems, keys | 2,047 numbers as the first table | `refused 1 0 0 0` | `verdict` of `sum`, `tablesShort` |
 | two problems, high | 2,047 numbers as the second table | `refused 1 0 0 0` | `verdict` of `sum`, `tablesShort` |
 | two problems, low | 2,047 numbers as the third table | `refused 1 0 0 0` | `verdict` of `sum`, `tablesShort` |
+| changes, keys | 2,047 numbers as the first table | `refused 1 0 0 0` | `verdict` of `moved_bound`, `tablesShort` |
+| changes, high | 2,047 numbers as the second table | `refused 1 0 0 0` | `verdict` of `moved_bound`, `tablesShort` |
+| changes, low | 2,047 numbers as the third table | `refused 1 0 0 0` | `verdict` of `moved_bound`, `tablesShort` |
 ";
 
 const FOURTEEN: &str = "
@@ -156,12 +159,14 @@ const TITLES: &[(u8, &str)] = &[
         "a record of a report is cut short, or a byte comes after the 64th",
     ),
     (15, "the regions of two problems differ"),
+    (16, "some variable has no inequality that is exactly 1 − x_i²"),
+    (17, "an upper certificate where a lower one is asked for"),
 ];
 
 const STREAMS: [&str; 6] = [
     "in the problem, or of stream 0",
     "in the first certificate",
-    "in the second certificate",
+    "in the second certificate, or of stream 2",
     "in the second of two problems",
     "in the lower certificate of the second problem",
     "in the upper certificate of the second problem",
@@ -172,7 +177,7 @@ const SHORT: usize = 130;
 
 /// Writes the page.
 pub fn print() {
-    let corpus = corpus("bcpwtsrxd");
+    let corpus = corpus("bcpwtsrxda");
     let mut cases = cases();
     cases.sort_by_key(|case| (case.expected.number, case.expected.stream));
     print!("{HEAD}{ONE}");

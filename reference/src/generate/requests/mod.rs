@@ -1,5 +1,6 @@
 //! Records for the requests of document 02.
 
+mod adjusted;
 mod empty_region;
 mod equalities;
 mod for_c;
@@ -19,7 +20,7 @@ use crate::generate::changes::{change_case, CHANGES};
 use crate::generate::damage::{self, damaged};
 use crate::generate::rng::Rng;
 use crate::records::{
-    Record, BLOCKS, CHECK, PAIR, RECORD, REPORT, SUM, SYMMETRIES, TIGHTER, WINDOW,
+    Record, ADJUSTED, BLOCKS, CHECK, PAIR, RECORD, REPORT, SUM, SYMMETRIES, TIGHTER, WINDOW,
 };
 
 pub use reports::packed;
@@ -124,6 +125,12 @@ const LANDED: &[Landed] = &[
         kind: SUM,
         special: sums::special,
         random: sums::random,
+        count: 300,
+    }),
+    Landed::Call(Call {
+        kind: ADJUSTED,
+        special: adjusted::special,
+        random: adjusted::random,
         count: 300,
     }),
 ];

@@ -1,0 +1,7 @@
+pub mod Scanned
+pub mod Coefficients
+pub mod Boxes
+pub mod Searched
+pub mod Decided
+pub mod Read
+pub mod Checked
