@@ -137,6 +137,22 @@ extern "C" {
         low: *mut i64,
         low_length: usize,
     ) -> u64;
+
+    fn zamiachisel_office(
+        problem: *const u8,
+        problem_length: usize,
+        certificate: *const u8,
+        certificate_length: usize,
+        buffer: *mut u8,
+        buffer_length: usize,
+        notes: *mut u64,
+        keys: *mut u64,
+        keys_length: usize,
+        high: *mut i64,
+        high_length: usize,
+        low: *mut i64,
+        low_length: usize,
+    ) -> u64;
 }
 
 /// A record: its kind and its byte runs, as many as the kind has.
@@ -227,6 +243,7 @@ pub fn answer(record: &Record, lent: &mut Lent) -> u64 {
             call!(zamiachisel_sum, problem, first, second, problem2, low2, high2; lent.keys, lent.high, lent.low)
         }
         (b'a', _) => moved_bound([problem, first, second], lent).0,
+        (b'n', _) => office([problem, first, second], lent),
         _ => 0,
     }
 }
@@ -299,4 +316,32 @@ pub fn moved_bound(
     assert_eq!(number == 0, denominator != 0);
     assert!(number == 0 || numerator == 0);
     (number, numerator, denominator)
+}
+
+/// The number of the refusal of the office's check, or 0, on a buffer as the record has it. The number of notes is lent with
+/// another number in it; with a refusal it is 0, and the buffer stays.
+pub fn office([problem, certificate, buffer]: [&Vec<u8>; 3], lent: &mut Lent) -> u64 {
+    let mut left = buffer.clone();
+    let mut notes = u64::MAX;
+    // As above; the number of notes is apart from the buffer and from the tables.
+    let number = unsafe {
+        zamiachisel_office(
+            problem.as_ptr(),
+            problem.len(),
+            certificate.as_ptr(),
+            certificate.len(),
+            left.as_mut_ptr(),
+            left.len(),
+            &raw mut notes,
+            lent.keys.as_mut_ptr(),
+            lent.keys.len(),
+            lent.high.as_mut_ptr(),
+            lent.high.len(),
+            lent.low.as_mut_ptr(),
+            lent.low.len(),
+        )
+    };
+    assert!(8 * notes as usize <= left.len());
+    assert!(number == 0 || (notes == 0 && left == *buffer));
+    number
 }

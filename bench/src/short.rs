@@ -159,7 +159,7 @@ fn reports() {
 
 /// Ends with status 101 where a call does otherwise.
 pub fn run() {
-    for kind in *b"bcptsda" {
+    for kind in *b"bcptsdan" {
         full(kind);
         for shorten in TABLES {
             shortened(kind, shorten);
@@ -181,7 +181,7 @@ pub fn run() {
     );
     shortened(b'b', |lent| lent.out.truncate(575));
     shortened(b's', |lent| lent.out.truncate(255));
-    println!("refusal 1 for each short table of each call, and nothing written but the numbers that two calls lend singly");
+    println!("refusal 1 for each short table of each call, and nothing written but the numbers that three calls lend singly");
     println!("reports: refusal 1 for each short table, then 12, then 1 for the output, and no byte of it written");
     println!("records: 1 for fewer than 32 bytes, and no byte written of them nor past 32");
 }

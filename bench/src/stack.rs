@@ -46,6 +46,7 @@ fn run_all(records: &[Record]) {
         (b'x', "record"),
         (b'd', "sum"),
         (b'a', "moved_bound"),
+        (b'n', "office"),
     ];
     for (kind, name) in calls {
         let records = records.iter().filter(|record| record.kind == kind);

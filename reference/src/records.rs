@@ -19,13 +19,17 @@ pub const REPORT: u8 = b'r';
 pub const RECORD: u8 = b'x';
 pub const SUM: u8 = b'd';
 pub const ADJUSTED: u8 = b'a';
+pub const OFFICE: u8 = b'n';
 
 /// The number of runs of a kind: problem, first certificate and second certificate for the calls of
 /// document 01 and of the requests 01 and 02, and then the output for that of request 14; these three
-/// twice for request 12. There is none for a byte that is no kind.
+/// twice for request 12; problem, certificate and buffer for request 10. There is none for a byte that
+/// is no kind.
 pub fn run_count(kind: u8) -> Option<usize> {
     match kind {
-        BLOCKS | CHECK | PAIR | WINDOW | TIGHTER | SYMMETRIES | REPORT | ADJUSTED => Some(3),
+        BLOCKS | CHECK | PAIR | WINDOW | TIGHTER | SYMMETRIES | REPORT | ADJUSTED | OFFICE => {
+            Some(3)
+        }
         RECORD => Some(4),
         SUM => Some(6),
         _ => None,
@@ -77,6 +81,14 @@ impl Record {
         Record {
             kind: SUM,
             runs: [first, second].concat(),
+        }
+    }
+
+    /// A certificate that may have notes, and the buffer for them.
+    pub fn office(problem: Vec<u8>, certificate: Vec<u8>, buffer: Vec<u8>) -> Self {
+        Record {
+            kind: OFFICE,
+            runs: vec![problem, certificate, buffer],
         }
     }
 

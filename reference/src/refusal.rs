@@ -41,6 +41,8 @@ pub const REGIONS: u8 = 15;
 pub const NO_BOX: u8 = 16;
 /// Request 13: an upper certificate.
 pub const NOT_LOWER: u8 = 17;
+/// Request 10: the buffer can't hold all notes.
+pub const NOTES: u8 = 13;
 
 /// The four fields of a refusal.
 #[derive(Clone, Copy, Debug, PartialEq, Eq)]

@@ -1,6 +1,7 @@
 // The calls for programs in other languages, as C functions: each lent slice is a pointer and a length. What each
 // leaves behind it is what the call leaves; of the verdict the number of the refusal comes back.
 ghost use mathlib.Core.Path.{_≡_};
+ghost use lib.ListN.{length};
 ghost use Rattle.calls.specs.Tables.{tables, tablesShort, TablesLeft};
 ghost use Rattle.calls.specs.Blocks.{blocksShort, blocksVerdict, bytesLeft};
 ghost use Rattle.calls.specs.Check.{checkVerdict};
@@ -12,6 +13,7 @@ ghost use Rattle.calls.specs.BidTool.{toolNumber, toolBytes, OneRecord, AnyOrde
 ghost use Rattle.calls.specs.AddedBounds.{streams, sumVerdict};
 ghost use Rattle.calls.specs.Fractions.{fraction};
 ghost use Rattle.calls.specs.Adjusted.{adjustedVerdict};
+ghost use Rattle.calls.specs.Office.{officeVerdict, bufferLeft};
 use calls::Chosen;
 use calls::Refusal;
 
@@ -303,4 +305,37 @@ pub extern "C" fn zamiachisel_moved_bound(
     *numerator = f.num;
     *denominator = f.den;
     number_of(v.refusal)
+}
+
+// The office's check: the number of the refusal, or 0. `notes` receives the number of notes, 0 with a refusal.
+// stack: see docs/measured/stack-bound.tsv
+#[no_mangle]
+pub extern "C" fn zamiachisel_office(
+    problem: &[u8],
+    certificate: &[u8],
+    buffer: &mut [u8],
+    notes: &mut u64,
+    keys: &mut [u64],
+    high: &mut [i64],
+    low: &mut [i64],
+) -> u64
+    ensures verdict { λ r.
+        let lent = tables (now (keys .entry)) (now (high .entry)) (now (low .entry)) in
+        let t = now (certificate .entry) in
+        let v = officeVerdict (tablesShort lent) (now (problem .entry)) t (length (now (buffer .entry))) in
+        ⌜ (r ≡ v .check .refusal .number) × (now (notes .exit) ≡ v .notes) ⌝ }
+    ensures buffer { λ _.
+        let lent = tables (now (keys .entry)) (now (high .entry)) (now (low .entry)) in
+        let t = now (certificate .entry) in
+        let before = now (buffer .entry) in
+        ⌜ now (buffer .exit) ≡ bufferLeft (tablesShort lent) (now (problem .entry)) t before ⌝ }
+    ensures tables { λ _.
+        let lent = tables (now (keys .entry)) (now (high .entry)) (now (low .entry)) in
+        let left = tables (now (keys .exit)) (now (high .exit)) (now (low .exit)) in
+        ⌜ TablesLeft (tablesShort lent) lent left ⌝ }
+{
+    let v = office_check::office(problem, certificate, buffer, keys, high, low);
+    *notes = v.notes as u64;
+    let check = v.check;
+    number_of(check.refusal)
 }

@@ -31,3 +31,4 @@ pub mod RingAdjusted
 pub mod Boxes
 pub mod Changes
 pub mod Adjusting
+pub mod Office

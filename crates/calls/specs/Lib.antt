@@ -8,6 +8,7 @@ pub mod Window
 pub mod Promises
 pub mod RingPromises
 pub mod Superseding
+pub mod Office
 pub mod Rules
 pub mod Symmetries
 pub mod Report

@@ -132,3 +132,10 @@ pub struct AdjustedVerdict {
     pub refusal: Refusal,
     pub bound: Fraction,
 }
+
+// What the office's call returns: what the check says of the certificate with its notes removed, with places as sent,
+// and the number of notes. That is 0 with a refusal.
+pub struct OfficeVerdict {
+    pub check: CheckVerdict,
+    pub notes: usize,
+}

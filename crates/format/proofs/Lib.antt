@@ -14,3 +14,11 @@ pub mod Alike
 pub mod All
 pub mod ProblemVariables
 pub mod HeaderRange
+pub mod Walk
+pub mod Notes
+pub mod SameBytes
+pub mod Meets
+pub mod Longest
+pub mod Places
+pub mod NotesRead
+pub mod CutNotes

@@ -1,10 +1,10 @@
 // Answers the records of the standard input, one line for each, until it ends. A record is a kind byte (b: blocks, c:
 // check, p: pair, s: symmetries, t: the tighter of two certificates, w: arrivals at the window of gaps, r: a report, x:
-// the call for a C program, d: two problems with a pair for each, a: changes of the objective), lengths of 32 bits,
-// little-endian, and as many byte runs, each of at most 65,536 bytes: four for x, six for d, three for the others.
-// `answer_record` decides, on the kind and the runs, `window_line` on the arrivals, `tighter_line` on two certificates,
-// `report_line` on a report, `tool_line` on the call for a C program and `answer_sum` on two problems; all else moves
-// bytes.
+// the call for a C program, d: two problems with a pair for each, a: changes of the objective, n: the office's check),
+// lengths of 32 bits, little-endian, and as many byte runs, each of at most 65,536 bytes: four for x, six for d, three
+// for the others. `answer_record` decides, on the kind and the runs, `window_line` on the arrivals, `tighter_line` on
+// two certificates, `report_line` on a report, `tool_line` on the call for a C program, `answer_sum` on two problems and
+// `office_line` on a certificate with notes; all else moves bytes.
 ghost use mathlib.Core.Path.{_≡_};
 ghost use mathlib.Core.Bool.{true};
 ghost use mathlib.Core.List.{_++_};
@@ -17,7 +17,7 @@ ghost use Rattle.text.specs.Appending.{Appended};
 ghost use Rattle.calls.specs.AddedBounds.{streams};
 ghost use Rattle.replay.specs.Arrivals.{arrivalAt, separator, windowAnswer};
 ghost use Rattle.replay.specs.Records.{blocksAnswer, checkAnswer, pairAnswer, symmetriesAnswer, recordAnswer};
-ghost use Rattle.replay.specs.Records.{adjustedAnswer, tighterAnswer};
+ghost use Rattle.replay.specs.Records.{adjustedAnswer, tighterAnswer, officeAnswer};
 ghost use Rattle.replay.specs.Reports.{reportAnswer};
 ghost use Rattle.replay.specs.Tool.{toolAnswer};
 ghost use Rattle.replay.specs.Sums.{sumAnswer};
@@ -307,6 +307,41 @@ fn answer_sum(
     text::sum_line(v)
 }
 
+// The line for a certificate that may have notes: what the office is told, and the buffer, or the refusal.
+fn office_line(problem: &[u8], certificate: &[u8], buffer: &mut [u8], out: &mut [u8]) -> usize
+    requires { ⌜ 2 * length (now buffer) + 153 ≤ length (now out) ⌝ }
+    ensures { λ r. ⌜
+        take r (now (out .exit)) ≡ officeAnswer (now (problem .entry)) (now (certificate .entry)) (now (buffer .entry))
+        ⌝ }
+{
+    let mut keys = [0u64; 2048];
+    let mut high = [0i64; 2048];
+    let mut low = [0i64; 2048];
+    let v = office_check::office(problem, certificate, buffer, &mut keys, &mut high, &mut low);
+    text::office_line(out, v, buffer)
+}
+
+// Answers a record of a certificate that may have notes; whether its line was written.
+fn answer_office(
+    problem: &[u8; 65536],
+    a: usize,
+    certificate: &[u8; 65536],
+    b: usize,
+    buffer: &mut [u8; 65536],
+    c: usize,
+) -> bool
+    requires { ⌜ c ≤ 65536 ⌝ }
+{
+    let mut out = [0u8; 135168];
+    let len = office_line(
+        text::cut(problem, a),
+        text::cut(certificate, b),
+        &mut buffer[..c],
+        &mut out,
+    );
+    io::write_all(STDOUT_FILENO, text::cut(&out, len))
+}
+
 // The length that four bytes of a record's head give.
 fn length_at(head: &[u8; 13], at: usize) -> usize
     requires { ⌜ at + 4 ≤ 13 ⌝ }
@@ -441,6 +476,9 @@ fn answer_next() -> bool {
     }
     if head[0] == b'r' {
         return answer_report(text::cut(&problem, a), &mut first, b);
+    }
+    if head[0] == b'n' {
+        return answer_office(&problem, a, &first, b, &mut second, c);
     }
     write(answer_record(
         head[0],

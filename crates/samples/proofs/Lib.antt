@@ -3,3 +3,4 @@ pub mod Roots
 pub mod Symmetries
 pub mod Sums
 pub mod Adjusted
+pub mod Noted

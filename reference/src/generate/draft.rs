@@ -75,6 +75,10 @@ pub fn wide_entry(index: u8, factor: i32) -> Vec<u8> {
     [&[0x15, index], &factor.to_le_bytes()[..]].concat()
 }
 
+pub fn note(bytes: [u8; 8]) -> Vec<u8> {
+    [&[0x40], &bytes[..]].concat()
+}
+
 pub fn certificate_end() -> Vec<u8> {
     vec![0x13]
 }

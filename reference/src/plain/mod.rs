@@ -11,6 +11,7 @@ mod calls;
 mod certificate;
 mod joining;
 mod lines;
+mod office;
 mod polynomial;
 mod problem;
 mod report;
@@ -25,8 +26,8 @@ mod window;
 pub use calls::{blocks, pair};
 
 use crate::records::{
-    hexadecimal, Record, ADJUSTED, BLOCKS, CHECK, PAIR, RECORD, REPORT, SUM, SYMMETRIES, TIGHTER,
-    WINDOW,
+    hexadecimal, Record, ADJUSTED, BLOCKS, CHECK, OFFICE, PAIR, RECORD, REPORT, SUM, SYMMETRIES,
+    TIGHTER, WINDOW,
 };
 use crate::refusal::Refusal;
 
@@ -50,6 +51,7 @@ pub fn answer(record: &Record) -> Result<String, Refusal> {
         ADJUSTED => {
             adjusting::adjusted(run(0), run(1), run(2)).map(|bound| format!("adjusted {bound}"))
         }
+        OFFICE => office::office(run(0), run(1), run(2)).map(|verdict| verdict.to_string()),
         other => unreachable!("no record has the kind {other}"),
     }
 }

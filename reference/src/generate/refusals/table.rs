@@ -3,7 +3,9 @@
 use super::regions::{Added, ADDED};
 use super::symmetries::{Symmetric, SYMMETRIC};
 use super::windows::{Arrivals, CASES};
-use super::{cases, equalities, gaps, joining_rules, regions, sparse_orders, Accepted, Case};
+use super::{
+    cases, equalities, gaps, joining_rules, notes, regions, sparse_orders, Accepted, Case,
+};
 use crate::generate::corpus;
 use crate::plain;
 use crate::records::Record;
@@ -15,10 +17,11 @@ after its number, of a request (document 02). \
 The answers were found by hand from those words and stand beside the cases in `reference/src/generate/refusals`; a test \
 there holds the reference to them. Each case is in the stored corpus `crates/replay/stdin`, where the proved calls \
 meet it; the last column gives, for each kind of call that meets it (`b` blocks, `c` check, `p` pair, `s` symmetries, `t` the \
-tighter of two certificates, `w` arrivals at the window of gaps, `r` report, `x` record for a C program, `d` two problems with a pair for each, `a` changes of the objective), the number of its record there, which is that of the line in `stdout`. `reference refusals` writes this page, and `./test` compares the two.
+tighter of two certificates, `w` arrivals at the window of gaps, `r` report, `x` record for a C program, `d` two problems with a pair for each, `a` changes of the objective, `n` the office's check), the number of its record there, which is that of the line in `stdout`. `reference refusals` writes this page, and `./test` compares the two.
 
 Of two certificates a refusal of the first is seen only where the second is refused as well: where a case names only the first, \
-its record of kind `t` has that one twice.
+its record of kind `t` has that one twice. The office's check refuses what the check refuses: where a case has no notes, \
+its record of kind `n` has no buffer.
 
 Every refusal of a pair is met by the second of two problems as well, with its stream 3 higher: those records of kind `d` \
 stand behind the ones that are named here, in the same order, with case F as the first.
@@ -33,7 +36,8 @@ const ONE: &str = "
 
 A replayed record is always answered with tables lent in full, so only reports meet refusal 1, by their output; for a record of kind `x` it is the number in its line. It is stated in the public \
 contracts in `crates/checker/src/lib.rt`, `crates/superseding/src/lib.rt`, `crates/sign_symmetries/src/lib.rt`, \
-`crates/weekly_report/src/lib.rt`, `crates/added_bounds/src/lib.rt` and `crates/adjusted_bound/src/lib.rt`: \
+`crates/weekly_report/src/lib.rt`, `crates/added_bounds/src/lib.rt`, `crates/adjusted_bound/src/lib.rt` and \
+`crates/office_check/src/lib.rt`: \
 `verdict` or `numbers` of each call says that it is given exactly when the named test holds, and `bytes`, `output` and `tables` that nothing is \
 written then; the four numbers lent to `tighter` receive it. `bench short` calls the C functions with each \
 length one short, and sees refusal 1 and all that was lent untouched.
@@ -66,6 +70,9 @@ length one short, and sees refusal 1 and all that was lent untouched.
 | changes, keys | 2,047 numbers as the first table | `refused 1 0 0 0` | `verdict` of `moved_bound`, `tablesShort` |
 | changes, high | 2,047 numbers as the second table | `refused 1 0 0 0` | `verdict` of `moved_bound`, `tablesShort` |
 | changes, low | 2,047 numbers as the third table | `refused 1 0 0 0` | `verdict` of `moved_bound`, `tablesShort` |
+| the office's check, keys | 2,047 numbers as the first table | `refused 1 0 0 0` | `verdict` of `office`, `tablesShort` |
+| the office's check, high | 2,047 numbers as the second table | `refused 1 0 0 0` | `verdict` of `office`, `tablesShort` |
+| the office's check, low | 2,047 numbers as the third table | `refused 1 0 0 0` | `verdict` of `office`, `tablesShort` |
 ";
 
 const FOURTEEN: &str = "
@@ -136,6 +143,16 @@ Request 12 adds the bounds of two problems. These cases stand next to refusal 15
 |---|---|---|---|---|---|---|
 ";
 
+const NOTES: &str = "
+## Beside the refusals: certificates with notes
+
+Request 10 passes over notes in the office's check. These cases stand next to the refusals above; the answers were found by \
+hand. The last of the streams is the buffer as lent.
+
+| case | what it has | problem | certificate and buffer | words | answer | record |
+|---|---|---|---|---|---|---|
+";
+
 /// The words of document 01's table, and of the requests, for the numbers with cases here.
 const TITLES: &[(u8, &str)] = &[
     (
@@ -158,6 +175,7 @@ const TITLES: &[(u8, &str)] = &[
         12,
         "a record of a report is cut short, or a byte comes after the 64th",
     ),
+    (13, "the buffer can't hold all notes"),
     (15, "the regions of two problems differ"),
     (16, "some variable has no inequality that is exactly 1 − x_i²"),
     (17, "an upper certificate where a lower one is asked for"),
@@ -177,7 +195,7 @@ const SHORT: usize = 130;
 
 /// Writes the page.
 pub fn print() {
-    let corpus = corpus("bcpwtsrxda");
+    let corpus = corpus("bcpwtsrxdan");
     let mut cases = cases();
     cases.sort_by_key(|case| (case.expected.number, case.expected.stream));
     print!("{HEAD}{ONE}");
@@ -193,6 +211,7 @@ pub fn print() {
         (GAPS, gaps::ACCEPTED),
         (RULES, joining_rules::ACCEPTED),
         (ORDERS, sparse_orders::ACCEPTED),
+        (NOTES, notes::ACCEPTED),
     ];
     for (head, cases) in accepted {
         print!("{head}");

@@ -8,6 +8,7 @@ mod joining_rules;
 mod reports;
 mod sparse_orders;
 mod sums;
+mod notes;
 mod superseding;
 mod symmetries;
 mod wide_factors;
@@ -20,7 +21,7 @@ use crate::generate::changes::{change_case, CHANGES};
 use crate::generate::damage::{self, damaged};
 use crate::generate::rng::Rng;
 use crate::records::{
-    Record, ADJUSTED, BLOCKS, CHECK, PAIR, RECORD, REPORT, SUM, SYMMETRIES, TIGHTER, WINDOW,
+    Record, ADJUSTED, BLOCKS, CHECK, OFFICE, PAIR, RECORD, REPORT, SUM, SYMMETRIES, TIGHTER, WINDOW,
 };
 
 pub use reports::packed;
@@ -131,6 +132,12 @@ const LANDED: &[Landed] = &[
         kind: ADJUSTED,
         special: adjusted::special,
         random: adjusted::random,
+        count: 300,
+    }),
+    Landed::Call(Call {
+        kind: OFFICE,
+        special: notes::special,
+        random: notes::random,
         count: 300,
     }),
 ];
