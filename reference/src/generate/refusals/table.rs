@@ -229,9 +229,10 @@ pub fn print() {
     }
 }
 
-/// Writes the cases, which are sorted, under a head for each number and one for each stream.
+/// Writes the cases, which are sorted, under a head for each number but 1, which has its own, and one for
+/// each stream.
 fn print_numbers(cases: &[Case], corpus: &[Record]) {
-    let mut section = (0, 0);
+    let mut section = (1, u8::MAX);
     for case in cases {
         let number = case.expected.number;
         if number != section.0 {
