@@ -122,7 +122,10 @@ fn records() {
     assert_eq!(output, written_to([7; 35]));
     for length in [0, 31] {
         let mut output = [7; 35];
-        assert_eq!(record([&runs[0], &runs[1], &runs[2]], &mut output[..length]), 1);
+        assert_eq!(
+            record([&runs[0], &runs[1], &runs[2]], &mut output[..length]),
+            1
+        );
         assert_eq!(output, [7; 35]);
     }
 }

@@ -177,7 +177,10 @@ const TITLES: &[(u8, &str)] = &[
     ),
     (13, "the buffer can't hold all notes"),
     (15, "the regions of two problems differ"),
-    (16, "some variable has no inequality that is exactly 1 − x_i²"),
+    (
+        16,
+        "some variable has no inequality that is exactly 1 − x_i²",
+    ),
     (17, "an upper certificate where a lower one is asked for"),
 ];
 
