@@ -20,8 +20,8 @@ use calls::Fraction;
 use calls::OfficeVerdict;
 use calls::PairVerdict;
 use calls::Refusal;
-use calls::SymmetriesVerdict;
 use calls::SumVerdict;
+use calls::SymmetriesVerdict;
 use calls::WindowVerdict;
 use lines::Text;
 
