@@ -20,7 +20,7 @@ use Rattle.joining_rule.specs.Extend.{addTerms, addPair, extend}
 use Rattle.joining_rule.specs.Join.{linked, merged, joinPair, join}
 use Rattle.joining_rule.specs.Joining.{startFrom, startSet, closing, tooLarge}
 use Rattle.joining_rule.specs.Rounds as Rounds
-use Rattle.joining_rule.specs.Rounds.{singles, start, joinAll, extendTo, addingBases, round, same, sameAll, sameState, closeFrom, blocksIn, countedKeys}
+use Rattle.joining_rule.specs.Rounds.{singles, start, joinAll, extendTo, addingBases, round, same, sameAll, sameState, closeFrom, mostRounds, blocksIn, countedKeys}
 use Rattle.joining_rule.specs.Sets.{member, different, insert, insertAll}
 use Rattle.polynomial.specs.Algebra.{coefficient}
 use Rattle.polynomial.specs.Monomial.{degreeOf, degree, within, among}
@@ -59,5 +59,5 @@ pub adjusted :
     ∷ refusedAdjusted (problemRefusal 16 0)
     ∷ refusedAdjusted (certificateRefusal 1 2 0 0)
     ∷ []
-unfolding listed fromTo sumTo number signed firstRefusal run readWhole degreeOf degree within among keysOf problemCommand appendAt fitting problemApplied problemRefusalAt problemNext readProblem basisOf multiplier multiplierOf kindOf member insert linked merged joinPair join addTerms addPair extend different singles start joinAll extendTo addingBases round same sameAll sameState closeFrom blocksIn countedKeys Rounds.closingOf insertAll startFrom startSet closing tooLarge CertificateLayout.certificateCommand Certificate.certificateRefusalAt Certificate.certificateApplied Certificate.certificateNext readCertificate coefficient square squares claimOf blockOf firstOutside rowSplit splitBy firstDifference comparedKeys differenceKey judgeRead judge checkOf checkVerdict changeAt changesOf firstUnfit changesRefusal isOneMinusSquare hasBox boxedTo absoluteSum movedBound adjustedBy adjustedOf adjustedChecked adjustedVerdict
+unfolding listed fromTo sumTo number signed firstRefusal run readWhole degreeOf degree within among keysOf problemCommand appendAt fitting problemApplied problemRefusalAt problemNext readProblem basisOf multiplier multiplierOf kindOf member insert linked merged joinPair join addTerms addPair extend different singles start joinAll extendTo addingBases round same sameAll sameState closeFrom mostRounds blocksIn countedKeys Rounds.closingOf insertAll startFrom startSet closing tooLarge CertificateLayout.certificateCommand Certificate.certificateRefusalAt Certificate.certificateApplied Certificate.certificateNext readCertificate coefficient square squares claimOf blockOf firstOutside rowSplit splitBy firstDifference comparedKeys differenceKey judgeRead judge checkOf checkVerdict changeAt changesOf firstUnfit changesRefusal isOneMinusSquare hasBox boxedTo absoluteSum movedBound adjustedBy adjustedOf adjustedChecked adjustedVerdict
 adjusted = refl

@@ -20,7 +20,7 @@ use Rattle.format.specs.Notes.{walkStart, stepAt, notesFrom, endFrom, noteOffse
 use Rattle.joining_rule.specs.Sets.{member, different, insert, insertAll}
 use Rattle.joining_rule.specs.Join.{linked, merged, joinPair, join}
 use Rattle.joining_rule.specs.Extend.{addTerms, addPair, extend}
-use Rattle.joining_rule.specs.Rounds.{singles, start, joinAll, extendTo, addingBases, round, same, sameAll, sameState, closeFrom, closingOf, blocksIn, countedKeys}
+use Rattle.joining_rule.specs.Rounds.{singles, start, joinAll, extendTo, addingBases, round, same, sameAll, sameState, closeFrom, mostRounds, closingOf, blocksIn, countedKeys}
 use Rattle.joining_rule.specs.Joining.{startFrom, startSet, closing, tooLarge}
 use Rattle.accepting.specs.Identity.{square, squares, claimOf, blockOf}
 use Rattle.accepting.specs.Judgement.{firstOutside, rowSplit, splitBy, firstDifference, comparedKeys, differenceKey, judgeRead, judge}
@@ -75,10 +75,10 @@ pub notes :
     ∷ officeVerdict false problemA againA 8
     ∷ []
     ≡ told 0 ∷ told 3 ∷ refusedNotes ∷ refusing 3 0 ∷ refusing 2 10 ∷ refusing 2 19 ∷ refusing 5 27 ∷ []
-unfolding listed fromTo sumTo number signed firstRefusal run readWhole degreeOf degree within among keysOf problemCommand appendAt fitting problemApplied problemRefusalAt problemNext readProblem basisOf multiplier multiplierOf kindOf member insert linked merged joinPair join addTerms addPair extend different singles start joinAll extendTo addingBases round same sameAll sameState closeFrom closingOf blocksIn countedKeys insertAll startFrom startSet closing tooLarge certificateCommand certificateRefusalAt certificateApplied certificateNext readCertificate coefficient square squares claimOf blockOf firstOutside rowSplit splitBy firstDifference comparedKeys differenceKey judgeRead judge checkOf checkVerdict walkStart stepAt notesFrom endFrom noteOffsets walkEnd bodyEnd outside withoutNotes placeSent refusalSent verdictSent officeOf officeVerdict
+unfolding listed fromTo sumTo number signed firstRefusal run readWhole degreeOf degree within among keysOf problemCommand appendAt fitting problemApplied problemRefusalAt problemNext readProblem basisOf multiplier multiplierOf kindOf member insert linked merged joinPair join addTerms addPair extend different singles start joinAll extendTo addingBases round same sameAll sameState closeFrom mostRounds closingOf blocksIn countedKeys insertAll startFrom startSet closing tooLarge certificateCommand certificateRefusalAt certificateApplied certificateNext readCertificate coefficient square squares claimOf blockOf firstOutside rowSplit splitBy firstDifference comparedKeys differenceKey judgeRead judge checkOf checkVerdict walkStart stepAt notesFrom endFrom noteOffsets walkEnd bodyEnd outside withoutNotes placeSent refusalSent verdictSent officeOf officeVerdict
 notes = refl
 
 -- the strict check refuses the first note with 3
 pub strict : checkVerdict false problemA notedA ≡ refusedCheck (certificateRefusal 1 3 10 0)
-unfolding listed fromTo sumTo number signed firstRefusal run readWhole degreeOf degree within among keysOf problemCommand appendAt fitting problemApplied problemRefusalAt problemNext readProblem basisOf multiplier multiplierOf kindOf member insert linked merged joinPair join addTerms addPair extend different singles start joinAll extendTo addingBases round same sameAll sameState closeFrom closingOf blocksIn countedKeys insertAll startFrom startSet closing tooLarge certificateCommand certificateRefusalAt certificateApplied certificateNext readCertificate judge checkOf checkVerdict
+unfolding listed fromTo sumTo number signed firstRefusal run readWhole degreeOf degree within among keysOf problemCommand appendAt fitting problemApplied problemRefusalAt problemNext readProblem basisOf multiplier multiplierOf kindOf member insert linked merged joinPair join addTerms addPair extend different singles start joinAll extendTo addingBases round same sameAll sameState closeFrom mostRounds closingOf blocksIn countedKeys insertAll startFrom startSet closing tooLarge certificateCommand certificateRefusalAt certificateApplied certificateNext readCertificate judge checkOf checkVerdict
 strict = refl
