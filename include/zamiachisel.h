@@ -122,12 +122,14 @@ uint64_t zamiachisel_symmetries(const uint8_t *problem, size_t problem_length, u
 uint64_t zamiachisel_report(const uint8_t *records, size_t records_length, uint8_t *out, size_t out_length, uint64_t *keys,
                             size_t keys_length, int64_t *high, size_t high_length, int64_t *low, size_t low_length);
 
-/* Two problems over one region with a pair for each, whose bounds are added (request 12). Nothing is written but the tables: the sums are
-   (p q' + p' q) / (q q') of the bounds that the certificates state, and hold where 0 is returned. */
+/* Two problems over one region with a pair for each, whose bounds are added (request 12): the four single numbers receive the sum of the
+   lower bounds, p q' + p' q over q q', and that of the upper ones, all 0 with a refusal. */
 uint64_t zamiachisel_sum(const uint8_t *problem1, size_t problem1_length, const uint8_t *low1, size_t low1_length,
                          const uint8_t *high1, size_t high1_length, const uint8_t *problem2, size_t problem2_length,
-                         const uint8_t *low2, size_t low2_length, const uint8_t *high2, size_t high2_length, uint64_t *keys,
-                         size_t keys_length, int64_t *high, size_t high_length, int64_t *low, size_t low_length);
+                         const uint8_t *low2, size_t low2_length, const uint8_t *high2, size_t high2_length,
+                         int64_t *lower_numerator, uint64_t *lower_denominator, int64_t *upper_numerator,
+                         uint64_t *upper_denominator, uint64_t *keys, size_t keys_length, int64_t *high, size_t high_length,
+                         int64_t *low, size_t low_length);
 
 /* The bound of a lower certificate after changes of the objective (request 13): the two single numbers receive p - q * (sum of |d|) and
    q, both 0 with a refusal. */
