@@ -1,4 +1,3 @@
 pub mod CertificateWidths
 pub mod Bounds
-pub mod Twice
 pub mod Ends
