@@ -125,13 +125,13 @@ pub extern "C" fn zamiachisel_sum(
         let lent = tables (now (keys .entry)) (now (high .entry)) (now (low .entry)) in
         let a = streams (now (problem1 .entry)) (now (low1 .entry)) (now (high1 .entry)) in
         let b = streams (now (problem2 .entry)) (now (low2 .entry)) (now (high2 .entry)) in
-        let left = fraction (now (lower_numerator .exit)) (now (lower_denominator .exit)) in
+        let left = fraction (now («lower_numerator» .exit)) (now («lower_denominator» .exit)) in
         ⌜ left ≡ sumVerdict (tablesShort lent) a b .lower ⌝ }
     ensures upper { λ _.
         let lent = tables (now (keys .entry)) (now (high .entry)) (now (low .entry)) in
         let a = streams (now (problem1 .entry)) (now (low1 .entry)) (now (high1 .entry)) in
         let b = streams (now (problem2 .entry)) (now (low2 .entry)) (now (high2 .entry)) in
-        let left = fraction (now (upper_numerator .exit)) (now (upper_denominator .exit)) in
+        let left = fraction (now («upper_numerator» .exit)) (now («upper_denominator» .exit)) in
         ⌜ left ≡ sumVerdict (tablesShort lent) a b .upper ⌝ }
     ensures tables { λ _.
         let lent = tables (now (keys .entry)) (now (high .entry)) (now (low .entry)) in
@@ -150,10 +150,12 @@ pub extern "C" fn zamiachisel_sum(
         low,
     );
     let lower = v.lower;
-    *lower_numerator = lower.num;
+    let p = lower.num;
+    *lower_numerator = p;
     *lower_denominator = lower.den;
     let upper = v.upper;
-    *upper_numerator = upper.num;
+    let q = upper.num;
+    *upper_numerator = q;
     *upper_denominator = upper.den;
     number_of(v.refusal)
 }
@@ -324,7 +326,8 @@ pub extern "C" fn zamiachisel_moved_bound(
 {
     let v = adjusted_bound::moved_bound(problem, certificate, changes, keys, high, low);
     let f = v.bound;
-    *numerator = f.num;
+    let p = f.num;
+    *numerator = p;
     *denominator = f.den;
     number_of(v.refusal)
 }
