@@ -5,7 +5,7 @@ use mathlib.Core.Path.{_≡_, sym, _∙_}
 use mathlib.Core.Bool.{Bool}
 use mathlib.Core.List.{List}
 use Prim.Native.Nat.{ℕ}
-use lib.ListN.{take, length-replicate}
+use lib.ListN.{take}
 use lib.Seq.{length-take-le}
 use Rattle.format.specs.Notes.{withoutNotes}
 use Rattle.format.proofs.Longest.{enoughBytes}
@@ -14,9 +14,9 @@ use Rattle.calls.proofs.Office.{check-beginning}
 use Rattle.office_check.proofs.check_noted.Statement.{statement}
 use Rattle.office_check.proofs.check_noted.Tie as tie
 
-copied : (short : Bool) (s t copy : List ℕ) (n : ℕ) → n ≡ enoughBytes → copy ≡ take n (withoutNotes t)
+copied : (short : Bool) (s t copy : List ℕ) (n : ℕ) → copy ≡ take n (withoutNotes t) → n ≡ enoughBytes
     → checkVerdict short s copy ≡ checkVerdict short s (withoutNotes t)
-copied short s t copy n e h = rw (h, e) (check-beginning short s (withoutNotes t))
+copied short s t copy n h e = rw (h, e) (check-beginning short s (withoutNotes t))
 
 slice-aggregate-remove : tie.Need-slice-aggregate-remove
 slice-aggregate-remove c = search needs
@@ -48,7 +48,7 @@ returns c =
     let r = k .before .before .before .before .before .before in
     let s = r .before .before .before .before .before in (
       k .check .ensures .0
-          ∙ copied _ _ (s .args .certificate .now) _ _ (length-replicate {A = ℕ} 49684 0) (r .remove .ensures .0),
+          ∙ copied _ _ (s .args .certificate .now) _ _ (r .remove .ensures .0) (sym (slice-aggregate-remove (r .before))),
       k .check .ensures .1 .0,
     )
 
