@@ -266,8 +266,8 @@ pub extern "C" fn zamiachisel_report(
     number_of(v.refusal)
 }
 
-// The call for the bid tool (request 14): the pair's verdict as one record. The tables are the call's own. The number of
-// the refusal comes back, or 0, or 1 where fewer than 32 bytes are lent.
+// The call for the bid tool (request 14): the pair's verdict as one record. The tables are the call's own. The number
+// of the refusal comes back, or 0, or 1 where fewer than 32 bytes are lent.
 // stack: see docs/measured/stack-bound.tsv
 #[no_mangle]
 pub extern "C" fn zamiachisel_record(problem: &[u8], low: &[u8], high: &[u8], out: &mut [u8]) -> u64

@@ -3,8 +3,8 @@
 // the call for a C program, d: two problems with a pair for each, a: changes of the objective, n: the office's check),
 // lengths of 32 bits, little-endian, and as many byte runs, each of at most 65,536 bytes: four for x, six for d, three
 // for the others. `answer_record` decides, on the kind and the runs, `window_line` on the arrivals, `tighter_line` on
-// two certificates, `report_line` on a report, `tool_line` on the call for a C program, `answer_sum` on two problems and
-// `office_line` on a certificate with notes; all else moves bytes.
+// two certificates, `report_line` on a report, `tool_line` on the call for a C program, `answer_sum` on two problems
+// and `office_line` on a certificate with notes; all else moves bytes.
 ghost use mathlib.Core.Path.{_≡_};
 ghost use mathlib.Core.Bool.{true};
 ghost use mathlib.Core.List.{_++_};
@@ -321,7 +321,8 @@ fn office_line(problem: &[u8], certificate: &[u8], buffer: &mut [u8], line: &mut
     text::office_line(line, v, buffer)
 }
 
-// Answers a record of a certificate that may have notes, whose buffer is the first n bytes; whether its line was written.
+// Answers a record of a certificate that may have notes, whose buffer is the first n bytes; whether its line was
+// written.
 fn answer_office(problem: &[u8], certificate: &[u8], buffer: &mut [u8], n: usize) -> bool {
     if buffer.len() < n {
         return false;
