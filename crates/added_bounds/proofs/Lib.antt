@@ -1,3 +1,2 @@
-pub mod CertificateWidths
 pub mod Bounds
 pub mod Ends
