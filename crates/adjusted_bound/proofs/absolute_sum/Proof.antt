@@ -1,7 +1,7 @@
 -- `absolute_sum`: the changes one by one, each of at most 2^31. No number is below 0, so a number is its bits.
 use borrow.Author.Needs.{sfits-of, needs}
 use native.Mathlib.Omega.{arith}
-use mathlib.Core.Path.{_≡_, refl, sym, ap, _∙_}
+use mathlib.Core.Path.{_≡_, ap, _∙_}
 use Prim.Native.Nat.{_+_, _-_, _≤_, _^_}
 use lib.IntN.{pos, natAbs}
 use mir.Syntax.{w32, w64}

@@ -1,8 +1,7 @@
 -- `decide`: each return by the tests that led there.
 use borrow.Author.Needs.{needs}
 use borrow.Author.Tests.{eqb-true, eqb-false, not-true, not-false}
-use native.Mathlib.Omega.{arith}
-use mathlib.Core.Path.{_≡_, refl, sym, ap, _∙_}
+use mathlib.Core.Path.{_≡_, sym, ap, _∙_}
 use Rattle.calls.specs.declared.Refusal.{Refusal}
 use Rattle.calls.specs.Adjusted.{changesOf, changesRefusal, refusedAdjusted, foundBound}
 use Rattle.adjusted_bound.proofs.Decided.{few, unfit, unboxed, upper, lower}
