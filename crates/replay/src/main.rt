@@ -321,25 +321,18 @@ fn office_line(problem: &[u8], certificate: &[u8], buffer: &mut [u8], out: &mut 
     text::office_line(out, v, buffer)
 }
 
-// Answers a record of a certificate that may have notes; whether its line was written.
-fn answer_office(
-    problem: &[u8; 65536],
-    a: usize,
-    certificate: &[u8; 65536],
-    b: usize,
-    buffer: &mut [u8; 65536],
-    c: usize,
-) -> bool
-    requires { ⌜ c ≤ 65536 ⌝ }
-{
-    let mut out = [0u8; 135168];
-    let len = office_line(
-        text::cut(problem, a),
-        text::cut(certificate, b),
-        &mut buffer[..c],
-        &mut out,
-    );
-    io::write_all(STDOUT_FILENO, text::cut(&out, len))
+// Answers a record of a certificate that may have notes, whose buffer is the first n bytes; whether its line was
+// written.
+fn answer_office(problem: &[u8], certificate: &[u8], buffer: &mut [u8], n: usize) -> bool {
+    if buffer.len() < n {
+        return false;
+    }
+    if 65536 < n {
+        return false;
+    }
+    let mut line = [0u8; 135168];
+    let len = office_line(problem, certificate, &mut buffer[..n], &mut line);
+    io::write_all(STDOUT_FILENO, text::cut(&line, len))
 }
 
 // The length that four bytes of a record's head give.
@@ -478,7 +471,7 @@ fn answer_next() -> bool {
         return answer_report(text::cut(&problem, a), &mut first, b);
     }
     if head[0] == b'n' {
-        return answer_office(&problem, a, &first, b, &mut second, c);
+        return answer_office(text::cut(&problem, a), text::cut(&first, b), &mut second, c);
     }
     write(answer_record(
         head[0],
