@@ -6,8 +6,9 @@
    - A run is two arguments, a pointer and the number of its elements. The pointer is not NULL and is aligned for its element, also
      where the number is 0; there any such pointer will do, as nothing is read or written.
    - What a call writes to overlaps with nothing else that it is lent: no run, no table, no single number.
-   - There is enough stack. A call needs at most the bytes that docs/measured/stack-bound.tsv has for it, below 200 KB, and
-     allocates nothing else. No call keeps anything from one call to the next, so calls in several threads do not meet.
+   - There is enough stack: ZAMIACHISEL_STACK_BYTES for any call. docs/measured/stack-bound.tsv has the bound of each, and tools/stack
+     holds this number to them. Nothing else is allocated. No call keeps anything from one call to the next, so calls in several
+     threads do not meet.
 
    docs/FORMAT.md has the bytes of a problem and of a certificate. */
 #ifndef ZAMIACHISEL_H
@@ -34,11 +35,23 @@ enum zamiachisel_refusal {
     ZAMIACHISEL_IDENTITY = 9,      /* the identity is false; the key is the smallest that differs */
     ZAMIACHISEL_SIDES = 10,        /* of a pair, the first is no lower bound or the second no upper one */
     ZAMIACHISEL_SIDES_DIFFER = 11, /* of two certificates for one problem, one is a lower bound and one an upper one */
-    ZAMIACHISEL_CUT_RECORD = 12    /* of a week's records one is cut short, or there is a byte after the 64th */
+    ZAMIACHISEL_CUT_RECORD = 12,   /* of a week's records one is cut short, or there is a byte after the 64th */
+    ZAMIACHISEL_NOTES = 13,        /* the buffer can't hold all notes */
+    ZAMIACHISEL_REGIONS = 15,      /* the regions of two problems differ */
+    ZAMIACHISEL_NO_BOX = 16,       /* some variable has no inequality that is exactly 1 - x_i^2 */
+    ZAMIACHISEL_NOT_LOWER = 17     /* an upper certificate where a lower one is asked for */
 };
 
-/* The stream of a refusal. */
-enum zamiachisel_stream { ZAMIACHISEL_PROBLEM = 0, ZAMIACHISEL_FIRST = 1, ZAMIACHISEL_SECOND = 2 };
+/* The stream of a refusal. Where a call takes changes of the objective, they are the second certificate's; where it takes a second
+   problem, that and its certificates are the last three. */
+enum zamiachisel_stream {
+    ZAMIACHISEL_PROBLEM = 0,
+    ZAMIACHISEL_FIRST = 1,
+    ZAMIACHISEL_SECOND = 2,
+    ZAMIACHISEL_OTHER_PROBLEM = 3,
+    ZAMIACHISEL_OTHER_FIRST = 4,
+    ZAMIACHISEL_OTHER_SECOND = 5
+};
 
 /* Lengths. */
 enum zamiachisel_length {
@@ -46,8 +59,14 @@ enum zamiachisel_length {
     ZAMIACHISEL_BLOCKS_LENGTH = 576, /* bytes for the blocks: byte 64 j + i is the block of index i in basis j, or 255 */
     ZAMIACHISEL_MASKS_LENGTH = 256,  /* bytes for the sign symmetries */
     ZAMIACHISEL_RECORD_LENGTH = 32,  /* bytes of a record */
-    ZAMIACHISEL_MOST_RECORDS = 64    /* pairs in a report */
+    ZAMIACHISEL_MOST_RECORDS = 64,   /* pairs in a report */
+    ZAMIACHISEL_CHANGE_LENGTH = 12,  /* bytes of a change of the objective: 8 of its key and 4 of d, signed, the lowest first */
+    ZAMIACHISEL_MOST_CHANGES = 256,  /* changes in one call */
+    ZAMIACHISEL_NOTE_LENGTH = 8      /* bytes of a note in the buffer */
 };
+
+/* Bytes of stack that are enough for any call. */
+enum zamiachisel_stack { ZAMIACHISEL_STACK_BYTES = 262144 };
 
 /* Where the fields of a record stand, each of four bytes with the lowest first. With a refusal p, q, P and Q are 0, otherwise stream,
    place and key are. */
@@ -102,6 +121,28 @@ uint64_t zamiachisel_symmetries(const uint8_t *problem, size_t problem_length, u
    problem, low and high. Where nothing is refused out has 32 bytes for each record, in their order; what is past them is untouched. */
 uint64_t zamiachisel_report(const uint8_t *records, size_t records_length, uint8_t *out, size_t out_length, uint64_t *keys,
                             size_t keys_length, int64_t *high, size_t high_length, int64_t *low, size_t low_length);
+
+/* Two problems over one region with a pair for each, whose bounds are added (request 12): the four single numbers receive the sum of the
+   lower bounds, p q' + p' q over q q', and that of the upper ones, all 0 with a refusal. */
+uint64_t zamiachisel_sum(const uint8_t *problem1, size_t problem1_length, const uint8_t *low1, size_t low1_length,
+                         const uint8_t *high1, size_t high1_length, const uint8_t *problem2, size_t problem2_length,
+                         const uint8_t *low2, size_t low2_length, const uint8_t *high2, size_t high2_length,
+                         int64_t *lower_numerator, uint64_t *lower_denominator, int64_t *upper_numerator,
+                         uint64_t *upper_denominator, uint64_t *keys, size_t keys_length, int64_t *high, size_t high_length,
+                         int64_t *low, size_t low_length);
+
+/* The bound of a lower certificate after changes of the objective (request 13): the two single numbers receive p - q * (sum of |d|) and
+   q, both 0 with a refusal. */
+uint64_t zamiachisel_moved_bound(const uint8_t *problem, size_t problem_length, const uint8_t *certificate,
+                                 size_t certificate_length, const uint8_t *changes, size_t changes_length, int64_t *numerator,
+                                 uint64_t *denominator, uint64_t *keys, size_t keys_length, int64_t *high, size_t high_length,
+                                 int64_t *low, size_t low_length);
+
+/* The check of a certificate that may have notes (request 10): where nothing is refused the buffer begins with the 8 bytes of each note,
+   in their order. The single number receives how many they are, 0 with a refusal. */
+uint64_t zamiachisel_office(const uint8_t *problem, size_t problem_length, const uint8_t *certificate, size_t certificate_length,
+                            uint8_t *buffer, size_t buffer_length, uint64_t *notes, uint64_t *keys, size_t keys_length,
+                            int64_t *high, size_t high_length, int64_t *low, size_t low_length);
 
 #ifdef __cplusplus
 }

@@ -70,6 +70,10 @@ extern "C" {
         low2_length: usize,
         high2: *const u8,
         high2_length: usize,
+        lower_numerator: *mut i64,
+        lower_denominator: *mut u64,
+        upper_numerator: *mut i64,
+        upper_denominator: *mut u64,
         keys: *mut u64,
         keys_length: usize,
         high: *mut i64,
@@ -239,9 +243,7 @@ pub fn answer(record: &Record, lent: &mut Lent) -> u64 {
         }
         (b'r', _) => report(problem, &mut first.clone(), lent),
         (b'x', [output]) => self::record([problem, first, second], &mut output.clone()),
-        (b'd', [problem2, low2, high2]) => {
-            call!(zamiachisel_sum, problem, first, second, problem2, low2, high2; lent.keys, lent.high, lent.low)
-        }
+        (b'd', _) => sum(&record.runs, lent).0,
         (b'a', _) => moved_bound([problem, first, second], lent).0,
         (b'n', _) => office([problem, first, second], lent),
         _ => 0,
@@ -286,6 +288,47 @@ pub fn tighter([problem, first, second]: [&Vec<u8>; 3], lent: &mut Lent) -> [u64
     assert_eq!(number == 0, back == 1 || back == 2);
     assert!(number != 0 || [stream, place, key] == [0; 3]);
     [number, stream, place, key]
+}
+
+/// The number of the refusal and the two sums that the call on two problems leaves, which are 0 over 0 exactly with a refusal.
+pub fn sum(runs: &[Vec<u8>], lent: &mut Lent) -> (u64, [(i64, u64); 2]) {
+    let [problem1, low1, high1, problem2, low2, high2] = runs else {
+        panic!("two problems with a pair for each are six runs");
+    };
+    let mut sums = [(i64::MIN, u64::MAX); 2];
+    let [lower, upper] = &mut sums;
+    // As above.
+    let number = unsafe {
+        zamiachisel_sum(
+            problem1.as_ptr(),
+            problem1.len(),
+            low1.as_ptr(),
+            low1.len(),
+            high1.as_ptr(),
+            high1.len(),
+            problem2.as_ptr(),
+            problem2.len(),
+            low2.as_ptr(),
+            low2.len(),
+            high2.as_ptr(),
+            high2.len(),
+            &raw mut lower.0,
+            &raw mut lower.1,
+            &raw mut upper.0,
+            &raw mut upper.1,
+            lent.keys.as_mut_ptr(),
+            lent.keys.len(),
+            lent.high.as_mut_ptr(),
+            lent.high.len(),
+            lent.low.as_mut_ptr(),
+            lent.low.len(),
+        )
+    };
+    for (numerator, denominator) in sums {
+        assert_eq!(number == 0, denominator != 0);
+        assert!(number == 0 || numerator == 0);
+    }
+    (number, sums)
 }
 
 /// The number of the refusal and the moved bound that the call on changes leaves, which is 0 over 0 exactly with a refusal.

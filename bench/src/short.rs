@@ -1,6 +1,6 @@
 //! Refusal 1: each call with each of the lent tables one short.
 
-use crate::calls::{answer, moved_bound, record, report, tighter, Lent, Record};
+use crate::calls::{answer, moved_bound, record, report, sum, tighter, Lent, Record};
 
 /// Case F: a problem and its two certificates, all of which hold.
 const PROBLEM: [&[u8]; 9] = [
@@ -175,6 +175,9 @@ pub fn run() {
     let runs = case_f(b't').runs;
     let numbers = tighter([&runs[0], &runs[1], &runs[2]], &mut lent);
     assert_eq!(numbers, [1, 0, 0, 0]);
+    let runs = case_f(b'd').runs;
+    assert_eq!(sum(&runs, &mut lent), (1, [(0, 0); 2]));
+    assert_eq!(sum(&runs, &mut filled()), (0, [(-2, 1), (2, 1)]));
     let runs = case_f(b'a').runs;
     let [problem, low, changes] = [&runs[0], &runs[1], &runs[2]];
     assert_eq!(moved_bound([problem, low, changes], &mut lent), (1, 0, 0));
@@ -184,7 +187,7 @@ pub fn run() {
     );
     shortened(b'b', |lent| lent.out.truncate(575));
     shortened(b's', |lent| lent.out.truncate(255));
-    println!("refusal 1 for each short table of each call, and nothing written but the numbers that three calls lend singly");
+    println!("refusal 1 for each short table of each call, and nothing written but the numbers that four calls lend singly");
     println!("reports: refusal 1 for each short table, then 12, then 1 for the output, and no byte of it written");
     println!("records: 1 for fewer than 32 bytes, and no byte written of them nor past 32");
 }

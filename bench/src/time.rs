@@ -58,6 +58,6 @@ fn report_on(pairs: &[Record]) -> Record {
     }
     Record {
         kind: b'r',
-        runs: [records, vec![0; 32 * pairs.len()], Vec::new(), Vec::new()],
+        runs: vec![records, vec![0; 32 * pairs.len()], Vec::new()],
     }
 }

@@ -9,14 +9,14 @@ use Rattle.calls.specs.declared.PairVerdict.{PairVerdict}
 use Rattle.calls.specs.Promises.{Stated}
 use Rattle.calls.specs.Check.{boundOf}
 use Rattle.format.specs.declared.certificate.Header.{Header}
-use Rattle.added_bounds.proofs.CertificateWidths.{Widths, read-widths}
+use Rattle.format.proofs.HeaderRange.{Ranged, read-ranged}
 
-bound-of : (h : Header) (f : Fraction) → f ≡ boundOf h → Widths h → Bound f
+bound-of : (h : Header) (f : Fraction) → f ≡ boundOf h → Ranged h → Bound f
 bound-of h f e w = rw e (record { num = w .p; den = w .q })
 
 pub bounds-of : {s low high : List ℕ} {v : PairVerdict} → Bounded 255 low → Bounded 255 high → Stated s low high v
     → Bound (v .lower) × Bound (v .upper)
 bounds-of {s} {low} {high} a b t = (
-  bound-of _ _ (t .lower) (read-widths low a (t .problem) (t .first) (t .hold .first .read)),
-  bound-of _ _ (t .upper) (read-widths high b (t .problem) (t .second) (t .hold .second .read)),
+  bound-of _ _ (t .lower) (read-ranged low a (t .problem) (t .first) (t .hold .first .read)),
+  bound-of _ _ (t .upper) (read-ranged high b (t .problem) (t .second) (t .hold .second .read)),
 )

@@ -1,4 +1,2 @@
-pub mod CertificateWidths
 pub mod Bounds
-pub mod Twice
 pub mod Ends

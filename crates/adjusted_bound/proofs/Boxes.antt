@@ -1,7 +1,7 @@
 -- A box in the arrays: by the number of its terms, and by these in either order.
 use native.Mathlib.Nat.{add-zero}
-use mathlib.Core.Path.{_≡_, refl, sym, ap, ap₂, _∙_}
-use mathlib.Core.Bool.{Bool, true, false, not, _&&_, _||_}
+use mathlib.Core.Path.{_≡_, refl, sym, ap, _∙_}
+use mathlib.Core.Bool.{Bool, true, false, _&&_, _||_}
 use mathlib.Core.List.{List, [], _∷_}
 use mathlib.Core.Logic.{⊎-elim}
 use Prim.Native.Nat.{ℕ, _+_, _*_}
@@ -14,7 +14,8 @@ use Rattle.counting.proofs.Listed.{listed-length}
 use Rattle.polynomial.specs.Terms.{Term, term}
 use Rattle.flat.specs.TermArrays.{termsIn}
 use Rattle.flat.specs.Flat.{exponentsAt, coefficientsAt, countAt, polynomialIn, equalityIn}
-use Rattle.calls.specs.Adjusted.{squareKey, unit, minusSquare, sameTerm, isOneMinusSquare}
+use Rattle.calls.specs.Adjusted.{squareKey, unit, minusSquare, isOneMinusSquare}
+use Rattle.calls.specs.SameTerms.{sameTerm}
 use Rattle.calls.proofs.Boxes.{boxed-exactly}
 use Rattle.adjusted_bound.specs.Boxes.{boxIn}
 

@@ -3,5 +3,4 @@ pub mod Coefficients
 pub mod Boxes
 pub mod Searched
 pub mod Decided
-pub mod Read
 pub mod Checked

@@ -12,7 +12,8 @@ ghost use Rattle.fractions.specs.Ranges.{Bound};
 ghost use Rattle.calls.specs.Refusals.{problemRefusal};
 ghost use Rattle.calls.specs.Tables.{tables, tablesShort, TablesLeft};
 ghost use Rattle.calls.specs.Adjusted.{changeCount, changesOf, mostChanges, changeRefusal, firstUnfit, unfitRefusal};
-ghost use Rattle.calls.specs.Adjusted.{changesRefusal, squareKey, unit, sameTerm, hasBox, boxedTo, absoluteSum};
+ghost use Rattle.calls.specs.Adjusted.{changesRefusal, squareKey, unit, hasBox, boxedTo, absoluteSum};
+ghost use Rattle.calls.specs.SameTerms.{sameTerm};
 ghost use Rattle.calls.specs.Adjusted.{movedBound, refusedAdjusted, adjustedOf, adjustedRead, adjustedVerdict};
 ghost use Rattle.calls.specs.Adjusted.{AdjustedNumber, AdjustedExactly, HoldsChanged, InOrder};
 ghost use Rattle.adjusted_bound.specs.Boxes.{boxIn};
@@ -76,14 +77,15 @@ fn absolute_sum(changes: &[u8]) -> u64
     ensures { λ r. ⌜ (r ≡ absoluteSum (changesOf (now (changes .entry)))) × (r ≤ 2 ^ 39) ⌝ }
 {
     let count = changes.len() / 12;
-    let mut sum: u64 = 0;
+    let mut sum: i64 = 0;
     let mut i = 0;
     while i < count {
-        let d = operand_reader::signed32(operand_reader::number_at(changes, 12 * i + 8, 4));
-        sum += fractions::magnitude(d as i64);
+        let d = operand_reader::signed32(operand_reader::number_at(changes, 12 * i + 8, 4)) as i64;
+        let size = fractions::magnitude(d) as i64;
+        sum += size;
         i += 1;
     }
-    sum
+    sum as u64
 }
 
 // The moved bound. q is below 2^16 and the sum at most 2^39, so their product is below 2^55.
@@ -217,11 +219,12 @@ fn decide(
     if f.number != 0 {
         return refuse(f);
     }
+    let upper = v.side != 0;
     let boxed = are_boxed(keys, coefficients, sizes, n);
     if !boxed {
         return refuse_problem(16, 0);
     }
-    if v.side != 0 {
+    if upper {
         return refuse_problem(17, 0);
     }
     AdjustedVerdict {

@@ -97,7 +97,8 @@ pub extern "C" fn zamiachisel_pair(
     number_of(v.refusal)
 }
 
-// Two problems over one region, with a pair for each: the number of the refusal, or 0.
+// Two problems over one region, with a pair for each: the number of the refusal, or 0. Four numbers receive the sums of
+// the lower bounds and of the upper ones, 0 over 0 with a refusal.
 // stack: see docs/measured/stack-bound.tsv
 #[no_mangle]
 pub extern "C" fn zamiachisel_sum(
@@ -107,6 +108,10 @@ pub extern "C" fn zamiachisel_sum(
     problem2: &[u8],
     low2: &[u8],
     high2: &[u8],
+    lower_numerator: &mut i64,
+    lower_denominator: &mut u64,
+    upper_numerator: &mut i64,
+    upper_denominator: &mut u64,
     keys: &mut [u64],
     high: &mut [i64],
     low: &mut [i64],
@@ -115,8 +120,19 @@ pub extern "C" fn zamiachisel_sum(
         let lent = tables (now (keys .entry)) (now (high .entry)) (now (low .entry)) in
         let a = streams (now (problem1 .entry)) (now (low1 .entry)) (now (high1 .entry)) in
         let b = streams (now (problem2 .entry)) (now (low2 .entry)) (now (high2 .entry)) in
-        let v = sumVerdict (tablesShort lent) a b in
-        ⌜ r ≡ v .refusal .number ⌝ }
+        ⌜ r ≡ sumVerdict (tablesShort lent) a b .refusal .number ⌝ }
+    ensures lower { λ _.
+        let lent = tables (now (keys .entry)) (now (high .entry)) (now (low .entry)) in
+        let a = streams (now (problem1 .entry)) (now (low1 .entry)) (now (high1 .entry)) in
+        let b = streams (now (problem2 .entry)) (now (low2 .entry)) (now (high2 .entry)) in
+        let left = fraction (now («lower_numerator» .exit)) (now («lower_denominator» .exit)) in
+        ⌜ left ≡ sumVerdict (tablesShort lent) a b .lower ⌝ }
+    ensures upper { λ _.
+        let lent = tables (now (keys .entry)) (now (high .entry)) (now (low .entry)) in
+        let a = streams (now (problem1 .entry)) (now (low1 .entry)) (now (high1 .entry)) in
+        let b = streams (now (problem2 .entry)) (now (low2 .entry)) (now (high2 .entry)) in
+        let left = fraction (now («upper_numerator» .exit)) (now («upper_denominator» .exit)) in
+        ⌜ left ≡ sumVerdict (tablesShort lent) a b .upper ⌝ }
     ensures tables { λ _.
         let lent = tables (now (keys .entry)) (now (high .entry)) (now (low .entry)) in
         let left = tables (now (keys .exit)) (now (high .exit)) (now (low .exit)) in
@@ -133,6 +149,14 @@ pub extern "C" fn zamiachisel_sum(
         high,
         low,
     );
+    let lower = v.lower;
+    let p = lower.num;
+    *lower_numerator = p;
+    *lower_denominator = lower.den;
+    let upper = v.upper;
+    let q = upper.num;
+    *upper_numerator = q;
+    *upper_denominator = upper.den;
     number_of(v.refusal)
 }
 
@@ -242,8 +266,8 @@ pub extern "C" fn zamiachisel_report(
     number_of(v.refusal)
 }
 
-// The call for the bid tool (request 14): the pair's verdict as one record. The tables are the call's own. The number of
-// the refusal comes back, or 0, or 1 where fewer than 32 bytes are lent.
+// The call for the bid tool (request 14): the pair's verdict as one record. The tables are the call's own. The number
+// of the refusal comes back, or 0, or 1 where fewer than 32 bytes are lent.
 // stack: see docs/measured/stack-bound.tsv
 #[no_mangle]
 pub extern "C" fn zamiachisel_record(problem: &[u8], low: &[u8], high: &[u8], out: &mut [u8]) -> u64
@@ -302,7 +326,8 @@ pub extern "C" fn zamiachisel_moved_bound(
 {
     let v = adjusted_bound::moved_bound(problem, certificate, changes, keys, high, low);
     let f = v.bound;
-    *numerator = f.num;
+    let p = f.num;
+    *numerator = p;
     *denominator = f.den;
     number_of(v.refusal)
 }

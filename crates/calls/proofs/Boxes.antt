@@ -1,23 +1,21 @@
 -- What the search for the boxes finds: an inequality with exactly the terms of 1 − x_i², for one variable and for all.
-use mathlib.Core.Path.{_≡_, refl, sym, ap, ap₂, _∙_}
+use mathlib.Core.Path.{_≡_, refl}
 use mathlib.Core.Bool.{Bool, true, false, not, _&&_, _||_}
 use mathlib.Core.List.{List, [], _∷_}
 use mathlib.Core.Logic.{_⊎_, inl, inr, ⊎-elim}
 use Prim.Native.Nat.{ℕ, zero, suc, _≤_, _<_}
 use native.Mathlib.Nat.{eq-or-lt-of-le}
 use native.Mathlib.Omega.{arith}
-use lib.Dec.{eqb}
 use lib.ListN.{length, getD}
-use borrow.Author.Tests.{eqb-true, eq-eqb, not-true}
 use Rattle.counting.proofs.Cases.{never, and-left, and-right}
-use Rattle.polynomial.specs.Terms.{Term, term}
+use Rattle.polynomial.specs.Terms.{Term}
 use Rattle.format.specs.ProblemRules.{Condition, noCondition}
 use Rattle.format.specs.ProblemBases.{isEquality}
 use Rattle.format.specs.declared.problem.Kind.{Kind}
 use Rattle.format.specs.declared.problem.Kind.the-variants as K
-use Rattle.accepting.specs.Judgement.{sameNumber}
-use Rattle.accepting.proofs.Difference.{same-equal, same-self}
-use Rattle.calls.specs.Adjusted.{unit, minusSquare, sameTerm, sameTerms, isOneMinusSquare, hasBox, boxedTo, Box}
+use Rattle.calls.specs.Adjusted.{unit, minusSquare, isOneMinusSquare, hasBox, boxedTo, Box}
+use Rattle.calls.specs.SameTerms.{sameTerms}
+use Rattle.calls.proofs.SameTerms.{terms-equal, terms-self}
 
 -- ---- tests
 or-cases : (a b : Bool) → (a || b) ≡ true → (a ≡ true) ⊎ (b ≡ true)
@@ -31,38 +29,20 @@ or-right : (a b : Bool) → b ≡ true → (a || b) ≡ true
 or-right true b h = refl
 or-right false b h = h
 
--- ---- the same terms are equal ones
-same-term : (s t : Term) → sameTerm s t ≡ true → s ≡ t
-same-term s t h =
-    ap₂ term (eqb-true _ _ (and-left _ (sameNumber (s .coefficient) (t .coefficient)) h))
-    (same-equal _ _ (and-right (eqb (s .key) (t .key)) _ h))
-
-same-terms : (P Q : List Term) → sameTerms P Q ≡ true → P ≡ Q
-same-terms [] [] h = refl
-same-terms [] (t ∷ Q) h = never h
-same-terms (s ∷ P) [] h = never h
-same-terms (s ∷ P) (t ∷ Q) h =
-    ap₂ (λ (u : Term) (l : List Term). u ∷ l) (same-term s t (and-left _ (sameTerms P Q) h))
-    (same-terms P Q (and-right (sameTerm s t) _ h))
-
-terms-same : (P : List Term) → sameTerms P P ≡ true
-terms-same [] = refl
-terms-same (s ∷ P) = rw (eq-eqb (s .key) (s .key) refl, same-self (s .coefficient)) (terms-same P)
-
 -- ---- one condition
 abbrev pub Exactly : ℕ → List Term → Type 0
 Exactly i P = (P ≡ unit ∷ minusSquare i ∷ []) ⊎ (P ≡ minusSquare i ∷ unit ∷ [])
 
 pub boxed-exactly : (i : ℕ) (P : List Term) → isOneMinusSquare i P ≡ true → Exactly i P
 unfolding isOneMinusSquare
-boxed-exactly i P h = ⊎-elim (λ e. inl (same-terms _ _ e)) (λ e. inr (same-terms _ _ e)) (or-cases _ _ h)
+boxed-exactly i P h = ⊎-elim (λ e. inl (terms-equal _ _ e)) (λ e. inr (terms-equal _ _ e)) (or-cases _ _ h)
 
 exactly-boxed : (i : ℕ) (P : List Term) → Exactly i P → isOneMinusSquare i P ≡ true
 unfolding isOneMinusSquare
 exactly-boxed i P e =
     ⊎-elim
-    (λ f. or-left (sameTerms P (unit ∷ minusSquare i ∷ [])) _ (rw f (terms-same (unit ∷ minusSquare i ∷ []))))
-    (λ f. or-right (sameTerms P (unit ∷ minusSquare i ∷ [])) _ (rw f (terms-same (minusSquare i ∷ unit ∷ [])))) e
+    (λ f. or-left (sameTerms P (unit ∷ minusSquare i ∷ [])) _ (rw f (terms-self (unit ∷ minusSquare i ∷ []))))
+    (λ f. or-right (sameTerms P (unit ∷ minusSquare i ∷ [])) _ (rw f (terms-self (minusSquare i ∷ unit ∷ [])))) e
 
 is-inequality : (k : Kind) → not (isEquality k) ≡ true → k ≡ K.Inequality
 is-inequality K.Inequality h = refl

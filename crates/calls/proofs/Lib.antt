@@ -23,6 +23,7 @@ pub mod RecordFields
 pub mod Told
 pub mod Reports
 pub mod BidTools
+pub mod SameTerms
 pub mod Regions
 pub mod BoundsAdded
 pub mod RingSums

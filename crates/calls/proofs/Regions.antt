@@ -1,22 +1,19 @@
 -- When two problems have one region: what refusal 15 compares, and that then the allowed points are the same.
 use mathlib.Core.Path.{_≡_, refl, sym, ap₂, _∙_}
-use mathlib.Core.Bool.{Bool, true, false, _&&_}
+use mathlib.Core.Bool.{true}
 use mathlib.Core.List.{List, [], _∷_}
-use Prim.Native.Nat.{ℕ}
 use lib.Dec.{eqb}
-use lib.IntN.{ℤ}
-use lib.ListN.{length}
 use borrow.Author.Tests.{eqb-true, eq-eqb}
 use Rattle.counting.proofs.Cases.{clash, and-left, and-right}
-use Rattle.polynomial.specs.Terms.{Term, term}
+use Rattle.polynomial.specs.Terms.{Term}
 use Rattle.polynomial.specs.Point.{Point}
 use Rattle.format.specs.declared.problem.Kind.{Kind}
 use Rattle.format.specs.declared.problem.Kind.the-variants as K
 use Rattle.format.specs.ProblemRules.{Condition, Problem}
-use Rattle.accepting.specs.Judgement.{sameNumber}
 use Rattle.accepting.specs.Bounds.{Allowed}
-use Rattle.accepting.proofs.Difference.{same-equal, same-self}
-use Rattle.calls.specs.AddedBounds.{sameKind, sameTerms, sameConditions, sameRegion, SameRegion}
+use Rattle.calls.specs.AddedBounds.{sameKind, sameConditions, sameRegion, SameRegion}
+use Rattle.calls.specs.SameTerms.{sameTerms}
+use Rattle.calls.proofs.SameTerms.{terms-equal, terms-self}
 
 -- ---- kinds, terms and conditions that are found the same are equal, and equal ones are found the same
 kind-equal : (k l : Kind) → sameKind k l ≡ true → k ≡ l
@@ -28,21 +25,6 @@ kind-equal K.Equality K.Equality h = refl
 kind-self : (k : Kind) → sameKind k k ≡ true
 kind-self K.Inequality = refl
 kind-self K.Equality = refl
-
-terms-equal : (P Q : List Term) → sameTerms P Q ≡ true → P ≡ Q
-terms-equal [] [] h = refl
-terms-equal [] (t ∷ Q) h = clash (cc)
-terms-equal (s ∷ P) [] h = clash (cc)
-terms-equal (s ∷ P) (t ∷ Q) h =
-    let k = eqb-true (s .key) (t .key) (and-left _ _ h) in
-    let r = and-right (eqb (s .key) (t .key)) _ h in
-    let c = same-equal (s .coefficient) (t .coefficient) (and-left _ _ r) in
-    let e : s ≡ t = ap₂ term k c in
-    ap₂ _∷_ e (terms-equal P Q (and-right (sameNumber (s .coefficient) (t .coefficient)) _ r))
-
-terms-self : (P : List Term) → sameTerms P P ≡ true
-terms-self [] = refl
-terms-self (t ∷ P) = rw (eq-eqb (t .key) (t .key) refl, same-self (t .coefficient)) (terms-self P)
 
 conditions-equal : (gs hs : List Condition) → sameConditions gs hs ≡ true → gs ≡ hs
 conditions-equal [] [] h = refl

@@ -8,16 +8,15 @@ use Prim.Native.Nat.{ℕ, _+_, _*_, _≤_}
 use lib.Dec.{eqb}
 use lib.IntN.{ℤ, pos, _+ℤ_, _*ℤ_}
 use lib.Signed.{_≤ℤ_}
-use Rattle.polynomial.specs.Terms.{Term}
 use Rattle.polynomial.specs.Point.{Point}
 use Rattle.format.specs.Commands.{Outcome, refused, given}
 use Rattle.format.specs.declared.problem.Kind.{Kind}
 use Rattle.format.specs.declared.problem.Kind.the-variants as K
 use Rattle.format.specs.ProblemRules.{Condition, Problem, readProblem}
 use Rattle.format.specs.CertificateRules.{Certificate}
-use Rattle.accepting.specs.Judgement.{sameNumber}
 use Rattle.accepting.specs.Bounds.{Allowed, objectiveValue, objectiveScale}
 use Rattle.calls.specs.Fractions.{fraction, none}
+use Rattle.calls.specs.SameTerms.{sameTerms}
 use Rattle.calls.specs.Refusals.{noRefusal, problemRefusal}
 use Rattle.calls.specs.Check.{boundOf}
 use Rattle.calls.specs.Pair.{pairVerdict}
@@ -39,13 +38,6 @@ sameKind K.Inequality K.Inequality = true
 sameKind K.Inequality K.Equality = false
 sameKind K.Equality K.Inequality = false
 sameKind K.Equality K.Equality = true
-
-abbrev pub sameTerms : List Term → List Term → Bool
-sameTerms [] [] = true
-sameTerms [] (t ∷ Q) = false
-sameTerms (s ∷ P) [] = false
-sameTerms (s ∷ P) (t ∷ Q) =
-    eqb (s .key) (t .key) && (sameNumber (s .coefficient) (t .coefficient) && sameTerms P Q)
 
 abbrev pub sameConditions : List Condition → List Condition → Bool
 sameConditions [] [] = true

@@ -25,6 +25,7 @@ use Rattle.accepting.specs.Judgement as J
 use Rattle.accepting.specs.Bounds.{Allowed, objectiveScale}
 use Rattle.calls.specs.Fractions.{fraction}
 use Rattle.calls.specs.Fractions as F
+use Rattle.calls.specs.SameTerms.{sameTerms}
 use Rattle.calls.specs.Refusals.{noRefusal, problemRefusal}
 use Rattle.calls.specs.Check.{boundOf, checkVerdict}
 use Rattle.calls.specs.Superseding.{isAccepted}
@@ -89,15 +90,6 @@ unit = term 0 (pos 1)
 
 abbrev pub minusSquare : ℕ → Term
 minusSquare i = term (squareKey i) (negsuc 0)
-
-abbrev pub sameTerm : Term → Term → Bool
-sameTerm s t = eqb (s .key) (t .key) && J.sameNumber (s .coefficient) (t .coefficient)
-
-abbrev pub sameTerms : List Term → List Term → Bool
-sameTerms [] [] = true
-sameTerms [] (t ∷ Q) = false
-sameTerms (s ∷ P) [] = false
-sameTerms (s ∷ P) (t ∷ Q) = sameTerm s t && sameTerms P Q
 
 -- exactly these two terms, in either order
 unfoldable pub isOneMinusSquare : ℕ → List Term → Bool

@@ -13,6 +13,7 @@ pub mod Rules
 pub mod Symmetries
 pub mod Report
 pub mod BidTool
+pub mod SameTerms
 pub mod AddedBounds
 pub mod Adjusted
 pub mod RingAdjusted

@@ -14,7 +14,7 @@ use Rattle.counting.proofs.Listed.{listed-at, listed-same}
 use Rattle.polynomial.specs.Terms.{Term, term}
 use Rattle.format.specs.declared.problem.Kind.{Kind}
 use Rattle.format.specs.declared.problem.Kind.the-variants as K
-use Rattle.format.specs.ProblemRules.{Condition, Problem, noCondition}
+use Rattle.format.specs.ProblemRules.{Problem, noCondition}
 use Rattle.format.specs.ProblemBases.{multiplier, kindOf}
 use Rattle.flat.specs.TermArrays.{termsIn}
 use Rattle.flat.specs.Flat.{exponentsAt, coefficientsAt, countAt, kindAt, kindNumber, FlatLimits, FlatProblem}

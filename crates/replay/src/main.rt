@@ -3,8 +3,8 @@
 // the call for a C program, d: two problems with a pair for each, a: changes of the objective, n: the office's check),
 // lengths of 32 bits, little-endian, and as many byte runs, each of at most 65,536 bytes: four for x, six for d, three
 // for the others. `answer_record` decides, on the kind and the runs, `window_line` on the arrivals, `tighter_line` on
-// two certificates, `report_line` on a report, `tool_line` on the call for a C program, `answer_sum` on two problems and
-// `office_line` on a certificate with notes; all else moves bytes.
+// two certificates, `report_line` on a report, `tool_line` on the call for a C program, `answer_sum` on two problems
+// and `office_line` on a certificate with notes; all else moves bytes.
 ghost use mathlib.Core.Path.{_≡_};
 ghost use mathlib.Core.Bool.{true};
 ghost use mathlib.Core.List.{_++_};
@@ -308,17 +308,17 @@ fn answer_sum(
 }
 
 // The line for a certificate that may have notes: what the office is told, and the buffer, or the refusal.
-fn office_line(problem: &[u8], certificate: &[u8], buffer: &mut [u8], out: &mut [u8]) -> usize
-    requires { ⌜ 2 * length (now buffer) + 153 ≤ length (now out) ⌝ }
+fn office_line(problem: &[u8], certificate: &[u8], buffer: &mut [u8], line: &mut [u8]) -> usize
+    requires { ⌜ 2 * length (now buffer) + 153 ≤ length (now line) ⌝ }
     ensures { λ r. ⌜
-        take r (now (out .exit)) ≡ officeAnswer (now (problem .entry)) (now (certificate .entry)) (now (buffer .entry))
+        take r (now (line .exit)) ≡ officeAnswer (now (problem .entry)) (now (certificate .entry)) (now (buffer .entry))
         ⌝ }
 {
     let mut keys = [0u64; 2048];
     let mut high = [0i64; 2048];
     let mut low = [0i64; 2048];
     let v = office_check::office(problem, certificate, buffer, &mut keys, &mut high, &mut low);
-    text::office_line(out, v, buffer)
+    text::office_line(line, v, buffer)
 }
 
 // Answers a record of a certificate that may have notes, whose buffer is the first n bytes; whether its line was
@@ -330,7 +330,7 @@ fn answer_office(problem: &[u8], certificate: &[u8], buffer: &mut [u8], n: usize
     if 65536 < n {
         return false;
     }
-    let mut line = [0u8; 135168];
+    let mut line = [0u8; 131328];
     let len = office_line(problem, certificate, &mut buffer[..n], &mut line);
     io::write_all(STDOUT_FILENO, text::cut(&line, len))
 }

@@ -3,7 +3,6 @@ use borrow.Author.Needs.{needs}
 use mathlib.Core.Path.{_≡_, refl}
 use Rattle.calls.specs.declared.Fraction.{Fraction}
 use Rattle.calls.specs.declared.Refusal.{Refusal}
-use Rattle.calls.specs.declared.SumVerdict.{SumVerdict}
 use Rattle.calls.specs.Fractions.{none}
 use Rattle.calls.specs.AddedBounds.{rulesUsed, refusedSum}
 use Rattle.added_bounds.proofs.refuse.Statement.{statement}

@@ -9,7 +9,7 @@ use Rattle.calls.specs.Tables.{tables, tablesShort}
 use Rattle.calls.specs.AddedBounds.{Streams, streams, sameRegionRead, sumSecond, pairBy}
 use Rattle.calls.proofs.BoundsAdded.{sum-clauses}
 use Rattle.added_bounds.proofs.Bounds.{bounds-of}
-use Rattle.added_bounds.proofs.Twice.{short-again, left-twice}
+use Rattle.work_tables.proofs.Again.{short-again, left-twice}
 use Rattle.added_bounds.proofs.Ends.{first-refused, first-accepted}
 use Rattle.added_bounds.proofs.sum.Statement.{statement}
 use Rattle.added_bounds.proofs.sum.Tie as tie

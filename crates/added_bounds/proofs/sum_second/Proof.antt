@@ -6,7 +6,6 @@ use mathlib.Core.Bool.{Bool}
 use borrow.Author.Tests.{not-true, not-false}
 use Rattle.counting.specs.Counting.{Bounded}
 use Rattle.format.specs.ProblemRules.{readProblem}
-use Rattle.calls.specs.declared.PairVerdict.{PairVerdict}
 use Rattle.calls.specs.AddedBounds.{sameRegionRead, sumSecond}
 use Rattle.calls.proofs.Pairing.{pair-stream}
 use Rattle.added_bounds.proofs.Bounds.{bounds-of}

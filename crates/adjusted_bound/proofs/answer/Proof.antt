@@ -6,7 +6,7 @@ use Rattle.format.specs.Commands.{Outcome}
 use Rattle.format.specs.ProblemRules.{Problem}
 use Rattle.problem_reader.specs.Storing.{GivenFlat}
 use Rattle.calls.specs.Adjusted.{adjustedRead}
-use Rattle.adjusted_bound.proofs.Read.{second-byte, variables-some, variables-few, second-there}
+use Rattle.format.proofs.ProblemVariables.{second-byte}
 use Rattle.adjusted_bound.proofs.answer.Statement.{statement}
 use Rattle.adjusted_bound.proofs.answer.Tie as tie
 
@@ -34,10 +34,10 @@ returns c =
     c .refuse-problem .ensures ∙ sym (ap (λ (o : Outcome Problem). adjustedRead o (a .v) (a .changes .now)) e)
 
 shared-slice-read-n : tie.Need-shared-slice-read-n
-shared-slice-read-n c = let g = is-given (c .before) in second-there _ (g .problem) (g .read)
+shared-slice-read-n c = let g = is-given (c .before) in second-byte _ (g .problem) (g .read) .there
 
 cast-n : tie.Need-cast-n
-cast-n c = let g = is-given (c .before) in omega (arith, variables-few _ (g .problem) (g .read))
+cast-n c = let g = is-given (c .before) in omega (arith, second-byte _ (g .problem) (g .read) .few)
 
 slice-aggregate-decide : tie.Need-slice-aggregate-decide
 slice-aggregate-decide c = sym (c .before .before .before .read .ensures .limits .keys-length)
@@ -53,8 +53,8 @@ decide-requires c κs =
     let i = c .before .before .before .before in
     let g = is-given i in (
       g .flat .limits,
-      variables-some _ (g .problem) (g .read),
-      variables-few _ (g .problem) (g .read),
+      second-byte _ (g .problem) (g .read) .some,
+      second-byte _ (g .problem) (g .read) .few,
       start (i .before) .pre,
     )
 
@@ -63,7 +63,7 @@ returns-2 c =
     let i = c .before .before .before .before .before in
     let a = start (i .before) .args in
     let g = is-given i in
-    c .decide .ensures (g .problem) (g .flat) (second-byte _ (g .problem) (g .read))
+    c .decide .ensures (g .problem) (g .flat) (second-byte _ (g .problem) (g .read) .named)
     ∙ sym (ap (λ (o : Outcome Problem). adjustedRead o (a .v) (a .changes .now)) (g .read))
 
 pub answer-spec : {M : Type 1} → statement M

@@ -4,7 +4,8 @@ use mathlib.Core.Path.{_≡_, sym, _∙_}
 use mathlib.Core.Bool.{true, false}
 use mir.Facts.{toZ-ofZ}
 use Rattle.polynomial.specs.Terms.{term}
-use Rattle.calls.specs.Adjusted.{unit, sameTerm}
+use Rattle.calls.specs.Adjusted.{unit}
+use Rattle.calls.specs.SameTerms.{sameTerm}
 use Rattle.adjusted_bound.proofs.are_terms.Statement.{statement}
 use Rattle.adjusted_bound.proofs.are_terms.Tie as tie
 

@@ -1,8 +1,7 @@
 -- `decide`: each return by the tests that led there.
 use borrow.Author.Needs.{needs}
-use borrow.Author.Tests.{not-true, not-false}
-use native.Mathlib.Omega.{arith}
-use mathlib.Core.Path.{_≡_, refl, sym, ap, _∙_}
+use borrow.Author.Tests.{eqb-true, eqb-false, not-true, not-false}
+use mathlib.Core.Path.{_≡_, sym, ap, _∙_}
 use Rattle.calls.specs.declared.Refusal.{Refusal}
 use Rattle.calls.specs.Adjusted.{changesOf, changesRefusal, refusedAdjusted, foundBound}
 use Rattle.adjusted_bound.proofs.Decided.{few, unfit, unboxed, upper, lower}
@@ -34,7 +33,7 @@ returns c =
     ∙ unfit p (a .v) (a .changes .now) (a .n) e (λ z. t .if1 .taken (ap (λ (r : Refusal). r .number) told ∙ z))
 
 are-boxed-requires : tie.Need-are-boxed-requires
-are-boxed-requires c κs = let q = start (c .before .before) .pre in (q .0, q .1, q .2)
+are-boxed-requires c κs = let q = start (c .before .before .before) .pre in (q .0, q .1, q .2)
 
 refuse-problem-requires : tie.Need-refuse-problem-requires
 refuse-problem-requires c κs = search needs
@@ -43,10 +42,10 @@ returns-2 : tie.Need-returns-2
 returns-2 c =
     let t = c .before in
     let b = t .before in
-    let a = start (b .before .before .before) .args in
+    let a = start (b .before .before .before .before) .args in
     λ p f e.
     c .refuse-problem .ensures
-    ∙ unboxed p (a .v) (a .changes .now) (a .n) e (no-refusal (b .before))
+    ∙ unboxed p (a .v) (a .changes .now) (a .n) e (no-refusal (b .before .before))
     (sym (b .are-boxed .ensures p f) ∙ not-true _ (t .if2 .taken))
 
 refuse-problem-requires-2 : tie.Need-refuse-problem-requires-2
@@ -55,13 +54,13 @@ refuse-problem-requires-2 c κs = search needs
 returns-3 : tie.Need-returns-3
 returns-3 c =
     let t = c .before in
-    let o = t .before .before in
+    let o = t .before in
     let b = o .before in
-    let a = start (b .before .before .before) .args in
+    let a = start (b .before .before .before .before) .args in
     λ p f e.
     c .refuse-problem2 .ensures
-    ∙ upper p (a .v) (a .changes .now) (a .n) e (no-refusal (b .before))
-    (sym (b .are-boxed .ensures p f) ∙ not-false _ (o .if2 .left)) (t .if3 .taken)
+    ∙ upper p (a .v) (a .changes .now) (a .n) e (no-refusal (b .before .before))
+    (sym (b .are-boxed .ensures p f) ∙ not-false _ (o .if2 .left)) (eqb-false _ _ (not-true _ (t .if3 .taken)))
 
 absolute-sum-requires : tie.Need-absolute-sum-requires
 absolute-sum-requires c κs =
@@ -78,13 +77,13 @@ returns-4 : tie.Need-returns-4
 returns-4 c =
     let m = c .before in
     let t = m .before in
-    let o = t .before .before in
+    let o = t .before in
     let b = o .before in
-    let a = start (b .before .before .before) .args in
+    let a = start (b .before .before .before .before) .args in
     λ p f e.
     ap foundBound (c .moved .ensures (changesOf (a .changes .now)) (m .absolute-sum .ensures .0))
-    ∙ lower p (a .v) (a .changes .now) (a .n) e (no-refusal (b .before))
-    (sym (b .are-boxed .ensures p f) ∙ not-false _ (o .if2 .left)) (t .if3 .left)
+    ∙ lower p (a .v) (a .changes .now) (a .n) e (no-refusal (b .before .before))
+    (sym (b .are-boxed .ensures p f) ∙ not-false _ (o .if2 .left)) (eqb-true _ _ (not-false _ (t .if3 .left)))
 
 pub decide-spec : {M : Type 1} → statement M
 decide-spec =

@@ -36,11 +36,4 @@ returns c =
 pub zamiachisel-office-spec : {M : Type 1} → statement M
 zamiachisel-office-spec =
     tie.close
-    (tie.spec
-    office-requires
-    number-of-requires
-    same-length
-    same-length-2
-    same-length-3
-    same-length-4
-    returns)
+    (tie.spec office-requires number-of-requires same-length same-length-2 same-length-3 same-length-4 returns)

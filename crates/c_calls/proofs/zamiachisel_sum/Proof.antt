@@ -1,6 +1,8 @@
--- `zamiachisel_sum`: the clauses of the call, with the number of its verdict's refusal.
+-- `zamiachisel_sum`: the clauses of the call, with the number of its verdict's refusal and the sums.
 use borrow.Author.Needs.{needs}
 use mathlib.Core.Path.{ap, _∙_}
+use mir.Syntax.{w64}
+use mir.Facts.{toZ-ofZ}
 use Rattle.calls.specs.declared.SumVerdict.{SumVerdict}
 use Rattle.c_calls.proofs.zamiachisel_sum.Statement.{statement}
 use Rattle.c_calls.proofs.zamiachisel_sum.Tie as tie
@@ -22,8 +24,17 @@ same-length-3 c = search needs
 
 returns : tie.Need-returns
 returns c =
-    let e = c .before .before .before .before .before .sum .ensures in
-    (c .number-of .ensures ∙ ap (λ (v : SumVerdict). v .refusal .number) (e .0), e .1 .0)
+    let u = c .before in
+    let l = u .before .before in
+    let k = l .before .before .before .before .before .before .sum in
+    let lower = toZ-ofZ {w = w64} {z = k .result .lower .num} (record { sfits = l .struct-told .given .0 .1 }) in
+    let upper = toZ-ofZ {w = w64} {z = k .result .upper .num} (record { sfits = u .struct-told2 .given .0 .1 }) in (
+      c .number-of .ensures ∙ ap (λ (v : SumVerdict). v .refusal .number) (k .ensures .0),
+      (
+        rw lower (ap (λ (v : SumVerdict). v .lower) (k .ensures .0)),
+        (rw upper (ap (λ (v : SumVerdict). v .upper) (k .ensures .0)), k .ensures .1 .0),
+      ),
+    )
 
 pub zamiachisel-sum-spec : {M : Type 1} → statement M
 zamiachisel-sum-spec =

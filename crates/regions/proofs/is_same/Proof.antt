@@ -1,5 +1,4 @@
 -- `is_same`: each return by what was read of the two streams.
-use borrow.Author.Needs.{needs}
 use native.Mathlib.Omega.{arith}
 use mathlib.Core.Path.{refl, sym}
 use Rattle.problem_reader.specs.Storing.{GivenFlat}

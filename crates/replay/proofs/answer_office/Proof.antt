@@ -30,7 +30,7 @@ office-line-requires : tie.Need-office-line-requires
 office-line-requires c κs =
     let e = c .before .before in
     let a = e .before .before .before .before .before .args in
-    omega (arith, e .if2 .left, length-take (a .n) (a .buffer .now), length-replicate {A = ℕ} 135168 0)
+    omega (arith, e .if2 .left, length-take (a .n) (a .buffer .now), length-replicate {A = ℕ} 131328 0)
 
 slice-aggregate-cut : tie.Need-slice-aggregate-cut
 slice-aggregate-cut c = search needs

@@ -1,6 +1,5 @@
 -- `office_line`: the line of the verdict and of the buffer as the call leaves it, with tables of 2,048 numbers.
 use borrow.Author.Needs.{needs}
-use native.Mathlib.Omega.{arith}
 use mathlib.Core.Path.{_≡_, _∙_}
 use mathlib.Core.List.{List}
 use Prim.Native.Nat.{ℕ}
@@ -25,10 +24,7 @@ office-requires : tie.Need-office-requires
 office-requires c κs = search needs
 
 office-line-requires : tie.Need-office-line-requires
-office-line-requires c κs =
-    let o = c .before .before .before .before .before .before in
-    let s = o .before .before .before .before .before .before .before .before .before .before in
-    omega (arith, s .pre, o .buffer .given)
+office-line-requires c κs = search needs
 
 same-length : tie.Need-same-length
 same-length c = search needs

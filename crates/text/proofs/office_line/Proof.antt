@@ -21,10 +21,9 @@ same-length c = search needs
 returns : tie.Need-returns
 unfolding officeLine
 returns c =
-    let n = c .before .before in
-    let t = n .before .before .before .before in
-    let s = t .before .before .before .before .before in
-    rw (lt-ltb 0 (s .before .args .v .check .refusal .number) (t .if1 .taken)) (n .append-refusal .ensures)
+    let p = c .before .before in
+    let t = p .before .before .before .before in
+    rw (lt-ltb 0 (t .before .before .before .before .before .before .args .v .check .refusal .number) (t .if1 .taken)) (p .append-refusal .ensures)
 
 slice-aggregate-append-check : tie.Need-slice-aggregate-append-check
 slice-aggregate-append-check c = search needs
@@ -65,11 +64,10 @@ returns-2 c =
     let p4 = p3 .before .before .before .before .before in
     let p5 = p4 .before .before .before .before .before in
     let t = p5 .before .before .before in
-    let s = t .before .before .before .before .before in
     let two = appended-text (p5 .append-check .ensures .0) (p4 .append-with-number .ensures .0) in
-    let three = appended-text two (p3 .append .ensures) in
-    let four = appended-text three (p2 .append-hexadecimal .ensures .0) in
-    rw (le-ltb 0 (s .before .args .v .check .refusal .number) (t .if1 .left)) (appended-text four (p1 .append2 .ensures) .bytes)
+    let four = appended-text (appended-text two (p3 .append .ensures)) (p2 .append-hexadecimal .ensures .0) in
+    rw (le-ltb 0 (t .before .before .before .before .before .before .args .v .check .refusal .number) (t .if1 .left))
+    (appended-text four (p1 .append2 .ensures) .bytes)
 
 pub office-line-spec : {M : Type 1} → statement M
 office-line-spec =
