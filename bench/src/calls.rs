@@ -57,6 +57,31 @@ extern "C" {
         low_length: usize,
     ) -> u64;
 
+    fn zamiachisel_sum(
+        problem1: *const u8,
+        problem1_length: usize,
+        low1: *const u8,
+        low1_length: usize,
+        high1: *const u8,
+        high1_length: usize,
+        problem2: *const u8,
+        problem2_length: usize,
+        low2: *const u8,
+        low2_length: usize,
+        high2: *const u8,
+        high2_length: usize,
+        lower_numerator: *mut i64,
+        lower_denominator: *mut u64,
+        upper_numerator: *mut i64,
+        upper_denominator: *mut u64,
+        keys: *mut u64,
+        keys_length: usize,
+        high: *mut i64,
+        high_length: usize,
+        low: *mut i64,
+        low_length: usize,
+    ) -> u64;
+
     fn zamiachisel_tighter(
         problem: *const u8,
         problem_length: usize,
@@ -76,6 +101,17 @@ extern "C" {
         low_length: usize,
     ) -> u64;
 
+    fn zamiachisel_record(
+        problem: *const u8,
+        problem_length: usize,
+        low: *const u8,
+        low_length: usize,
+        high: *const u8,
+        high_length: usize,
+        out: *mut u8,
+        out_length: usize,
+    ) -> u64;
+
     fn zamiachisel_report(
         records: *const u8,
         records_length: usize,
@@ -88,12 +124,45 @@ extern "C" {
         low: *mut i64,
         low_length: usize,
     ) -> u64;
+
+    fn zamiachisel_moved_bound(
+        problem: *const u8,
+        problem_length: usize,
+        certificate: *const u8,
+        certificate_length: usize,
+        changes: *const u8,
+        changes_length: usize,
+        numerator: *mut i64,
+        denominator: *mut u64,
+        keys: *mut u64,
+        keys_length: usize,
+        high: *mut i64,
+        high_length: usize,
+        low: *mut i64,
+        low_length: usize,
+    ) -> u64;
+
+    fn zamiachisel_office(
+        problem: *const u8,
+        problem_length: usize,
+        certificate: *const u8,
+        certificate_length: usize,
+        buffer: *mut u8,
+        buffer_length: usize,
+        notes: *mut u64,
+        keys: *mut u64,
+        keys_length: usize,
+        high: *mut i64,
+        high_length: usize,
+        low: *mut i64,
+        low_length: usize,
+    ) -> u64;
 }
 
-/// A record: its kind and its three byte runs.
+/// A record: its kind and its byte runs, as many as the kind has.
 pub struct Record {
     pub kind: u8,
-    pub runs: [Vec<u8>; 3],
+    pub runs: Vec<Vec<u8>>,
 }
 
 /// What is lent to every call.
@@ -125,17 +194,25 @@ pub fn records() -> Vec<Record> {
         .expect("the standard input is read");
     let mut found = Vec::new();
     let mut rest = bytes.as_slice();
-    while rest.len() >= 13 {
-        let kind = rest[0];
-        let lengths: Vec<usize> = (0..3)
-            .map(|i| u32::from_le_bytes(rest[1 + 4 * i..5 + 4 * i].try_into().unwrap()) as usize)
-            .collect();
-        rest = &rest[13..];
-        let runs = [0, 1, 2].map(|i| {
-            let (run, after) = rest.split_at(lengths[i].min(rest.len()));
+    while let Some((&kind, after)) = rest.split_first() {
+        let count = match kind {
+            b'x' => 4,
+            b'd' => 6,
+            _ => 3,
+        };
+        let Some((lengths, after)) = after.split_at_checked(4 * count) else {
+            break;
+        };
+        rest = after;
+        let lengths = lengths
+            .chunks(4)
+            .map(|bytes| u32::from_le_bytes(bytes.try_into().unwrap()));
+        let runs = lengths.map(|length| {
+            let (run, after) = rest.split_at(rest.len().min(length as usize));
             rest = after;
             run.to_vec()
         });
+        let runs = runs.collect();
         found.push(Record { kind, runs });
     }
     found
@@ -151,14 +228,24 @@ macro_rules! call {
 
 /// Answers a record: the number of the refusal, or 0.
 pub fn answer(record: &Record, lent: &mut Lent) -> u64 {
-    let [problem, first, second] = &record.runs;
-    match record.kind {
-        b'b' => call!(zamiachisel_blocks, problem; lent.out, lent.keys, lent.high, lent.low),
-        b'c' => call!(zamiachisel_check, problem, first; lent.keys, lent.high, lent.low),
-        b'p' => call!(zamiachisel_pair, problem, first, second; lent.keys, lent.high, lent.low),
-        b't' => tighter(&record.runs, lent)[0],
-        b's' => call!(zamiachisel_symmetries, problem; lent.out, lent.keys, lent.high, lent.low),
-        b'r' => report(problem, &mut first.clone(), lent),
+    let [problem, first, second, others @ ..] = &record.runs[..] else {
+        panic!("a record has three runs at least");
+    };
+    match (record.kind, others) {
+        (b'b', _) => call!(zamiachisel_blocks, problem; lent.out, lent.keys, lent.high, lent.low),
+        (b'c', _) => call!(zamiachisel_check, problem, first; lent.keys, lent.high, lent.low),
+        (b'p', _) => {
+            call!(zamiachisel_pair, problem, first, second; lent.keys, lent.high, lent.low)
+        }
+        (b't', _) => tighter([problem, first, second], lent)[0],
+        (b's', _) => {
+            call!(zamiachisel_symmetries, problem; lent.out, lent.keys, lent.high, lent.low)
+        }
+        (b'r', _) => report(problem, &mut first.clone(), lent),
+        (b'x', [output]) => self::record([problem, first, second], &mut output.clone()),
+        (b'd', _) => sum(&record.runs, lent).0,
+        (b'a', _) => moved_bound([problem, first, second], lent).0,
+        (b'n', _) => office([problem, first, second], lent),
         _ => 0,
     }
 }
@@ -168,9 +255,14 @@ pub fn report(records: &[u8], output: &mut [u8], lent: &mut Lent) -> u64 {
     call!(zamiachisel_report, records; output, lent.keys, lent.high, lent.low)
 }
 
+/// The pair's verdict as a record, which this output gets: the number of the refusal, or 0.
+pub fn record([problem, low, high]: [&Vec<u8>; 3], output: &mut [u8]) -> u64 {
+    call!(zamiachisel_record, problem, low, high; output)
+}
+
 /// The four numbers that the call on two certificates leaves. They are lent with other numbers in them; where the number of
 /// the refusal is 0 a certificate comes back, and nowhere else.
-pub fn tighter([problem, first, second]: &[Vec<u8>; 3], lent: &mut Lent) -> [u64; 4] {
+pub fn tighter([problem, first, second]: [&Vec<u8>; 3], lent: &mut Lent) -> [u64; 4] {
     let [mut number, mut stream, mut place, mut key] = [u64::MAX; 4];
     // As above; the four numbers are apart from each other and from the tables.
     let back = unsafe {
@@ -196,4 +288,103 @@ pub fn tighter([problem, first, second]: &[Vec<u8>; 3], lent: &mut Lent) -> [u64
     assert_eq!(number == 0, back == 1 || back == 2);
     assert!(number != 0 || [stream, place, key] == [0; 3]);
     [number, stream, place, key]
+}
+
+/// The number of the refusal and the two sums that the call on two problems leaves, which are 0 over 0 exactly with a refusal.
+pub fn sum(runs: &[Vec<u8>], lent: &mut Lent) -> (u64, [(i64, u64); 2]) {
+    let [problem1, low1, high1, problem2, low2, high2] = runs else {
+        panic!("two problems with a pair for each are six runs");
+    };
+    let mut sums = [(i64::MIN, u64::MAX); 2];
+    let [lower, upper] = &mut sums;
+    // As above.
+    let number = unsafe {
+        zamiachisel_sum(
+            problem1.as_ptr(),
+            problem1.len(),
+            low1.as_ptr(),
+            low1.len(),
+            high1.as_ptr(),
+            high1.len(),
+            problem2.as_ptr(),
+            problem2.len(),
+            low2.as_ptr(),
+            low2.len(),
+            high2.as_ptr(),
+            high2.len(),
+            &raw mut lower.0,
+            &raw mut lower.1,
+            &raw mut upper.0,
+            &raw mut upper.1,
+            lent.keys.as_mut_ptr(),
+            lent.keys.len(),
+            lent.high.as_mut_ptr(),
+            lent.high.len(),
+            lent.low.as_mut_ptr(),
+            lent.low.len(),
+        )
+    };
+    for (numerator, denominator) in sums {
+        assert_eq!(number == 0, denominator != 0);
+        assert!(number == 0 || numerator == 0);
+    }
+    (number, sums)
+}
+
+/// The number of the refusal and the moved bound that the call on changes leaves, which is 0 over 0 exactly with a refusal.
+pub fn moved_bound(
+    [problem, certificate, changes]: [&Vec<u8>; 3],
+    lent: &mut Lent,
+) -> (u64, i64, u64) {
+    let (mut numerator, mut denominator) = (i64::MIN, u64::MAX);
+    // As above.
+    let number = unsafe {
+        zamiachisel_moved_bound(
+            problem.as_ptr(),
+            problem.len(),
+            certificate.as_ptr(),
+            certificate.len(),
+            changes.as_ptr(),
+            changes.len(),
+            &raw mut numerator,
+            &raw mut denominator,
+            lent.keys.as_mut_ptr(),
+            lent.keys.len(),
+            lent.high.as_mut_ptr(),
+            lent.high.len(),
+            lent.low.as_mut_ptr(),
+            lent.low.len(),
+        )
+    };
+    assert_eq!(number == 0, denominator != 0);
+    assert!(number == 0 || numerator == 0);
+    (number, numerator, denominator)
+}
+
+/// The number of the refusal of the office's check, or 0, on a buffer as the record has it. The number of notes is lent with
+/// another number in it; with a refusal it is 0, and the buffer stays.
+pub fn office([problem, certificate, buffer]: [&Vec<u8>; 3], lent: &mut Lent) -> u64 {
+    let mut left = buffer.clone();
+    let mut notes = u64::MAX;
+    // As above; the number of notes is apart from the buffer and from the tables.
+    let number = unsafe {
+        zamiachisel_office(
+            problem.as_ptr(),
+            problem.len(),
+            certificate.as_ptr(),
+            certificate.len(),
+            left.as_mut_ptr(),
+            left.len(),
+            &raw mut notes,
+            lent.keys.as_mut_ptr(),
+            lent.keys.len(),
+            lent.high.as_mut_ptr(),
+            lent.high.len(),
+            lent.low.as_mut_ptr(),
+            lent.low.len(),
+        )
+    };
+    assert!(8 * notes as usize <= left.len());
+    assert!(number == 0 || (notes == 0 && left == *buffer));
+    number
 }

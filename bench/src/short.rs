@@ -1,6 +1,6 @@
 //! Refusal 1: each call with each of the lent tables one short.
 
-use crate::calls::{answer, report, tighter, Lent, Record};
+use crate::calls::{answer, moved_bound, record, report, sum, tighter, Lent, Record};
 
 /// Case F: a problem and its two certificates, all of which hold.
 const PROBLEM: [&[u8]; 9] = [
@@ -23,6 +23,8 @@ const ROWS: [&[u8]; 6] = [
     &[0x13],
 ];
 
+const CHANGE: [u8; 12] = [1, 0, 0, 0, 0, 0, 0, 0, 251, 255, 255, 255];
+
 fn case_f(kind: u8) -> Record {
     let low = [
         &[0x10, 0, 2, 0, 255, 255, 255, 255, 1, 0],
@@ -31,12 +33,17 @@ fn case_f(kind: u8) -> Record {
     .concat();
     let mut high = [&[0x10, 1, 2, 0, 1, 0, 0, 0, 1, 0], &ROWS.concat()[..]].concat();
     high[20..22].copy_from_slice(&[255, 255]);
-    // The call on two certificates takes two of one side.
-    let second = if kind == b't' { low.clone() } else { high };
-    Record {
-        kind,
-        runs: [PROBLEM.concat(), low, second],
+    // The call on two certificates takes two of one side, and the call on changes takes changes: 5 x and -5 x.
+    let second = match kind {
+        b't' => low.clone(),
+        b'a' => [[1, 0, 0, 0, 0, 0, 0, 0, 5, 0, 0, 0], CHANGE].concat(),
+        _ => high,
+    };
+    let mut runs = vec![PROBLEM.concat(), low, second];
+    if kind == b'd' {
+        runs.extend(runs.clone());
     }
+    Record { kind, runs }
 }
 
 /// Tables three longer than asked, without a zero in them.
@@ -97,19 +104,44 @@ const TABLES: [fn(&mut Lent); 4] = [
     |lent| lent.keys.clear(),
 ];
 
+/// An output with the record of case F at its start.
+fn written_to<const N: usize>(mut output: [u8; N]) -> [u8; N] {
+    output[..32].fill(0);
+    output[4..8].fill(255);
+    for at in [8, 12, 16] {
+        output[at] = 1;
+    }
+    output
+}
+
+/// The record of case F in 32 bytes and in more, and no byte written of fewer.
+fn records() {
+    let runs = case_f(b'p').runs;
+    let mut output = [7; 35];
+    assert_eq!(record([&runs[0], &runs[1], &runs[2]], &mut output), 0);
+    assert_eq!(output, written_to([7; 35]));
+    for length in [0, 31] {
+        let mut output = [7; 35];
+        assert_eq!(
+            record([&runs[0], &runs[1], &runs[2]], &mut output[..length]),
+            1
+        );
+        assert_eq!(output, [7; 35]);
+    }
+}
+
 /// Reports on case F: its record is written and no byte past it; with a short table or output nothing is, and with a record
 /// that is cut the tables alone.
 fn reports() {
     let runs = case_f(b'p').runs;
-    let lengths = runs.iter().flat_map(|run| (run.len() as u16).to_le_bytes());
+    let lengths = runs[..3]
+        .iter()
+        .flat_map(|run| (run.len() as u16).to_le_bytes());
     let records: Vec<u8> = lengths.chain(runs.concat()).collect();
     let (before, mut lent) = (filled(), filled());
     let mut output = [7; 35];
     assert_eq!(report(&records, &mut output, &mut lent), 0);
-    assert_eq!(output[..4], [0; 4]);
-    assert_eq!(output[4..8], [255; 4]);
-    assert_eq!(output[8..20], [1, 0, 0, 0, 1, 0, 0, 0, 1, 0, 0, 0]);
-    assert_eq!(output[20..], [&[0; 12][..], &[7; 3]].concat());
+    assert_eq!(output[..], written_to([7; 35]));
     assert_cleared(&lent, &before);
     let mut output = [7; 31];
     let mut lent = filled();
@@ -130,18 +162,32 @@ fn reports() {
 
 /// Ends with status 101 where a call does otherwise.
 pub fn run() {
-    for kind in *b"bcpts" {
+    for kind in *b"bcptsdan" {
         full(kind);
         for shorten in TABLES {
             shortened(kind, shorten);
         }
     }
     reports();
+    records();
     let mut lent = filled();
     lent.low.truncate(2_047);
-    assert_eq!(tighter(&case_f(b't').runs, &mut lent), [1, 0, 0, 0]);
+    let runs = case_f(b't').runs;
+    let numbers = tighter([&runs[0], &runs[1], &runs[2]], &mut lent);
+    assert_eq!(numbers, [1, 0, 0, 0]);
+    let runs = case_f(b'd').runs;
+    assert_eq!(sum(&runs, &mut lent), (1, [(0, 0); 2]));
+    assert_eq!(sum(&runs, &mut filled()), (0, [(-2, 1), (2, 1)]));
+    let runs = case_f(b'a').runs;
+    let [problem, low, changes] = [&runs[0], &runs[1], &runs[2]];
+    assert_eq!(moved_bound([problem, low, changes], &mut lent), (1, 0, 0));
+    assert_eq!(
+        moved_bound([problem, low, changes], &mut filled()),
+        (0, -11, 1)
+    );
     shortened(b'b', |lent| lent.out.truncate(575));
     shortened(b's', |lent| lent.out.truncate(255));
-    println!("refusal 1 for each short table of each call, and nothing written but the four numbers of the call on two");
+    println!("refusal 1 for each short table of each call, and nothing written but the numbers that four calls lend singly");
     println!("reports: refusal 1 for each short table, then 12, then 1 for the output, and no byte of it written");
+    println!("records: 1 for fewer than 32 bytes, and no byte written of them nor past 32");
 }

@@ -43,6 +43,10 @@ fn run_all(records: &[Record]) {
         (b't', "tighter"),
         (b's', "symmetries"),
         (b'r', "report"),
+        (b'x', "record"),
+        (b'd', "sum"),
+        (b'a', "moved_bound"),
+        (b'n', "office"),
     ];
     for (kind, name) in calls {
         let records = records.iter().filter(|record| record.kind == kind);

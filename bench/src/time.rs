@@ -51,13 +51,13 @@ pub fn week() {
 fn report_on(pairs: &[Record]) -> Record {
     let mut records = Vec::new();
     for Record { runs, .. } in pairs {
-        for run in runs {
+        for run in &runs[..3] {
             records.extend((run.len() as u16).to_le_bytes());
         }
         records.extend(runs.concat());
     }
     Record {
         kind: b'r',
-        runs: [records, vec![0; 32 * pairs.len()], Vec::new()],
+        runs: vec![records, vec![0; 32 * pairs.len()], Vec::new()],
     }
 }

@@ -11,17 +11,27 @@ pub const RUN: usize = 65_536;
 pub const BLOCKS: u8 = b'b';
 pub const CHECK: u8 = b'c';
 pub const PAIR: u8 = b'p';
-/// Those of the requests: 11, 02, 07.
+/// Those of the requests: 11, 02, 01, 07, 14.
 pub const WINDOW: u8 = b'w';
 pub const TIGHTER: u8 = b't';
 pub const SYMMETRIES: u8 = b's';
 pub const REPORT: u8 = b'r';
+pub const RECORD: u8 = b'x';
+pub const SUM: u8 = b'd';
+pub const ADJUSTED: u8 = b'a';
+pub const OFFICE: u8 = b'n';
 
 /// The number of runs of a kind: problem, first certificate and second certificate for the calls of
-/// document 01 and of the requests 01 and 02. There is none for a byte that is no kind.
+/// document 01 and of the requests 01 and 02, and then the output for that of request 14; these three
+/// twice for request 12; problem, certificate and buffer for request 10. There is none for a byte that
+/// is no kind.
 pub fn run_count(kind: u8) -> Option<usize> {
     match kind {
-        BLOCKS | CHECK | PAIR | WINDOW | TIGHTER | SYMMETRIES | REPORT => Some(3),
+        BLOCKS | CHECK | PAIR | WINDOW | TIGHTER | SYMMETRIES | REPORT | ADJUSTED | OFFICE => {
+            Some(3)
+        }
+        RECORD => Some(4),
+        SUM => Some(6),
         _ => None,
     }
 }
@@ -63,6 +73,22 @@ impl Record {
         Record {
             kind: TIGHTER,
             runs: vec![problem, first, second],
+        }
+    }
+
+    /// Two problems, each with a lower and an upper certificate, whose bounds are added.
+    pub fn sum(first: [Vec<u8>; 3], second: [Vec<u8>; 3]) -> Self {
+        Record {
+            kind: SUM,
+            runs: [first, second].concat(),
+        }
+    }
+
+    /// A certificate that may have notes, and the buffer for them.
+    pub fn office(problem: Vec<u8>, certificate: Vec<u8>, buffer: Vec<u8>) -> Self {
+        Record {
+            kind: OFFICE,
+            runs: vec![problem, certificate, buffer],
         }
     }
 

@@ -8,6 +8,8 @@ pub const PROBLEM: u8 = 0;
 pub const FIRST: u8 = 1;
 /// The second certificate.
 pub const SECOND: u8 = 2;
+/// Request 12: the streams of the second problem come after those of the first.
+pub const OTHER: u8 = 3;
 
 /// A lent table or output is too short.
 pub const SHORT: u8 = 1;
@@ -33,6 +35,14 @@ pub const SIDES: u8 = 10;
 pub const DIFFERENT_SIDES: u8 = 11;
 /// Request 07: a record is cut short, or a byte comes after the 64th.
 pub const RECORDS: u8 = 12;
+/// Request 12: the regions of two problems differ.
+pub const REGIONS: u8 = 15;
+/// Request 13: some variable has no inequality that is exactly 1 - x_i².
+pub const NO_BOX: u8 = 16;
+/// Request 13: an upper certificate.
+pub const NOT_LOWER: u8 = 17;
+/// Request 10: the buffer can't hold all notes.
+pub const NOTES: u8 = 13;
 
 /// The four fields of a refusal.
 #[derive(Clone, Copy, Debug, PartialEq, Eq)]

@@ -176,13 +176,13 @@ module _ {A : Type 0} (N : Numbers A) (O : Order (N .ring)) where
 
 -- ---- at rational points: in the integers, with the powers of c as scales
 module _ (p : Problem) (limits : Limits p) (a : Point) (allowed : Allowed p a) where
-  few : length (a .numerators) ≤ℕ 8
+  pub few : length (a .numerators) ≤ℕ 8
   few = let v = limits .variables .1 in let c = allowed .coordinates in omega arith
 
   unit : pos 0 ≤ℤ monomialValue a 16 0
   unit = rw (constant-scaled a 16) (nonneg-pos (a .denominator ^ 16))
 
-  met : All (λ (g : Condition). MeetsIn integers (g .kind) (sumIn integerNumbers (monomialValue a 16) (g .terms)))
+  pub met : All (λ (g : Condition). MeetsIn integers (g .kind) (sumIn integerNumbers (monomialValue a 16) (g .terms)))
       (p .conditions)
   unfolding value Meets MeetsIn
   met = all-map _ _ (λ (g : Condition). go (g .kind) (value a 16 (g .terms))) (p .conditions) (allowed .conditions)

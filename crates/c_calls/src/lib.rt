@@ -1,13 +1,19 @@
 // The calls for programs in other languages, as C functions: each lent slice is a pointer and a length. What each
 // leaves behind it is what the call leaves; of the verdict the number of the refusal comes back.
 ghost use mathlib.Core.Path.{_≡_};
+ghost use lib.ListN.{length};
 ghost use Rattle.calls.specs.Tables.{tables, tablesShort, TablesLeft};
 ghost use Rattle.calls.specs.Blocks.{blocksShort, blocksVerdict, bytesLeft};
 ghost use Rattle.calls.specs.Check.{checkVerdict};
 ghost use Rattle.calls.specs.Pair.{pairVerdict};
 ghost use Rattle.calls.specs.Superseding.{supersedingVerdict, streamOf, refusalIn};
 ghost use Rattle.calls.specs.Symmetries.{symmetriesShort, symmetriesVerdict, masksLeft};
-ghost use Rattle.calls.specs.Report.{checkedRecords, reportVerdict, outputLeft, isShort};
+ghost use Rattle.calls.specs.Report.{threeRuns, checkedRecords, reportVerdict, outputLeft, isShort};
+ghost use Rattle.calls.specs.BidTool.{toolNumber, toolBytes, OneRecord, AnyOrder};
+ghost use Rattle.calls.specs.AddedBounds.{streams, sumVerdict};
+ghost use Rattle.calls.specs.Fractions.{fraction};
+ghost use Rattle.calls.specs.Adjusted.{adjustedVerdict};
+ghost use Rattle.calls.specs.Office.{officeVerdict, bufferLeft};
 use calls::Chosen;
 use calls::Refusal;
 
@@ -88,6 +94,69 @@ pub extern "C" fn zamiachisel_pair(
         ⌜ TablesLeft (tablesShort lent) lent left ⌝ }
 {
     let v = checker::pair(problem, first, second, keys, high, low);
+    number_of(v.refusal)
+}
+
+// Two problems over one region, with a pair for each: the number of the refusal, or 0. Four numbers receive the sums of
+// the lower bounds and of the upper ones, 0 over 0 with a refusal.
+// stack: see docs/measured/stack-bound.tsv
+#[no_mangle]
+pub extern "C" fn zamiachisel_sum(
+    problem1: &[u8],
+    low1: &[u8],
+    high1: &[u8],
+    problem2: &[u8],
+    low2: &[u8],
+    high2: &[u8],
+    lower_numerator: &mut i64,
+    lower_denominator: &mut u64,
+    upper_numerator: &mut i64,
+    upper_denominator: &mut u64,
+    keys: &mut [u64],
+    high: &mut [i64],
+    low: &mut [i64],
+) -> u64
+    ensures verdict { λ r.
+        let lent = tables (now (keys .entry)) (now (high .entry)) (now (low .entry)) in
+        let a = streams (now (problem1 .entry)) (now (low1 .entry)) (now (high1 .entry)) in
+        let b = streams (now (problem2 .entry)) (now (low2 .entry)) (now (high2 .entry)) in
+        ⌜ r ≡ sumVerdict (tablesShort lent) a b .refusal .number ⌝ }
+    ensures lower { λ _.
+        let lent = tables (now (keys .entry)) (now (high .entry)) (now (low .entry)) in
+        let a = streams (now (problem1 .entry)) (now (low1 .entry)) (now (high1 .entry)) in
+        let b = streams (now (problem2 .entry)) (now (low2 .entry)) (now (high2 .entry)) in
+        let left = fraction (now («lower_numerator» .exit)) (now («lower_denominator» .exit)) in
+        ⌜ left ≡ sumVerdict (tablesShort lent) a b .lower ⌝ }
+    ensures upper { λ _.
+        let lent = tables (now (keys .entry)) (now (high .entry)) (now (low .entry)) in
+        let a = streams (now (problem1 .entry)) (now (low1 .entry)) (now (high1 .entry)) in
+        let b = streams (now (problem2 .entry)) (now (low2 .entry)) (now (high2 .entry)) in
+        let left = fraction (now («upper_numerator» .exit)) (now («upper_denominator» .exit)) in
+        ⌜ left ≡ sumVerdict (tablesShort lent) a b .upper ⌝ }
+    ensures tables { λ _.
+        let lent = tables (now (keys .entry)) (now (high .entry)) (now (low .entry)) in
+        let left = tables (now (keys .exit)) (now (high .exit)) (now (low .exit)) in
+        ⌜ TablesLeft (tablesShort lent) lent left ⌝ }
+{
+    let v = added_bounds::sum(
+        problem1,
+        low1,
+        high1,
+        problem2,
+        low2,
+        high2,
+        keys,
+        high,
+        low,
+    );
+    let lower = v.lower;
+    let p = lower.num;
+    *lower_numerator = p;
+    *lower_denominator = lower.den;
+    let upper = v.upper;
+    let q = upper.num;
+    *upper_numerator = q;
+    *upper_denominator = upper.den;
     number_of(v.refusal)
 }
 
@@ -195,4 +264,103 @@ pub extern "C" fn zamiachisel_report(
 {
     let v = weekly_report::report(records, out, keys, high, low);
     number_of(v.refusal)
+}
+
+// The call for the bid tool (request 14): the pair's verdict as one record. The tables are the call's own. The number
+// of the refusal comes back, or 0, or 1 where fewer than 32 bytes are lent.
+// stack: see docs/measured/stack-bound.tsv
+#[no_mangle]
+pub extern "C" fn zamiachisel_record(problem: &[u8], low: &[u8], high: &[u8], out: &mut [u8]) -> u64
+    ensures number { λ r.
+        let runs = threeRuns (now (problem .entry)) (now (low .entry)) (now (high .entry)) in
+        ⌜ r ≡ toolNumber (now (out .entry)) runs ⌝ }
+    ensures bytes { λ _.
+        let runs = threeRuns (now (problem .entry)) (now (low .entry)) (now (high .entry)) in
+        ⌜ now (out .exit) ≡ toolBytes (now (out .entry)) runs ⌝ }
+    ensures told { λ r.
+        let runs = threeRuns (now (problem .entry)) (now (low .entry)) (now (high .entry)) in
+        ⌜ OneRecord (now (out .entry)) runs (now (out .exit)) r ⌝ }
+    ensures order { λ r.
+        let runs = threeRuns (now (problem .entry)) (now (low .entry)) (now (high .entry)) in
+        ⌜ AnyOrder (now (out .entry)) runs r ⌝ }
+{
+    if out.len() < 32 {
+        return 1;
+    }
+    let mut keys = [0u64; 2048];
+    let mut high_sums = [0i64; 2048];
+    let mut low_sums = [0i64; 2048];
+    let v = checker::pair(problem, low, high, &mut keys, &mut high_sums, &mut low_sums);
+    record_writer::put_record(out, v);
+    number_of(v.refusal)
+}
+
+// The call on changes of the objective: the number of the refusal, or 0. Two numbers receive the moved bound, 0 over 0
+// with a refusal.
+// stack: see docs/measured/stack-bound.tsv
+#[no_mangle]
+pub extern "C" fn zamiachisel_moved_bound(
+    problem: &[u8],
+    certificate: &[u8],
+    changes: &[u8],
+    numerator: &mut i64,
+    denominator: &mut u64,
+    keys: &mut [u64],
+    high: &mut [i64],
+    low: &mut [i64],
+) -> u64
+    ensures verdict { λ r.
+        let lent = tables (now (keys .entry)) (now (high .entry)) (now (low .entry)) in
+        let s = now (problem .entry) in
+        let v = adjustedVerdict (tablesShort lent) s (now (certificate .entry)) (now (changes .entry)) in
+        ⌜ r ≡ v .refusal .number ⌝ }
+    ensures bound { λ _.
+        let lent = tables (now (keys .entry)) (now (high .entry)) (now (low .entry)) in
+        let s = now (problem .entry) in
+        let v = adjustedVerdict (tablesShort lent) s (now (certificate .entry)) (now (changes .entry)) in
+        ⌜ fraction (now (numerator .exit)) (now (denominator .exit)) ≡ v .bound ⌝ }
+    ensures tables { λ _.
+        let lent = tables (now (keys .entry)) (now (high .entry)) (now (low .entry)) in
+        let left = tables (now (keys .exit)) (now (high .exit)) (now (low .exit)) in
+        ⌜ TablesLeft (tablesShort lent) lent left ⌝ }
+{
+    let v = adjusted_bound::moved_bound(problem, certificate, changes, keys, high, low);
+    let f = v.bound;
+    let p = f.num;
+    *numerator = p;
+    *denominator = f.den;
+    number_of(v.refusal)
+}
+
+// The office's check: the number of the refusal, or 0. `notes` receives the number of notes, 0 with a refusal.
+// stack: see docs/measured/stack-bound.tsv
+#[no_mangle]
+pub extern "C" fn zamiachisel_office(
+    problem: &[u8],
+    certificate: &[u8],
+    buffer: &mut [u8],
+    notes: &mut u64,
+    keys: &mut [u64],
+    high: &mut [i64],
+    low: &mut [i64],
+) -> u64
+    ensures verdict { λ r.
+        let lent = tables (now (keys .entry)) (now (high .entry)) (now (low .entry)) in
+        let t = now (certificate .entry) in
+        let v = officeVerdict (tablesShort lent) (now (problem .entry)) t (length (now (buffer .entry))) in
+        ⌜ (r ≡ v .check .refusal .number) × (now (notes .exit) ≡ v .notes) ⌝ }
+    ensures buffer { λ _.
+        let lent = tables (now (keys .entry)) (now (high .entry)) (now (low .entry)) in
+        let t = now (certificate .entry) in
+        let before = now (buffer .entry) in
+        ⌜ now (buffer .exit) ≡ bufferLeft (tablesShort lent) (now (problem .entry)) t before ⌝ }
+    ensures tables { λ _.
+        let lent = tables (now (keys .entry)) (now (high .entry)) (now (low .entry)) in
+        let left = tables (now (keys .exit)) (now (high .exit)) (now (low .exit)) in
+        ⌜ TablesLeft (tablesShort lent) lent left ⌝ }
+{
+    let v = office_check::office(problem, certificate, buffer, keys, high, low);
+    *notes = v.notes as u64;
+    let check = v.check;
+    number_of(check.refusal)
 }

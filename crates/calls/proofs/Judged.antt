@@ -31,7 +31,7 @@ problem-number s n place h = record {
   most = read-most problemLanguage s (λ a at. first-most _ _ _ _ _) noProblem n place h;
 }
 
-certificate-number : (p : Problem) (s : List ℕ) (n place : ℕ) → readCertificate p s ≡ Stream.refused n place → Between n 1 6
+pub certificate-number : (p : Problem) (s : List ℕ) (n place : ℕ) → readCertificate p s ≡ Stream.refused n place → Between n 1 6
 unfolding readCertificate certificateRefusalAt
 certificate-number p s n place h =
     let l = certificateLanguage p in

@@ -23,3 +23,13 @@ pub mod RecordFields
 pub mod Told
 pub mod Reports
 pub mod BidTools
+pub mod SameTerms
+pub mod Regions
+pub mod BoundsAdded
+pub mod RingSums
+pub mod AdjustedBounds
+pub mod RingAdjusted
+pub mod Boxes
+pub mod Changes
+pub mod Adjusting
+pub mod Office

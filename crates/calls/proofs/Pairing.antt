@@ -55,7 +55,7 @@ data Ended (s low high : List ℕ) (v : PairVerdict) : Type 0 where
       → v ≡ refusedPair (certificateRefusal 1 n place key) → Ended s low high v
   second-refused : (p : Problem) → readProblem s ≡ given p → (c : Certificate) → J.Accepted p low c → (n place key : ℕ) → judge p high ≡ J.refused n place key
       → v ≡ refusedPair (certificateRefusal 2 n place key) → Ended s low high v
-  wrong-side : (stream : ℕ) → v ≡ refusedPair (certificateRefusal stream 10 0 0) → Ended s low high v
+  wrong-side : (stream : ℕ) → stream ≤ 2 → v ≡ refusedPair (certificateRefusal stream 10 0 0) → Ended s low high v
   accepted : Reads s (λ p. Paired p low high v) → Ended s low high v
 
 module _ (short : Bool) (s low high : List ℕ) (v : PairVerdict) (is : v ≡ pairVerdict short s low high) where
@@ -65,8 +65,8 @@ module _ (short : Bool) (s low high : List ℕ) (v : PairVerdict) (is : v ≡ pa
     sides c d a b true true x y e =
         let hold : BothHold p low high c d = record { first = a; second = b; lower = eqb-true _ _ x; upper = eqb-true _ _ y } in
         accepted (record { problem = p; read = r; holds = record { first = c; second = d; hold = hold; verdict = e } })
-    sides c d a b true false x y e = wrong-side 2 e
-    sides c d a b false y x z e = wrong-side 1 e
+    sides c d a b true false x y e = wrong-side 2 (omega arith) e
+    sides c d a b false y x z e = wrong-side 1 (omega arith) e
 
     second : (c : Certificate) → J.Accepted p low c → (k : Judgement) → judge p high ≡ k → v ≡ pairSecond p c k → Ended s low high v
     unfolding pairSides
@@ -105,8 +105,19 @@ module _ (short : Bool) (s low high : List ℕ) (v : PairVerdict) (is : v ≡ pa
       go (unjudged n place b e) = omega (arith, number-is _ e, b .most)
       go (first-refused p r n place key f e) = omega (arith, number-is _ e, judge-number p low n place key f .most)
       go (second-refused p r c a n place key f e) = omega (arith, number-is _ e, judge-number p high n place key f .most)
-      go (wrong-side i e) = omega (arith, number-is _ e)
+      go (wrong-side i b e) = omega (arith, number-is _ e)
       go (accepted r) = omega (arith, number-is _ (r .holds .verdict))
+
+  -- "stream (0 problem, 1 first certificate, 2 second)"
+  pub pair-stream : v .refusal .stream ≤ 2
+  pair-stream = go ended
+    where
+      go : Ended s low high v → v .refusal .stream ≤ 2
+      go (unjudged n place b e) = omega (arith, stream-is _ e)
+      go (first-refused p r n place key f e) = omega (arith, stream-is _ e)
+      go (second-refused p r c a n place key f e) = omega (arith, stream-is _ e)
+      go (wrong-side i b e) = omega (arith, stream-is _ e)
+      go (accepted r) = omega (arith, stream-is _ (r .holds .verdict))
 
   -- ---- where nothing is refused
   pair-found : v .refusal .number ≡ 0 → Reads s (λ p. Paired p low high v)
@@ -116,7 +127,7 @@ module _ (short : Bool) (s low high : List ℕ) (v : PairVerdict) (is : v ≡ pa
       go (unjudged n place b e) = absurd (omega (arith, number-is _ e, b .least))
       go (first-refused p r n place key f e) = absurd (omega (arith, number-is _ e, judge-number p low n place key f .least))
       go (second-refused p r c a n place key f e) = absurd (omega (arith, number-is _ e, judge-number p high n place key f .least))
-      go (wrong-side i e) = absurd (omega (arith, number-is _ e))
+      go (wrong-side i b e) = absurd (omega (arith, number-is _ e))
       go (accepted r) = r
 
   found-at : (p : Problem) → readProblem s ≡ given p → v .refusal .number ≡ 0 → Paired p low high v
@@ -179,7 +190,7 @@ module _ (short : Bool) (s low high : List ℕ) (v : PairVerdict) (is : v ≡ pa
       go (unjudged n place b e) = let f = empty-is _ e in clash (cc)
       go (first-refused p r n place key g e) = let f = empty-is _ e in clash (cc)
       go (second-refused p r c a n place key g e) = let f = empty-is _ e in clash (cc)
-      go (wrong-side i e) = let f = empty-is _ e in clash (cc)
+      go (wrong-side i b e) = let f = empty-is _ e in clash (cc)
       go (accepted r) = number-is _ (r .holds .verdict)
 
   empty : NoPoints s v
@@ -225,7 +236,7 @@ module _ (short : Bool) (s low high : List ℕ) (v : PairVerdict) (is : v ≡ pa
       go h (second-refused p r c a n place key f e) =
           let d = judge-nine p high n place key (read-limits s p r) f (sym (number-is _ e) ∙ h) in
           inr (stream-is _ e, record { problem = p; read = r; holds = record { first = c; accepted = a; second = rw e d } })
-      go h (wrong-side i e) = absurd (omega (arith, number-is _ e))
+      go h (wrong-side i b e) = absurd (omega (arith, number-is _ e))
       go h (accepted r) = absurd (omega (arith, number-is _ (r .holds .verdict)))
 
   -- ---- the rule
@@ -242,7 +253,7 @@ module _ (short : Bool) (s low high : List ℕ) (v : PairVerdict) (is : v ≡ pa
           record { named = λ h. absurd (omega (arith, number-is _ e, judge-number p low n place key f .least)); refused = λ _. rule-is _ e }
       go (second-refused p r c a n place key f e) =
           record { named = λ h. absurd (omega (arith, number-is _ e, judge-number p high n place key f .least)); refused = λ _. rule-is _ e }
-      go (wrong-side i e) = record { named = λ h. absurd (omega (arith, number-is _ e)); refused = λ _. rule-is _ e }
+      go (wrong-side i b e) = record { named = λ h. absurd (omega (arith, number-is _ e)); refused = λ _. rule-is _ e }
       go (accepted r) = record {
         named = λ _. rule-is _ (r .holds .verdict) ∙ read-rule s (r .problem) (r .read);
         refused = λ h. absurd (omega (arith, number-is _ (r .holds .verdict)));

@@ -90,13 +90,13 @@ module _ (short : Bool) (s t : List ℕ) where
   found h = check-found short s t said refl h
 
   -- where the verdict is of no refusal, what the certificate states
-  record States (c : Certificate) : Type 0 where
-    number : Passed said
-    side : said .side ≡ c .header .side
-    bound : said .bound ≡ boundOf (c .header)
+  pub record States (c : Certificate) : Type 0 where
+    pub number : Passed said
+    pub side : said .side ≡ c .header .side
+    pub bound : said .bound ≡ boundOf (c .header)
 
   module _ (p : Problem) (w : Within short s p) where
-    accepted-states : (c : Certificate) → J.Accepted p t c → States c
+    pub accepted-states : (c : Certificate) → J.Accepted p t c → States c
     accepted-states c a =
         let exactly = check-clauses short s t said refl .1 .0 in
         let z = exactly .always p c w (a .read) (a .blocks) (a .identity) in

@@ -8,7 +8,12 @@ pub mod Window
 pub mod Promises
 pub mod RingPromises
 pub mod Superseding
+pub mod Office
 pub mod Rules
 pub mod Symmetries
 pub mod Report
 pub mod BidTool
+pub mod SameTerms
+pub mod AddedBounds
+pub mod Adjusted
+pub mod RingAdjusted

@@ -108,3 +108,34 @@ pub struct ReportVerdict {
     pub lower: Fraction,
     pub upper: Fraction,
 }
+
+// The joining rules that two problems use.
+pub struct RulesUsed {
+    pub first: usize,
+    pub second: usize,
+}
+
+// What the call on two problems and a pair for each returns: the sum of the lower bounds and of the upper bounds, each
+// over the product of the denominators, and the rule used by each problem. With a refusal the sums are 0 over 0 and the
+// rules 0; the second problem's pair has the streams 3 to 5. As a bound is a number of 32 bits over one of 16, a sum's
+// numerator is below 2^48 in size and its denominator below 2^32.
+pub struct SumVerdict {
+    pub refusal: Refusal,
+    pub lower: Fraction,
+    pub upper: Fraction,
+    pub rules: RulesUsed,
+}
+
+// What the call on changes of the objective returns: the bound of a lower certificate, moved by the changes. With a
+// refusal the bound is 0 over 0.
+pub struct AdjustedVerdict {
+    pub refusal: Refusal,
+    pub bound: Fraction,
+}
+
+// What the office's call returns: what the check says of the certificate with its notes removed, with places as sent,
+// and the number of notes. That is 0 with a refusal.
+pub struct OfficeVerdict {
+    pub check: CheckVerdict,
+    pub notes: usize,
+}

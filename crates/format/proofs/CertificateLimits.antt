@@ -115,11 +115,11 @@ with-row-sound p c j w q full r = record {
 
 -- ---- a command
 -- what was read before the command at an offset: nothing where it is the first, else a certificate within the limits
-record Kept (p : Problem) (c : Certificate) (at : ℕ) : Type 0 where
-  first : at ≡ 0 → c ≡ noCertificate
-  later : 0 < at → Sound p c
+pub record Kept (p : Problem) (c : Certificate) (at : ℕ) : Type 0 where
+  pub first : at ≡ 0 → c ≡ noCertificate
+  pub later : 0 < at → Sound p c
 
-kept-start : (p : Problem) → Kept p noCertificate 0
+pub kept-start : (p : Problem) → Kept p noCertificate 0
 kept-start p = record { first = λ _. refl; later = λ z. absurd (omega arith) }
 
 module _ (p : Problem) (c : Certificate) (s : List ℕ) (at : ℕ) (kept : Kept p c at) where
@@ -164,7 +164,7 @@ module _ (p : Problem) (c : Certificate) (s : List ℕ) (at : ℕ) (kept : Kept 
   unfolding certificateNext
   next-sound v = applied-sound (certificateCommandAt s at) (passed p c s at v)
 
-  kept-next : certificateRefusalAt p c s at ≡ 0 → Kept p (certificateNext c s at) (at + certificateSize (certificateCommandAt s at))
+  pub kept-next : certificateRefusalAt p c s at ≡ 0 → Kept p (certificateNext c s at) (at + certificateSize (certificateCommandAt s at))
   kept-next v = record { first = λ z. let n = taken-size p c s at v in absurd (omega arith); later = λ _. next-sound v }
 
 -- the end command leaves the certificate

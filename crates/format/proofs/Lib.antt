@@ -13,3 +13,12 @@ pub mod Exchanged
 pub mod Alike
 pub mod All
 pub mod ProblemVariables
+pub mod HeaderRange
+pub mod Walk
+pub mod Notes
+pub mod SameBytes
+pub mod Meets
+pub mod Longest
+pub mod Places
+pub mod NotesRead
+pub mod CutNotes

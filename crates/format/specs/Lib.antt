@@ -11,3 +11,4 @@ pub mod ProblemRule
 pub mod ProblemOrder
 pub mod CertificateLayout
 pub mod CertificateRules
+pub mod Notes

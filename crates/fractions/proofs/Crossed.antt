@@ -2,7 +2,7 @@
 use native.Mathlib.Omega.{arith}
 use mathlib.Core.Path.{_≡_, ap, _∙_}
 use Prim.Native.Nat.{ℕ, _^_, _≤_}
-use lib.IntN.{ℤ, pos, negℤ, natAbs, _-ℤ_, _*ℤ_}
+use lib.IntN.{ℤ, pos, negℤ, natAbs, _+ℤ_, _-ℤ_, _*ℤ_}
 use mir.Syntax.{w64}
 use mir.Val.{SFits, toZ, ofZ}
 use mir.Facts.{toZ-ofZ}
@@ -33,3 +33,7 @@ pub difference : {n m : ℤ} {d e : ℕ} {r s : ℤ} → Crossed n d r → Cross
 difference {n} {m} {d} {e} k l =
     abs-fits
     (omega (arith, abs-sum (n *ℤ pos d) (negℤ (m *ℤ pos e)), abs-neg (m *ℤ pos e), product-small k, product-small l))
+
+pub total : {n m : ℤ} {d e : ℕ} {r s : ℤ} → Crossed n d r → Crossed m e s → SFits w64 (n *ℤ pos d +ℤ m *ℤ pos e)
+total {n} {m} {d} {e} k l =
+    abs-fits (omega (arith, abs-sum (n *ℤ pos d) (m *ℤ pos e), product-small k, product-small l))

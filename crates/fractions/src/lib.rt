@@ -1,10 +1,11 @@
-// Fractions: two are compared by cross products, the gap of two bounds, and what stands for one that is below 0.
+// Fractions: two are compared by cross products, the gap and the sum of two bounds, and what stands for a gap below 0.
 ghost use mathlib.Core.Path.{_≡_};
 ghost use Prim.Native.Nat.{_+_, _*_, _^_, _<_, _≤_};
 ghost use lib.Dec.{ltb};
 ghost use lib.IntN.{pos, natAbs, _*ℤ_};
 ghost use Rattle.fractions.specs.Ranges.{Bound};
 ghost use Rattle.calls.specs.Fractions.{isLess, gapOf, isNegative, unlessNegative, none};
+ghost use Rattle.calls.specs.AddedBounds.{sumOf};
 use calls::Fraction;
 
 // A numerator times another fraction's denominator, for two bounds: below 2^47.
@@ -101,6 +102,20 @@ pub fn gap(lower: Fraction, upper: Fraction) -> Fraction
     Fraction {
         num: a - b,
         den: upper.den * lower.den,
+    }
+}
+
+// The sum of two bounds: (p × q' + p' × q)/(q × q'), not reduced. The numerator is below 2^48 in size and the
+// denominator below 2^32.
+pub fn sum(first: Fraction, other: Fraction) -> Fraction
+    requires { ⌜ Bound first × Bound other ⌝ }
+    ensures { λ r. ⌜ r ≡ sumOf first other ⌝ }
+{
+    let a = cross(first.num, other.den);
+    let b = cross(other.num, first.den);
+    Fraction {
+        num: a + b,
+        den: first.den * other.den,
     }
 }
 

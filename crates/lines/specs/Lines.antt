@@ -15,6 +15,8 @@ use Rattle.calls.specs.declared.CheckVerdict.{CheckVerdict}
 use Rattle.calls.specs.declared.PairVerdict.{PairVerdict}
 use Rattle.calls.specs.declared.WindowVerdict.{WindowVerdict}
 use Rattle.calls.specs.declared.SymmetriesVerdict.{SymmetriesVerdict}
+use Rattle.calls.specs.declared.AdjustedVerdict.{AdjustedVerdict}
+use Rattle.calls.specs.declared.OfficeVerdict.{OfficeVerdict}
 
 -- the bytes of a text, one for each character
 abbrev pub ascii : String → List ℕ
@@ -94,14 +96,16 @@ blocksLine v out =
     ++ hexadecimal out
     ++ ascii "\n")
 
-unfoldable pub checkLine : CheckVerdict → List ℕ
-checkLine v =
-    unlessRefused (v .refusal)
-    (withNumber "check " (v .side)
+-- the side, the bound, the rounds and the rule of the check, after a word
+unfoldable pub checkWords : List ℕ → CheckVerdict → List ℕ
+checkWords word v =
+    (word ++ decimal (v .side))
     ++ withRatio " " (v .bound)
     ++ withNumber " rounds " (v .rounds)
     ++ withNumber " rule " (v .rule)
-    ++ ascii "\n")
+
+unfoldable pub checkLine : CheckVerdict → List ℕ
+checkLine v = unlessRefused (v .refusal) (checkWords (ascii "check ") v ++ ascii "\n")
 
 unfoldable pub pairLine : PairVerdict → List ℕ
 pairLine v =
@@ -132,3 +136,17 @@ unfoldable pub symmetriesLine : SymmetriesVerdict → List ℕ → List ℕ
 symmetriesLine v out =
     unlessRefused (v .refusal)
     (withNumber "symmetries " (v .masks) ++ ascii " " ++ hexadecimal out ++ ascii "\n")
+
+-- the moved bound
+unfoldable pub adjustedLine : AdjustedVerdict → List ℕ
+adjustedLine v = unlessRefused (v .refusal) (withRatio "adjusted " (v .bound) ++ ascii "\n")
+
+-- what the check says of a certificate with its notes removed, their number, and the buffer at exit
+unfoldable pub officeLine : OfficeVerdict → List ℕ → List ℕ
+officeLine v buffer =
+    unlessRefused (v .check .refusal)
+    (checkWords (ascii "office ") (v .check)
+    ++ withNumber " notes " (v .notes)
+    ++ ascii " "
+    ++ hexadecimal buffer
+    ++ ascii "\n")

@@ -1,4 +1,4 @@
--- The lines on a report: what `replay` answers and what `weekcheck` writes.
+-- The lines on a report and on one record: what `replay` answers and what `weekcheck` writes.
 use mathlib.Core.Bool.{cond}
 use mathlib.Core.List.{List, [], _∷_, _++_}
 use Prim.Native.Nat.{ℕ, _+_, _*_}
@@ -25,6 +25,10 @@ reportLine v output =
     ++ ascii " "
     ++ hexadecimal output
     ++ ascii "\n")
+
+-- ---- replay, on the call for a C program: the number that it returns, and the whole output
+unfoldable pub toolLine : ℕ → List ℕ → List ℕ
+toolLine n output = withNumber "record " n ++ ascii " " ++ hexadecimal output ++ ascii "\n"
 
 -- ---- weekcheck: a line for each record, and a last one
 -- field k of the 32 bytes of a record

@@ -2,3 +2,4 @@ pub mod Laws
 pub mod Numbers
 pub mod AtLeastZero
 pub mod Integers
+pub mod Sizes

@@ -7,3 +7,4 @@ pub mod Exponents
 pub mod RingValues
 pub mod Values
 pub mod RationalPoints
+pub mod PowerSizes

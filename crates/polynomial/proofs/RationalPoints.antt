@@ -22,12 +22,12 @@ use Rattle.polynomial.proofs.Products.{keys-map}
 use Rattle.polynomial.proofs.RingSums.{sumIn, factor-in}
 
 -- ---- the exponents above n of a monomial in n variables are no part of its degree
-degree-none : (n : ℕ) → degreeOf n 0 ≡ 0
+pub degree-none : (n : ℕ) → degreeOf n 0 ≡ 0
 unfolding degreeOf
 degree-none zero = refl
 degree-none (suc n) = omega (arith, degree-none n)
 
-degree-within : (n m k : ℕ) → n ≤ m → within n k ≡ true → degreeOf m k ≡ degreeOf n k
+pub degree-within : (n m k : ℕ) → n ≤ m → within n k ≡ true → degreeOf m k ≡ degreeOf n k
 unfolding degreeOf within
 degree-within zero m k h w = let e : k ≡ 0 = omega (arith, eqb-true (k / 256 ^ 0) 0 w) in rw e (degree-none m)
 degree-within (suc n) zero k h w = absurd (omega arith)

@@ -34,7 +34,7 @@ unfolding value
 same-values a d P Q e = same-sums P Q e (monomialValue a d)
 
 -- ---- powers, as in any ring
-powers-is : (xs : List ℤ) (k : ℕ) → powersIn integerRing xs k ≡ powers xs k
+pub powers-is : (xs : List ℤ) (k : ℕ) → powersIn integerRing xs k ≡ powers xs k
 powers-is [] k = refl
 powers-is (a ∷ xs) k = ap₂ _*ℤ_ (power-is a (k % 256)) (powers-is xs (k / 256))
 

@@ -200,7 +200,8 @@ fn decode_at(command: Command, s: &[u8], at: usize) -> Instruction
     }
 }
 
-fn is_fitting(n: usize, limit: u64, key: u64) -> bool
+// Whether a monomial is one in n variables, of total degree at most a limit.
+pub fn is_fitting(n: usize, limit: u64, key: u64) -> bool
     ensures { λ r. ⌜ r ≡ fitting n limit key ⌝ }
 {
     degree_of(key) <= limit && is_within(n, key)

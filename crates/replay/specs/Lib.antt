@@ -2,3 +2,5 @@
 pub mod Records
 pub mod Arrivals
 pub mod Reports
+pub mod Tool
+pub mod Sums

@@ -4,14 +4,16 @@ use mathlib.Core.Bool.{false, cond}
 use mathlib.Core.List.{List, []}
 use Prim.Native.Nat.{ℕ}
 use lib.Dec.{eqb}
-use lib.ListN.{replicate}
+use lib.ListN.{length, replicate}
 use Rattle.calls.specs.Blocks.{blocksVerdict, bytesLeft}
 use Rattle.calls.specs.Check.{checkVerdict}
 use Rattle.calls.specs.Pair.{pairVerdict}
 use Rattle.calls.specs.Superseding.{supersedingVerdict, partOf}
+use Rattle.calls.specs.Adjusted.{adjustedVerdict}
 use Rattle.calls.specs.declared.SupersedingVerdict.{SupersedingVerdict}
 use Rattle.calls.specs.Symmetries.{symmetriesVerdict, masksLeft}
-use Rattle.lines.specs.Lines.{blocksLine, checkLine, pairLine, tighterLine, symmetriesLine}
+use Rattle.calls.specs.Office.{officeVerdict, bufferLeft}
+use Rattle.lines.specs.Lines.{blocksLine, checkLine, pairLine, tighterLine, symmetriesLine, adjustedLine, officeLine}
 
 abbrev pub blocksAnswer : List ℕ → List ℕ
 blocksAnswer problem = blocksLine (blocksVerdict false problem) (bytesLeft false problem (replicate 576 0))
@@ -33,11 +35,22 @@ abbrev pub symmetriesAnswer : List ℕ → List ℕ
 symmetriesAnswer problem =
     symmetriesLine (symmetriesVerdict false problem) (masksLeft false problem (replicate 256 0))
 
--- by the kind: b, c, p, s, or another, which is not answered. Kinds t, w and r, whose lines may be longer than a text,
--- are answered by `tighterAnswer`, `windowAnswer` and `reportAnswer`
+-- a certificate, and changes in the place of the second
+abbrev pub adjustedAnswer : List ℕ → List ℕ → List ℕ → List ℕ
+adjustedAnswer problem certificate changes = adjustedLine (adjustedVerdict false problem certificate changes)
+
+-- a certificate that may have notes, and the buffer as lent
+abbrev pub officeAnswer : List ℕ → List ℕ → List ℕ → List ℕ
+officeAnswer problem certificate buffer =
+    officeLine (officeVerdict false problem certificate (length buffer)) (bufferLeft false problem certificate buffer)
+
+-- by the kind: b, c, p, s, a, or another, which is not answered. Kinds t, n, w, r and x, whose lines may be longer than
+-- a text, and d, which has six runs, are answered by `tighterAnswer`, `officeAnswer`, `windowAnswer`, `reportAnswer`,
+-- `toolAnswer` and `sumAnswer`
 unfoldable pub recordAnswer : ℕ → List ℕ → List ℕ → List ℕ → List ℕ
 recordAnswer kind problem first second =
     cond (eqb kind 0x62) (blocksAnswer problem)
     (cond (eqb kind 0x63) (checkAnswer problem first)
     (cond (eqb kind 0x70) (pairAnswer problem first second)
-    (cond (eqb kind 0x73) (symmetriesAnswer problem) [])))
+    (cond (eqb kind 0x73) (symmetriesAnswer problem)
+    (cond (eqb kind 0x61) (adjustedAnswer problem first second) []))))

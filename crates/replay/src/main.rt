@@ -1,8 +1,10 @@
 // Answers the records of the standard input, one line for each, until it ends. A record is a kind byte (b: blocks, c:
-// check, p: pair, s: symmetries, t: the tighter of two certificates, w: arrivals at the window of gaps, r: a report),
-// three lengths of 32 bits, little-endian, and three byte runs, each of at most 65,536 bytes. `answer_record` decides,
-// on the kind and the runs, `window_line` on the arrivals, `tighter_line` on two certificates and `report_line` on a
-// report; all else moves bytes.
+// check, p: pair, s: symmetries, t: the tighter of two certificates, w: arrivals at the window of gaps, r: a report, x:
+// the call for a C program, d: two problems with a pair for each, a: changes of the objective, n: the office's check),
+// lengths of 32 bits, little-endian, and as many byte runs, each of at most 65,536 bytes: four for x, six for d, three
+// for the others. `answer_record` decides, on the kind and the runs, `window_line` on the arrivals, `tighter_line` on
+// two certificates, `report_line` on a report, `tool_line` on the call for a C program, `answer_sum` on two problems
+// and `office_line` on a certificate with notes; all else moves bytes.
 ghost use mathlib.Core.Path.{_≡_};
 ghost use mathlib.Core.Bool.{true};
 ghost use mathlib.Core.List.{_++_};
@@ -12,10 +14,13 @@ ghost use Rattle.format.specs.Operands.{number, signed};
 ghost use Rattle.lines.specs.Lines.{arrivalWord};
 ghost use Rattle.lines.specs.Texts.{textOf};
 ghost use Rattle.text.specs.Appending.{Appended};
+ghost use Rattle.calls.specs.AddedBounds.{streams};
 ghost use Rattle.replay.specs.Arrivals.{arrivalAt, separator, windowAnswer};
 ghost use Rattle.replay.specs.Records.{blocksAnswer, checkAnswer, pairAnswer, symmetriesAnswer, recordAnswer};
-ghost use Rattle.replay.specs.Records.{tighterAnswer};
+ghost use Rattle.replay.specs.Records.{adjustedAnswer, tighterAnswer, officeAnswer};
 ghost use Rattle.replay.specs.Reports.{reportAnswer};
+ghost use Rattle.replay.specs.Tool.{toolAnswer};
+ghost use Rattle.replay.specs.Sums.{sumAnswer};
 use calls::Fraction;
 use calls::WindowVerdict;
 use libc::STDIN_FILENO;
@@ -64,6 +69,25 @@ fn answer_symmetries(problem: &[u8]) -> Text
     text::symmetries_line(v, &out)
 }
 
+fn answer_adjusted(problem: &[u8], certificate: &[u8], changes: &[u8]) -> Text
+    ensures { λ t. ⌜
+        textOf t ≡ adjustedAnswer (now (problem .entry)) (now (certificate .entry)) (now (changes .entry))
+        ⌝ }
+{
+    let mut keys = [0u64; 2048];
+    let mut high = [0i64; 2048];
+    let mut low = [0i64; 2048];
+    let v = adjusted_bound::moved_bound(
+        problem,
+        certificate,
+        changes,
+        &mut keys,
+        &mut high,
+        &mut low,
+    );
+    text::adjusted_line(v)
+}
+
 // The line for a record, or none where its kind is unknown.
 fn answer_record(kind: u8, problem: &[u8], first: &[u8], second: &[u8]) -> Text
     ensures { λ t. ⌜
@@ -81,6 +105,9 @@ fn answer_record(kind: u8, problem: &[u8], first: &[u8], second: &[u8]) -> Text
     }
     if kind == b's' {
         return answer_symmetries(problem);
+    }
+    if kind == b'a' {
+        return answer_adjusted(problem, first, second);
     }
     Text {
         bytes: [0u8; 1280],
@@ -224,6 +251,90 @@ fn answer_report(records: &[u8], output: &mut [u8], n: usize) -> bool {
     io::write_all(STDOUT_FILENO, text::cut(&line, len))
 }
 
+// The line for the call for a C program, with the output as it was lent.
+fn tool_line(problem: &[u8], low: &[u8], high: &[u8], output: &mut [u8], line: &mut [u8]) -> usize
+    requires { ⌜ 2 * length (now output) + 29 ≤ length (now line) ⌝ }
+    ensures { λ r. ⌜
+        take r (now (line .exit))
+        ≡ toolAnswer (now (problem .entry)) (now (low .entry)) (now (high .entry)) (now (output .entry))
+        ⌝ }
+{
+    let number = c_calls::zamiachisel_record(problem, low, high, output);
+    text::reports::tool_line(line, number, output)
+}
+
+// Writes that line, where the output is the first n bytes; whether it was written.
+fn write_tool(problem: &[u8], low: &[u8], high: &[u8], output: &mut [u8], n: usize) -> bool {
+    if output.len() < n {
+        return false;
+    }
+    if 65536 < n {
+        return false;
+    }
+    let mut line = [0u8; 131200];
+    let len = tool_line(problem, low, high, &mut output[..n], &mut line);
+    io::write_all(STDOUT_FILENO, text::cut(&line, len))
+}
+
+// The line for two problems with a pair for each.
+fn answer_sum(
+    problem1: &[u8],
+    low1: &[u8],
+    high1: &[u8],
+    problem2: &[u8],
+    low2: &[u8],
+    high2: &[u8],
+) -> Text
+    ensures { λ t.
+        let a = streams (now (problem1 .entry)) (now (low1 .entry)) (now (high1 .entry)) in
+        let b = streams (now (problem2 .entry)) (now (low2 .entry)) (now (high2 .entry)) in
+        ⌜ textOf t ≡ sumAnswer a b ⌝ }
+{
+    let mut keys = [0u64; 2048];
+    let mut high = [0i64; 2048];
+    let mut low = [0i64; 2048];
+    let v = added_bounds::sum(
+        problem1,
+        low1,
+        high1,
+        problem2,
+        low2,
+        high2,
+        &mut keys,
+        &mut high,
+        &mut low,
+    );
+    text::sum_line(v)
+}
+
+// The line for a certificate that may have notes: what the office is told, and the buffer, or the refusal.
+fn office_line(problem: &[u8], certificate: &[u8], buffer: &mut [u8], line: &mut [u8]) -> usize
+    requires { ⌜ 2 * length (now buffer) + 153 ≤ length (now line) ⌝ }
+    ensures { λ r. ⌜
+        take r (now (line .exit)) ≡ officeAnswer (now (problem .entry)) (now (certificate .entry)) (now (buffer .entry))
+        ⌝ }
+{
+    let mut keys = [0u64; 2048];
+    let mut high = [0i64; 2048];
+    let mut low = [0i64; 2048];
+    let v = office_check::office(problem, certificate, buffer, &mut keys, &mut high, &mut low);
+    text::office_line(line, v, buffer)
+}
+
+// Answers a record of a certificate that may have notes, whose buffer is the first n bytes; whether its line was
+// written.
+fn answer_office(problem: &[u8], certificate: &[u8], buffer: &mut [u8], n: usize) -> bool {
+    if buffer.len() < n {
+        return false;
+    }
+    if 65536 < n {
+        return false;
+    }
+    let mut line = [0u8; 131328];
+    let len = office_line(problem, certificate, &mut buffer[..n], &mut line);
+    io::write_all(STDOUT_FILENO, text::cut(&line, len))
+}
+
 // The length that four bytes of a record's head give.
 fn length_at(head: &[u8; 13], at: usize) -> usize
     requires { ⌜ at + 4 ≤ 13 ⌝ }
@@ -243,6 +354,92 @@ fn fill(bytes: &mut [u8], n: usize) -> bool
     }
 }
 
+// The same for three runs, one after the other.
+fn fill_three(
+    first: &mut [u8],
+    a: usize,
+    second: &mut [u8],
+    b: usize,
+    third: &mut [u8],
+    c: usize,
+) -> bool {
+    if !fill(first, a) {
+        return false;
+    }
+    if !fill(second, b) {
+        return false;
+    }
+    fill(third, c)
+}
+
+// Answers a record of the call for a C program, of which three lengths are read and one more follows; whether it was
+// whole and its line was written.
+fn answer_tool(a: usize, b: usize, c: usize) -> bool {
+    let mut more = [0u8; 4];
+    if io::read_full(STDIN_FILENO, &mut more) < 4 {
+        return false;
+    }
+    let d = operand_reader::number_at(&more, 0, 4) as usize;
+    let mut problem = io::large_buffer();
+    let mut low = io::large_buffer();
+    let mut high = io::large_buffer();
+    let mut output = io::large_buffer();
+    if !fill_three(&mut problem, a, &mut low, b, &mut high, c) {
+        return false;
+    }
+    if !fill(&mut output, d) {
+        return false;
+    }
+    write_tool(
+        text::cut(&problem, a),
+        text::cut(&low, b),
+        text::cut(&high, c),
+        &mut output,
+        d,
+    )
+}
+
+// Writes a text, which is empty where a record's kind is unknown; whether it was written.
+fn write(t: Text) -> bool {
+    if t.len == 0 {
+        return false;
+    }
+    let bytes = t.bytes;
+    io::write_all(STDOUT_FILENO, text::cut(&bytes, t.len))
+}
+
+// Answers a record of two problems, of which the first three lengths are read; whether it was whole and its line was
+// written.
+fn answer_two_problems(a: usize, b: usize, c: usize) -> bool {
+    let mut rest = [0u8; 13];
+    if !fill(&mut rest, 12) {
+        return false;
+    }
+    let d = length_at(&rest, 0);
+    let e = length_at(&rest, 4);
+    let f = length_at(&rest, 8);
+    let mut problem1 = io::large_buffer();
+    let mut low1 = io::large_buffer();
+    let mut high1 = io::large_buffer();
+    let mut problem2 = io::large_buffer();
+    let mut low2 = io::large_buffer();
+    let mut high2 = io::large_buffer();
+    if !fill_three(&mut problem1, a, &mut low1, b, &mut high1, c) {
+        return false;
+    }
+    if !fill_three(&mut problem2, d, &mut low2, e, &mut high2, f) {
+        return false;
+    }
+    write(answer_sum(
+        text::cut(&problem1, a),
+        text::cut(&low1, b),
+        text::cut(&high1, c),
+        text::cut(&problem2, d),
+        text::cut(&low2, e),
+        text::cut(&high2, f),
+    ))
+}
+
 // Answers the next record; whether there was a whole one of a known kind, and its line was written.
 fn answer_next() -> bool {
     let mut head = [0u8; 13];
@@ -252,16 +449,16 @@ fn answer_next() -> bool {
     let a = length_at(&head, 1);
     let b = length_at(&head, 5);
     let c = length_at(&head, 9);
+    if head[0] == b'x' {
+        return answer_tool(a, b, c);
+    }
+    if head[0] == b'd' {
+        return answer_two_problems(a, b, c);
+    }
     let mut problem = io::large_buffer();
     let mut first = io::large_buffer();
     let mut second = io::large_buffer();
-    if !fill(&mut problem, a) {
-        return false;
-    }
-    if !fill(&mut first, b) {
-        return false;
-    }
-    if !fill(&mut second, c) {
+    if !fill_three(&mut problem, a, &mut first, b, &mut second, c) {
         return false;
     }
     if head[0] == b'w' {
@@ -273,17 +470,15 @@ fn answer_next() -> bool {
     if head[0] == b'r' {
         return answer_report(text::cut(&problem, a), &mut first, b);
     }
-    let text = answer_record(
+    if head[0] == b'n' {
+        return answer_office(text::cut(&problem, a), text::cut(&first, b), &mut second, c);
+    }
+    write(answer_record(
         head[0],
         text::cut(&problem, a),
         text::cut(&first, b),
         text::cut(&second, c),
-    );
-    if text.len == 0 {
-        return false;
-    }
-    let bytes = text.bytes;
-    io::write_all(STDOUT_FILENO, text::cut(&bytes, text.len))
+    ))
 }
 
 fn main() {

@@ -1,16 +1,10 @@
 -- Laws of the steps: what was joined and listed decides the verdict and the bytes.
 use mathlib.Core.Path.{_≡_, sym, _∙_}
-use mathlib.Core.Logic.{⊎-elim}
 use mathlib.Core.Bool.{Bool, true, false}
 use mathlib.Core.List.{List}
 use Prim.Native.Nat.{ℕ, _≤_, _<_}
-use native.Mathlib.Omega.{arith}
-use lib.ListN.{length, getD, List·getD-eq-default}
-use Rattle.counting.proofs.Cases.{lt-or-le}
-use Rattle.format.specs.Commands.{given}
-use Rattle.format.specs.ProblemRules.{Problem, readProblem}
-use Rattle.format.proofs.ProblemLimits.{read-limits}
-use Rattle.format.proofs.ProblemVariables.{read-variables}
+use lib.ListN.{length}
+use Rattle.format.specs.ProblemRules.{Problem}
 use Rattle.joining_rule.specs.Joining.{basesOf, closing, tooLarge}
 use Rattle.closure.specs.Tables.{ClosureLeft}
 use Rattle.closure.specs.declared.Joined.{Joined}
@@ -29,21 +23,6 @@ module _ (t : Tables) (out : List ℕ) where
   pub masks-long : (b : Bool) → maskByteCount ≤ length out → tablesShort t ≡ b → symmetriesShort out t ≡ b
   unfolding symmetriesShort
   masks-long b h e = lent-long t maskByteCount out b h e
-
--- ---- the number of variables of a stream that is read
-
-module _ (s : List ℕ) (p : Problem) (read : readProblem s ≡ given p) where
-  pub second-byte : p .variables ≡ getD s 1 0
-  second-byte = read-variables s p read
-
-  pub variables-few : getD s 1 0 ≤ 8
-  variables-few = rw (← second-byte) (read-limits s p read .variables .1)
-
-  -- there is one variable at least, so the stream has a second byte
-  pub second-there : 1 < length s
-  second-there =
-      let v = read-limits s p read .variables .0 in
-      ⊎-elim (λ h. h) (λ h. absurd (let z = List·getD-eq-default s 0 h in omega (arith, second-byte))) (lt-or-le 1 (length s))
 
 -- ---- a problem that is joined
 

@@ -8,15 +8,19 @@ ghost use lib.ListN.{length, take};
 ghost use Rattle.io.specs.Digits.{glyph};
 ghost use Rattle.calls.specs.Superseding.{refusalIn};
 ghost use Rattle.lines.specs.Lines.{decimal, signedDecimal, ratio, hexadecimal, refusalLine, gapWord, pairWords};
-ghost use Rattle.lines.specs.Lines.{pairLines, blocksLine, checkLine, pairLine, arrivalWord, tighterLine};
-ghost use Rattle.lines.specs.Lines.{symmetriesLine};
+ghost use Rattle.lines.specs.Lines.{pairLines, blocksLine, checkWords, checkLine, pairLine, arrivalWord, tighterLine};
+ghost use Rattle.lines.specs.Lines.{symmetriesLine, adjustedLine, officeLine};
+ghost use Rattle.lines.specs.SumLines.{sumLine};
 ghost use Rattle.lines.specs.Texts.{textOf};
 ghost use Rattle.text.specs.Appending.{Appended};
+use calls::AdjustedVerdict;
 use calls::BlocksVerdict;
 use calls::CheckVerdict;
 use calls::Fraction;
+use calls::OfficeVerdict;
 use calls::PairVerdict;
 use calls::Refusal;
+use calls::SumVerdict;
 use calls::SymmetriesVerdict;
 use calls::WindowVerdict;
 use lines::Text;
@@ -229,6 +233,20 @@ pub fn blocks_line(v: BlocksVerdict, bytes: &[u8; 576]) -> Text
     Text { bytes: out, len }
 }
 
+// What the check says, at the start of a buffer, after a word.
+fn append_check(out: &mut [u8], word: &[u8], v: CheckVerdict) -> usize
+    requires { ⌜ length (now word) + 117 ≤ length (now out) ⌝ }
+    ensures { λ r. ⌜
+        Appended (now (out .entry)) 0 (checkWords (now (word .entry)) v) (now (out .exit)) r
+        × (r ≤ length (now (word .entry)) + 117)
+        ⌝ }
+{
+    let a = append_with_number(out, 0, word, v.side as u64);
+    let b = append_with_ratio(out, a, b" ", v.bound);
+    let c = append_with_number(out, b, b" rounds ", v.rounds as u64);
+    append_with_number(out, c, b" rule ", v.rule as u64)
+}
+
 // The line of the check, or that of the refusal.
 pub fn check_line(v: CheckVerdict) -> Text
     ensures { λ t. ⌜ textOf t ≡ checkLine v ⌝ }
@@ -238,11 +256,8 @@ pub fn check_line(v: CheckVerdict) -> Text
         return refusal_line(r);
     }
     let mut out = [0u8; 1280];
-    let a = append_with_number(&mut out, 0, b"check ", v.side as u64);
-    let b = append_with_ratio(&mut out, a, b" ", v.bound);
-    let c = append_with_number(&mut out, b, b" rounds ", v.rounds as u64);
-    let d = append_with_number(&mut out, c, b" rule ", v.rule as u64);
-    let len = append(&mut out, d, b"\n");
+    let a = append_check(&mut out, b"check ", v);
+    let len = append(&mut out, a, b"\n");
     Text { bytes: out, len }
 }
 
@@ -258,6 +273,24 @@ pub fn pair_line(v: PairVerdict) -> Text
     let a = append_pair(&mut out, 0, v, b"pair ", b" ", b" gap ", b" rounds ");
     let b = append_with_number(&mut out, a, b" rule ", v.rule as u64);
     let len = append(&mut out, b, b"\n");
+    Text { bytes: out, len }
+}
+
+// The line of two problems with a pair for each, or that of the refusal.
+pub fn sum_line(v: SumVerdict) -> Text
+    ensures { λ t. ⌜ textOf t ≡ sumLine v ⌝ }
+{
+    let r = v.refusal;
+    if 0 < r.number {
+        return refusal_line(r);
+    }
+    let rules = v.rules;
+    let mut out = [0u8; 1280];
+    let a = append_with_ratio(&mut out, 0, b"sum ", v.lower);
+    let b = append_with_ratio(&mut out, a, b" ", v.upper);
+    let c = append_with_number(&mut out, b, b" rules ", rules.first as u64);
+    let d = append_with_number(&mut out, c, b" ", rules.second as u64);
+    let len = append(&mut out, d, b"\n");
     Text { bytes: out, len }
 }
 
@@ -299,6 +332,38 @@ pub fn tighter_line(
     let a = append(out, 0, b"tighter ");
     let b = append_hexadecimal(out, a, part);
     append(out, b, b"\n")
+}
+
+// The line of the moved bound, or that of the refusal.
+pub fn adjusted_line(v: AdjustedVerdict) -> Text
+    ensures { λ t. ⌜ textOf t ≡ adjustedLine v ⌝ }
+{
+    let r = v.refusal;
+    if 0 < r.number {
+        return refusal_line(r);
+    }
+    let mut out = [0u8; 1280];
+    let a = append_with_ratio(&mut out, 0, b"adjusted ", v.bound);
+    let len = append(&mut out, a, b"\n");
+    Text { bytes: out, len }
+}
+
+// What the office's check says, the number of notes and the buffer that it left, or the line of the refusal, at the
+// start of a buffer.
+pub fn office_line(out: &mut [u8], v: OfficeVerdict, buffer: &[u8]) -> usize
+    requires { ⌜ 2 * length (now buffer) + 153 ≤ length (now out) ⌝ }
+    ensures { λ r. ⌜ take r (now (out .exit)) ≡ officeLine v (now (buffer .entry)) ⌝ }
+{
+    let check = v.check;
+    let r = check.refusal;
+    if 0 < r.number {
+        return append_refusal(out, r.number as u64, r.stream as u64, r.place as u64, r.key);
+    }
+    let a = append_check(out, b"office ", check);
+    let b = append_with_number(out, a, b" notes ", v.notes as u64);
+    let c = append(out, b, b" ");
+    let d = append_hexadecimal(out, c, buffer);
+    append(out, d, b"\n")
 }
 
 // The first n bytes, or all.

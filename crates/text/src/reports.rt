@@ -1,4 +1,5 @@
-// A report as text: the line that `replay` answers, and those that `weekcheck` writes, each in a lent buffer.
+// A report and a record as text: the lines that `replay` answers, and those that `weekcheck` writes, each in a lent
+// buffer.
 ghost use mathlib.Core.Path.{_≡_};
 ghost use Prim.Native.Nat.{_+_, _*_, _^_, _≤_, _<_};
 ghost use lib.ListN.{length, take};
@@ -6,7 +7,7 @@ ghost use Rattle.format.specs.Operands.{signed};
 ghost use Rattle.calls.specs.Fractions.{fraction};
 ghost use Rattle.lines.specs.Lines.{refusalLine};
 ghost use Rattle.lines.specs.ReportLines.{boundsWords, reportLine, fieldAt, refusedWords, recordWords, recordLine};
-ghost use Rattle.lines.specs.ReportLines.{lastLine};
+ghost use Rattle.lines.specs.ReportLines.{lastLine, toolLine};
 ghost use Rattle.text.specs.Appending.{Appended};
 use calls::Fraction;
 use calls::Refusal;
@@ -45,6 +46,17 @@ pub fn report_line(out: &mut [u8], v: ReportVerdict, output: &[u8]) -> usize
     let c = super::append(out, b, b" ");
     let d = super::append_hexadecimal(out, c, output);
     super::append(out, d, b"\n")
+}
+
+// The line of the call for a C program: the number that it returned, and the output.
+pub fn tool_line(out: &mut [u8], number: u64, output: &[u8]) -> usize
+    requires { ⌜ 2 * length (now output) + 29 ≤ length (now out) ⌝ }
+    ensures { λ r. ⌜ take r (now (out .exit)) ≡ toolLine number (now (output .entry)) ⌝ }
+{
+    let a = super::append_with_number(out, 0, b"record ", number);
+    let b = super::append(out, a, b" ");
+    let c = super::append_hexadecimal(out, b, output);
+    super::append(out, c, b"\n")
 }
 
 // Field k of the 32 bytes of a record.

@@ -23,7 +23,7 @@ use Rattle.record_writer.proofs.Written.{next, kept}
 use Rattle.work_tables.specs.Tables.{Long, Rest}
 use Rattle.work_tables.proofs.Tables.{tables-cleared}
 use Rattle.weekly_report.specs.Steps.{Roomy, Answered}
-use Rattle.weekly_report.proofs.Tables.{cleared-long, cleared-rest}
+use Rattle.work_tables.proofs.Again.{cleared-long, cleared-rest}
 
 -- after i records, with what is left from an offset on
 pub record Answering (s out₀ : List ℕ) (lent : Tables) (out : List ℕ) (now : Tables) (t : ReportVerdict) (at i : ℕ) : Type 0 where

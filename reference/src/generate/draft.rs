@@ -75,8 +75,17 @@ pub fn wide_entry(index: u8, factor: i32) -> Vec<u8> {
     [&[0x15, index], &factor.to_le_bytes()[..]].concat()
 }
 
+pub fn note(bytes: [u8; 8]) -> Vec<u8> {
+    [&[0x40], &bytes[..]].concat()
+}
+
 pub fn certificate_end() -> Vec<u8> {
     vec![0x13]
+}
+
+/// A change of the objective (Req 13).
+pub fn adjustment(monomial: Monomial, d: i32) -> Vec<u8> {
+    [&monomial.0[..], &d.to_le_bytes()].concat()
 }
 
 /// A monomial from the exponents of its first variables.

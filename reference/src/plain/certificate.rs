@@ -64,6 +64,12 @@ impl Certificate {
     }
 }
 
+/// The length of a command with its first byte; none where it is unknown in a certificate.
+pub fn length(command: u8) -> Option<usize> {
+    let known = (0x10..=0x15).contains(&command);
+    known.then(|| 1 + Reading::width(command))
+}
+
 /// What has been read of a certificate for a problem.
 struct Reading<'a> {
     problem: &'a Problem,

@@ -6,14 +6,17 @@
 //! the baseline but monomials and the four fields of a refusal.
 
 mod accepting;
+mod adjusting;
 mod calls;
 mod certificate;
 mod joining;
 mod lines;
+mod office;
 mod polynomial;
 mod problem;
 mod report;
 mod stream;
+mod sum;
 mod superseding;
 mod symmetries;
 #[cfg(test)]
@@ -23,7 +26,8 @@ mod window;
 pub use calls::{blocks, pair};
 
 use crate::records::{
-    hexadecimal, Record, BLOCKS, CHECK, PAIR, REPORT, SYMMETRIES, TIGHTER, WINDOW,
+    hexadecimal, Record, ADJUSTED, BLOCKS, CHECK, OFFICE, PAIR, RECORD, REPORT, SUM, SYMMETRIES,
+    TIGHTER, WINDOW,
 };
 use crate::refusal::Refusal;
 
@@ -39,6 +43,15 @@ pub fn answer(record: &Record) -> Result<String, Refusal> {
             .map(|bytes| format!("tighter {}", hexadecimal(bytes))),
         SYMMETRIES => symmetries::symmetries(run(0)).map(|verdict| verdict.to_string()),
         REPORT => report::report(run(0), run(1)).map(|report| report.to_string()),
+        RECORD => {
+            let (number, output) = report::record_for_c([run(0), run(1), run(2)], run(3));
+            Ok(format!("record {number} {}", hexadecimal(&output)))
+        }
+        SUM => sum::sum([0, 1, 2, 3, 4, 5].map(run)).map(|sum| sum.to_string()),
+        ADJUSTED => {
+            adjusting::adjusted(run(0), run(1), run(2)).map(|bound| format!("adjusted {bound}"))
+        }
+        OFFICE => office::office(run(0), run(1), run(2)).map(|verdict| verdict.to_string()),
         other => unreachable!("no record has the kind {other}"),
     }
 }

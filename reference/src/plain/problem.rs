@@ -84,7 +84,7 @@ impl Problem {
     }
 
     /// "Exponents of variables above n are 0", and a total degree of at most `degree`.
-    fn allows(&self, monomial: &Monomial, degree: u32) -> bool {
+    pub fn allows(&self, monomial: &Monomial, degree: u32) -> bool {
         monomial.within(self.variables) && monomial.degree() <= degree
     }
 }

@@ -1,4 +1,4 @@
-//! Request 07: a week's pairs in one report.
+//! Request 07: a week's pairs in one report; request 14: one of its records for a C program.
 
 use std::fmt::{Display, Formatter};
 
@@ -78,6 +78,20 @@ fn record(bytes: &[u8]) -> Option<([&[u8]; 3], usize)> {
         place += length;
     }
     Some((runs, place))
+}
+
+/// Request 14: "It passes three byte runs and 32 lent bytes, filled as one record of Req 07"; the
+/// returned number, and the output at exit. "Fewer than 32 bytes give 1 as the returned number and
+/// nothing written; bytes past 32 are untouched; otherwise the returned number is the refusal or 0."
+pub fn record_for_c(runs: [&[u8]; 3], lent: &[u8]) -> (u8, Vec<u8>) {
+    let mut output = lent.to_vec();
+    if output.len() < BYTES {
+        return (SHORT, output);
+    }
+    let [problem, low, high] = runs;
+    let verdict = pair(problem, low, high);
+    output[..BYTES].copy_from_slice(&record_bytes(&verdict));
+    (verdict.err().map_or(0, |refusal| refusal.number), output)
 }
 
 /// "refusal u32 (0 if accepted), p i32, q u32, P i32, Q u32, stream u32, place u32, key as its lowest

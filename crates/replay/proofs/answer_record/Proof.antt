@@ -4,7 +4,7 @@ use borrow.Author.Tests.{eq-eqb, ne-eqb}
 use mathlib.Core.Path.{_≡_, refl, _∙_}
 use mathlib.Core.List.{List, []}
 use Prim.Native.Nat.{ℕ}
-use Rattle.replay.specs.Records.{blocksAnswer, checkAnswer, pairAnswer, symmetriesAnswer, recordAnswer}
+use Rattle.replay.specs.Records.{blocksAnswer, checkAnswer, pairAnswer, symmetriesAnswer, adjustedAnswer, recordAnswer}
 use Rattle.replay.proofs.answer_record.Statement.{statement}
 use Rattle.replay.proofs.answer_record.Tie as tie
 
@@ -28,9 +28,14 @@ module _ (kind : ℕ) (problem first second : List ℕ) where
         unfolding recordAnswer
         of-symmetries e = rw (ne-eqb kind 0x62 b, ne-eqb kind 0x63 c, ne-eqb kind 0x70 p, eq-eqb kind 0x73 e) refl
 
-        of-none : (kind ≡ 0x73 → ⊥) → [] ≡ recordAnswer kind problem first second
-        unfolding recordAnswer
-        of-none s = rw (ne-eqb kind 0x62 b, ne-eqb kind 0x63 c, ne-eqb kind 0x70 p, ne-eqb kind 0x73 s) refl
+        module _ (s : kind ≡ 0x73 → ⊥) where
+          of-adjusted : kind ≡ 0x61 → adjustedAnswer problem first second ≡ recordAnswer kind problem first second
+          unfolding recordAnswer
+          of-adjusted e = rw (ne-eqb kind 0x62 b, ne-eqb kind 0x63 c, ne-eqb kind 0x70 p, ne-eqb kind 0x73 s, eq-eqb kind 0x61 e) refl
+
+          of-none : (kind ≡ 0x61 → ⊥) → [] ≡ recordAnswer kind problem first second
+          unfolding recordAnswer
+          of-none a = rw (ne-eqb kind 0x62 b, ne-eqb kind 0x63 c, ne-eqb kind 0x70 p, ne-eqb kind 0x73 s, ne-eqb kind 0x61 a) refl
 
 answer-blocks-requires : tie.Need-answer-blocks-requires
 answer-blocks-requires c κs = search needs
@@ -70,12 +75,24 @@ returns-4 c =
     c .answer-symmetries .ensures ∙ of-symmetries (s .kind) (s .problem .now) (s .first .now) (s .second .now)
     (i .if1 .left) (c .before .before .before .if2 .left) (c .before .before .if3 .left) (c .before .if4 .taken)
 
+answer-adjusted-requires : tie.Need-answer-adjusted-requires
+answer-adjusted-requires c κs = search needs
+
 returns-5 : tie.Need-returns-5
 returns-5 c =
-    let i = c .before .before .before in
+    let p = c .before .before .before in
+    let i = p .before .before in
     let s = i .before .before .before .before .args in
-    of-none (s .kind) (s .problem .now) (s .first .now) (s .second .now) (i .if1 .left) (c .before .before .if2 .left)
-    (c .before .if3 .left) (c .if4 .left)
+    c .answer-adjusted .ensures ∙ of-adjusted (s .kind) (s .problem .now) (s .first .now) (s .second .now)
+    (i .if1 .left) (p .before .if2 .left) (p .if3 .left) (c .before .before .if4 .left) (c .before .if5 .taken)
+
+returns-6 : tie.Need-returns-6
+returns-6 c =
+    let p = c .before .before in
+    let i = p .before .before in
+    let s = i .before .before .before .before .args in
+    of-none (s .kind) (s .problem .now) (s .first .now) (s .second .now) (i .if1 .left) (p .before .if2 .left)
+    (p .if3 .left) (c .before .if4 .left) (c .if5 .left)
 
 pub answer-record-spec : {M : Type 1} → statement M
 answer-record-spec =
@@ -89,4 +106,6 @@ answer-record-spec =
     returns-3
     answer-symmetries-requires
     returns-4
-    returns-5)
+    answer-adjusted-requires
+    returns-5
+    returns-6)

@@ -6,7 +6,7 @@ use Rattle.format.specs.Commands.{Outcome}
 use Rattle.format.specs.ProblemRules.{Problem}
 use Rattle.problem_reader.specs.Storing.{GivenFlat}
 use Rattle.calls.specs.Symmetries.{symmetriesRead, masksRead}
-use Rattle.sign_symmetries.proofs.Steps.{second-byte, variables-few, second-there}
+use Rattle.format.proofs.ProblemVariables.{second-byte}
 use Rattle.sign_symmetries.proofs.answer.Statement.{statement}
 use Rattle.sign_symmetries.proofs.answer.Tie as tie
 
@@ -31,10 +31,10 @@ returns c =
     (c .refuse .ensures ∙ sym (ap symmetriesRead e), sym (ap (λ (o : Outcome Problem). masksRead o (start r .args .out .now)) e), refl)
 
 shared-slice-read-n : tie.Need-shared-slice-read-n
-shared-slice-read-n c = let g = is-given (c .before) in second-there _ (g .problem) (g .read)
+shared-slice-read-n c = let g = is-given (c .before) in second-byte _ (g .problem) (g .read) .there
 
 cast-n : tie.Need-cast-n
-cast-n c = let g = is-given (c .before) in omega (arith, variables-few _ (g .problem) (g .read))
+cast-n c = let g = is-given (c .before) in omega (arith, second-byte _ (g .problem) (g .read) .few)
 
 slice-aggregate-symmetries-of : tie.Need-slice-aggregate-symmetries-of
 slice-aggregate-symmetries-of c = sym (c .before .before .before .read .ensures .limits .keys-length)
@@ -47,7 +47,7 @@ symmetries-of-requires c κs =
     let i = c .before .before .before .before .before in
     let p = start (i .before) .pre in
     let g = is-given i in
-    (record { problem = g .problem; coefficients = _; flat = g .flat; variables = second-byte _ (g .problem) (g .read); few = variables-few _ (g .problem) (g .read) }, p .0, p .1)
+    (record { problem = g .problem; coefficients = _; flat = g .flat; variables = second-byte _ (g .problem) (g .read) .named; few = second-byte _ (g .problem) (g .read) .few }, p .0, p .1)
 
 same-length : tie.Need-same-length
 same-length c = search needs
@@ -60,7 +60,7 @@ returns-2 c =
     let d = c .before .before .before .before in
     let i = d .before .before .before .before .before .before in
     let g = is-given i in
-    let q = d .symmetries-of .ensures .0 (g .problem) _ (g .flat) (second-byte _ (g .problem) (g .read)) in
+    let q = d .symmetries-of .ensures .0 (g .problem) _ (g .flat) (second-byte _ (g .problem) (g .read) .named) in
     (q .0 ∙ sym (ap symmetriesRead (g .read)), q .1 ∙ sym (ap (λ (o : Outcome Problem). masksRead o (start (i .before) .args .out .now)) (g .read)), d .symmetries-of .ensures .1)
 
 pub answer-spec : {M : Type 1} → statement M

@@ -1,4 +1,4 @@
--- `check_line`: the line of the refusal, or the pieces, one after the other.
+-- `check_line`: the line of the refusal, or what the check says.
 use borrow.Author.Needs.{needs}
 use borrow.Author.Tests.{lt-ltb, le-ltb}
 use Rattle.lines.specs.Lines.{checkLine}
@@ -15,41 +15,14 @@ returns c =
     let t = c .before in
     rw (lt-ltb 0 (t .before .before .before .args .v .refusal .number) (t .if1 .taken)) (c .refusal-line .ensures)
 
-slice-aggregate-append-with-number : tie.Need-slice-aggregate-append-with-number
-slice-aggregate-append-with-number c = search needs
+slice-aggregate-append-check : tie.Need-slice-aggregate-append-check
+slice-aggregate-append-check c = search needs
 
-slice-aggregate-append-with-number-2 : tie.Need-slice-aggregate-append-with-number-2
-slice-aggregate-append-with-number-2 c = search needs
+slice-aggregate-append-check-2 : tie.Need-slice-aggregate-append-check-2
+slice-aggregate-append-check-2 c = search needs
 
-append-with-number-requires : tie.Need-append-with-number-requires
-append-with-number-requires c κs = search needs
-
-slice-aggregate-append-with-ratio : tie.Need-slice-aggregate-append-with-ratio
-slice-aggregate-append-with-ratio c = search needs
-
-slice-aggregate-append-with-ratio-2 : tie.Need-slice-aggregate-append-with-ratio-2
-slice-aggregate-append-with-ratio-2 c = search needs
-
-append-with-ratio-requires : tie.Need-append-with-ratio-requires
-append-with-ratio-requires c κs = search needs
-
-slice-aggregate-append-with-number-3 : tie.Need-slice-aggregate-append-with-number-3
-slice-aggregate-append-with-number-3 c = search needs
-
-slice-aggregate-append-with-number-4 : tie.Need-slice-aggregate-append-with-number-4
-slice-aggregate-append-with-number-4 c = search needs
-
-append-with-number-requires-2 : tie.Need-append-with-number-requires-2
-append-with-number-requires-2 c κs = search needs
-
-slice-aggregate-append-with-number-5 : tie.Need-slice-aggregate-append-with-number-5
-slice-aggregate-append-with-number-5 c = search needs
-
-slice-aggregate-append-with-number-6 : tie.Need-slice-aggregate-append-with-number-6
-slice-aggregate-append-with-number-6 c = search needs
-
-append-with-number-requires-3 : tie.Need-append-with-number-requires-3
-append-with-number-requires-3 c κs = search needs
+append-check-requires : tie.Need-append-check-requires
+append-check-requires c κs = search needs
 
 slice-aggregate-append : tie.Need-slice-aggregate-append
 slice-aggregate-append c = search needs
@@ -65,15 +38,10 @@ unfolding checkLine
 returns-2 c =
     let p1 = c .before in
     let p2 = p1 .before .before .before .before in
-    let p3 = p2 .before .before .before .before in
-    let p4 = p3 .before .before .before .before in
-    let p5 = p4 .before .before .before .before in
-    let t = p5 .before .before .before in
+    let t = p2 .before .before .before in
     let s = t .before .before .before in
-    let two = appended-text (p5 .append-with-number .ensures .0) (p4 .append-with-ratio .ensures .0) in
-    let three = appended-text two (p3 .append-with-number2 .ensures .0) in
-    let four = appended-text three (p2 .append-with-number3 .ensures .0) in
-    rw (le-ltb 0 (s .args .v .refusal .number) (t .if1 .left)) (appended-text four (p1 .append .ensures) .bytes)
+    rw (le-ltb 0 (s .args .v .refusal .number) (t .if1 .left))
+    (appended-text (p2 .append-check .ensures .0) (p1 .append .ensures) .bytes)
 
 pub check-line-spec : {M : Type 1} → statement M
 check-line-spec =
@@ -81,18 +49,9 @@ check-line-spec =
     (tie.spec
     refusal-line-requires
     returns
-    slice-aggregate-append-with-number
-    slice-aggregate-append-with-number-2
-    append-with-number-requires
-    slice-aggregate-append-with-ratio
-    slice-aggregate-append-with-ratio-2
-    append-with-ratio-requires
-    slice-aggregate-append-with-number-3
-    slice-aggregate-append-with-number-4
-    append-with-number-requires-2
-    slice-aggregate-append-with-number-5
-    slice-aggregate-append-with-number-6
-    append-with-number-requires-3
+    slice-aggregate-append-check
+    slice-aggregate-append-check-2
+    append-check-requires
     slice-aggregate-append
     slice-aggregate-append-2
     append-requires

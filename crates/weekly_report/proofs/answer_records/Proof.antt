@@ -5,7 +5,7 @@ use Prim.Native.Nat.{_-_}
 use lib.ListN.{length, length-take, length-drop}
 use Rattle.calls.specs.Tables.{Tables, tables}
 use Rattle.work_tables.proofs.Tables.{tables-cleared}
-use Rattle.weekly_report.proofs.Tables.{cleared-same}
+use Rattle.work_tables.proofs.Again.{cleared-same}
 use Rattle.weekly_report.proofs.Answers.{Answering, answering-none, answering-more, answering-done}
 use Rattle.weekly_report.proofs.Answers.{one-whole, one-few, one-room, ends-later}
 use Rattle.weekly_report.proofs.answer_records.Statement.{statement}

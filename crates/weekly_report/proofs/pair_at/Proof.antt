@@ -9,7 +9,7 @@ use lib.ListN.{take, drop}
 use Rattle.format.specs.Operands.{number}
 use Rattle.calls.specs.Pair.{pairVerdict}
 use Rattle.calls.specs.Report.{runsAt, pairOn}
-use Rattle.weekly_report.proofs.Tables.{long-tables}
+use Rattle.work_tables.proofs.Again.{long-tables}
 use Rattle.weekly_report.proofs.pair_at.Statement.{statement}
 use Rattle.weekly_report.proofs.pair_at.Tie as tie
 

@@ -7,7 +7,7 @@ use Rattle.counting.specs.Counting.{Bounded}
 use Rattle.calls.specs.Tables.{Tables, tables, tablesShort}
 use Rattle.work_tables.specs.Tables.{Long}
 use Rattle.work_tables.proofs.Tables.{tables-long}
-use Rattle.weekly_report.proofs.Tables.{cleared-same}
+use Rattle.work_tables.proofs.Again.{cleared-same}
 use Rattle.weekly_report.proofs.Promised.{tables-short, records-cut, output-short, roomy, all-answered}
 use Rattle.weekly_report.proofs.report.Statement.{statement}
 use Rattle.weekly_report.proofs.report.Tie as tie

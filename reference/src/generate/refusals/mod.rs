@@ -4,12 +4,15 @@
 //! The answers stand in the lists and not in the program: the test below holds the reference to
 //! them, and the stored corpus holds the proved calls to them.
 
+pub mod adjusted;
 mod certificates;
 pub mod equalities;
 pub mod gaps;
 pub mod joining_rules;
+pub mod notes;
 mod order;
 mod problems;
+pub mod regions;
 pub mod reports;
 pub mod sparse_orders;
 mod sums;
@@ -20,7 +23,7 @@ pub mod wide_factors;
 pub mod windows;
 
 use crate::generate::samples;
-use crate::records::{Record, BLOCKS, CHECK, PAIR, SYMMETRIES, TIGHTER};
+use crate::records::{Record, BLOCKS, CHECK, OFFICE, PAIR, SYMMETRIES, TIGHTER};
 use crate::refusal::Refusal;
 pub use table::print;
 
@@ -60,6 +63,8 @@ impl Case {
             PAIR => Record::pair(run(0), run(1), run(2)),
             // A refusal of the first certificate is seen only where the second is refused as well.
             TIGHTER if self.calls.len() > 1 => Record::tighter(run(0), run(1), run(1)),
+            // What the check refuses the office refuses, whatever its buffer.
+            OFFICE if self.calls.len() > 1 => Record::office(run(0), run(1), Vec::new()),
             kind => Record {
                 kind,
                 runs: self.runs.clone(),
@@ -69,8 +74,8 @@ impl Case {
 }
 
 /// Something accepted that stands beside the refusals: its name, what it has, the words, the kind of
-/// the call, its streams, and the line; the bytes of a blocks call end there with the last that is
-/// not 255.
+/// the call, its streams, the last of which is the buffer for notes, and the line; the bytes of a
+/// blocks call end there with the last that is not 255.
 pub struct Accepted {
     pub name: &'static str,
     pub what: &'static str,
@@ -87,6 +92,7 @@ impl Accepted {
         match self.kind {
             BLOCKS => Record::blocks(problem),
             CHECK => Record::check(problem, first),
+            OFFICE => Record::office(problem, first, second),
             _ => Record::pair(problem, first, second),
         }
     }
@@ -113,6 +119,9 @@ const LISTS: &[(u8, fn() -> Vec<Case>)] = &[
     (8, joining_rules::cases),
     (9, sparse_orders::cases),
     (7, reports::cases),
+    (12, regions::cases),
+    (13, adjusted::cases),
+    (10, notes::cases),
 ];
 
 /// All cases, by the order of the lists.
@@ -204,7 +213,7 @@ fn written(line: &Line, stream: u8, mut runs: [Vec<u8>; 3]) -> Case {
 
 /// The calls that meet a refusal of this stream.
 fn calls(stream: u8) -> &'static [u8] {
-    [b"bcpts".as_slice(), b"cpt", b"p"][usize::from(stream)]
+    [b"bcptsn".as_slice(), b"cptn", b"p"][usize::from(stream)]
 }
 
 #[cfg(test)]
@@ -231,6 +240,7 @@ mod tests {
             gaps::ACCEPTED,
             joining_rules::ACCEPTED,
             sparse_orders::ACCEPTED,
+            notes::ACCEPTED,
         ]
         .into_iter()
         .flatten()
@@ -263,7 +273,20 @@ mod tests {
         let in_problem = (2..=7).map(|number| (number, 0));
         let in_certificate = [2, 3, 4, 5, 6, 8, 9, 10];
         let in_certificate = in_certificate.iter().flat_map(|&n| [(n, 1), (n, 2)]);
-        let of_requests = [(11, 2), (1, 0), (12, 0)];
+        let of_requests = [
+            (11, 2),
+            (1, 0),
+            (12, 0),
+            (15, 0),
+            (2, 3),
+            (2, 4),
+            (2, 5),
+            (10, 4),
+            (10, 5),
+            (16, 0),
+            (17, 0),
+            (13, 1),
+        ];
         let all = in_problem.chain(in_certificate).chain(of_requests);
         assert_eq!(met, all.collect());
     }

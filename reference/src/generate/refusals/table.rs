@@ -1,8 +1,11 @@
 //! The table of refusals as a page of markdown.
 
+use super::regions::{Added, ADDED};
 use super::symmetries::{Symmetric, SYMMETRIC};
 use super::windows::{Arrivals, CASES};
-use super::{cases, equalities, gaps, joining_rules, sparse_orders, Accepted, Case};
+use super::{
+    cases, equalities, gaps, joining_rules, notes, regions, sparse_orders, Accepted, Case,
+};
 use crate::generate::corpus;
 use crate::plain;
 use crate::records::Record;
@@ -14,20 +17,27 @@ after its number, of a request (document 02). \
 The answers were found by hand from those words and stand beside the cases in `reference/src/generate/refusals`; a test \
 there holds the reference to them. Each case is in the stored corpus `crates/replay/stdin`, where the proved calls \
 meet it; the last column gives, for each kind of call that meets it (`b` blocks, `c` check, `p` pair, `s` symmetries, `t` the \
-tighter of two certificates, `w` arrivals at the window of gaps, `r` report), the number of its record there, which is that of the line in `stdout`. `reference refusals` writes this page, and `./test` compares the two.
+tighter of two certificates, `w` arrivals at the window of gaps, `r` report, `x` record for a C program, `d` two problems with a pair for each, `a` changes of the objective, `n` the office's check), the number of its record there, which is that of the line in `stdout`. `reference refusals` writes this page, and `./test` compares the two.
 
 Of two certificates a refusal of the first is seen only where the second is refused as well: where a case names only the first, \
-its record of kind `t` has that one twice.
+its record of kind `t` has that one twice. The office's check refuses what the check refuses: where a case has no notes, \
+its record of kind `n` has no buffer.
 
-An answer is `refused`, number, stream (0 problem, 1 first certificate, 2 second), place and key. Bytes are \
+Every refusal of a pair is met by the second of two problems as well, with its stream 3 higher: those records of kind `d` \
+stand behind the ones that are named here, in the same order, with case F as the first.
+
+An answer is `refused`, number, stream (0 problem, 1 first certificate, 2 second; 3 to 5 those of a second problem), place \
+and key. Bytes are \
 hexadecimal, 0⁷ is seven zero bytes and 0⁸ eight, and a bar stands between commands.
 ";
 
 const ONE: &str = "
 ## 1: a lent table, the 576 bytes, the 256 bytes or a report's output is too short
 
-A replayed record is always answered with tables lent in full, so only reports meet refusal 1, by their output. It is stated in the public \
-contracts in `crates/checker/src/lib.rt`, `crates/superseding/src/lib.rt`, `crates/sign_symmetries/src/lib.rt` and `crates/weekly_report/src/lib.rt`: \
+A replayed record is always answered with tables lent in full, so only reports meet refusal 1, by their output; for a record of kind `x` it is the number in its line. It is stated in the public \
+contracts in `crates/checker/src/lib.rt`, `crates/superseding/src/lib.rt`, `crates/sign_symmetries/src/lib.rt`, \
+`crates/weekly_report/src/lib.rt`, `crates/added_bounds/src/lib.rt`, `crates/adjusted_bound/src/lib.rt` and \
+`crates/office_check/src/lib.rt`: \
 `verdict` or `numbers` of each call says that it is given exactly when the named test holds, and `bytes`, `output` and `tables` that nothing is \
 written then; the four numbers lent to `tighter` receive it. `bench short` calls the C functions with each \
 length one short, and sees refusal 1 and all that was lent untouched.
@@ -54,6 +64,15 @@ length one short, and sees refusal 1 and all that was lent untouched.
 | report, keys | 2,047 numbers as the first table | `refused 1 0 0 0` | `verdict` of `report`, `checkedRecords` |
 | report, high | 2,047 numbers as the second table | `refused 1 0 0 0` | `verdict` of `report`, `checkedRecords` |
 | report, low | 2,047 numbers as the third table | `refused 1 0 0 0` | `verdict` of `report`, `checkedRecords` |
+| two problems, keys | 2,047 numbers as the first table | `refused 1 0 0 0` | `verdict` of `sum`, `tablesShort` |
+| two problems, high | 2,047 numbers as the second table | `refused 1 0 0 0` | `verdict` of `sum`, `tablesShort` |
+| two problems, low | 2,047 numbers as the third table | `refused 1 0 0 0` | `verdict` of `sum`, `tablesShort` |
+| changes, keys | 2,047 numbers as the first table | `refused 1 0 0 0` | `verdict` of `moved_bound`, `tablesShort` |
+| changes, high | 2,047 numbers as the second table | `refused 1 0 0 0` | `verdict` of `moved_bound`, `tablesShort` |
+| changes, low | 2,047 numbers as the third table | `refused 1 0 0 0` | `verdict` of `moved_bound`, `tablesShort` |
+| the office's check, keys | 2,047 numbers as the first table | `refused 1 0 0 0` | `verdict` of `office`, `tablesShort` |
+| the office's check, high | 2,047 numbers as the second table | `refused 1 0 0 0` | `verdict` of `office`, `tablesShort` |
+| the office's check, low | 2,047 numbers as the third table | `refused 1 0 0 0` | `verdict` of `office`, `tablesShort` |
 ";
 
 const FOURTEEN: &str = "
@@ -115,25 +134,63 @@ Request 01's call lists the masks of a problem into 256 bytes, which are shown t
 |---|---|---|---|---|---|
 ";
 
-/// The words of document 01's table, and of the requests, for each number from 2 on.
-const TITLES: [&str; 11] = [
-    "stream ends in a command or without its end, or goes on after it",
-    "command unknown in this stream or misplaced",
-    "operand outside its rule",
-    "monomial repeated, or index not rising",
-    "one more than a count allows",
-    "closed S with zero above 2,048",
-    "a row in two blocks",
-    "identity false",
-    "in a pair, first side not 0 or second not 1",
-    "of two certificates, both are accepted and their sides differ",
-    "a record of a report is cut short, or a byte comes after the 64th",
+const SUMS: &str = "
+## Beside the refusals: two problems over one region
+
+Request 12 adds the bounds of two problems. These cases stand next to refusal 15; the answers were found by hand.
+
+| case | what it has | first problem and certificates | second problem and certificates | words | answer | record |
+|---|---|---|---|---|---|---|
+";
+
+const NOTES: &str = "
+## Beside the refusals: certificates with notes
+
+Request 10 passes over notes in the office's check. These cases stand next to the refusals above; the answers were found by \
+hand. The last of the streams is the buffer as lent.
+
+| case | what it has | problem | certificate and buffer | words | answer | record |
+|---|---|---|---|---|---|---|
+";
+
+/// The words of document 01's table, and of the requests, for the numbers with cases here.
+const TITLES: &[(u8, &str)] = &[
+    (
+        2,
+        "stream ends in a command or without its end, or goes on after it",
+    ),
+    (3, "command unknown in this stream or misplaced"),
+    (4, "operand outside its rule"),
+    (5, "monomial repeated, or index not rising"),
+    (6, "one more than a count allows"),
+    (7, "closed S with zero above 2,048"),
+    (8, "a row in two blocks"),
+    (9, "identity false"),
+    (10, "in a pair, first side not 0 or second not 1"),
+    (
+        11,
+        "of two certificates, both are accepted and their sides differ",
+    ),
+    (
+        12,
+        "a record of a report is cut short, or a byte comes after the 64th",
+    ),
+    (13, "the buffer can't hold all notes"),
+    (15, "the regions of two problems differ"),
+    (
+        16,
+        "some variable has no inequality that is exactly 1 − x_i²",
+    ),
+    (17, "an upper certificate where a lower one is asked for"),
 ];
 
-const STREAMS: [&str; 3] = [
+const STREAMS: [&str; 6] = [
     "in the problem, or of stream 0",
     "in the first certificate",
-    "in the second certificate",
+    "in the second certificate, or of stream 2",
+    "in the second of two problems",
+    "in the lower certificate of the second problem",
+    "in the upper certificate of the second problem",
 ];
 
 /// Longer streams are not written out.
@@ -141,33 +198,23 @@ const SHORT: usize = 130;
 
 /// Writes the page.
 pub fn print() {
-    let corpus = corpus("bcpwtsr");
+    let corpus = corpus("bcpwtsrxdan");
     let mut cases = cases();
     cases.sort_by_key(|case| (case.expected.number, case.expected.stream));
     print!("{HEAD}{ONE}");
-    let mut section = (1, u8::MAX);
-    for case in &cases {
-        let number = case.expected.number;
-        if number != section.0 {
-            println!("\n## {number}: {}", TITLES[usize::from(number) - 2]);
-        }
-        if (number, case.expected.stream) != section {
-            println!("\n### {}", STREAMS[usize::from(case.expected.stream)]);
-            println!("\n| case | what the stream has | stream | words | answer | records |");
-            println!("|---|---|---|---|---|---|");
-        }
-        section = (number, case.expected.stream);
-        println!("{}", line(case, &corpus));
-    }
+    let (before, after) = cases.split_at(cases.partition_point(|case| case.expected.number < 14));
+    print_numbers(before, &corpus);
     print!("{FOURTEEN}");
     for case in CASES {
         println!("{}", window_line(case, &corpus));
     }
+    print_numbers(after, &corpus);
     let accepted = [
         (EQUALITIES, equalities::ACCEPTED),
         (GAPS, gaps::ACCEPTED),
         (RULES, joining_rules::ACCEPTED),
         (ORDERS, sparse_orders::ACCEPTED),
+        (NOTES, notes::ACCEPTED),
     ];
     for (head, cases) in accepted {
         print!("{head}");
@@ -178,6 +225,31 @@ pub fn print() {
     print!("{SYMMETRIES}");
     for case in SYMMETRIC {
         println!("{}", symmetric_line(case, &corpus));
+    }
+    print!("{SUMS}");
+    for sum in ADDED {
+        println!("{}", added_line(sum, &corpus));
+    }
+}
+
+/// Writes the cases, which are sorted, under a head for each number but 1, which has its own, and one for
+/// each stream.
+fn print_numbers(cases: &[Case], corpus: &[Record]) {
+    let mut section = (1, u8::MAX);
+    for case in cases {
+        let number = case.expected.number;
+        if number != section.0 {
+            let title = TITLES.iter().find(|title| title.0 == number);
+            let title = title.expect("every number with cases has a title").1;
+            println!("\n## {number}: {title}");
+        }
+        if (number, case.expected.stream) != section {
+            println!("\n### {}", STREAMS[usize::from(case.expected.stream)]);
+            println!("\n| case | what the stream has | stream | words | answer | records |");
+            println!("|---|---|---|---|---|---|");
+        }
+        section = (number, case.expected.stream);
+        println!("{}", line(case, corpus));
     }
 }
 
@@ -258,6 +330,23 @@ fn symmetric_line(case: &Symmetric, corpus: &[Record]) -> String {
         &quoted(case.words),
         &format!("`{}`", short(&line)),
         &place(&case.record(), corpus),
+    ];
+    format!("| {} |", cells.join(" | "))
+}
+
+/// The line of two problems whose bounds are added.
+fn added_line(sum: &Added, corpus: &[Record]) -> String {
+    let &(name, what, words, first, second, line) = sum;
+    let [first, second] = [first, second].map(|streams| streams.map(code).join(", "));
+    let place = place(&regions::record(sum), corpus);
+    let cells = [
+        name,
+        what,
+        &first,
+        &second,
+        &quoted(words),
+        &format!("`{line}`"),
+        &place,
     ];
     format!("| {} |", cells.join(" | "))
 }

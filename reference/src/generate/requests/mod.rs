@@ -1,10 +1,14 @@
 //! Records for the requests of document 02.
 
+mod adjusted;
 mod empty_region;
 mod equalities;
+mod for_c;
 mod joining_rules;
+mod notes;
 mod reports;
 mod sparse_orders;
+mod sums;
 mod superseding;
 mod symmetries;
 mod wide_factors;
@@ -16,7 +20,9 @@ use crate::generate::certificates::{as_record, streams};
 use crate::generate::changes::{change_case, CHANGES};
 use crate::generate::damage::{self, damaged};
 use crate::generate::rng::Rng;
-use crate::records::{Record, BLOCKS, CHECK, PAIR, REPORT, SYMMETRIES, TIGHTER, WINDOW};
+use crate::records::{
+    Record, ADJUSTED, BLOCKS, CHECK, OFFICE, PAIR, RECORD, REPORT, SUM, SYMMETRIES, TIGHTER, WINDOW,
+};
 
 pub use reports::packed;
 
@@ -109,6 +115,30 @@ const LANDED: &[Landed] = &[
         special: reports::special,
         random: reports::random,
         count: 200,
+    }),
+    Landed::Call(Call {
+        kind: RECORD,
+        special: for_c::special,
+        random: for_c::random,
+        count: 250,
+    }),
+    Landed::Call(Call {
+        kind: SUM,
+        special: sums::special,
+        random: sums::random,
+        count: 300,
+    }),
+    Landed::Call(Call {
+        kind: ADJUSTED,
+        special: adjusted::special,
+        random: adjusted::random,
+        count: 300,
+    }),
+    Landed::Call(Call {
+        kind: OFFICE,
+        special: notes::special,
+        random: notes::random,
+        count: 300,
     }),
 ];
 

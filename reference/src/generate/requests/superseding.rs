@@ -126,7 +126,7 @@ pub fn random(rng: &mut Rng, mut changes: Vec<&Change>) -> Record {
 }
 
 /// Moves the bound outwards by `more`/q: D x more comes to the constant, by a row on 1.
-fn loosen(problem: &Draft, certificate: &mut DraftCertificate, more: i32) {
+pub fn loosen(problem: &Draft, certificate: &mut DraftCertificate, more: i32) {
     let weight = i32::from(certificate.denominator) * more;
     let one = problem.bases[0].iter().position(|&b| b == Monomial::ONE);
     if let (Ok(weight), Some(index)) = (u16::try_from(weight), one) {
@@ -137,7 +137,7 @@ fn loosen(problem: &Draft, certificate: &mut DraftCertificate, more: i32) {
 }
 
 /// The same bound over twice the denominator, with every weight doubled.
-fn double(certificate: &mut DraftCertificate) {
+pub fn double(certificate: &mut DraftCertificate) {
     let mut rows = certificate.rows.iter();
     let fits = certificate.q < 32_768 && rows.all(|row| row.weight < 32_768);
     let (Some(p), true) = (certificate.p.checked_mul(2), fits) else {

@@ -1,7 +1,8 @@
--- What tables keep that are long enough and were cleared: their lengths, and what is past place 2,048.
+-- Work tables that are lent to one call after another. What tables keep that are long enough and were cleared: their
+-- lengths, and what is past place 2,048. So what is left after two calls is what one leaves.
 use native.Mathlib.Omega.{arith}
-use mathlib.Core.Path.{_≡_}
-use mathlib.Core.Bool.{false}
+use mathlib.Core.Path.{_≡_, refl, _∙_}
+use mathlib.Core.Bool.{Bool, true, false}
 use mathlib.Core.List.{List, _++_}
 use Prim.Native.Nat.{_≤_}
 use lib.IntN.{pos}
@@ -9,7 +10,8 @@ use lib.ListN.{length, drop, replicate, length-append, length-drop, length-repli
 use lib.Seq.{drop-at}
 use borrow.Author.Tests.{le-ltb}
 use Rattle.calls.specs.Tables.{tableLength, Tables, tablesShort, TablesLeft}
 use Rattle.work_tables.specs.Tables.{Long, Rest}
+use Rattle.work_tables.proofs.Tables.{tables-long, tables-cleared}
 
 pub long-tables : {t : Tables} → Long t → tablesShort t ≡ false
 long-tables {t} l =
@@ -56,3 +58,26 @@ cleared-same {t} {u} l c = record {
   high = rw (c .high) (left-same (pos 0) (t .high) (l .high));
   low = rw (c .low) (left-same (pos 0) (t .low) (l .low));
 }
+
+-- ---- two calls, one after the other
+
+module _ {t t₁ : Tables} where
+  again : (short : Bool) → tablesShort t ≡ short → TablesLeft short t t₁ → tablesShort t₁ ≡ short
+  again true e left = rw (left .keys, left .high, left .low) e
+  again false e left = long-tables (cleared-long (tables-long t e) left)
+
+  -- the second call meets tables that are too short exactly where the first did
+  pub short-again : TablesLeft (tablesShort t) t t₁ → tablesShort t₁ ≡ tablesShort t
+  short-again = again (tablesShort t) refl
+
+  module _ {t₂ : Tables} where
+    twice : (short : Bool) → TablesLeft short t t₁ → TablesLeft short t₁ t₂ → TablesLeft short t t₂
+    twice true first second = record {
+      keys = second .keys ∙ first .keys;
+      high = second .high ∙ first .high;
+      low = second .low ∙ first .low;
+    }
+    twice false first second = tables-cleared (cleared-rest first) second
+
+    pub left-twice : TablesLeft (tablesShort t) t t₁ → TablesLeft (tablesShort t₁) t₁ t₂ → TablesLeft (tablesShort t) t t₂
+    left-twice first second = twice (tablesShort t) first (rw (short-again first) at second)

@@ -1,0 +1,55 @@
+-- Two certificate streams that begin with the same bytes: a command within these is checked and taken in the same way.
+use mathlib.Core.Path.{_≡_, refl, ap, ap₂}
+use mathlib.Core.List.{List}
+use Prim.Native.Nat.{ℕ, zero, suc, _+_, _≤_, _<_}
+use native.Mathlib.Omega.{arith}
+use lib.ListN.{length, getD}
+use borrow.Author.Tests.{le-leb}
+use Rattle.format.specs.Operands.{number, signed}
+use Rattle.format.specs.ProblemRules.{Problem}
+use Rattle.format.specs.declared.certificate.Command.{Command}
+use Rattle.format.specs.declared.certificate.Command.the-variants as C
+use Rattle.format.specs.declared.certificate.Instruction.the-variants as I
+use Rattle.format.specs.CertificateLayout.{certificateSize, certificateDecoded}
+use Rattle.format.specs.CertificateRules.{Certificate, certificateCommandAt, certificateRefusalAt, certificateNext}
+
+-- the first n bytes of both are the same
+pub record SameBytes (s t : List ℕ) (n : ℕ) : Type 0 where
+  pub first : n ≤ length s
+  pub second : n ≤ length t
+  pub bytes : (x : ℕ) → x < n → getD t x 0 ≡ getD s x 0
+
+module _ (s t : List ℕ) (n : ℕ) (same : SameBytes s t n) where
+  same-number : (w x : ℕ) → x + w ≤ n → number w t x ≡ number w s x
+  unfolding number
+  same-number zero x h = refl
+  same-number (suc w) x h = rw (same .bytes x (omega arith), same-number w (x + 1) (omega arith))
+
+  module _ (at : ℕ) where
+    same-decoded : (k : Command) → at + certificateSize k ≤ n → certificateDecoded k t at ≡ certificateDecoded k s at
+    same-decoded C.Header h =
+        cc (same-number 1 (at + 1) (omega arith), same-number 2 (at + 2) (omega arith), same-number 4 (at + 4) (omega arith), same-number 2 (at + 8) (omega arith))
+    same-decoded C.Row h = cc (same-number 1 (at + 1) (omega arith), same-number 2 (at + 2) (omega arith))
+    same-decoded C.Entry h =
+        ap₂ I.Entry (same-number 1 (at + 1) (omega arith)) (ap (signed 15) (same-number 2 (at + 2) (omega arith)))
+    same-decoded C.End h = refl
+    same-decoded C.Unknown h = refl
+    same-decoded C.EqualityRow h =
+        ap₂ I.EqualityRow (same-number 1 (at + 1) (omega arith)) (ap (signed 15) (same-number 2 (at + 2) (omega arith)))
+    same-decoded C.WideEntry h =
+        ap₂ I.WideEntry (same-number 1 (at + 1) (omega arith)) (ap (signed 31) (same-number 4 (at + 2) (omega arith)))
+
+    module _ (inside : at < n) (whole : at + certificateSize (certificateCommandAt s at) ≤ n) where
+      abbrev k : Command
+      k = certificateCommandAt s at
+
+      pub same-refusal : (p : Problem) (c : Certificate) → certificateRefusalAt p c t at ≡ certificateRefusalAt p c s at
+      unfolding certificateRefusalAt
+      same-refusal p c =
+          let a = same .first in
+          let b = same .second in
+          rw (same .bytes at inside, same-decoded k whole, le-leb (at + certificateSize k) (length s) (omega arith), le-leb (at + certificateSize k) (length t) (omega arith))
+
+      pub same-next : (c : Certificate) → certificateNext c t at ≡ certificateNext c s at
+      unfolding certificateNext
+      same-next c = rw (same .bytes at inside, same-decoded k whole)

@@ -1,0 +1,4 @@
+pub mod Walks
+pub mod Copies
+pub mod Loops
+pub mod Answers

@@ -1,0 +1,2 @@
+-- The definitions that the contracts here cite.
+pub mod Steps
