@@ -5,21 +5,20 @@
 // the products of every pair in one block.
 //
 // A basis above PLAIN monomials joins by the members that came last, through `pairs`, the index of its pairs i < k by
-// their sums; a smaller one by its pairs. Place s % 2039 of `pairs` has one more than the place 64i + k of the last
-// pair whose sum has that remainder, or 0, and place 2048 + p has the same for the pairs before p. To the latter is
-// added, where p is the last pair with its sum s, DONE when every t + s is in the support, and MET when all pairs with
-// the sum s are in one block.
+// their sums; a smaller one by its pairs, and needs no index. Place s % 2039 of `pairs` has one more than the place
+// 64i + k of the last pair whose sum has that remainder, or 0, and place LINKS + 64i + k has the same for the pairs
+// before it. Place LINKS + 64k + i has, for the last pair with its sum s, 1 when every t + s is in the support, and 2
+// when all pairs with that sum are in one block. Behind stand the slots of the exponents and the remainders of the
+// basis: those of a sum are found by adding.
 
 // Up to so many monomials a basis joins by its pairs: that is faster than making their index.
 pub const PLAIN: usize = 24;
 
-const PAIR_DIVISOR: u64 = 2039;
-
 const LINKS: usize = 2048;
 
-const DONE: u16 = 8192;
+const SLOTS: usize = 6144;
 
-const MET: u16 = 16384;
+const REMAINDERS: usize = 6176;
 
 // How far a joining is: it looks at the members of the support from `since` on, before `until`; the support has `len`
 // keys, 2,049 where they are too many, and the basis `blocks` blocks. No sum of a pair has other bits than `bits`,
@@ -33,16 +32,10 @@ pub struct Reach {
     pub adds: bool,
 }
 
-// Two blocks, by their numbers, the lower one first.
+// Two blocks, by their numbers, the lower one first; or a block and an index.
 struct Two {
     a: u8,
     b: u8,
-}
-
-// A block by its number, and an index.
-struct Cross {
-    a: usize,
-    k: usize,
 }
 
 // Whether t + s is among the members before `until` for some exponent t of the multiplier.
@@ -85,22 +78,78 @@ pub fn add_terms(
     n
 }
 
-// The place of a sum's remainder.
-fn slot(s: u64) -> usize {
-    (s % PAIR_DIVISOR) as usize
+// The same for the sum of two indices, where the slots of the exponents are known.
+fn add_slotted(
+    table: &mut [u64],
+    index: &mut [u16],
+    len: usize,
+    exponents: &[u64],
+    pairs: &[u16],
+    s: u64,
+) -> usize {
+    let h = key_set::slot(s);
+    let mut n = len;
+    let mut i = 0;
+    while i < exponents.len() {
+        let at = key_set::slot_of_sum(h, pairs[SLOTS + i] as usize);
+        n = key_set::put_at(table, index, n, exponents[i] + s, at);
+        if 2048 < n {
+            return n;
+        }
+        i += 1;
+    }
+    n
 }
 
-// The place of a pair with the sum s; 4,096 where there is none.
-fn find_sum(basis: &[u64], pairs: &[u16], s: u64) -> usize {
-    let mut v = pairs[slot(s)] as usize;
+// The remainder of a sum.
+fn remainder(s: u64) -> usize {
+    (s % 2039) as usize
+}
+
+// That of the sum of two indices, from theirs.
+fn remainder_of(pairs: &[u16], i: usize, k: usize) -> usize {
+    let sum = pairs[REMAINDERS + i] as usize + pairs[REMAINDERS + k] as usize;
+    if sum < 2039 {
+        return sum;
+    }
+    sum - 2039
+}
+
+// The sum of the pair at a place.
+fn sum_at(basis: &[u64], p: usize) -> u64 {
+    basis[p / 64] + basis[p % 64]
+}
+
+// The place of the last pair with the sum s, whose remainder is h; 4,096 where there is none.
+fn find_sum(basis: &[u64], pairs: &[u16], s: u64, h: usize) -> usize {
+    let mut v = pairs[h] as usize;
     while 0 < v {
         let p = v - 1;
-        if basis[p / 64] + basis[p % 64] == s {
+        if sum_at(basis, p) == s {
             return p;
         }
-        v = (pairs[LINKS + p] % DONE) as usize;
+        v = pairs[LINKS + p] as usize;
     }
     4096
+}
+
+// Where it is told what was done with the sum of the pair at a place.
+fn told_at(p: usize) -> usize {
+    LINKS + 64 * (p % 64) + p / 64
+}
+
+// Whether the products of the sum of two indices were put in before; from now on they were.
+fn is_done(pairs: &mut [u16], basis: &[u64], i: usize, k: usize) -> bool {
+    let p = find_sum(basis, pairs, basis[i] + basis[k], remainder_of(pairs, i, k));
+    if 4095 < p {
+        return false;
+    }
+    let at = told_at(p);
+    if 0 < pairs[at] {
+        return true;
+    }
+    pairs[at] = 1;
+    false
 }
 
 // The products of the indices i and k put in.
@@ -118,19 +167,13 @@ fn add_pair(
     if basis.len() <= PLAIN {
         return add_terms(table, index, len, exponents, s);
     }
-    let p = find_sum(basis, pairs, s);
-    if 4095 < p {
-        return add_terms(table, index, len, exponents, s);
-    }
-    let v = pairs[LINKS + p];
-    if 1 <= (v / DONE) % 2 {
+    if is_done(pairs, basis, i, k) {
         return len;
     }
-    pairs[LINKS + p] = v + DONE;
-    add_terms(table, index, len, exponents, s)
+    add_slotted(table, index, len, exponents, pairs, s)
 }
 
-// Those of index k with each index of the block a.
+// Those of an index with each index of a block.
 fn add_row(
     blocks: &[u8],
     basis: &[u64],
@@ -139,11 +182,11 @@ fn add_row(
     table: &mut [u64],
     index: &mut [u16],
     len: usize,
-    c: Cross,
+    c: Two,
 ) -> usize {
-    let k = c.k;
+    let k = c.b as usize;
     let mut n = len;
-    let mut i = c.a;
+    let mut i = c.a as usize;
     while i < 64 {
         n = add_pair(table, index, n, exponents, basis, pairs, i, k);
         if 2048 < n {
@@ -154,7 +197,45 @@ fn add_row(
     n
 }
 
-// The block b put behind the first index of the block a, with their products put in where the basis adds.
+// Those of each index of the block b with each index of the block a.
+fn add_cross(
+    blocks: &[u8],
+    basis: &[u64],
+    exponents: &[u64],
+    pairs: &mut [u16],
+    table: &mut [u64],
+    index: &mut [u16],
+    len: usize,
+    m: Two,
+) -> usize {
+    let mut n = len;
+    let mut k = m.b;
+    while k < 64 {
+        let c = Two { a: m.a, b: k };
+        n = add_row(blocks, basis, exponents, pairs, table, index, n, c);
+        if 2048 < n {
+            return n;
+        }
+        k = blocks[64 + k as usize];
+    }
+    n
+}
+
+// The block b put behind the first index of the block a.
+fn splice(blocks: &mut [u8], m: Two) {
+    let a = m.a as usize;
+    let mut last = m.b as usize;
+    let mut k = last;
+    while k < 64 {
+        blocks[k] = m.a;
+        last = k;
+        k = blocks[64 + k] as usize;
+    }
+    blocks[64 + last] = blocks[64 + a];
+    blocks[64 + a] = m.b;
+}
+
+// Two blocks made one, with their products put in where the basis adds.
 fn merge(
     blocks: &mut [u8],
     basis: &[u64],
@@ -165,33 +246,18 @@ fn merge(
     r: Reach,
     m: Two,
 ) -> Reach {
-    let a = m.a as usize;
-    let b = m.b as usize;
-    let adds = r.adds;
     let mut n = r.len;
-    let mut last = b;
-    let mut k = b;
-    while k < 64 {
-        if adds {
-            let c = Cross { a, k };
-            n = add_row(blocks, basis, exponents, pairs, table, index, n, c);
-        }
-        blocks[k] = m.a;
-        last = k;
-        k = blocks[64 + k] as usize;
-        if 2048 < n {
-            k = 64;
-        }
+    if r.adds {
+        n = add_cross(blocks, basis, exponents, pairs, table, index, n, m);
     }
-    blocks[64 + last] = blocks[64 + a];
-    blocks[64 + a] = m.b;
+    splice(blocks, m);
     Reach {
         since: r.since,
         until: r.until,
         len: n,
         blocks: r.blocks - 1,
         bits: r.bits,
-        adds,
+        adds: r.adds,
     }
 }
 
@@ -224,7 +290,34 @@ fn is_over(r: Reach) -> bool {
     r.blocks == 1 || 2048 < r.len
 }
 
-// The blocks of every two indices with the sum s made one.
+// The blocks of every two indices with the sum of the last such pair, at a place, made one.
+fn join_chain(
+    blocks: &mut [u8],
+    basis: &[u64],
+    exponents: &[u64],
+    pairs: &mut [u16],
+    table: &mut [u64],
+    index: &mut [u16],
+    start: Reach,
+    first: usize,
+) -> Reach {
+    let s = sum_at(basis, first);
+    let mut r = start;
+    let mut v = first + 1;
+    while 0 < v {
+        let p = v - 1;
+        if sum_at(basis, p) == s {
+            r = join_two(blocks, basis, exponents, pairs, table, index, r, p);
+            if 2048 < r.len {
+                return r;
+            }
+        }
+        v = pairs[LINKS + p] as usize;
+    }
+    r
+}
+
+// The blocks of every two indices with the sum s made one, once.
 fn join_sum(
     blocks: &mut [u8],
     basis: &[u64],
@@ -235,45 +328,35 @@ fn join_sum(
     start: Reach,
     s: u64,
 ) -> Reach {
-    let first = find_sum(basis, pairs, s);
-    if 4095 < first {
+    let p = find_sum(basis, pairs, s, remainder(s));
+    if 4095 < p {
         return start;
     }
-    let met = pairs[LINKS + first];
-    if MET <= met {
+    let at = told_at(p);
+    if 1 < pairs[at] {
         return start;
     }
-    pairs[LINKS + first] = met + MET;
-    let mut r = start;
-    let mut v = first + 1;
-    while 0 < v {
-        let p = v - 1;
-        if basis[p / 64] + basis[p % 64] == s {
-            r = join_two(blocks, basis, exponents, pairs, table, index, r, p);
-            if 2048 < r.len {
-                return r;
-            }
-        }
-        v = (pairs[LINKS + p] % DONE) as usize;
-    }
+    let r = join_chain(blocks, basis, exponents, pairs, table, index, start, p);
+    pairs[at] = 2;
     r
 }
 
-// The next exponent t, from a place on, for which x - t has no bits but those; the number of exponents where there is
-// none.
-fn next_fit(exponents: &[u64], bits: u64, x: u64, from: usize) -> usize {
-    let mut i = from;
+// The numbers x - t that have no bits but those, in turn, and how many they are. A number that has others is written
+// over: this needs no jump, which would be foreseen badly.
+fn note_fits(fits: &mut [u64; 32], exponents: &[u64], bits: u64, x: u64) -> usize {
+    let mut n = 0;
+    let mut i = 0;
     while i < exponents.len() {
-        if std::num::wrapping_sub_u64(x, exponents[i]) | bits == bits {
-            return i;
-        }
+        let s = std::num::wrapping_sub_u64(x, exponents[i]);
+        fits[n] = s;
+        n += if s | bits == bits { 1 } else { 0 };
         i += 1;
     }
-    i
+    n
 }
 
-// The blocks of every two indices that the member x of the support links made one.
-fn join_member(
+// The blocks of every two indices with one of these sums made one.
+fn join_sums(
     blocks: &mut [u8],
     basis: &[u64],
     exponents: &[u64],
@@ -281,18 +364,16 @@ fn join_member(
     table: &mut [u64],
     index: &mut [u16],
     start: Reach,
-    x: u64,
+    sums: &[u64],
 ) -> Reach {
     let mut r = start;
-    let bits = r.bits;
-    let mut i = next_fit(exponents, bits, x, 0);
-    while i < exponents.len() {
-        let s = x - exponents[i];
-        r = join_sum(blocks, basis, exponents, pairs, table, index, r, s);
+    let mut i = 0;
+    while i < sums.len() {
+        r = join_sum(blocks, basis, exponents, pairs, table, index, r, sums[i]);
         if is_over(r) {
             return r;
         }
-        i = next_fit(exponents, bits, x, i + 1);
+        i += 1;
     }
     r
 }
@@ -307,11 +388,12 @@ fn join_members(
     index: &mut [u16],
     start: Reach,
 ) -> Reach {
+    let mut fits = [0u64; 32];
     let mut r = start;
     let mut m = start.since;
     while m < start.until {
-        let x = table[m];
-        r = join_member(blocks, basis, exponents, pairs, table, index, r, x);
+        let n = note_fits(&mut fits, exponents, start.bits, table[m]);
+        r = join_sums(blocks, basis, exponents, pairs, table, index, r, &fits[..n]);
         if is_over(r) {
             return r;
         }
@@ -320,26 +402,21 @@ fn join_members(
     r
 }
 
-// The blocks of a pair made one, where it is linked.
-fn join_pair(
-    blocks: &mut [u8],
+// Whether the pair at a place is to be joined: it is linked, and in two blocks.
+fn is_open(
+    blocks: &[u8],
     basis: &[u64],
     exponents: &[u64],
-    pairs: &mut [u16],
-    table: &mut [u64],
-    index: &mut [u16],
-    r: Reach,
+    table: &[u64],
+    index: &[u16],
+    until: usize,
+    len: usize,
     p: usize,
-) -> Reach {
-    let i = p / 64;
-    let k = p % 64;
-    if blocks[i] == blocks[k] {
-        return r;
+) -> bool {
+    if blocks[p / 64] == blocks[p % 64] {
+        return false;
     }
-    if is_linked(table, index, r.until, r.len, exponents, basis[i] + basis[k]) {
-        return join_two(blocks, basis, exponents, pairs, table, index, r, p);
-    }
-    r
+    is_linked(table, index, until, len, exponents, sum_at(basis, p))
 }
 
 // Index i with each index after it.
@@ -357,9 +434,11 @@ fn join_row(
     let mut k = i + 1;
     while k < basis.len() {
         let p = 64 * i + k;
-        r = join_pair(blocks, basis, exponents, pairs, table, index, r, p);
-        if 2048 < r.len {
-            return r;
+        if is_open(blocks, basis, exponents, table, index, r.until, r.len, p) {
+            r = join_two(blocks, basis, exponents, pairs, table, index, r, p);
+            if 2048 < r.len {
+                return r;
+            }
         }
         k += 1;
     }
@@ -408,8 +487,7 @@ pub fn join(
 }
 
 // A pair put into the index of those before it.
-fn note_pair(pairs: &mut [u16], s: u64, p: usize) {
-    let h = slot(s);
+fn note_pair(pairs: &mut [u16], h: usize, p: usize) {
     let last = pairs[h];
     pairs[LINKS + p] = last;
     pairs[h] = (p + 1) as u16;
@@ -420,16 +498,16 @@ fn note_row(pairs: &mut [u16], basis: &[u64], i: usize, given: u64) -> u64 {
     let mut bits = given;
     let mut k = i + 1;
     while k < basis.len() {
-        let s = basis[i] + basis[k];
-        note_pair(pairs, s, 64 * i + k);
-        bits = bits | s;
+        let h = remainder_of(pairs, i, k);
+        note_pair(pairs, h, 64 * i + k);
+        bits = bits | (basis[i] + basis[k]);
         k += 1;
     }
     bits
 }
 
-// The index of the pairs of a basis, made in one that holds nothing; the bits of their sums.
-pub fn note_pairs(pairs: &mut [u16], basis: &[u64]) -> u64 {
+// The pairs of a basis put into the index; the bits of their sums.
+fn note_pairs(pairs: &mut [u16], basis: &[u64]) -> u64 {
     let mut bits = 0u64;
     let mut i = 0;
     while i < basis.len() {
@@ -437,6 +515,31 @@ pub fn note_pairs(pairs: &mut [u16], basis: &[u64]) -> u64 {
         i += 1;
     }
     bits
+}
+
+// The slots of the exponents put into it.
+fn note_slots(pairs: &mut [u16], exponents: &[u64]) {
+    let mut i = 0;
+    while i < exponents.len() {
+        pairs[SLOTS + i] = key_set::slot(exponents[i]) as u16;
+        i += 1;
+    }
+}
+
+// The remainders of the basis put into it.
+fn note_remainders(pairs: &mut [u16], basis: &[u64]) {
+    let mut i = 0;
+    while i < basis.len() {
+        pairs[REMAINDERS + i] = remainder(basis[i]) as u16;
+        i += 1;
+    }
+}
+
+// The index of the pairs of a basis, made in one that holds nothing; the bits of their sums.
+pub fn note(pairs: &mut [u16], basis: &[u64], exponents: &[u64]) -> u64 {
+    note_slots(pairs, exponents);
+    note_remainders(pairs, basis);
+    note_pairs(pairs, basis)
 }
 
 // The products of each index with itself put in.

@@ -1,7 +1,7 @@
 // The joining rule over all nine bases, round by round. The problem's bases and multipliers stand in `keys` and `sizes`
 // as in the crate flat; the block numbers of basis j stand from place 64j on in `labels`. The first numbers of `table`
 // are the support, in the order in which they came, with `index`. The index of the pairs of basis j stands from place
-// 6144j on in `pairs`, where the basis is not small.
+// 6240j on in `pairs`, where the basis is not small.
 use block_joining::Reach;
 
 // Each index of a basis is a block of its own.
@@ -24,12 +24,25 @@ fn start_blocks(blocks: &mut [u8], sizes: &[usize]) {
     }
 }
 
-// The block numbers of basis j: byte 128j + i of `blocks` is byte 64j + i of `labels`.
+// The block numbers of one basis, from its blocks.
+fn copy(part: &mut [u8], blocks: &[u8]) {
+    let mut i = 0;
+    while i < 64 {
+        part[i] = blocks[i];
+        i += 1;
+    }
+}
+
+// The block numbers of every basis.
 fn write_labels(labels: &mut [u8; 576], blocks: &[u8; 1152]) {
-    let mut x = 0;
-    while x < 576 {
-        labels[x] = blocks[x + 64 * (x / 64)];
-        x += 1;
+    let mut j = 0;
+    while j < 9 {
+        let a = 64 * j;
+        let e = a + 64;
+        let b = 128 * j;
+        let f = b + 64;
+        copy(&mut labels[a..e], &blocks[b..f]);
+        j += 1;
     }
 }
 
@@ -82,8 +95,8 @@ fn join_at(
         let mut none = [0u16; 1];
         return block_joining::join(part, basis, exponents, &mut none, table, index, r);
     }
-    let p = 6144 * j;
-    let q = p + 6144;
+    let p = 6240 * j;
+    let q = p + 6240;
     block_joining::join(part, basis, exponents, &mut pairs[p..q], table, index, r)
 }
 
@@ -250,9 +263,10 @@ fn note_all(pairs: &mut [u16], state: &mut [u64; 18], keys: &[u64], sizes: &[usi
     while j < 9 {
         if block_joining::PLAIN < sizes[j] {
             let basis = flat::basis(keys, sizes, j);
-            let a = 6144 * j;
-            let e = a + 6144;
-            state[9 + j] = block_joining::note_pairs(&mut pairs[a..e], basis);
+            let a = 6240 * j;
+            let e = a + 6240;
+            let exponents = flat::exponents(keys, sizes, j);
+            state[9 + j] = block_joining::note(&mut pairs[a..e], basis, exponents);
         }
         j += 1;
     }
@@ -268,7 +282,7 @@ fn run_indexed(
     state: &mut [u64; 18],
     support: Support,
 ) -> Closed {
-    let mut pairs = [0u16; 55296];
+    let mut pairs = [0u16; 56160];
     note_all(&mut pairs, state, keys, sizes);
     run(
         blocks,
