@@ -331,7 +331,9 @@ pub fn close(
     let mut blocks = [255u8; 1152];
     start_blocks(&mut blocks, sizes);
     let mut state = start_state(sizes);
-    let c = if are_small(sizes) {
+    let c = if block_joining::PLAIN < sizes[0] {
+        run_indexed(&mut blocks, keys, sizes, table, index, &mut state, support)
+    } else if are_small(sizes) {
         let mut none = [0u16; 1];
         run(
             &mut blocks,
