@@ -113,6 +113,6 @@ def check_limits(problem: Problem, found: Blocks) -> str:
     if rows > LIMITS["rows"]:
         raise LimitError(f"basis 0 alone needs about {rows} rows of {LIMITS['rows']} (blocks of "
                          f"{', '.join(map(str, sorted(sizes, reverse=True)))}); take fewer variables or a lower degree")
-    return (f"basis 0 has {counted(len(problem.bases[0]), 'monomial')} in {counted(len(sizes), 'block')}, the largest of "
+    return (f"basis 0 has {counted(sum(sizes), 'monomial')} in {counted(len(sizes), 'block')}, the largest of "
             f"{max(sizes, default=0)}; {compared_keys(problem, found)} of {KEYS:,} keys; "
             f"at least {rows} of {LIMITS['rows']} rows")

@@ -63,8 +63,9 @@ def as_text(problem: Problem, found: Blocks, names: list[str]) -> str:
              f"rule {found.rule}", f"keys {compared_keys(problem, found)} of {KEYS}",
              f"sign symmetries {len(masks)}: " + "; ".join(shown[:8]) + ("; .." if len(masks) > 8 else "")]
     for j, blocks in enumerate(by_basis(problem, found)):
-        sizes = " of " + " ".join(str(len(ix)) for ix in blocks) if blocks else ""
-        lines.append(f"basis {j}, {counted(len(problem.bases[j]), 'monomial')} in {counted(len(blocks), 'block')}{sizes}")
+        sizes = [len(ix) for ix in blocks]
+        lines.append(f"basis {j}, {counted(sum(sizes), 'monomial')} in {counted(len(sizes), 'block')}"
+                     + (f" of {' '.join(map(str, sizes))}" if sizes else ""))
         for ix in blocks:
             lines.append(f"  block {ix[0]}: " + "  ".join(monomial_text(problem.bases[j][i], names) for i in ix))
     return "\n".join(lines) + "\n"

@@ -30,6 +30,8 @@ EXAMPLES = {
     "file": "gapfile file examples/two_decks.gap -o two_decks",
 }
 PATHS = "a folder, three files, or a problem and one certificate"
+STATUSES = ("Exit status: 0 accepted or done, 1 refused, 2 usage, file or a model beyond a limit, "
+            "3 no certificate found.")
 
 
 class UsageError(Exception):
@@ -187,7 +189,9 @@ def run_explain(arguments: argparse.Namespace, say: Say) -> int:
     if verdict.refusal:
         print("\n".join(explain(verdict.refusal, problem, low, high or b"", names)))
         return REFUSED
-    lines = explain_empty(verdict, problem, low, high or b"", names) if verdict.empty else ["accepted: nothing to explain"]
+    lines = ["accepted: nothing to explain"]
+    if verdict.empty:
+        lines = explain_empty(verdict, problem, [low, high or b""], names)
     print("\n".join(verdict.lines + lines))
     return DONE
 
@@ -216,22 +220,21 @@ def run_blocks(arguments: argparse.Namespace, say: Say) -> int:
 
 
 def parser() -> argparse.ArgumentParser:
-    statuses = "Exit status: 0 accepted or done, 1 refused, 2 usage, file or a model beyond a limit, 3 no certificate found."
-    top = argparse.ArgumentParser(prog="gapfile", description="From a polynomial to a filed figure.", epilog=statuses)
+    top = argparse.ArgumentParser(prog="gapfile", description="From a polynomial to a filed figure.", epilog=STATUSES)
     commands = top.add_subparsers(dest="command", required=True, metavar="COMMAND")
 
     def command(name: str, said: str) -> argparse.ArgumentParser:
         return commands.add_parser(name, help=said, description=said[0].upper() + said[1:] + ".",
                                    formatter_class=argparse.RawDescriptionHelpFormatter,
-                                   epilog=f"example: {EXAMPLES[name]}\n\n{statuses}")
+                                   epilog=f"example: {EXAMPLES[name]}\n\n{STATUSES}")
 
     def names(made: argparse.ArgumentParser) -> None:
         made.add_argument("--names", help="names for the variables, with commas between them")
 
     made = command("decode", "print the text form of streams, one line a command")
     made.add_argument("files", nargs="+", metavar="FILE", help="a problem or a certificate")
-    made.add_argument("--problem", metavar="FILE", help="the problem of the certificates, so that entries say their monomials; "
-                                                        "a problem among the files before them does too")
+    made.add_argument("--problem", metavar="FILE", help="the problem of the certificates, so that entries say their "
+                                                        "monomials; a problem among the files before them does too")
     names(made)
     made.set_defaults(run=run_decode)
     made = command("encode", "write the streams of text forms, FILE.txt to FILE.bin")
@@ -242,7 +245,7 @@ def parser() -> argparse.ArgumentParser:
     made.add_argument("paths", nargs="+", metavar="PATH", help=PATHS)
     made.add_argument("--second", action="store_true", help="ask a second implementation too")
     made.set_defaults(run=run_check)
-    made = command("explain", "say what a refusal means, or which conditions contradict each other where the gap is empty")
+    made = command("explain", "say what a refusal means, or which conditions contradict each other at an empty gap")
     made.add_argument("paths", nargs="+", metavar="PATH", help=PATHS)
     names(made)
     made.set_defaults(run=run_explain)

@@ -1,4 +1,4 @@
-"""Numbers as text: fractions as decimals rounded outward (a lower bound down, an upper bound and a gap up), and counts."""
+"""Numbers as text: decimals rounded outward (a lower bound down, an upper bound and a gap up), and counts."""
 from __future__ import annotations
 
 from fractions import Fraction

@@ -1,5 +1,5 @@
-"""What a refusal means: the line of text at its place, the rule it breaks, and what can be seen there. And what an empty
-gap means."""
+"""What a refusal means: the line of text at its place, the rule it breaks, and what can be seen there. And what an
+empty gap means."""
 from __future__ import annotations
 
 from typing import Optional
@@ -55,15 +55,16 @@ def _line(decoded: Decoded, place: int) -> str:
     return f"line {number}, byte {place}: {text}"
 
 
-def explain_empty(verdict: Verdict, problem_stream: bytes, low: bytes, high: bytes,
+def explain_empty(verdict: Verdict, problem_stream: bytes, streams: list[bytes],
                   names: Optional[list[str]] = None) -> list[str]:
     """Lines on an empty gap: each bound holds wherever the conditions do that its rows are on, so these contradict each
     other."""
     assert verdict.lower is not None and verdict.upper is not None
     problem = read_problem(problem_stream)
-    rows = [row for number, stream in ((1, low), (2, high)) for row in read_certificate(stream, problem, number).rows]
-    lines = [f"accepted, and the bounds cross: at least {fraction(verdict.lower)} and at most {fraction(verdict.upper)}, "
-             "so no rational point meets all the conditions", "those with rows contradict each other:"]
+    rows = [row for number, stream in enumerate(streams, 1) for row in read_certificate(stream, problem, number).rows]
+    low, high = fraction(verdict.lower), fraction(verdict.upper)
+    lines = [f"accepted, and the bounds cross: at least {low} and at most {high}, so no rational point meets all the "
+             "conditions", "those with rows contradict each other:"]
     for j in sorted({row.basis for row in rows if row.basis > 0}):
         condition = problem.conditions[j - 1]
         lines.append(f"  condition {j}: {polynomial_text(condition.terms, names or DEFAULT_NAMES)} "
@@ -132,12 +133,13 @@ def identity(problem: Problem, certificate: Certificate, names: list[str]) -> li
     unit = certificate.scale * certificate.q
     order: list[Monomial] = sorted(wrong, key=lambda e: (-abs(wrong[e][1] - wrong[e][0]), key(e)))
     left = "D x (p - q x objective)" if certificate.side else "D x (q x objective - p)"
-    lines = [f"{counted(len(order), 'monomial')} {'differs' if len(order) == 1 else 'differ'}; the left is {left}, the right "
-             f"the sum of the rows; D x q is {unit}"]
+    lines = [f"{counted(len(order), 'monomial')} {'differs' if len(order) == 1 else 'differ'}; the left is {left}, "
+             f"the right the sum of the rows; D x q is {unit}"]
     shown = [(monomial_text(e, names), *map(str, wrong[e]), str(wrong[e][1] - wrong[e][0])) for e in order]
     wide = [max(len(row[k]) for row in shown) for k in range(4)]
     for e, (text, *numbers) in zip(order, shown):
-        said = [f"{word} {number:>{width}}" for word, number, width in zip(("left", "right", "difference"), numbers, wide[1:])]
-        lines.append(f"  {text:<{wide[0]}}  {'  '.join(said)}  ({(wrong[e][1] - wrong[e][0]) / unit:.3g} in the "
-                     "objective's units)")
+        columns = zip(("left", "right", "difference"), numbers, wide[1:])
+        said = "  ".join(f"{word} {number:>{width}}" for word, number, width in columns)
+        units = (wrong[e][1] - wrong[e][0]) / unit
+        lines.append(f"  {text:<{wide[0]}}  {said}  ({units:.3g} in the objective's units)")
     return lines

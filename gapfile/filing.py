@@ -27,7 +27,7 @@ FRAME = 3.0                      # width over height of the room for the picture
 
 
 class NotAccepted(Exception):
-    """gapcheck refused the bytes: nothing is filed."""
+    """gapcheck refused the bytes, or the manifest is not of this problem: nothing is filed."""
 
     def __init__(self, verdict: Verdict) -> None:
         super().__init__("; ".join(verdict.lines))
@@ -61,6 +61,9 @@ def file_folder(folder: Path) -> Verdict:
     manifest = json.loads((folder / "manifest.json").read_text(encoding="utf-8"))
     variables = [Scaled(v["name"], v["in the stream"], Fraction(v["middle"]), Fraction(v["half"]))
                  for v in manifest["variables"]]
+    factor = int(manifest["factor"])
+    if factor < 1 or len(variables) != problem.variables or any(v.half <= 0 for v in variables):
+        raise NotAccepted(Verdict(["the manifest does not fit the problem"]))
     names = [v.inner for v in variables]
     found = blocks_call(streams[0])
     assert isinstance(found, Blocks)                 # gapcheck accepted, so the problem is not refused
@@ -75,7 +78,7 @@ def file_folder(folder: Path) -> Verdict:
     sheet = Sheet(
         title=manifest["title"], problem=problem,
         certificates=(read_certificate(streams[1], problem, 1), read_certificate(streams[2], problem, 2)),
-        verdict=verdict, factor=int(manifest["factor"]), variables=variables,
+        verdict=verdict, factor=factor, variables=variables,
         points=[_point(side) for side in manifest["sides"]],
         relaxations=[f"{float(side['relaxation']):.9g}" for side in manifest["sides"]],
         picture=as_svg(problem, found, names, FRAME), blocks=_sentence(problem, found),

@@ -1,15 +1,17 @@
-"""Polynomials and conditions as HTML, no longer than the sheet has room for; and back from the stream to the model's variables."""
+"""Polynomials and conditions as HTML, no longer than the sheet has room for, in the stream's variables or, computed
+back, in the model's."""
 from __future__ import annotations
 
 import re
 from dataclasses import dataclass
 from fractions import Fraction
 from html import escape
-from typing import Mapping, Optional
+from typing import Mapping
 
-from .commands import Monomial, ONE, monomial_text
+from .commands import Monomial, monomial_text
 from .decimals import decimal, fraction, is_exact
 from .polynomials import Polynomial, constant, ordered, plus, substitute, variable, whole
+from .problem import range_of
 from .reading import Condition
 
 
@@ -75,14 +77,6 @@ def in_the_model(terms: Mapping[Monomial, int], variables: list[Scaled]) -> Poly
     return {e: found[e] for e in ordered(found)}
 
 
-def range_of(condition: Condition) -> Optional[int]:
-    """The variable, from 0, of which the condition is 1 - u^2 >= 0."""
-    if condition.equality or len(condition.terms) != 2 or condition.terms.get(ONE) != 1:
-        return None
-    (square, c), = [(e, c) for e, c in condition.terms.items() if e != ONE]
-    return square.index(2) if c == -1 and sum(square) == max(square) == 2 else None
-
-
 def region(conditions: list[Condition], variables: list[Scaled], room: int) -> str:
     """The conditions in the model's variables; ranges of one length stand together."""
     ranges: dict[tuple[Fraction, Fraction], list[str]] = {}
@@ -94,7 +88,8 @@ def region(conditions: list[Condition], variables: list[Scaled], room: int) -> s
             ranges.setdefault((v.middle - v.half, v.middle + v.half), []).append(f"<i>{escape(v.name)}</i>")
         else:
             others.append(Condition(condition.equality, whole(in_the_model(condition.terms, variables))[0]))
-    parts = [f"{minus(number(low))} ≤ {', '.join(names)} ≤ {minus(number(high))}" for (low, high), names in ranges.items()]
+    parts = [f"{minus(number(low))} ≤ {', '.join(names)} ≤ {minus(number(high))}"
+             for (low, high), names in ranges.items()]
     return joined(parts, others, [v.name for v in variables], room)
 
 

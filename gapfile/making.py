@@ -55,6 +55,8 @@ def run_solve(arguments: argparse.Namespace, say: Say) -> int:
     except NotAccepted as error:
         return _say(REFUSED, f"gapcheck refused what was made, and nothing is written: {error}")
     print("\n".join(verdict.lines + report_lines(solved, model)))
+    if verdict.empty:
+        print("the bounds cross: no rational point meets all the conditions, so there is no figure to quote")
     print(f"written: {folder}/problem.bin, low.bin, high.bin, manifest.json, model.gap")
     return DONE
 

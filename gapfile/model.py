@@ -209,6 +209,8 @@ def _statement(model: Model, word: str, line: _Line, text: str) -> None:
         right = line.sum()
         line.done("an operator or the end of the line")
         difference = plus(right, left, Fraction(-1)) if sign.text == "<=" else plus(left, right, Fraction(-1))
+        if not any(any(e) for e in difference):
+            raise ModelError(line.number, sign.column, "the condition has no variable that is left")
         model.conditions.append(Where(difference, sign.text == "==", text, line.number))
     elif word == "degree":
         token = line.next()

@@ -1,5 +1,5 @@
-"""The picture of the blocks, in SVG: for each basis a matrix ordered by block, with a filled square for two monomials of one
-block and the monomials as labels."""
+"""The picture of the blocks, in SVG: for each basis a matrix ordered by block, with a filled square for two monomials
+of one block and the monomials as labels."""
 from __future__ import annotations
 
 from dataclasses import dataclass
@@ -14,7 +14,7 @@ from .reading import Problem
 COLOURS = ("#1f5a86", "#b0601a", "#2f7547", "#7d4672", "#806112", "#4857a0", "#9c3b37", "#2f7480")
 ALONE = "#8d939c"                # a block of one monomial
 FAINT = ' fill-opacity=".5"'     # off the diagonal
-CELL, LETTER, TITLE, SPACE = 12, 5.9, 18, 16
+CELL, LETTER, TITLE, SPACE, EDGE = 12, 5.9, 18, 16, 4
 RAISED = str.maketrans("0123456789", "⁰¹²³⁴⁵⁶⁷⁸⁹")
 STYLE = ("text{font:10px 'DejaVu Sans',Helvetica,Arial,sans-serif;fill:#222}.t{font-weight:bold;font-size:11.5px}"
          ".g{fill:#f4f5f7;stroke:#9aa0a8;stroke-width:.6}")
@@ -76,12 +76,14 @@ def placed(drawn: list[Matrix], width: float) -> tuple[list[tuple[float, float]]
 def as_svg(problem: Problem, found: Blocks, names: list[str], aspect: float = 1.6) -> str:
     """The whole picture; its rows are broken so that it fills a frame of this aspect (width over height) best."""
     drawn = matrices(problem, found, names)
-    widths = [sum(matrix.width for matrix in drawn[a:b]) for a in range(len(drawn)) for b in range(a + 1, len(drawn) + 1)]
+    ends = range(len(drawn) + 1)
+    widths = [sum(matrix.width for matrix in drawn[a:b]) for b in ends for a in range(b)]
     ways = [placed(drawn, width) for width in sorted(set(widths))] or [([], 60.0, 20.0)]
     places, width, height = min(ways, key=lambda way: max(way[1], aspect * way[2]))
     body = "".join(_matrix(matrix, x, y) for matrix, (x, y) in zip(drawn, places))
-    return (f'<svg xmlns="http://www.w3.org/2000/svg" viewBox="0 0 {width:.0f} {height:.0f}" width="{width:.0f}" '
-            f'height="{height:.0f}" role="img" aria-label="blocks by basis"><style>{STYLE}</style>{body}</svg>\n')
+    wide, high = f"{width + EDGE:.0f}", f"{height + EDGE:.0f}"
+    return (f'<svg xmlns="http://www.w3.org/2000/svg" viewBox="-{EDGE} -{EDGE} {wide} {high}" width="{wide}" '
+            f'height="{high}" role="img" aria-label="blocks by basis"><style>{STYLE}</style>{body}</svg>\n')
 
 
 def _matrix(matrix: Matrix, x: float, y: float) -> str:

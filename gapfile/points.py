@@ -10,14 +10,13 @@ from dataclasses import dataclass
 from fractions import Fraction
 from typing import Optional
 
-from .commands import ONE
 from .equalities import Equalities, Function
 from .polynomials import evaluate
-from .problem import allowed
+from .problem import allowed, range_of
 from .reading import Problem
 
 Point = list[float]
-STARTS, HALVINGS = 24, 44
+STARTS, HALVINGS = 24, 46
 DENOMINATORS = (1, 2, 3, 4, 5, 6, 8, 10, 12, 16, 20, 25, 50, 100, 1000, 10 ** 4, 10 ** 5, 10 ** 6, 10 ** 7)
 
 
@@ -35,8 +34,8 @@ class Search:
         self.problem = problem
         self.objective = Function(problem.objective)
         self.inequalities = [Function(c.terms) for c in problem.conditions if not c.equality]
-        self.boxed = [any(c.terms == {ONE: 1, tuple(2 * int(k == i) for k in range(8)): -1} for c in problem.conditions)
-                      for i in range(problem.variables)]
+        ranges = {range_of(condition) for condition in problem.conditions}
+        self.boxed = [i in ranges for i in range(problem.variables)]
         self.equalities = Equalities(problem, prefer)
         self.open = [i for i in range(problem.variables) if i not in self.equalities.followers]
         self.interior: Optional[Point] = None
@@ -67,7 +66,7 @@ class Search:
     def descend(self, x: Point, sign: int) -> tuple[float, Point]:
         """Steps along the axes and on along the last success, halved where none helps."""
         x = self.pulled(x)
-        best, step = self.rate(x, sign), 0.5
+        best, step = self.rate(x, sign), 2.0                     # the whole range of a variable
         for _ in range(HALVINGS):
             for _ in range(12):
                 start, before = list(x), best
@@ -102,6 +101,7 @@ def attain(problem: Problem, side: int, hint: Optional[Point] = None, seed: int 
 
 
 def _attain(search: Search, sign: int, hint: Optional[Point], chance: random.Random) -> Optional[Attained]:
+    """The best point of one search: from the best of many starts, the hint among them, made rational."""
     if not search.equalities.possible:
         return None
     count = search.problem.variables

@@ -3,6 +3,7 @@ from __future__ import annotations
 
 from dataclasses import dataclass
 from fractions import Fraction
+from typing import Optional
 
 from .commands import PROBLEM, Monomial, ONE, write_command
 from .model import Model
@@ -71,10 +72,18 @@ def pose(model: Model) -> Posed:
         origins.append(where.text)
     if len(problem.conditions) > LIMITS["conditions"]:
         ranges = sum(v.range is not None for v in model.variables)
-        raise LimitError(f"{len(problem.conditions)} conditions, of which {ranges} are ranges; at most {LIMITS['conditions']} are allowed. A variable that the other conditions bound "
-                         "needs no range")
+        raise LimitError(f"{len(problem.conditions)} conditions, of which {ranges} are ranges; at most "
+                         f"{LIMITS['conditions']} are allowed. A variable that other conditions bound needs no range")
     problem.bases = [[] for _ in range(len(problem.conditions) + 1)]
     return Posed(problem, factor, middle, half, origins)
+
+
+def range_of(condition: Condition) -> Optional[int]:
+    """The variable, from 0, of which the condition is 1 - u^2 >= 0."""
+    if condition.equality or len(condition.terms) != 2 or condition.terms.get(ONE) != 1:
+        return None
+    (square, c), = [(e, c) for e, c in condition.terms.items() if e != ONE]
+    return square.index(2) if c == -1 and sum(square) == max(square) == 2 else None
 
 
 def _coefficients(terms: dict[Monomial, int], limit: int, what: str) -> None:

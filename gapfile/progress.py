@@ -15,8 +15,8 @@ def quiet(_: str) -> None:
 
 
 class Progress:
-    """`with Progress() as say`: each step is named as it begins. Nothing is shown in the first second; then all steps so far
-    are, and every further one as it begins."""
+    """`with Progress() as say`: each step is named as it begins. Nothing is shown in the first second; then all steps
+    so far are, and every further one as it begins."""
 
     def __init__(self, patience: float = PATIENCE) -> None:
         self._kept: Optional[list[str]] = []

@@ -2,7 +2,6 @@
 from __future__ import annotations
 
 import json
-from fractions import Fraction
 from typing import Any, Optional
 
 from . import VERSION
@@ -11,10 +10,9 @@ from .model import Model
 from .points import Attained
 from .problem import stream_names
 from .solver import STATUS
-from .solving import WORDS, Side, Solved, higher
+from .solving import WORDS, Side, Solved, far, far_off, higher
 
 HEADS = ("", "relaxation", "filed", "lost", "attained", "off by", "rows", "wide entries")
-FAR = Fraction(1, 1000)          # from here on the relaxation itself is called far from the attained value
 
 
 def point_text(solved: Solved, model: Model, attained: Attained) -> str:
@@ -23,17 +21,11 @@ def point_text(solved: Solved, model: Model, attained: Attained) -> str:
     return ", ".join(f"{name} = {fraction(value)}" for name, value in zip(model.names, values))
 
 
-def off_by(side: Side, factor: int) -> Fraction:
-    """How far the bound is from the attained value, in the model's units."""
-    assert side.attained
-    return abs(side.bound - side.attained.value) / factor
-
-
 def report_lines(solved: Solved, model: Model) -> list[str]:
     """Relaxation, filed, lost and attained for both sides, in the model's units; rows and blocks."""
     factor = solved.posed.factor
-    lines = [f"degree {solved.degree}; {counted(solved.blocks.count, 'block')}, {counted(solved.blocks.rounds, 'round')}; "
-             f"{solved.sizes}"]
+    blocks, rounds = counted(solved.blocks.count, "block"), counted(solved.blocks.rounds, "round")
+    lines = [f"degree {solved.degree}; {blocks}, {rounds}; {solved.sizes}"]
     if factor != 1:
         lines.append(f"the objective was multiplied by {factor} to whole numbers; the figures below are divided by it")
     digits = max(digits_for((solved.sides[1].bound - solved.sides[0].bound) / factor), 9)
@@ -42,6 +34,9 @@ def report_lines(solved: Solved, model: Model) -> list[str]:
     lines += ["  ".join(f"{cell:<{width}}" for cell, width in zip(row, wide)).rstrip() for row in table]
     for side in solved.sides:
         lines += _remarks(solved, model, side)
+    if far(solved):
+        lines.append(f"either better points were not found, or degree {solved.degree} gives no more; "
+                     f"{higher(solved.posed, solved.degree + 2)}")
     return lines
 
 
@@ -49,21 +44,18 @@ def _row(side: Side, factor: int, digits: int) -> tuple[str, ...]:
     attained = side.attained
     return (WORDS[side.side], f"{side.relaxation / factor:.9g}", decimal(side.bound / factor, side.side == 1, digits),
             f"{_lost(side, factor):.2g}", f"{float(attained.value / factor):.9g}" if attained else "none found",
-            decimal(off_by(side, factor), True, digits) if attained else "", str(side.rows), str(side.wide))
+            decimal(side.off / factor, True, digits) if attained else "", str(side.rows), str(side.wide))
 
 
 def _remarks(solved: Solved, model: Model, side: Side) -> list[str]:
-    """What csdp said, the attained point, and advice where the relaxation itself is far from it."""
+    """What csdp said, the attained point, and whether the relaxation itself is far from it."""
     word, factor = WORDS[side.side], solved.posed.factor
-    lines = [f"{word}: {STATUS[side.status]}"]
     if side.attained is None:
-        return [lines[0] + "; no allowed point was found by search"]
-    lines[0] += f"; attained at {point_text(solved, model, side.attained)}"
-    value = side.attained.value / factor
-    if off_by(side, factor) > FAR * max(Fraction(1), abs(value)):
-        far = abs(side.relaxation / factor - float(value))
-        lines.append(f"{word}: the relaxation itself is {far:.2g} from the attained value. Either a better point was not found, "
-                     f"or this degree gives no more: {higher(solved.posed, solved.degree + 2)}")
+        return [f"{word}: {STATUS[side.status]}; no allowed point was found by search"]
+    lines = [f"{word}: {STATUS[side.status]}; attained at {point_text(solved, model, side.attained)}"]
+    if far_off(side, factor):
+        distance = abs(side.relaxation - float(side.attained.value)) / factor
+        lines.append(f"{word}: the relaxation itself is {distance:.2g} from the attained value")
     return lines
 
 

@@ -7,7 +7,7 @@ from __future__ import annotations
 
 from dataclasses import dataclass, field
 from fractions import Fraction
-from typing import TypeVar
+from typing import Optional, TypeVar
 
 from .basis import inconsistent
 from .commands import Monomial, ONE, add, key
@@ -117,8 +117,9 @@ def _subtract(row: dict[Name, Fraction], other: dict[Name, Fraction], factor: Fr
             row.pop(x, None)
 
 
-def solve(program: Program, solver: Solver, slack: float = 0.0) -> Solution:
-    """The best bound with so much slack on the diagonal of basis 0; all in the units of the problem."""
+def solve(program: Program, solver: Solver, slack: float = 0.0, fixed: Optional[float] = None) -> Solution:
+    """The best bound with so much slack on the diagonal of basis 0, or any certificate of a fixed bound; all in the
+    units of the problem, upper bounds with their sign turned."""
     pivots = {m for m, _ in program.pivots}
     names = [m for m in sorted(program.raw, key=key) if m not in pivots and m != ONE]
     target = _targets(program, slack)
@@ -129,11 +130,21 @@ def solve(program: Program, solver: Solver, slack: float = 0.0) -> Solution:
             equations.append({p: float(c) for p, c in row.items()})
             sides.append(target[m])
             posed.append(m)
-    cost = {p: -float(c) for p, c in _combination(program, ONE).items()}
-    sizes = [len(ix) for _, ix in program.blocks]
-    answer = solver.solve(sizes, cost, equations, sides)
+    constant = {p: float(c) for p, c in _combination(program, ONE).items()}
+    cost = {p: -c for p, c in constant.items()}
     scale = float(program.scale)
+    if fixed is not None:
+        equations.append(constant)
+        sides.append(target[ONE] - fixed / scale)
+        cost = {}
+    sizes = [len(ix) for _, ix in program.blocks]
+    if equations:
+        answer = solver.solve(sizes, cost, equations, sides)
+    else:                                                        # csdp reads no program without equations
+        nothing = [[[0.0] * n for _ in range(n)] for n in sizes]
+        answer = Answer(2 if any(c > 0 for c in cost.values()) else 0, nothing, [])
     value = target[ONE] + sum(c * answer.matrices[k][a][b] * (1 if a == b else 2) for (k, a, b), c in cost.items())
+    bound = scale * value if fixed is None else fixed
     free = _free_values(program, answer, slack)
     grams = [[[scale * x for x in row] for row in matrix] for matrix in answer.matrices]
     for (j, ix), gram in zip(program.blocks, grams):
@@ -142,7 +153,7 @@ def solve(program: Program, solver: Solver, slack: float = 0.0) -> Solution:
                 gram[a][a] += slack
     dual = dict(zip(posed, answer.dual))
     moments = [dual.get(tuple(int(k == i) for k in range(8)), 0.0) for i in range(program.problem.variables)]
-    return Solution(answer.status, scale * value, grams, {x: scale * v for x, v in free.items()}, moments)
+    return Solution(answer.status, bound, grams, {x: scale * v for x, v in free.items()}, moments)
 
 
 def _combination(program: Program, m: Monomial) -> Equation:

@@ -1,7 +1,8 @@
 """The filing sheet: one HTML page that prints on one sheet, without network and without script.
 
-Polynomial, region, bounds and attained values are written from the bytes that gapcheck accepted; from the manifest come only
-the title, the factor, what the variables stand for, the points that are tried again here, and the solver's relaxation.
+Polynomial, region, bounds and attained values are written from the bytes that gapcheck accepted; from the manifest come
+only the title, the factor, what the variables stand for, the points that are tried again here, and the solver's
+relaxation.
 """
 from __future__ import annotations
 
@@ -13,7 +14,7 @@ from typing import Optional
 from .decimals import counted, decimal, digits_for, fraction, is_exact
 from .formulas import Scaled, formula, in_the_model, joined, letters, minus, point_html, region, standing
 from .polynomials import evaluate
-from .problem import allowed
+from .problem import allowed, range_of
 from .programs import Verdict
 from .reading import Certificate, Problem
 
@@ -21,7 +22,7 @@ STYLE = """
 @page { size: A4; margin: 11mm 12mm }
 * { box-sizing: border-box }
 html { background: #e9ebee } body { margin: 0 }
-.sheet { width: 186mm; height: 272mm; margin: 8mm auto; padding: 0; display: flex; flex-direction: column; background: #fff;
+.sheet { width: 186mm; height: 272mm; margin: 19mm auto; display: flex; flex-direction: column; background: #fff;
   outline: 11mm solid #fff; color: #16191d; font: 8.7pt/1.36 "DejaVu Sans", "Segoe UI", Helvetica, Arial, sans-serif }
 @media print { html { background: #fff } .sheet { margin: 0; outline: 0 } }
 .above { display: flex; justify-content: space-between; font-size: 7.6pt; letter-spacing: .05em; color: #4a5561;
@@ -52,8 +53,16 @@ code, pre, .mono { font: 7.3pt/1.38 "DejaVu Sans Mono", Menlo, Consolas, monospa
 ul { margin: .4mm 0; padding-left: 4mm } li { margin: .2mm 0 }
 """
 FORMULA, REGION, SENT, CONDITIONS, MEANT, PLACE = 640, 380, 480, 320, 300, 240      # letters that there is room for
+AGAIN = """<h2>To check it again</h2>
+<p class="small">In the folder of the files <code>sha256sum -c SUMS</code>, then <code>gapcheck problem.bin low.bin
+high.bin</code>: it must print the lines above. Nothing else is trusted, neither solver nor gapfile nor this page.</p>
+<h2>What is not claimed</h2>
+<ul class="small"><li>That the polynomial and the region are those of the bid: compare them.</li>
+<li>That the bounds are the best: what is attained stands above.</li>
+<li>Anything about points outside the region. gapcheck's contract speaks of rational points; of real ones a theorem
+beside it does (docs/WHY.md, part 5).</li></ul>"""
 DENSE = 1500                     # more letters than these are set smaller
-LARGEST = 1.45                   # the picture's scale at most
+LARGEST = 1.2                    # the picture's scale at most
 
 
 @dataclass(frozen=True)
@@ -106,11 +115,12 @@ def _cut(text: str, room: int) -> str:
 def _figure(sheet: Sheet) -> str:
     """The figure in words, rounded outward, in the model's units."""
     if sheet.verdict.empty:
-        return ('<div class="figure"><p class="empty">No rational point meets all the conditions: the region is empty.</p>'
-                '<p class="note">The lower bound is above the upper one, and both hold at every point of the region. '
-                "So there is no figure to quote.</p></div>")
+        return ('<div class="figure"><p class="empty">No rational point meets all the conditions: the region is empty.'
+                '</p><p class="note">The lower bound is above the upper one, and both hold at every point of the '
+                "region. So there is no figure to quote.</p></div>")
     low, high = sheet.bounds
-    figures = ((low, False, "at least"), (high, True, "and at most"), (high - low, True, "two values differ by at most"))
+    figures = ((low, False, "at least"), (high, True, "and at most"),
+               (high - low, True, "two values differ by at most"))
     shown = "".join(f"<div><span>{word}</span> <b>{minus(decimal(value, up, sheet.digits))}</b></div>"
                     for value, up, word in figures)
     note = (f"Rounded outward to {sheet.digits} digits: the lower bound down, the upper bound and the difference up."
@@ -130,10 +140,11 @@ def _bounded(sheet: Sheet) -> str:
 
 
 def _sent(sheet: Sheet) -> str:
-    """What the stream says, where it is not the model's own polynomial: the factor, and what the variables stand for."""
+    """What the stream says, where that is not the model's own polynomial, and what the variables stand for."""
     if sheet.as_sent:
-        return ('<p class="small">problem.bin has the polynomial itself (recorded factor 1), in the same variables, and a range '
-                "from −1 to 1 as 1 − <i>x</i><sup>2</sup> ≥ 0.</p>")
+        ranges = any(range_of(condition) is not None for condition in sheet.problem.conditions)
+        return ('<p class="small">problem.bin has the polynomial itself (recorded factor 1), in the same variables'
+                + (", and a range from −1 to 1 as 1 − <i>x</i><sup>2</sup> ≥ 0" if ranges else "") + ".</p>")
     names = [v.inner for v in sheet.variables]
     meant = standing(sheet.variables, MEANT)
     of = "the polynomial above" if sheet.factor == 1 else f"{sheet.factor} times the polynomial above"
@@ -150,12 +161,18 @@ def _exact(sheet: Sheet) -> str:
     rows = [("lower", f"{low.p}/{low.q}", a), ("upper", f"{high.p}/{high.q}", b)]
     if not sheet.verdict.empty:
         rows.append(("gap", sheet.verdict.lines[2].split()[1], b - a))
-    filed, reduced = ("as filed", "reduced") if sheet.factor == 1 else ("of f, as filed", f"divided by {sheet.factor}, reduced")
+    heads = ("", "as filed", "reduced")
+    if sheet.factor != 1:
+        heads = ("", "of f, as filed", f"divided by {sheet.factor}, reduced")
     table = "".join(f'<tr><th>{word}</th><td class="mono">{said}</td><td class="mono">{fraction(value)}</td></tr>'
                     for word, said, value in rows)
     lines = escape("\n".join(sheet.verdict.lines))
-    return (f'<div class="columns"><div><h2>Exact fractions</h2><table><tr><th></th><th>{filed}</th><th>{reduced}</th>'
-            f'</tr>{table}</table></div><div class="narrow"><h2>What gapcheck printed</h2><pre>{lines}</pre></div></div>')
+    return (f'<div class="columns"><div><h2>Exact fractions</h2><table>{_heads(heads)}{table}</table></div>'
+            f'<div class="narrow"><h2>What gapcheck printed</h2><pre>{lines}</pre></div></div>')
+
+
+def _heads(words: tuple[str, ...]) -> str:
+    return "<tr>" + "".join(f"<th>{word}</th>" for word in words) + "</tr>"
 
 
 def _points(sheet: Sheet) -> str:
@@ -170,25 +187,27 @@ def _points(sheet: Sheet) -> str:
             value = evaluate(sheet.problem.objective, point) / sheet.factor
             found, off = minus(_short(value)), decimal(abs(sheet.bounds[side] - value), True, sheet.digits + 3)
             places.append(f"{minus(_short(value))} is attained at {point_html(sheet.variables, point, PLACE)}")
-        rows.append(f"<tr><th>{word}</th><td>{found}</td><td>{off}</td><td>{minus(escape(sheet.relaxations[side]))}</td>"
+        relaxation = minus(escape(sheet.relaxations[side]))
+        rows.append(f"<tr><th>{word}</th><td>{found}</td><td>{off}</td><td>{relaxation}</td>"
                     f"<td>{len(certificate.rows)}</td></tr>")
-    return ("<h2>How tight the bounds are</h2><table><tr><th></th><th>attained, exactly, at an allowed point</th>"
-            "<th>the bound is off by at most</th><th>the solver's relaxation</th><th>rows</th></tr>" + "".join(rows)
-            + "</table>" + "".join(f'<p class="formula small">{place}</p>' for place in places))
+    heads = ("", "attained, exactly, at an allowed point", "the bound is off by at most", "the solver's relaxation",
+             "rows")
+    return (f"<h2>How tight the bounds are</h2><table>{_heads(heads)}{''.join(rows)}</table>"
+            + "".join(f'<p class="formula small">{place}</p>' for place in places))
 
 
 def _short(value: Fraction) -> str:
+    """The value exactly, or the first digits of it."""
     text = fraction(value)
-    return text if len(text) <= 20 else f"{decimal(value, False, 9)}…"
+    return text if len(text) <= 20 else f"{decimal(value, value < 0, 9)}…"
 
 
 def _picture(sheet: Sheet) -> str:
     """The picture of the blocks, which takes the room that is left."""
-    picture = sheet.picture
-    if 'height="' in picture:
-        natural = float(picture.split('height="', 1)[1].split('"', 1)[0])
-        picture = picture.replace("<svg ", f'<svg preserveAspectRatio="xMinYMin" style="max-height:{LARGEST * natural:.0f}px" ', 1)
-    return (f'<div class="blocks"><h2>Blocks of the bases: {escape(sheet.blocks)}</h2><div>{picture}</div></div>')
+    natural = float(sheet.picture.split('height="', 1)[1].split('"', 1)[0])
+    limits = f'preserveAspectRatio="xMinYMin" style="max-height:{LARGEST * natural:.0f}px"'
+    picture = sheet.picture.replace("<svg ", f"<svg {limits} ", 1)
+    return f'<div class="blocks"><h2>Blocks of the bases: {escape(sheet.blocks)}</h2><div>{picture}</div></div>'
 
 
 def _end(sheet: Sheet) -> str:
@@ -196,11 +215,6 @@ def _end(sheet: Sheet) -> str:
     sums = "".join(f'<tr><td class="mono">{escape(name)}</td><td class="mono">{digest}</td></tr>'
                    for name, digest in sheet.sums)
     versions = ", ".join(f"{escape(a)} {escape(b)}" for a, b in sheet.versions)
-    return (f'<div class="columns"><div class="wide"><h2>SHA-256 of the files and of gapcheck</h2><table class="sums">{sums}'
-            f'</table><p class="small">Made with {versions}.</p></div>'
-            '<div><h2>To check it again</h2><p class="small">In the folder of the files <code>sha256sum -c SUMS</code>, then '
-            "<code>gapcheck problem.bin low.bin high.bin</code>: it must print the lines above. Nothing else is trusted, "
-            "neither solver nor gapfile nor this page.</p>"
-            '<h2>What is not claimed</h2><ul class="small"><li>That the polynomial and the region are those of the bid: compare '
-            "them.</li><li>That the bounds are the best: what is attained stands above.</li>"
-            "<li>Anything about points outside the region, or with coordinates that are not rational.</li></ul></div></div>")
+    return (f'<div class="columns"><div class="wide"><h2>SHA-256 of the files and of gapcheck</h2>'
+            f'<table class="sums">{sums}</table><p class="small">Made with {versions}.</p></div>'
+            f"<div>{AGAIN}</div></div>")

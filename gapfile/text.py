@@ -10,8 +10,8 @@ from dataclasses import dataclass
 from functools import lru_cache
 from typing import Optional
 
-from .commands import (BOTH, CERTIFICATE, PROBLEM, ONE, TABLE, Kind, Layout, Monomial, fits, kind_of, monomial_text, read_command,
-                       write_command)
+from .commands import (BOTH, CERTIFICATE, ONE, TABLE, Kind, Layout, Monomial, fits, kind_of, monomial_text,
+                       read_command, write_command)
 from .reading import Problem, Refusal, Refused, read_certificate, read_problem
 
 DEFAULT_NAMES = [f"x{i}" for i in range(1, 9)]
@@ -179,17 +179,18 @@ def encode(text: str) -> tuple[bytes, list[int]]:
     return bytes(out), numbers
 
 
-BY_WORD: dict[str, Layout] = {layout.word: layout for layout in (*PROBLEM.values(), *CERTIFICATE.values())
-                              if layout.word != "bound"}
+BY_WORD: dict[str, Layout] = {layout.word: layout for layout in BOTH.values() if layout.word != "bound"}
 FORMS = {
     "variables": "variables NAME ..", "objective": "objective COEFFICIENT MONOMIAL",
-    "term": "term COEFFICIENT MONOMIAL", "basis": "basis NUMBER MONOMIAL", "rule": "rule NUMBER", "order": "order NUMBER",
+    "term": "term COEFFICIENT MONOMIAL", "basis": "basis NUMBER MONOMIAL",
+    "rule": "rule NUMBER", "order": "order NUMBER",
     "lower": "lower P/Q scale D", "upper": "upper P/Q scale D", "row": "row BASIS weight NUMBER",
     "signed": "signed BASIS weight NUMBER", "entry": "entry INDEX FACTOR", "wide": "wide INDEX FACTOR",
     "note": "note with 8 bytes in hexadecimal", "bytes": "bytes in hexadecimal",
 }
 OPERANDS = {
-    "objective": ("coefficient",), "term": ("coefficient",), "basis": ("basis",), "rule": ("rule",), "order": ("order",),
+    "objective": ("coefficient",), "term": ("coefficient",), "basis": ("basis",),
+    "rule": ("rule",), "order": ("order",),
     "bound": ("side", "D", "p", "q"), "row": ("basis", "weight"), "signed": ("basis", "weight"),
     "entry": ("index", "factor"), "wide": ("index", "factor"),
 }

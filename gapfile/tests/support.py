@@ -17,7 +17,7 @@ RECORDED = ROOT / "gapfile/recorded"
 CASE_F = ROOT / "crates/gapcheck/data"
 BUILT = (ROOT / "target/bin/gapcheck").exists() and (ROOT / "target/bin/replay").exists()
 _beside = Path(os.environ.get("GAPFILE_SHARED", ROOT.parent / "shared"))
-SHARED: Optional[Path] = _beside if (_beside / "vectors").is_dir() else None       # vectors and examples of another hand
+SHARED: Optional[Path] = _beside if (_beside / "vectors").is_dir() else None       # vectors of another hand
 LENGTHS = {"d": 6, "x": 4}          # how many runs a record has, where they are not 3
 
 needs_programs = unittest.skipUnless(BUILT, "gapcheck and replay are not built (rt check gapcheck replay)")
@@ -75,10 +75,10 @@ def corpus() -> Iterator[tuple[str, list[bytes], str]]:
     return answered(ROOT / "crates/replay/stdin", ROOT / "crates/replay/stdout")
 
 
-def vectors(kind: str) -> Iterator[tuple[str, list[bytes], str]]:
+def vectors(kind: str, part: str = "core") -> Iterator[tuple[str, list[bytes], str]]:
     """The vectors of document 02 for a kind of record; none where they are not beside the repository."""
     if SHARED:
-        file = SHARED / f"vectors/02/core-{kind}.records"
+        file = SHARED / f"vectors/02/{part}-{kind}.records"
         yield from answered(file, file.with_suffix(".lines"))
 
 

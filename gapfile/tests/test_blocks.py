@@ -8,7 +8,7 @@ from pathlib import Path
 from gapfile.blocks import symmetries
 from gapfile.picture import label
 from gapfile.reading import read_problem
-from gapfile.tests.support import EXAMPLES, needs_programs, run
+from gapfile.tests.support import EXAMPLES, corpus, needs_programs, run, vectors
 from gapfile.tests.test_explain import case_h
 from gapfile.text import encode
 
@@ -27,6 +27,17 @@ class Symmetries(unittest.TestCase):
         self.assertEqual(self.masks("variables a b c\nobjective 1 a*b\nconstraint\nterm 1 b*c\nend"), [0, 7])
         self.assertEqual(self.masks("variables a b c\nobjective 1 a\nequality\nterm 1 b^3*c\nend"), [0, 6])
         self.assertEqual(len(self.masks("variables a b c d e f g h\nend")), 256)
+
+    def test_as_the_checker(self) -> None:
+        """The masks of the stored corpus, and of the vectors where they are."""
+        seen = 0
+        for kind, runs, answer in (*corpus(), *vectors("s", "calls")):
+            words = answer.split()
+            if kind == "s" and words[0] == "symmetries":
+                masks = symmetries(read_problem(runs[0]))
+                self.assertEqual((len(masks), bytes(masks)), (int(words[1]), bytes.fromhex(words[2])[:len(masks)]))
+                seen += 1
+        self.assertGreater(seen, 20)
 
     def test_none(self) -> None:
         self.assertEqual(self.masks("variables a b\nobjective 1 a\nobjective 1 b\nend"), [0])
@@ -75,11 +86,21 @@ class BlocksOfAProblem(unittest.TestCase):
         self.assertEqual(self.blocks(stream, "--names", "load")[0], 2)
 
     def test_case_e_by_both_rules(self) -> None:
-        """Under rule 1 x times x^2 puts x^3 into S, and 1 and x^3 join; under rule 2 it is counted and joins nothing. Counted are
-        1, x, x^3 and x^6 under both."""
+        """Under rule 1 x times x^2 puts x^3 into S, and 1 and x^3 join; under rule 2 it is counted and joins nothing.
+        Counted are 1, x, x^3 and x^6 under both."""
         for rule, blocks, rounds in (("", 2, 3), ("rule 1\n", 2, 3), ("rule 2\n", 3, 1)):
             lines = self.blocks(encode(CASE_E.format(rule))[0])[1].splitlines()
-            self.assertEqual(lines[:4], [f"blocks {blocks}", f"rounds {rounds}", f"rule {rule[5:6] or 1}", "keys 4 of 2048"])
+            self.assertEqual(lines[:4], [f"blocks {blocks}", f"rounds {rounds}", f"rule {rule[5:6] or 1}",
+                                         "keys 4 of 2048"])
+
+    def test_chosen_order(self) -> None:
+        """Case E after one round: x^3 is in S, and nothing has joined. After two 1 and x^3 are one block."""
+        for order, blocks in ((1, 3), (2, 2)):
+            lines = self.blocks(encode(CASE_E.format(f"order {order}\n"))[0])[1].splitlines()
+            self.assertEqual(lines[:4], [f"blocks {blocks}", f"rounds {order} (at most {order})", "rule 1",
+                                         "keys 4 of 2048"])
+        lines = self.blocks(encode(CASE_E.format("rule 2\norder 9\n"))[0])[1].splitlines()
+        self.assertEqual(lines[:4], ["blocks 3", "rounds 1 (at most 9)", "rule 2", "keys 4 of 2048"])
 
     def test_rule_2_counts_other_keys(self) -> None:
         """The closed support of two_decks_rule2 has 17 monomials and 21 are compared; under rule 1 it has 26."""

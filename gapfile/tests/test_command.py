@@ -46,8 +46,8 @@ class Usage(unittest.TestCase):
     def test_wrong(self) -> None:
         self.assertEqual(run("nothing")[0], 2)
         status, _, err = run("check", "no_such_folder")
-        self.assertEqual((status, err), (2, "gapfile: no_such_folder is no folder; give a folder, three files, or a problem "
-                                            "and one certificate\n"))
+        self.assertEqual((status, err), (2, "gapfile: no_such_folder is no folder; give a folder, three files, or a "
+                                            "problem and one certificate\n"))
         self.assertEqual(run("check", "a", "b", "c", "d")[0], 2)
         self.assertEqual(run("decode", "no_such_file")[2], "gapfile: no_such_file: No such file or directory\n")
         self.assertEqual(run("decode", "--names", "a,a", CASE_F / "problem.bin")[0], 2)
@@ -69,7 +69,7 @@ class TextForm(unittest.TestCase):
             self.assertEqual(binary.read_bytes(), (CASE_F / "low.bin").read_bytes())
 
     def test_wrong_text(self) -> None:
-        """What can be written is written, and said to be refused; what can not is named by its line, and nothing is written."""
+        """What can be written is written, and said to be refused; what can not is named by its line."""
         with tempfile.TemporaryDirectory() as folder:
             text, binary = Path(folder) / "low.txt", Path(folder) / "low.bin"
             text.write_text("# two\nlower 1/1 scale 1\nentry 0 1\ndone\n")
@@ -111,7 +111,7 @@ class Check(unittest.TestCase):
                                      "gap    97899/1625 = 60.245539 (rounded up)"])
 
     def test_every_example(self) -> None:
-        for folder in sorted(EXAMPLES.glob("*/")):
+        for folder in sorted(file.parent for file in EXAMPLES.glob("*/problem.bin")):
             lines = run("check", "--second", folder)[1].splitlines()
             self.assertEqual(lines[:4], (folder / "expected").read_text().splitlines())
             self.assertTrue(lines[-1].startswith("second: ") and lines[-1].endswith(" agrees"), lines[-1])
@@ -156,17 +156,19 @@ class Check(unittest.TestCase):
 
 
 class Steps(unittest.TestCase):
-    def said(self, patience: float, wait: float) -> str:
-        err = io.StringIO()
+    def said(self, patience: float, most: float) -> str:
+        """What is said of two steps, the first of which goes on until something is said, or for so long."""
+        err, start = io.StringIO(), time.monotonic()
         with contextlib.redirect_stderr(err), Progress(patience) as say:
             say("first")
-            time.sleep(wait)
+            while not err.getvalue() and time.monotonic() - start < most:
+                time.sleep(0.01)
             say("second")
         return err.getvalue()
 
     def test_only_what_takes_long(self) -> None:
         self.assertEqual(self.said(60, 0), "")
-        self.assertEqual(self.said(0.01, 0.5), "gapfile: first\ngapfile: second\n")
+        self.assertEqual(self.said(0.01, 60), "gapfile: first\ngapfile: second\n")
 
 
 if __name__ == "__main__":

@@ -1,4 +1,5 @@
-"""What a refusal means: single changes with the differences worked out by hand, places, rows over two blocks, the limit."""
+"""What a refusal means: single changes with the differences worked out by hand, places, rows over two blocks, the
+limit."""
 import unittest
 
 from gapfile.tests.support import CASE_F, EXAMPLES, case_f, folder_of, needs_programs, run
@@ -33,7 +34,8 @@ class Explain(unittest.TestCase):
         self.assertEqual(status, 0)
         self.assertEqual(out.splitlines()[4:], [
             "accepted, and the bounds cross: at least 2 and at most -2, so no rational point meets all the conditions",
-            "those with rows contradict each other:", "  condition 1: 1 - a^2 - b^2 >= 0", "  condition 2: a + b - 2 >= 0"])
+            "those with rows contradict each other:", "  condition 1: 1 - a^2 - b^2 >= 0",
+            "  condition 2: a + b - 2 >= 0"])
 
     def test_empty_with_equalities(self) -> None:
         """-1 = -(x) + (x - 1), beside a condition that no row is on."""
@@ -51,9 +53,10 @@ class Explain(unittest.TestCase):
         problem, low, high = case_f()
         out = self.explained(problem, low[:20] + b"\x03\x00" + low[22:], high)
         self.assertEqual(out[:4], ["refused 9 1 0 1", "the identity is false, in the first certificate",
-                                   "line 1, byte 0: lower -1/1 scale 2", "the smallest key that differs is 1, that of x1"])
-        self.assertEqual(out[4], "2 monomials differ; the left is D x (q x objective - p), the right the sum of the rows; "
-                                 "D x q is 2")
+                                   "line 1, byte 0: lower -1/1 scale 2",
+                                   "the smallest key that differs is 1, that of x1"])
+        self.assertEqual(out[4], "2 monomials differ; the left is D x (q x objective - p), the right the sum of the "
+                                 "rows; D x q is 2")
         self.assertEqual(out[5:], ["  x1^2  left 0  right 8  difference 8  (4 in the objective's units)",
                                    "  x1    left 2  right 6  difference 4  (2 in the objective's units)"])
 
@@ -107,12 +110,13 @@ class Explain(unittest.TestCase):
     def test_place(self) -> None:
         problem, low, high = case_f()
         out = self.explained(problem, low[:19] + b"\x02" + low[20:], high)
-        self.assertEqual(out[2:], ["line 4, byte 18: entry 2 1", "why: the index 2 is not below the length 2 of basis 0"])
+        self.assertEqual(out[2:], ["line 4, byte 18: entry 2 1",
+                                   "why: the index 2 is not below the length 2 of basis 0"])
         self.assertEqual(self.explained(problem[:-1], low, high)[2:],
                          ["after line 8, at byte 68, the end of the file", "why: the problem has no end command"])
         self.assertEqual(self.explained(problem, low, high[:5])[:3],
-                         ["refused 2 2 0 0", "the stream is cut, has no end, or goes on after its end, in the second certificate",
-                          "line 1, byte 0: bytes 10 01 02 00 01"])
+                         ["refused 2 2 0 0", "the stream is cut, has no end, or goes on after its end, in the second "
+                          "certificate", "line 1, byte 0: bytes 10 01 02 00 01"])
 
     def test_sides(self) -> None:
         problem, low, high = case_f()
@@ -129,22 +133,25 @@ class Explain(unittest.TestCase):
 
     def test_two_blocks(self) -> None:
         """Case D: a row on x1 and x2."""
-        problem = encode("variables x1 x2\nobjective 1 x1^2\nobjective 1 x2^2\nbasis 0 1\nbasis 0 x1\nbasis 0 x2\nend")[0]
+        problem = encode("variables x1 x2\nobjective 1 x1^2\nobjective 1 x2^2\n"
+                         "basis 0 1\nbasis 0 x1\nbasis 0 x2\nend")[0]
         low = encode("lower 0/1 scale 1\nrow 0 weight 1\nentry 1 1\nentry 2 1\ndone")[0]
         self.assertEqual(self.explained(problem, low, b"")[2:], [
             "line 2, byte 10: row 0 weight 1", "line 3: entry 1, factor 1, x1  block 1",
             "line 4: entry 2, factor 1, x2  block 2   <- the first entry outside the row's first block",
-            "block 1 of basis 0: x1", "block 2 of basis 0: x2", "split the row by blocks; `gapfile blocks` shows them all"])
+            "block 1 of basis 0: x1", "block 2 of basis 0: x2",
+            "split the row by blocks; `gapfile blocks` shows them all"])
 
     def test_too_many_keys(self) -> None:
-        """Case H has exactly 2,048: 64 blocks of one, so 64 doubled subsets times 32 terms. With x1 as objective 1 and x1 join, as
-        their sum is in S, and more follow."""
+        """Case H has exactly 2,048: 64 blocks of one, so 64 doubled subsets times 32 terms. With x1 as objective 1 and
+        x1 join, as their sum is in S, and more follow."""
         out = self.explained(case_h("objective 1 x1"), b"", b"")
         self.assertEqual(out[0], "refused 7 0 0 0")
         self.assertRegex(out[2], r"^\d+ monomials, \d+ too many; by basis:$")
         counts = dict(line.strip().split(": ", 1) for line in out[3:-1])
         self.assertEqual(list(counts), ["objective", "basis 0", "basis 1"])
-        self.assertEqual((counts["objective"], counts["basis 0"]), ("1, of them 0 from nowhere else", "0, of them 0 from nowhere else"))
+        self.assertEqual(counts["objective"], "1, of them 0 from nowhere else")
+        self.assertEqual(counts["basis 0"], "0, of them 0 from nowhere else")
         total = int(out[2].split()[0])
         self.assertEqual(counts["basis 1"], f"{total}, of them {total - 1} from nowhere else")
 

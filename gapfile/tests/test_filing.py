@@ -1,4 +1,5 @@
-"""Filing: the sheet's figures against fractions computed apart, sums, and that nothing is filed that was not accepted."""
+"""Filing: the sheet's figures against fractions computed apart, sums, and that nothing is filed that was not
+accepted."""
 import hashlib
 import html
 import json
@@ -25,8 +26,8 @@ FILES = {"problem.bin", "low.bin", "high.bin", "model.gap", "manifest.json", "pr
 
 def outward(p: int, q: int, up: bool, digits: int = 6) -> str:
     """So many digits, by another way than the tool's: the decimal module, which rounds the quotient once."""
-    exact = Context(prec=60, rounding=ROUND_CEILING if up else ROUND_FLOOR)
-    value = exact.divide(Decimal(p), Decimal(q)).quantize(Decimal(1).scaleb(-digits), ROUND_CEILING if up else ROUND_FLOOR)
+    way = ROUND_CEILING if up else ROUND_FLOOR
+    value = Context(prec=60, rounding=way).divide(Decimal(p), Decimal(q)).quantize(Decimal(1).scaleb(-digits), way)
     text = f"{value:f}"
     return text.rstrip("0").rstrip(".") if "." in text else text
 
@@ -63,16 +64,18 @@ class Page(HTMLParser):
 class Filing(unittest.TestCase):
     kept: tempfile.TemporaryDirectory[str]
     folders: dict[str, Path]
+    said: dict[str, str]
 
     @classmethod
     def setUpClass(cls) -> None:
         cls.kept = tempfile.TemporaryDirectory()
         cls.folders = {}
+        cls.said = {}
         for name in ("two_decks", "chained_wood", "crosstalk"):
             folder = Path(cls.kept.name) / name
-            status, _, err = run("file", EXAMPLES / f"{name}.gap", "-o", folder, "--answers", RECORDED / name)
+            status, out, err = run("file", EXAMPLES / f"{name}.gap", "-o", folder, "--answers", RECORDED / name)
             assert status == 0, err
-            cls.folders[name] = folder
+            cls.folders[name], cls.said[name] = folder, out.replace(str(folder), name)
 
     @classmethod
     def tearDownClass(cls) -> None:
@@ -85,6 +88,14 @@ class Filing(unittest.TestCase):
         """The text of the sheet without tags."""
         text = html.unescape(re.sub(r"<style>.*?</style>|<.*?>", "", self.sheet(name), flags=re.DOTALL))
         return text.replace("\u2002", " ")
+
+    def test_readme(self) -> None:
+        """What the README says that the two commands print is what they print."""
+        readme = (ROOT / "gapfile/README.md").read_text(encoding="utf-8")
+        for name in ("two_decks", "crosstalk"):
+            self.assertIn("".join(f"    {line}\n" for line in self.said[name].splitlines()), readme)
+        model = (EXAMPLES / "crosstalk.gap").read_text()
+        self.assertIn("".join(f"    {line}\n" for line in model.splitlines()), readme)
 
     def test_figures(self) -> None:
         """The three figures from the bytes of the certificates, divided by the factor."""
@@ -119,8 +130,8 @@ class Filing(unittest.TestCase):
         self.assertIn("1 − u12 ≥ 0;  1 − u22 ≥ 0;  1 − u1 − u2 ≥ 0;  −1 + u1 − 2·u2 = 0", seen)
         self.assertIn("with  a = 20 + 20·u1,  b = 20 + 20·u2", seen)
         seen = self.seen("chained_wood")
-        self.assertIn("42 − 2·x1 − 40·x2 − 2·x3 − 40·x4 + x12 + 110.1·x22 + 19.8·x2·x4 + x32 + 100.1·x42 − 200·x12·x2 − "
-                      "180·x32·x4 + 100·x14 + 90·x34where  0 ≤ x1, x2, x3, x4 ≤ 1;  1 − x1 − x2 − x3 − x4 ≥ 0", seen)
+        self.assertIn("42 − 2·x1 − 40·x2 − 2·x3 − 40·x4 + x12 + 110.1·x22 + 19.8·x2·x4 + x32 + 100.1·x42 − 200·x12·x2 "
+                      "− 180·x32·x4 + 100·x14 + 90·x34where  0 ≤ x1, x2, x3, x4 ≤ 1;  1 − x1 − x2 − x3 − x4 ≥ 0", seen)
         self.assertIn("As sent in problem.bin: 40 times the polynomial above (recorded factor 40)", seen)
         self.assertIn("Polynomial and region, read from problem.bin", self.seen("two_decks"))
 
@@ -155,7 +166,8 @@ class Filing(unittest.TestCase):
         for folder in self.folders.values():
             lines = subprocess.run([ROOT / "target/bin/gapcheck"], cwd=folder, capture_output=True, text=True).stdout
             self.assertEqual((folder / "verdict.txt").read_text(), lines)
-            self.assertIn(f"<pre>{html.escape(lines.rstrip())}</pre>", (folder / "sheet.html").read_text(encoding="utf-8"))
+            page = (folder / "sheet.html").read_text(encoding="utf-8")
+            self.assertIn(f"<pre>{html.escape(lines.rstrip())}</pre>", page)
 
     def test_sums(self) -> None:
         for folder in self.folders.values():
@@ -200,8 +212,21 @@ class Filing(unittest.TestCase):
                 (folder / name).write_bytes(stream)
                 with self.assertRaises(NotAccepted):
                     file_folder(folder)
-                self.assertEqual({p.name for p in folder.iterdir()}, FILES - {"problem.txt", "verdict.txt", "blocks.svg",
-                                                                              "sheet.html"})
+                self.assertEqual({p.name for p in folder.iterdir()},
+                                 FILES - {"problem.txt", "verdict.txt", "blocks.svg", "sheet.html"})
+
+    def test_a_manifest_that_does_not_fit(self) -> None:
+        """A factor below 1 would turn the bounds around, and so would a range from its upper to its lower end."""
+        for key, value in (("factor", -1), ("half", "-1"), ("variables", [])):
+            with tempfile.TemporaryDirectory() as kept:
+                folder = Path(kept) / "turned"
+                shutil.copytree(self.folders["two_decks"], folder)
+                manifest = json.loads((folder / "manifest.json").read_text())
+                (manifest["variables"][0] if key == "half" else manifest)[key] = value
+                (folder / "manifest.json").write_text(json.dumps(manifest))
+                with self.assertRaises(NotAccepted):
+                    file_folder(folder)
+                self.assertFalse((folder / "sheet.html").exists())
 
     def test_solve_writes_nothing_that_was_not_accepted(self) -> None:
         with tempfile.TemporaryDirectory() as kept, \
@@ -233,8 +258,8 @@ class Filing(unittest.TestCase):
             model = Path(folder) / "m.gap"
             model.write_text("var x\nbound x +\n")
             status, _, err = run("solve", model, "-o", folder)
-            self.assertEqual((status, err), (2, f"gapfile: {model}: line 2, column 10: expected a number, a variable or `(`, "
-                                                "found the end of the line\n"))
+            self.assertEqual((status, err), (2, f"gapfile: {model}: line 2, column 10: expected a number, a variable "
+                                                "or `(`, found the end of the line\n"))
             status, _, err = run("solve", Path(folder) / "none.gap", "-o", folder)
             self.assertEqual((status, err), (2, f"gapfile: {folder}/none.gap: No such file or directory\n"))
             status, _, err = run("solve", EXAMPLES / "two_decks.gap", "-o", folder, "--answers", folder)

@@ -41,8 +41,9 @@ class Reading(unittest.TestCase):
         return evaluate(bound, [Fraction(3)])
 
     def test_expressions(self) -> None:
-        for text, value in (("1/3*x", 1), ("-x^2", -9), ("2 - 3 - 4", -5), ("2*(x - 1)^2/4", 2), ("1.25", Fraction(5, 4)),
-                            ("-(-x)", 3), ("2*-x", -6), ("x − 1", 2), (".5*x", Fraction(3, 2)), ("x^0", 1), ("6/2/3", 1)):
+        for text, value in (("1/3*x", 1), ("-x^2", -9), ("2 - 3 - 4", -5), ("2*(x - 1)^2/4", 2), ("-(-x)", 3),
+                            ("1.25", Fraction(5, 4)), ("2*-x", -6), ("x − 1", 2), (".5*x", Fraction(3, 2)), ("x^0", 1),
+                            ("6/2/3", 1)):
             self.assertEqual(self.value(text), value, text)
 
     def test_errors(self) -> None:
@@ -62,6 +63,8 @@ class Reading(unittest.TestCase):
                 ("var x\nbound x\nbound x", 3, 1, "`bound` stands a second time, first in line 2"),
                 ("var x\nwhere x > 1\nbound x", 2, 9, "expected an operator, `<=`, `>=` or `==`, found `>`"),
                 ("var x\nwhere x\nbound x", 2, 8, "expected an operator, `<=`, `>=` or `==`"),
+                ("var x\nwhere x - x <= 1\nbound x", 2, 13, "the condition has no variable that is left"),
+                ("var x\nwhere 1 == 2\nbound x", 2, 9, "the condition has no variable that is left"),
                 ("var x\n  bond x", 2, 3, "expected title, var, bound, where or degree, found `bond`"),
                 ("var x\nbound x\ndegree 3", 3, 8, "expected auto or an even degree"),
                 ("var a b c d e f g h i\nbound a", 1, 21, "more than 8 variables"),
@@ -116,7 +119,8 @@ class Posing(unittest.TestCase):
         for text, said in (("var x in [0, 1]\nbound 5000000000*x", "beyond 2147483647"),
                            ("var x in [0, 1]\nbound x\nwhere x >= 0.123456789", "condition of line 3"),
                            ("var x in [0, 1]\nbound x^17", "degree 17"),
-                           ("var a b c d e f g h in [0, 1]\nbound a\nwhere a + b <= 1", "9 conditions, of which 8 are ranges")):
+                           ("var a b c d e f g h in [0, 1]\nbound a\nwhere a + b <= 1",
+                            "9 conditions, of which 8 are ranges")):
             with self.assertRaises(LimitError) as caught:
                 pose(parse(text))
             self.assertIn(said, str(caught.exception))

@@ -2,10 +2,10 @@
 import unittest
 from fractions import Fraction
 
-from gapfile.equalities import Equalities, rational_point
+from gapfile.equalities import Equalities, rational_points
 from gapfile.model import parse
 from gapfile.points import Attained, attain
-from gapfile.polynomials import evaluate
+from gapfile.polynomials import Polynomial, evaluate
 from gapfile.problem import allowed, pose
 
 
@@ -53,8 +53,18 @@ class Points(unittest.TestCase):
     def test_no_rational_point(self) -> None:
         """a^2 + b^2 = 3 has real points and no rational one."""
         self.assertIsNone(attain(pose(parse("var a b\nbound a\nwhere a^2 + b^2 == 3")).problem, 0))
-        terms = {(2,) + (0,) * 7: Fraction(1), (0, 2) + (0,) * 6: Fraction(1), (0,) * 8: Fraction(-3)}
-        self.assertIsNone(rational_point(terms, [0, 1]))
+        terms: Polynomial = {(2,) + (0,) * 7: Fraction(1), (0, 2) + (0,) * 6: Fraction(1), (0,) * 8: Fraction(-3)}
+        self.assertEqual(list(rational_points(terms, [0, 1])), [])
+
+    def test_choices(self) -> None:
+        """Variables that are 0 or 1, and one that follows from them."""
+        found = self.attained("var a b c in [0, 1]\nvar d in [0, 9]\nbound 2*a*b - 3*b*c + a - d\nwhere a^2 == a\n"
+                              "where b == b^2\nwhere c*(c - 1) == 0\nwhere d == a + b + c", 0)
+        self.assertEqual((found.point, found.value), ([0, 1, 1, 2], -5))
+        found = self.attained("var x in [-1, 9]\nbound x\nwhere 7*x + 1/3*x^2 == 0", 1)
+        self.assertEqual(found.point, [0])
+        found = self.attained("var x in [0, 4]\nbound (x - 3)^2\nwhere x*(x - 1)*(x - 4) == 0", 0)
+        self.assertEqual((found.point, found.value), ([4], 1))
 
     def test_empty(self) -> None:
         self.assertIsNone(attain(pose(parse("var x in [0, 1]\nbound x\nwhere x >= 2")).problem, 0))

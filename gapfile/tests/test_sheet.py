@@ -1,4 +1,4 @@
-"""The sheet: its formulas, and the page opened in a real browser where one is installed, the fullest page among them."""
+"""The sheet: its formulas, and the page opened in a real browser where one is installed, also the fullest one."""
 import random
 import re
 import shutil
@@ -15,16 +15,18 @@ from unittest import mock
 
 from gapfile import sheet as sheet_module
 from gapfile.commands import Monomial, ONE
-from gapfile.formulas import Scaled, formula, in_the_model, joined, letters, point_html, range_of, region, standing
+from gapfile.formulas import Scaled, formula, in_the_model, joined, letters, point_html, region, standing
 from gapfile.picture import as_svg
 from gapfile.polynomials import evaluate
+from gapfile.problem import range_of
 from gapfile.programs import Blocks, Verdict
 from gapfile.reading import Certificate, Condition, Problem, Row
 from gapfile.sheet import Sheet, page
 from gapfile.tests.support import EXAMPLES, RECORDED, needs_programs, run
 
 BROWSER = shutil.which("chromium") or shutil.which("chromium-browser") or shutil.which("google-chrome")
-FILES = ("problem.bin", "low.bin", "high.bin", "model.gap", "manifest.json", "problem.txt", "verdict.txt", "blocks.svg", "gapcheck")
+FILES = ("problem.bin", "low.bin", "high.bin", "model.gap", "manifest.json", "problem.txt", "verdict.txt", "blocks.svg",
+         "gapcheck")
 ACCENT, SQUARE, PAPER = (0x1f, 0x4f, 0x7a), (0x1f, 0x5a, 0x86), (255, 255, 255)
 
 
@@ -36,7 +38,8 @@ class Formulas(unittest.TestCase):
     variables = [Scaled("a", "u1", Fraction(20), Fraction(20)), Scaled("b", "u2", Fraction(0), Fraction(1, 2))]
 
     def test_formula(self) -> None:
-        terms = {ONE: 3, monomial(1): -1, monomial(2, 1): Fraction(1, 3), monomial(0, 10): Fraction(-1, 4)}
+        terms: dict[Monomial, Fraction | int] = {ONE: 3, monomial(1): -1, monomial(2, 1): Fraction(1, 3),
+                                                 monomial(0, 10): Fraction(-1, 4)}
         whole = "3 − <i>a</i> + 1/3·<i>a</i><sup>2</sup>·<i>b</i> − 0.25·<i>b</i><sup>10</sup>"
         self.assertEqual(formula(terms, ["a", "b"], 99), whole)
         self.assertEqual(formula(terms, ["a", "b"], 10), "3 − <i>a</i> … 2 more terms")
@@ -63,11 +66,11 @@ class Formulas(unittest.TestCase):
         self.assertEqual(region([], self.variables, 99), "no condition: all points")
 
     def test_what_is_a_range(self) -> None:
-        for terms, equality, found in (({ONE: 1, monomial(0, 2): -1}, False, 1), ({ONE: 1, monomial(0, 2): -1}, True, None),
-                                       ({ONE: 2, monomial(2): -1}, False, None), ({ONE: 1, monomial(2): -2}, False, None),
-                                       ({ONE: 1, monomial(1, 1): -1}, False, None), ({ONE: 1, monomial(2): 1}, False, None),
-                                       ({ONE: 1}, False, None)):
-            self.assertEqual(range_of(Condition(equality, terms)), found, terms)
+        self.assertEqual(range_of(Condition(False, {ONE: 1, monomial(0, 2): -1})), 1)
+        self.assertIsNone(range_of(Condition(True, {ONE: 1, monomial(0, 2): -1})))
+        for terms in ({ONE: 2, monomial(2): -1}, {ONE: 1, monomial(2): -2}, {ONE: 1, monomial(1, 1): -1},
+                      {ONE: 1, monomial(2): 1}, {ONE: 1}):
+            self.assertIsNone(range_of(Condition(False, terms)), terms)
 
     def test_variables_and_points(self) -> None:
         self.assertEqual(standing(self.variables, 99), "<i>a</i> = 20 + 20·<i>u1</i>, &ensp;<i>b</i> = 0.5·<i>u2</i>")
@@ -95,12 +98,12 @@ def fullest(chance: random.Random, variables: list[Scaled], factor: int) -> Shee
     rows = [Row(0, 1, 0)] * 128
     low, high = Certificate(0, 65535, -2 ** 31, 65521, rows), Certificate(1, 65535, 2 ** 31 - 1, 65519, rows)
     lower, upper = Fraction(low.p, low.q), Fraction(high.p, high.q)
-    lines = [f"lower {low.p}/{low.q}", f"upper {high.p}/{high.q}", f"gap {high.p * low.q - low.p * high.q}/{low.q * high.q}",
-             "rounds 576"]
+    gap = f"{high.p * low.q - low.p * high.q}/{low.q * high.q}"
+    lines = [f"lower {low.p}/{low.q}", f"upper {high.p}/{high.q}", f"gap {gap}", "rounds 576"]
     points = [[Fraction(chance.randrange(-10 ** 14, 10 ** 14), 10 ** 14 + 7) for _ in range(8)] for _ in range(2)]
-    return Sheet("A bid with many decks, on many footings, at many positions, and a title far too long for a line " * 3, problem,
-                 (low, high), Verdict(lines, None, lower, upper, False, 576), factor, variables, [*points], ["-1.23456789e-05"] * 2,
-                 as_svg(problem, blocks, [v.inner for v in variables], 3.0),
+    title = "A bid with many decks, on many footings, at many positions, and a title far too long for a line " * 3
+    return Sheet(title, problem, (low, high), Verdict(lines, None, lower, upper, False, 576), factor, variables,
+                 [*points], ["-1.23456789e-05"] * 2, as_svg(problem, blocks, [v.inner for v in variables], 3.0),
                  "27 blocks, 200 rounds, joining rule 2, 2,048 of 2,048 keys, 256 sign symmetries",
                  [(name, "f" * 64) for name in FILES],
                  [("gapfile", "1.0"), ("Python", "3.11.7"), ("the solver:", "recorded answers of csdp")])
@@ -125,7 +128,8 @@ def pixels(png: bytes) -> list[list[tuple[int, ...]]]:
         for i in range(len(line)):
             a, b = line[i - channels] if i >= channels else 0, before[i]
             c = before[i - channels] if i >= channels else 0
-            line[i] = line[i] + (0, a, b, (a + b) // 2, min((a, b, c), key=lambda v: abs(a + b - c - v)))[raw[start]] & 255
+            nearest = min((a, b, c), key=lambda v: abs(a + b - c - v))
+            line[i] = line[i] + (0, a, b, (a + b) // 2, nearest)[raw[start]] & 255
         rows.append([tuple(line[i:i + 3]) for i in range(0, len(line), channels)])
         before = line
     return rows
@@ -134,9 +138,10 @@ def pixels(png: bytes) -> list[list[tuple[int, ...]]]:
 @unittest.skipUnless(BROWSER, "no Chromium: the page is not opened in a browser")
 class Browser(unittest.TestCase):
     def browse(self, folder: str, option: str, html: Path) -> None:
-        subprocess.run([str(BROWSER), "--headless", "--no-sandbox", "--disable-gpu", f"--user-data-dir={folder}/profile",
-                        "--no-pdf-header-footer", "--hide-scrollbars", "--force-device-scale-factor=1", "--window-size=840,1220",
-                        option, html.as_uri()], capture_output=True, check=True, timeout=240)
+        subprocess.run([str(BROWSER), "--headless", "--no-sandbox", "--disable-gpu",
+                        f"--user-data-dir={folder}/profile", "--no-pdf-header-footer", "--hide-scrollbars",
+                        "--force-device-scale-factor=1", "--window-size=840,1220", option, html.as_uri()],
+                       capture_output=True, check=True, timeout=240)
 
     def pages(self, text: str) -> int:
         """On how many pages the browser prints it."""
@@ -149,16 +154,17 @@ class Browser(unittest.TestCase):
     @needs_programs
     def test_one_page_and_a_screenshot(self) -> None:
         with tempfile.TemporaryDirectory() as folder:
-            status, _, err = run("file", EXAMPLES / "crosstalk.gap", "-o", Path(folder) / "c", "--answers", RECORDED / "crosstalk")
+            filed, picture = Path(folder) / "crosstalk", Path(folder) / "s.png"
+            status, _, err = run("file", EXAMPLES / "crosstalk.gap", "-o", filed, "--answers", RECORDED / "crosstalk")
             self.assertEqual(status, 0, err)
-            html, picture = Path(folder) / "c/sheet.html", Path(folder) / "s.png"
+            html = filed / "sheet.html"
             self.assertEqual(self.pages(html.read_text(encoding="utf-8")), 1)
             self.browse(folder, f"--screenshot={picture}", html)
             rows = pixels(picture.read_bytes())
         seen = Counter(colour for row in rows for colour in row)
         self.assertGreater(seen[PAPER], 500000)                       # the paper
         self.assertGreater(seen[ACCENT], 800)                         # the frame of the figure
-        self.assertGreater(seen[SQUARE], 18 * 100)                    # the diagonals of the blocks, 6 + 3 + 3 + 3 + 3 squares
+        self.assertGreater(seen[SQUARE], 18 * 100)                    # the diagonals, 6 + 3 + 3 + 3 + 3 squares
         dark = [sum(sum(colour) < 300 for colour in row) for row in rows]
         self.assertGreater(sum(count > 0 for count in dark), 400)     # lines of text from the top to the bottom
         self.assertTrue(any(dark[60:110]) and any(dark[900:1080]))
@@ -168,8 +174,8 @@ class Browser(unittest.TestCase):
         chance = random.Random(1)
         names = [f"position_of_the_deck_number_{k}" for k in range(1, 9)]
         plain = [Scaled(name, f"u{k + 1}", Fraction(0), Fraction(2)) for k, name in enumerate(names)]
-        odd = [replace(v, middle=Fraction(chance.randrange(-10 ** 9, 10 ** 9), 10 ** 6 + k), half=Fraction(123456789, 999983))
-               for k, v in enumerate(plain)]
+        odd = [replace(v, middle=Fraction(chance.randrange(-10 ** 9, 10 ** 9), 10 ** 6 + k),
+                       half=Fraction(123456789, 999983)) for k, v in enumerate(plain)]
         with mock.patch.object(sheet_module, "allowed", lambda *_: True):
             for variables, factor in ((plain, 3), (odd, 999999937)):
                 self.assertEqual(self.pages(page(fullest(chance, variables, factor))), 1)

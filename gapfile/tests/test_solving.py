@@ -98,24 +98,31 @@ class Statuses(unittest.TestCase):
     def test_sentences(self) -> None:
         """Every status that csdp has is a sentence; those that leave nothing to round end the way."""
         self.assertEqual(sorted(STATUS), list(range(11)))
-        model = "var x in [-1, 1]\nbound x\ndegree 4"
+        model, none = "var x in [-1, 1]\nbound x\ndegree 4", "no lower certificate of degree 4"
         for status in (1, 8, 9, 10):
-            self.assertEqual(self.sentence(status, model), f"no lower certificate of degree 4: {STATUS[status]}; try degree 6")
-        self.assertEqual(self.sentence(2, model), f"no lower certificate of degree 4: {STATUS[2]}")
+            self.assertEqual(self.sentence(status, model), f"{none}: {STATUS[status]}; try degree 6")
+        self.assertIn(f"{STATUS[2]}, and no proof of that of degree 4 could be rounded", self.sentence(2, model))
 
     def test_no_higher_degree(self) -> None:
         """Advice is given only for a degree that the limits leave room for."""
         model = "var a b c d e f g h in [-1, 1]\nbound a*b + c*d + e*f + g*h + a + c + e + g\ndegree 2"
         self.assertIn("; degree 4 is too large: basis 0 alone needs about 134 rows of 128", self.sentence(1, model))
         model = "var a b c d e f in [-1, 1]\nbound (a + b + c + d + e + f)^4\ndegree 4"
-        self.assertIn("; degree 6 is too large: basis 0 of degree 3 has 84 monomials, more than 64", self.sentence(1, model))
+        self.assertIn("; degree 6 is too large: basis 0 of degree 3 has 84 monomials, more than 64",
+                      self.sentence(1, model))
         self.assertIn("; degree 18 is too large: a basis of degree 8 reaches 16",
                       self.sentence(1, "var x in [-1, 1]\nbound x\ndegree 16"))
 
+    def test_the_next_degree_is_too_large(self) -> None:
+        model = "var a b c d e f in [-1, 1]\nbound (a + b + c + d + e + f)^4"
+        self.assertEqual(self.sentence(1, model),
+                         f"no lower certificate of degree 4: {STATUS[1]}; degree 6 is too large: basis 0 of degree 3 "
+                         "has 84 monomials, more than 64; take fewer variables or a lower degree")
+
     def test_unreachable(self) -> None:
         self.assertEqual(self.sentence(0, "var x\nbound x"),
-                         "no lower certificate of degree 2: the objective has a monomial that no product of the bases has; "
-                         "give every variable a range")
+                         "no lower certificate of degree 2: the objective has a monomial that no product of the bases "
+                         "has; give every variable a range")
 
 
 @needs_programs
@@ -132,7 +139,7 @@ class Replayed(unittest.TestCase):
         self.assertEqual(read_problem(result.problem).objective, read_problem(sent).objective)
 
     def test_chained_wood(self) -> None:
-        """0.1 in the objective and ranges from 0 to 1: the factor is recorded, and the figures are those of the model."""
+        """0.1 in the objective, ranges from 0 to 1: the factor is recorded, and the figures are those of the model."""
         result = solved("chained_wood", Recorded(RECORDED / "chained_wood"))
         self.assertEqual(result.posed.factor, 40)
         self.assertTrue(judged(result).accepted)
@@ -187,21 +194,41 @@ class WithCsdp(unittest.TestCase):
             self.assertLessEqual(abs(side.bound - side.attained.value) / result.posed.factor, Fraction(1, 1000))
 
     def test_every_model(self) -> None:
-        names = sorted(file.stem for file in EXAMPLES.glob("*.gap"))
-        self.assertLess({"chained_wood", "rosenbrock", "chained_singular", "two_decks", "bolted_decks"}, set(names))
-        for name in names:
+        names = {file.stem for file in EXAMPLES.glob("*.gap")} - {"contradictory"}
+        self.assertLess({"chained_wood", "rosenbrock", "chained_singular", "two_decks", "bolted_decks"}, names)
+        for name in sorted(names):
             with self.subTest(model=name):
                 self.close(name)
 
     def test_narrow(self) -> None:
-        for name in ("two_decks", "chained_wood", "chained_singular"):
+        for name in ("crosstalk", "bolted_decks", "chained_wood", "rosenbrock", "chained_singular"):
             with self.subTest(model=name):
                 self.close(name, True)
 
-    def test_no_certificate(self) -> None:
-        with self.assertRaises(NoCertificate) as caught:
-            solve_model(parse("var x y in [-1, 1]\nbound x*y\nwhere x^2*y^2 <= 1\ndegree 4\nwhere x >= 2"), Csdp(), True, quiet)
-        self.assertTrue(str(caught.exception).endswith("the region seems to have no points"), caught.exception)
+    def test_the_next_degree(self) -> None:
+        """a*b on a box that is not centred: degree 2 is far from what is attained, so `auto` takes degree 4."""
+        text = "var a in [1, 3]\nvar b in [-1, 9]\nbound a*b"
+        result = solve_model(parse(text), Csdp(), False, quiet)
+        self.assertEqual(result.degree, 4)
+        factor = result.posed.factor
+        self.assertEqual([side.attained and side.attained.value / factor for side in result.sides], [-3, 27])
+        self.assertLess(max(side.off for side in result.sides) / factor, Fraction(1, 1000))
+        self.assertEqual(solve_model(parse(text + "\ndegree 2"), Csdp(), False, quiet).degree, 2)
+
+    def test_choices(self) -> None:
+        """Variables that are 0 or 1."""
+        result = solve_model(parse("var a b c in [0, 1]\nbound 3*a + 2*b*c - 4*a*c - b\nwhere a^2 == a\n"
+                                   "where b^2 == b\nwhere c^2 == c"), Csdp(), False, quiet)
+        self.assertTrue(judged(result).accepted)
+        self.assertLess(max(side.off for side in result.sides) / result.posed.factor, Fraction(1, 1000))
+
+    def test_contradictory_limits(self) -> None:
+        """Where the region has no points, bounds that cross are proved, and filed without a figure."""
+        with tempfile.TemporaryDirectory() as folder:
+            status, out, _ = run("file", EXAMPLES / "contradictory.gap", "-o", folder)
+            self.assertEqual((status, out.splitlines()[2]), (0, "gap empty"))
+            self.assertIn("the bounds cross: no rational point meets all the conditions, so there is no figure", out)
+            self.assertIn("the region is empty", (Path(folder) / "sheet.html").read_text(encoding="utf-8"))
 
     def test_unbounded_region(self) -> None:
         """x^3 is bounded by no certificate where x has no range: the status is a sentence, and the exit status 3."""
