@@ -3,6 +3,7 @@ pub mod Added
 pub mod Walks
 pub mod Lists
 pub mod Merging
+pub mod Between
 pub mod Ending
 pub mod Joins
 pub mod Fresh
