@@ -4,6 +4,8 @@ pub mod Walks
 pub mod Lists
 pub mod Merging
 pub mod Between
+pub mod Sums
+pub mod Bits
 pub mod Ending
 pub mod Joins
 pub mod Fresh

@@ -84,6 +84,10 @@ pub record Crossed (T B L : List ℕ) (a b : ℕ) (S S′ : List ℕ) : Type 0 w
   pub adds : (x : ℕ) → CrossProduct T B L a b x → In x S′
   pub only : (x : ℕ) → In x S′ → In x S ⊎ CrossProduct T B L a b x
 
+-- every t + s is in S
+pub record Done (T S : List ℕ) (s : ℕ) : Type 0 where
+  pub at : (t : ℕ) → In t T → In (t + s) S
+
 -- ---- as the loops go
 -- S with the products of index k with each index of a list
 unfoldable pub addList : List ℕ → List ℕ → ℕ → List ℕ → List ℕ → List ℕ
