@@ -3,7 +3,7 @@
 // place 4096 + p has the same for the keys before place p, so that a search goes from the last key with a remainder to
 // the first.
 ghost use mathlib.Core.Path.{_≡_};
-ghost use Prim.Native.Nat.{_+_, _%_, _<_};
+ghost use Prim.Native.Nat.{_+_, _%_, _≤_, _<_};
 ghost use lib.ListN.{length, take};
 ghost use Rattle.joining_rule.specs.Sets.{member, insert};
 ghost use Rattle.key_set.specs.Table.{divisor, keysIn, Holds, Indexed, noted, Finds, Stored};
@@ -72,7 +72,10 @@ pub fn contains(table: &[u64], index: &[u16], len: usize, key: u64) -> bool
 }
 
 // Whether a key is among the first `until` of the set.
-pub fn is_before(table: &[u64], index: &[u16], until: usize, len: usize, key: u64) -> bool {
+pub fn is_before(table: &[u64], index: &[u16], until: usize, len: usize, key: u64) -> bool
+    requires { ⌜ Holds (now table) len × Indexed (now index) (now table) len × (until ≤ len) ⌝ }
+    ensures { λ r. ⌜ r ≡ member key (keysIn until (now (table .entry))) ⌝ }
+{
     match find(table, index, len, key) {
         Found::At(p) => p < until,
         Found::Nowhere => false,

@@ -1,26 +1,26 @@
--- The support in the rounds is the start and the products of every pair in one block: a merge that adds its cross
--- products keeps it so, there is one such set only, and the set after a round is it.
+-- The support in the rounds is the start and the products of every pair in one block: a basis whose pairs that come into
+-- one block add their products keeps it so, there is one such set only, and the set after a round is it.
 use mathlib.Core.Path.{_≡_, refl, sym, subst, _∙_}
 use mathlib.Core.Logic.{_⊎_, inl, inr, ⊎-elim}
 use mathlib.Core.List.{List, []}
 use Prim.Native.Nat.{ℕ, _+_, _≤_, _<_, min}
 use native.Mathlib.Omega.{arith}
+use lib.Dec.{ltb}
 use lib.ListN.{length, getD, set}
 use lib.Seq.{getD-set-same, getD-set-other}
+use borrow.Author.Tests.{ltb-true, lt-ltb}
 use Rattle.counting.proofs.Listed.{same-or-not}
 use Rattle.joining_rule.specs.Sets.{In}
-use Rattle.joining_rule.specs.Join.{merged}
 use Rattle.joining_rule.specs.Rounds.{Bases, State, joinAll, extendTo, addingBases, round}
 use Rattle.joining_rule.specs.Meaning.{Pair, sumOf}
 use Rattle.joining_rule.proofs.Rising.{Rising}
-use Rattle.joining_rule.proofs.Labels.{inOne, InOne, merged-at, two-low, in-one}
-use Rattle.joining_rule.proofs.Labels.InOne.{two, other}
-use Rattle.joining_rule.proofs.Joined.{merged-equal, join-equal}
+use Rattle.joining_rule.proofs.Joined.{join-equal}
 use Rattle.joining_rule.proofs.Full.{full-any}
 use Rattle.joining_rule.proofs.Products.{products-extend, products-full, products-within}
 use Rattle.joining_rule.proofs.Rounds.{Shaped, round-labels, round-shaped, adding-most}
 use Rattle.joining_rule.proofs.Only.{rising-same}
-use Rattle.round_laws.specs.Added.{Product, Products, CrossProduct, Crossed}
+use Rattle.round_laws.specs.Added.{Product, Products, PairProduct, NewProduct, Between}
+use Rattle.round_laws.specs.Joins.{Together, Has}
 
 module _ (n : ℕ) (g : Bases) (S₀ : List ℕ) where
   -- there is one such set only
@@ -62,89 +62,62 @@ module _ (n : ℕ) (g : Bases) (S₀ : List ℕ) where
         S (record { at = only }) .at;
   }
 
-  -- ---- two blocks a and b of basis j made one
-  module _ (L : List (List ℕ)) (S S′ : List ℕ) (p : Products n g L S₀ S) (j : ℕ) (inside : j < length L) (long : length (getD L j []) ≡ length (g .basis j)) (a b : ℕ) where
+  -- ---- basis j with blocks M instead of L
+  module _ (L : List (List ℕ)) (S S′ : List ℕ) (p : Products n g L S₀ S) (j : ℕ) (nine : j < 9) (inside : j < length L) (M : List ℕ) (coarser : Has (Together (getD L j [])) (length (g .basis j)) M) where
     abbrev L′ : List (List ℕ)
-    L′ = set L j (merged a b (getD L j []))
+    L′ = set L j M
 
-    here : getD L′ j [] ≡ merged a b (getD L j [])
-    here = getD-set-same L j (merged a b (getD L j [])) [] inside
+    here : getD L′ j [] ≡ M
+    here = getD-set-same L j M [] inside
 
     elsewhere : (y : ℕ) → (j ≡ y → ⊥) → getD L′ y [] ≡ getD L y []
-    elsewhere y d = getD-set-other L j y (merged a b (getD L j [])) [] (λ q. d (sym q))
-
-    kept-here : (i k : ℕ) → i < length (g .basis j) → k < length (g .basis j) → getD (getD L j []) i 0 ≡ getD (getD L j []) k 0 → getD (getD L′ j []) i 0 ≡ getD (getD L′ j []) k 0
-    kept-here i k u v e = rw here (merged-equal a b (getD L j []) i k (omega (arith, long)) (omega (arith, long)) e)
+    elsewhere y d = getD-set-other L j y M [] (λ q. d (sym q))
 
     kept : (y i k : ℕ) → y < n → i < length (g .basis y) → k < length (g .basis y) → getD (getD L y []) i 0 ≡ getD (getD L y []) k 0 → getD (getD L′ y []) i 0 ≡ getD (getD L′ y []) k 0
     kept y i k h u v e =
         ⊎-elim
-        (λ q. subst (λ (z : ℕ). i < length (g .basis z) → k < length (g .basis z) → getD (getD L z []) i 0 ≡ getD (getD L z []) k 0 → getD (getD L′ z []) i 0 ≡ getD (getD L′ z []) k 0) q (kept-here i k) u v e)
+        (λ q. subst (λ (z : ℕ). i < length (g .basis z) → k < length (g .basis z) → getD (getD L z []) i 0 ≡ getD (getD L z []) k 0 → getD (getD L′ z []) i 0 ≡ getD (getD L′ z []) k 0) q
+        (λ u v e. rw here (coarser .at i k u v (record { same = e }) .same)) u v e)
         (λ d. let f = elsewhere y d in rw f e)
         (same-or-not j y)
 
-    -- two that became one were one, or one of each
-    became : {u v w z : ℕ} → InOne a b u w → InOne a b v z → w ≡ z → (u ≡ v) ⊎ (((u ≡ a) × (v ≡ b)) ⊎ ((u ≡ b) × (v ≡ a)))
-    became (two (inl h)) (two (inl k)) e = inl (h ∙ sym k)
-    became (two (inl h)) (two (inr k)) e = inr (inl (h, k))
-    became (two (inr h)) (two (inl k)) e = inr (inr (h, k))
-    became (two (inr h)) (two (inr k)) e = inl (h ∙ sym k)
-    became (two h) (other k l) e = absurd (omega arith)
-    became (other h i) (two k) e = absurd (omega arith)
-    became (other h i) (other k l) e = inl e
-
-    -- products after a merge are those before and the cross products
-    pub merge-products : j < 9 → j < n → Crossed (g .multiplier j) (g .basis j) (getD L j []) a b S S′ → Products n g L′ S₀ S′
-    merge-products nine adding c = record {
+    -- where S grew as the blocks of this basis did, its products are those of the new blocks
+    pub between-products : Between (ltb j n) (g .multiplier j) (g .basis j) (getD L j []) M S S′ → Products n g L′ S₀ S′
+    between-products c = record {
       rising = c .rising (p .rising);
       starts = λ x m. c .keeps x (p .starts x m);
       full = λ x q.
           ⊎-elim
           (λ e.
-          subst (λ (z : ℕ). q .i < length (g .basis z) → q .k < length (g .basis z) → In (q .t) (g .multiplier z) → getD (getD L′ z []) (q .i) 0 ≡ getD (getD L′ z []) (q .k) 0 → sumOf g z (q .i) (q .k) (q .t) ≡ x → In x S′) e
-          (at-here x (q .i) (q .k) (q .t)) (q .pair .first) (q .pair .second) (q .pair .exponent) (q .together) (q .value))
+          subst (λ (z : ℕ). z < n → q .i < length (g .basis z) → q .k < length (g .basis z) → In (q .t) (g .multiplier z) → getD (getD L′ z []) (q .i) 0 ≡ getD (getD L′ z []) (q .k) 0 → sumOf g z (q .i) (q .k) (q .t) ≡ x → In x S′)
+          e (at-here x (q .i) (q .k) (q .t)) (q .adding) (q .pair .first) (q .pair .second) (q .pair .exponent) (q .together) (q .value))
           (λ d. c .keeps x (p .full x (before x q (let f = elsewhere (q .j) d in rw f at (q .together)))))
           (same-or-not j (q .j));
       only = λ x m.
-          ⊎-elim (λ w. ⊎-elim (λ s. inl s) (λ q. inr (product-grows L L′ x kept q)) (p .only x w)) (λ w. inr (crossing x w)) (c .only x m);
+          ⊎-elim (λ w. ⊎-elim (λ s. inl s) (λ q. inr (product-grows L L′ x kept q)) (p .only x w)) (λ w. inr (new x (ltb-true j n (w .0)) (w .1 .product))) (c .only x m);
     }
       where
         before : (x : ℕ) (q : Product n g L′ x) → getD (getD L (q .j) []) (q .i) 0 ≡ getD (getD L (q .j) []) (q .k) 0 → Product n g L x
         before x q e = record { j = q .j; i = q .i; k = q .k; t = q .t; adding = q .adding; pair = q .pair; together = e; value = q .value }
 
-        crossing : (x : ℕ) → CrossProduct (g .multiplier j) (g .basis j) (getD L j []) a b x → Product n g L′ x
-        crossing x w = record {
+        new : (x : ℕ) → j < n → PairProduct (g .multiplier j) (g .basis j) M x → Product n g L′ x
+        new x adding w = record {
           j = j;
           i = w .i;
           k = w .k;
           t = w .t;
           adding = adding;
           pair = record { basis = nine; first = w .first; second = w .second; exponent = w .exponent };
-          together = rw here (merged-at a b _ (w .i) (omega (arith, long, w .first)) ∙ two-low a b _ (inl (w .low)) ∙ sym (merged-at a b _ (w .k) (omega (arith, long, w .second)) ∙ two-low a b _ (inr (w .high))));
+          together = rw here (w .together);
           value = w .value;
         }
 
-        at-here : (x i k t : ℕ) → i < length (g .basis j) → k < length (g .basis j) → In t (g .multiplier j) → getD (getD L′ j []) i 0 ≡ getD (getD L′ j []) k 0 → sumOf g j i k t ≡ x → In x S′
-        at-here x i k t hi hk m w v =
-            let u : getD (merged a b (getD L j [])) i 0 ≡ getD (merged a b (getD L j [])) k 0 = rw here at w in
+        at-here : (x i k t : ℕ) → j < n → i < length (g .basis j) → k < length (g .basis j) → In t (g .multiplier j) → getD (getD L′ j []) i 0 ≡ getD (getD L′ j []) k 0 → sumOf g j i k t ≡ x → In x S′
+        at-here x i k t adding hi hk m w v =
             ⊎-elim
             (λ s. c .keeps x (p .full x (record { j = j; i = i; k = k; t = t; adding = adding; pair = record { basis = nine; first = hi; second = hk; exponent = m }; together = s; value = v })))
-            (⊎-elim
-            (λ s. c .adds x (record { i = i; k = k; t = t; first = hi; second = hk; exponent = m; low = s .0; high = s .1; value = v }))
-            (λ s. c .adds x (record { i = k; k = i; t = t; first = hk; second = hi; exponent = m; low = s .1; high = s .0; value = omega (arith, v) })))
-            (became (in-one a b (getD (getD L j []) i 0)) (in-one a b (getD (getD L j []) k 0)) (sym (merged-at a b _ i (omega (arith, long))) ∙ u ∙ merged-at a b _ k (omega (arith, long))))
-
-  -- a basis that does not add may change its blocks
-  pub other-products : (L : List (List ℕ)) (S : List ℕ) (j : ℕ) (M : List ℕ) → n ≤ j → Products n g L S₀ S → Products n g (set L j M) S₀ S
-  other-products L S j M h p = record {
-    rising = p .rising;
-    starts = p .starts;
-    full = λ x c. p .full x (product-grows (set L j M) L x (λ y i k a _ _ e. rw (← away y a) e) c);
-    only = λ x m. ⊎-elim (λ s. inl s) (λ c. inr (product-grows L (set L j M) x (λ y i k a _ _ e. rw (away y a) e) c)) (p .only x m);
-  }
-    where
-      away : (y : ℕ) → y < n → getD (set L j M) y [] ≡ getD L y []
-      away y a = getD-set-other L j y M [] (λ e. omega arith)
+            (λ d. c .adds (lt-ltb j n adding) x (record { product = record { i = i; k = k; t = t; first = hi; second = hk; exponent = m; together = rw here at w; value = v }; apart = d }))
+            (same-or-not (getD (getD L j []) i 0) (getD (getD L j []) k 0))
 
 -- A round of the definition joins every basis on the set S before it and then adds all products. Where the joining looked
 -- at S alone and left the blocks of the definition, and the set that grew meanwhile is the start and the products of

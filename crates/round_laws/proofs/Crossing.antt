@@ -6,17 +6,12 @@ use Prim.Native.Nat.{ℕ, _+_, _<_}
 use lib.ListN.{length, getD}
 use Rattle.joining_rule.specs.Sets.{In}
 use Rattle.joining_rule.specs.Extend.{addTerms}
-use Rattle.joining_rule.proofs.Rising.{Rising}
 use Rattle.joining_rule.proofs.Elements.{not-nil, in-cons, in-here, in-there}
-use Rattle.joining_rule.proofs.Members.{add-from, add-keeps, add-in, add-full}
+use Rattle.joining_rule.proofs.Members.{add-from, add-in}
 use Rattle.joining_rule.proofs.Extending.{Extends, extends-refl, extends-trans, add-extends}
 use Rattle.round_laws.specs.Added.{CrossProduct, Crossed, addList, addLists}
 
 module _ (T B : List ℕ) where
-  -- a sum whose products are there adds nothing: the loop may leave it out
-  pub pair-there : (i k : ℕ) (S : List ℕ) → Rising S → ((t : ℕ) → In t T → In (t + (getD B i 0 + getD B k 0)) S) → addTerms T (getD B i 0 + getD B k 0) S ≡ S
-  pair-there i k S r h = add-full T (getD B i 0 + getD B k 0) S r h
-
   pub list-extends : (k : ℕ) (is S : List ℕ) → Extends S (addList T B k is S)
   unfolding addList
   list-extends k [] S = extends-refl S

@@ -1,32 +1,61 @@
--- A block as a list in an array: `follow` has at each index the index that follows it in its block, or one that is no
--- index. L has the block number of each index.
+-- A block as a list in an array: `follow` has at each index the index that follows it in its block, or a number from 64
+-- on where there is none. L has the block number of each index.
 use mathlib.Core.Path.{_≡_}
+use mathlib.Core.Bool.{true, false, cond}
 use mathlib.Core.List.{List, [], _∷_}
-use Prim.Native.Nat.{ℕ, _≤_, _<_}
-use lib.ListN.{length, getD}
+use Prim.Native.Nat.{ℕ, zero, suc, _≤_, _<_}
+use lib.Dec.{ltb}
+use lib.ListN.{length, getD, set, take, drop}
 use Rattle.joining_rule.specs.Sets.{In}
 
--- from x on, follow leads through the list l to e
-abbrev pub Leads : List ℕ → ℕ → List ℕ → ℕ → Type 0
-Leads follow x [] e = x ≡ e
-Leads follow x (y ∷ ys) e = (x ≡ y) × Leads follow (getD follow y 0) ys e
+-- the indices from x on, at most m
+unfoldable pub walk : ℕ → List ℕ → ℕ → List ℕ
+walk zero follow x = []
+walk (suc m) follow x = cond (ltb x 64) (x ∷ walk m follow (getD follow x 0)) []
+
+-- the indices from x on: they are at most 64, where the list ends
+abbrev pub listFrom : List ℕ → ℕ → List ℕ
+listFrom follow x = walk 65 follow x
+
+pub record Ends (follow : List ℕ) (x : ℕ) : Type 0 where
+  pub few : length (listFrom follow x) ≤ 64
 
 -- each element of a list stands in it once
 abbrev pub Once : List ℕ → Type 0
 Once [] = Unit {0}
 Once (x ∷ xs) = (In x xs → ⊥) × Once xs
 
--- block a as a list: a first, and then the others; its end is no index
-pub record BlockList (follow L : List ℕ) (a : ℕ) (rest : List ℕ) : Type 0 where
-  pub end : ℕ
-  pub beyond : length L ≤ end
-  pub leads : Leads follow (getD follow a 0) rest end
-  pub once : Once (a ∷ rest)
-  pub inside : (x : ℕ) → In x (a ∷ rest) → (x < length L) × (getD L x 0 ≡ a)
-  pub whole : (x : ℕ) → x < length L → getD L x 0 ≡ a → In x (a ∷ rest)
+-- the list from a on has the indices of block a, each once
+pub record BlockList (follow L : List ℕ) (a : ℕ) : Type 0 where
+  pub ends : Ends follow a
+  pub once : Once (listFrom follow a)
+  pub inside : (x : ℕ) → In x (listFrom follow a) → (x < length L) × (getD L x 0 ≡ a)
+  pub whole : (x : ℕ) → x < length L → getD L x 0 ≡ a → In x (listFrom follow a)
 
--- every block is such a list
+-- every block has such a list, which begins with its number
 pub record Lists (follow L : List ℕ) : Type 0 where
-  pub long : length follow ≡ length L
-  pub rest : ℕ → List ℕ
-  pub at : (a : ℕ) → a < length L → getD L a 0 ≡ a → BlockList follow L a (rest a)
+  pub few : length L ≤ 64
+  pub long : length L ≤ length follow
+  pub at : (a : ℕ) → a < length L → getD L a 0 ≡ a → BlockList follow L a
+
+-- ---- as the loops go
+-- the last of x and the list after it
+abbrev pub lastOf : ℕ → List ℕ → ℕ
+lastOf x [] = x
+lastOf x (y ∷ ys) = lastOf y ys
+
+-- L with the block number a at each index of a list
+unfoldable pub relabel : ℕ → List ℕ → List ℕ → List ℕ
+relabel a [] L = L
+relabel a (k ∷ ks) L = relabel a ks (set L k a)
+
+-- follow, where the block b with the last index z is put behind the first index of the block a
+abbrev pub spliced : ℕ → ℕ → ℕ → List ℕ → List ℕ
+spliced a b z follow = set (set follow z (getD follow a 0)) a b
+
+-- ---- in one array of bytes: the block numbers of n indices first, and `follow` from byte 64 on
+abbrev pub labelsOf : ℕ → List ℕ → List ℕ
+labelsOf n bytes = take n bytes
+
+abbrev pub followOf : List ℕ → List ℕ
+followOf bytes = drop 64 bytes
