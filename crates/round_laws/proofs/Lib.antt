@@ -9,3 +9,4 @@ pub mod Bits
 pub mod Ending
 pub mod Joins
 pub mod Fresh
+pub mod Fits
