@@ -12,9 +12,10 @@ use Rattle.counting.proofs.Listed.{same-or-not}
 use Rattle.joining_rule.specs.Sets.{different}
 use Rattle.joining_rule.specs.Join.{renamed, merged, join}
 use Rattle.joining_rule.specs.Rounds.{Bases, State, round, blocksIn}
-use Rattle.joining_rule.proofs.Labels.{merged-at, two-low, join-long}
+use Rattle.joining_rule.proofs.Labels.{merged-long, merged-at, two-low, join-long}
 use Rattle.joining_rule.proofs.Numbered.{Numbered, lowestFrom, different-lowest}
 use Rattle.joining_rule.proofs.Lowest.{Falls, merged-falls, join-falls, some-block}
+use Rattle.round_laws.specs.Joins.{Has}
 use Rattle.joining_rule.proofs.Rounds.{AllNumbered, round-extends, round-blocks}
 
 -- ---- block b renamed to a: index b, where it was its block's number, is not any more, and no other is lost
@@ -61,6 +62,21 @@ one-block S T B L e n h o =
     let f = join-falls S T B L e n in
     let some : 1 ≤ different (join S T B L) = some-block (join S T B L) (f .numbered) (omega (arith, join-long S T B L)) in
     f .same (omega (arith, f .less))
+
+-- as all its indices are in one block
+pub one-has : (P : ℕ → ℕ → Type 0) (L : List ℕ) → Numbered L → different L ≡ 1 → Has P (length L) L
+one-has P L n o = record {
+  at = λ x y hx hy _.
+      ⊎-elim
+      (λ e. record { same = e })
+      (λ d.
+      let u = n .lowest x hx in
+      let v = n .lowest y hy in
+      let f = merged-falls L n x y hx hy in
+      let some = some-block (merged (getD L x 0) (getD L y 0) L) (f .numbered) (omega (arith, merged-long (getD L x 0) (getD L y 0) L)) in
+      absurd (omega (arith, merge-fewer L (getD L x 0) (getD L y 0) n (omega arith) (omega arith) (n .own x hx) (n .own y hy) d)))
+      (same-or-not (getD L x 0) (getD L y 0));
+}
 
 -- a round that leaves as many members and as many blocks leaves all as it was: it is the last
 pub last-round : (rule : ℕ) (g : Bases) (s : State) → AllNumbered g (s .labels) → length (round rule g s .support) ≡ length (s .support) → blocksIn (round rule g s .labels) ≡ blocksIn (s .labels) → round rule g s ≡ s

@@ -43,15 +43,20 @@ module _ (n : ℕ) where
     only = λ M r l. b .only M (record { at = λ x y hx hy e. r .at x y hx hy (q x y hx hy e) }) (a .only M (record { at = λ x y hx hy e. r .at x y hx hy (p x y hx hy e) }) l);
   }
 
-  -- the same pairs, told in another way
-  pub joins-as : (P R : ℕ → ℕ → Type 0) (L L′ : List ℕ) → Joins P n L L′ → ((x y : ℕ) → x < n → y < n → R x y → Together L x y ⊎ P x y) → ((x y : ℕ) → x < n → y < n → P x y → R x y) → Joins R n L L′
-  joins-as P R L L′ a split p = record {
+  -- more pairs that are in one block afterwards
+  pub joins-more : (P R : ℕ → ℕ → Type 0) (L L′ : List ℕ) → Joins P n L L′ → ((x y : ℕ) → x < n → y < n → P x y → R x y) → Has R n L′ → Joins R n L L′
+  joins-more P R L L′ a p h = record {
     long = a .long;
     numbered = a .numbered;
     keeps = a .keeps;
-    joins = record { at = λ x y hx hy r. ⊎-elim (a .keeps .at x y hx hy) (a .joins .at x y hx hy) (split x y hx hy r) };
+    joins = h;
     only = λ M r l. a .only M (record { at = λ x y hx hy e. r .at x y hx hy (p x y hx hy e) }) l;
   }
+
+  -- the same pairs, told in another way
+  pub joins-as : (P R : ℕ → ℕ → Type 0) (L L′ : List ℕ) → Joins P n L L′ → ((x y : ℕ) → x < n → y < n → R x y → Together L x y ⊎ P x y) → ((x y : ℕ) → x < n → y < n → P x y → R x y) → Joins R n L L′
+  joins-as P R L L′ a split p =
+      joins-more P R L L′ a p (record { at = λ x y hx hy r. ⊎-elim (a .keeps .at x y hx hy) (a .joins .at x y hx hy) (split x y hx hy r) })
 
   -- a block's number in M is at most its number in L, where M has the blocks of L
   lower : (L M : List ℕ) → length L ≡ n → length M ≡ n → Numbered L → Numbered M → Has (Together L) n M → (x : ℕ) → x < n → getD M x 0 ≤ getD L x 0

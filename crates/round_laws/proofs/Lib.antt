@@ -9,3 +9,5 @@ pub mod Bits
 pub mod Ending
 pub mod Joins
 pub mod Fresh
+pub mod Rows
+pub mod Fits

@@ -3,7 +3,7 @@
 use mathlib.Core.Path.{_≡_}
 use mathlib.Core.Logic.{_⊎_}
 use mathlib.Core.List.{List}
-use Prim.Native.Nat.{ℕ, _+_, _<_}
+use Prim.Native.Nat.{ℕ, _+_, _*_, _<_}
 use lib.ListN.{length, getD}
 use Rattle.joining_rule.specs.Sets.{In}
 use Rattle.joining_rule.proofs.Numbered.{Numbered}
@@ -24,7 +24,7 @@ pub record Joins (P : ℕ → ℕ → Type 0) (n : ℕ) (L L′ : List ℕ) : Ty
   pub joins : Has P n L′
   pub only : (M : List ℕ) → Has P n M → Has (Together L) n M → Has (Together L′) n M
 
--- the pairs: i and k; two with a sum; two that some exponent t links, with t + b + b' in S
+-- the pairs: i and k; two with a sum; two that some exponent t links, with t + b + b' in S; those of the items in a list
 pub record Two (i k x y : ℕ) : Type 0 where
   pub first : x ≡ i
   pub second : y ≡ k
@@ -36,6 +36,17 @@ pub record Through (T B S : List ℕ) (x y : ℕ) : Type 0 where
   pub t : ℕ
   pub exponent : In t T
   pub hits : In (t + (getD B x 0 + getD B y 0)) S
+
+pub record SomeOf (P : ℕ → ℕ → ℕ → Type 0) (items : List ℕ) (x y : ℕ) : Type 0 where
+  pub item : ℕ
+  pub listed : In item items
+  pub holds : P item x y
+
+-- those that S links, in their order, at the places before p: place 64x + y belongs to the indices x and y
+pub record LinkedTo (T B S : List ℕ) (p x y : ℕ) : Type 0 where
+  pub order : x < y
+  pub before : 64 * x + y < p
+  pub through : Through T B S x y
 
 -- what a joining of B by pairs asks of its blocks
 pub record Blocks (B L : List ℕ) : Type 0 where
