@@ -13,7 +13,7 @@ use Rattle.counting.proofs.Listed.{same-or-not}
 use Rattle.joining_rule.specs.Sets.{In}
 use Rattle.joining_rule.proofs.Numbered.{Numbered}
 use Rattle.joining_rule.proofs.Elements.{not-nil, in-cons, in-here, append-keeps, in-snoc, snoc-keeps, snoc-in, member-at}
-use Rattle.round_laws.specs.Joins.{Together, Has, Joins, Two, WithSum, Through, SomeOf, LinkedTo}
+use Rattle.round_laws.specs.Joins.{Together, Has, Joins, Two, WithSum, Through, SomeOf}
 use Rattle.round_laws.proofs.Joins.{joins-same, joins-then, joins-more, joins-as}
 
 -- ---- item by item
