@@ -11,6 +11,25 @@
 // when all pairs with that sum are in one block. Behind stand the slots of the exponents and the remainders of the
 // basis: those of a sum are found by adding.
 
+ghost use mathlib.Core.Path.{_≡_};
+ghost use mathlib.Core.Bool.{false, cond, _||_};
+ghost use mathlib.Core.List.{List};
+ghost use Prim.Native.Nat.{ℕ, _+_, _*_, _/_, _%_, _^_, _≤_, _<_};
+ghost use lib.Dec.{eqb, ltb};
+ghost use lib.ListN.{length, getD, take};
+ghost use Rattle.counting.specs.Counting.{Bounded};
+ghost use Rattle.joining_rule.specs.Join.{linked, merged};
+ghost use Rattle.joining_rule.specs.Extend.{addTerms, addRow, extend};
+ghost use Rattle.key_set.specs.Table.{keysIn, Stored};
+ghost use Rattle.round_laws.specs.Joins.{Two, WithSum, Through, SomeOf, LinkedIn};
+ghost use Rattle.round_laws.specs.Added.{addList, addLists};
+ghost use Rattle.round_laws.specs.Lists.{Lists, listFrom, labelsOf, followOf};
+ghost use Rattle.round_laws.specs.Fits.{SumBits, Fitting};
+ghost use Rattle.block_joining.specs.Limits.{SmallBasis, OneBasis, ForSums, ForBasis};
+ghost use Rattle.block_joining.specs.Pairs.{sumAt, sumDivisor, toldAt, Remainders, PairIndex, AllPairs, Slots, NoPairs, FindsSum, DoneBefore, Beside, PairsMade};
+ghost use Rattle.block_joining.specs.Adding.{plain, AddingAsks, AddedAll, addSquares};
+ghost use Rattle.block_joining.specs.Standing.{standing, cameLast, BlockBytes, OwnBlock, TwoBlocks, Ready, Grew, JoiningAsks};
+
 // Up to so many monomials a basis joins by its pairs: that is faster than making their index.
 pub const PLAIN: usize = 24;
 
@@ -46,7 +65,10 @@ fn is_linked(
     len: usize,
     exponents: &[u64],
     s: u64,
-) -> bool {
+) -> bool
+    requires { ⌜ ForSums (now table) (now index) len (now exponents) s × (until ≤ len) ⌝ }
+    ensures { λ r. ⌜ r ≡ linked (keysIn until (now (table .entry))) (now (exponents .entry)) s ⌝ }
+{
     let mut i = 0;
     while i < exponents.len() {
         if key_set::is_before(table, index, until, len, exponents[i] + s) {
@@ -65,7 +87,13 @@ pub fn add_terms(
     len: usize,
     exponents: &[u64],
     s: u64,
-) -> usize {
+) -> usize
+    requires { ⌜ ForSums (now table) (now index) len (now exponents) s ⌝ }
+    ensures { λ r. ⌜
+        Stored len (addTerms (now (exponents .entry)) s (keysIn len (now (table .entry)))) (now (table .entry)) r
+        (now (table .exit)) (now (index .exit))
+        ⌝ }
+{
     let mut n = len;
     let mut i = 0;
     while i < exponents.len() {
@@ -86,7 +114,17 @@ fn add_slotted(
     exponents: &[u64],
     pairs: &[u16],
     s: u64,
-) -> usize {
+) -> usize
+    requires { ⌜
+        ForSums (now table) (now index) len (now exponents) s
+        × (length (now exponents) ≤ 32)
+        × Slots (now exponents) (now pairs)
+        ⌝ }
+    ensures { λ r. ⌜
+        Stored len (addTerms (now (exponents .entry)) s (keysIn len (now (table .entry)))) (now (table .entry)) r
+        (now (table .exit)) (now (index .exit))
+        ⌝ }
+{
     let h = key_set::slot(s);
     let mut n = len;
     let mut i = 0;
@@ -102,12 +140,23 @@ fn add_slotted(
 }
 
 // The remainder of a sum.
-fn remainder(s: u64) -> usize {
+fn remainder(s: u64) -> usize
+    ensures { λ r. ⌜ r ≡ s % sumDivisor ⌝ }
+{
     (s % 2039) as usize
 }
 
 // That of the sum of two indices, from theirs.
-fn remainder_of(pairs: &[u16], i: usize, k: usize) -> usize {
+fn remainder_of(pairs: &[u16], i: usize, k: usize) -> usize
+    requires { ⌜
+        (length (now pairs) ≡ 6240)
+        × ((i < 64) × (getD (now pairs) (6176 + i) 0 < sumDivisor))
+        × ((k < 64) × (getD (now pairs) (6176 + k) 0 < sumDivisor))
+        ⌝ }
+    ensures { λ r. ⌜
+        r ≡ (getD (now (pairs .entry)) (6176 + i) 0 + getD (now (pairs .entry)) (6176 + k) 0) % sumDivisor
+        ⌝ }
+{
     let sum = pairs[REMAINDERS + i] as usize + pairs[REMAINDERS + k] as usize;
     if sum < 2039 {
         return sum;
@@ -116,12 +165,18 @@ fn remainder_of(pairs: &[u16], i: usize, k: usize) -> usize {
 }
 
 // The sum of the pair at a place.
-fn sum_at(basis: &[u64], p: usize) -> u64 {
+fn sum_at(basis: &[u64], p: usize) -> u64
+    requires { ⌜ SmallBasis (now basis) × (p / 64 < length (now basis)) × (p % 64 < length (now basis)) ⌝ }
+    ensures { λ r. ⌜ r ≡ sumAt (now (basis .entry)) p ⌝ }
+{
     basis[p / 64] + basis[p % 64]
 }
 
 // The place of the last pair with the sum s, whose remainder is h; 4,096 where there is none.
-fn find_sum(basis: &[u64], pairs: &[u16], s: u64, h: usize) -> usize {
+fn find_sum(basis: &[u64], pairs: &[u16], s: u64, h: usize) -> usize
+    requires { ⌜ SmallBasis (now basis) × AllPairs (now basis) (now pairs) × (h ≡ s % sumDivisor) ⌝ }
+    ensures { λ r. ⌜ FindsSum (now (basis .entry)) s r ⌝ }
+{
     let mut v = pairs[h] as usize;
     while 0 < v {
         let p = v - 1;
@@ -134,12 +189,26 @@ fn find_sum(basis: &[u64], pairs: &[u16], s: u64, h: usize) -> usize {
 }
 
 // Where it is told what was done with the sum of the pair at a place.
-fn told_at(p: usize) -> usize {
+fn told_at(p: usize) -> usize
+    requires { ⌜ p < 4096 ⌝ }
+    ensures { λ r. ⌜ r ≡ toldAt p ⌝ }
+{
     LINKS + 64 * (p % 64) + p / 64
 }
 
 // Whether the products of the sum of two indices were put in before; from now on they were.
-fn is_done(pairs: &mut [u16], basis: &[u64], i: usize, k: usize) -> bool {
+fn is_done(pairs: &mut [u16], basis: &[u64], i: usize, k: usize) -> bool
+    requires { ⌜
+        SmallBasis (now basis)
+        × AllPairs (now basis) (now pairs)
+        × (i < length (now basis))
+        × (k < length (now basis))
+        ⌝ }
+    ensures { λ r. ⌜
+        DoneBefore (now (basis .entry)) (getD (now (basis .entry)) i 0 + getD (now (basis .entry)) k 0)
+        (now (pairs .entry)) r (now (pairs .exit))
+        ⌝ }
+{
     let p = find_sum(basis, pairs, basis[i] + basis[k], remainder_of(pairs, i, k));
     if 4095 < p {
         return false;
@@ -162,7 +231,19 @@ fn add_pair(
     pairs: &mut [u16],
     i: usize,
     k: usize,
-) -> usize {
+) -> usize
+    requires { ⌜
+        AddingAsks (now exponents) (now basis) (now pairs) (now table) (now index) len
+        × (i < length (now basis))
+        × (k < length (now basis))
+        ⌝ }
+    ensures { λ r. ⌜
+        AddedAll (now (exponents .entry)) (now (basis .entry))
+        (addTerms (now (exponents .entry)) (getD (now (basis .entry)) i 0 + getD (now (basis .entry)) k 0)
+        (keysIn len (now (table .entry))))
+        len (now (table .entry)) (now (pairs .entry)) r (now (table .exit)) (now (index .exit)) (now (pairs .exit))
+        ⌝ }
+{
     let s = basis[i] + basis[k];
     if basis.len() <= PLAIN {
         return add_terms(table, index, len, exponents, s);
@@ -183,7 +264,20 @@ fn add_row(
     index: &mut [u16],
     len: usize,
     c: Two,
-) -> usize {
+) -> usize
+    requires { ⌜
+        AddingAsks (now exponents) (now basis) (now pairs) (now table) (now index) len
+        × BlockBytes (length (now basis)) (now blocks)
+        × OwnBlock (length (now basis)) (now blocks) (c .a)
+        × (c .b < length (now basis))
+        ⌝ }
+    ensures { λ r. ⌜
+        AddedAll (now (exponents .entry)) (now (basis .entry))
+        (addList (now (exponents .entry)) (now (basis .entry)) (c .b) (listFrom (followOf (now (blocks .entry))) (c .a))
+        (keysIn len (now (table .entry))))
+        len (now (table .entry)) (now (pairs .entry)) r (now (table .exit)) (now (index .exit)) (now (pairs .exit))
+        ⌝ }
+{
     let k = c.b as usize;
     let mut n = len;
     let mut i = c.a as usize;
@@ -207,7 +301,20 @@ fn add_cross(
     index: &mut [u16],
     len: usize,
     m: Two,
-) -> usize {
+) -> usize
+    requires { ⌜
+        AddingAsks (now exponents) (now basis) (now pairs) (now table) (now index) len
+        × BlockBytes (length (now basis)) (now blocks)
+        × OwnBlock (length (now basis)) (now blocks) (m .a)
+        × OwnBlock (length (now basis)) (now blocks) (m .b)
+        ⌝ }
+    ensures { λ r. ⌜
+        AddedAll (now (exponents .entry)) (now (basis .entry))
+        (addLists (now (exponents .entry)) (now (basis .entry)) (listFrom (followOf (now (blocks .entry))) (m .a))
+        (listFrom (followOf (now (blocks .entry))) (m .b)) (keysIn len (now (table .entry))))
+        len (now (table .entry)) (now (pairs .entry)) r (now (table .exit)) (now (index .exit)) (now (pairs .exit))
+        ⌝ }
+{
     let mut n = len;
     let mut k = m.b;
     while k < 64 {
@@ -222,11 +329,17 @@ fn add_cross(
 }
 
 // The block b put behind the first index of the block a.
-fn splice(blocks: &mut [u8], m: Two) {
+fn splice(blocks: &mut [u8], size: usize, m: Two)
+    requires { ⌜ TwoBlocks size (m .a) (m .b) (now blocks) ⌝ }
+    ensures { λ _. ⌜
+        (labelsOf size (now (blocks .exit)) ≡ merged (m .a) (m .b) (labelsOf size (now (blocks .entry))))
+        × Lists (followOf (now (blocks .exit))) (labelsOf size (now (blocks .exit)))
+        ⌝ }
+{
     let a = m.a as usize;
     let mut last = m.b as usize;
     let mut k = last;
-    while k < 64 {
+    while k < size {
         blocks[k] = m.a;
         last = k;
         k = blocks[64 + k] as usize;
@@ -245,12 +358,22 @@ fn merge(
     index: &mut [u16],
     r: Reach,
     m: Two,
-) -> Reach {
+) -> Reach
+    requires { ⌜
+        Ready (now exponents) (now basis) (standing (now blocks) (now pairs) (now table) (now index) r)
+        × TwoBlocks (length (now basis)) (m .a) (m .b) (now blocks)
+        ⌝ }
+    ensures { λ r′. ⌜
+        Grew (now (exponents .entry)) (now (basis .entry)) (Two (m .a) (m .b))
+        (standing (now (blocks .entry)) (now (pairs .entry)) (now (table .entry)) (now (index .entry)) r)
+        (standing (now (blocks .exit)) (now (pairs .exit)) (now (table .exit)) (now (index .exit)) r′)
+        ⌝ }
+{
     let mut n = r.len;
     if r.adds {
         n = add_cross(blocks, basis, exponents, pairs, table, index, n, m);
     }
-    splice(blocks, m);
+    splice(blocks, basis.len(), m);
     Reach {
         since: r.since,
         until: r.until,
@@ -271,7 +394,18 @@ fn join_two(
     index: &mut [u16],
     r: Reach,
     p: usize,
-) -> Reach {
+) -> Reach
+    requires { ⌜
+        Ready (now exponents) (now basis) (standing (now blocks) (now pairs) (now table) (now index) r)
+        × (p / 64 < length (now basis))
+        × (p % 64 < length (now basis))
+        ⌝ }
+    ensures { λ r′. ⌜
+        Grew (now (exponents .entry)) (now (basis .entry)) (Two (p / 64) (p % 64))
+        (standing (now (blocks .entry)) (now (pairs .entry)) (now (table .entry)) (now (index .entry)) r)
+        (standing (now (blocks .exit)) (now (pairs .exit)) (now (table .exit)) (now (index .exit)) r′)
+        ⌝ }
+{
     let a = blocks[p / 64];
     let b = blocks[p % 64];
     if a == b {
@@ -286,7 +420,9 @@ fn join_two(
 }
 
 // Whether nothing is left to join, or the support has too many keys.
-fn is_over(r: Reach) -> bool {
+fn is_over(r: Reach) -> bool
+    ensures { λ o. ⌜ o ≡ (eqb (r .blocks) 1 || ltb 2048 (r .len)) ⌝ }
+{
     r.blocks == 1 || 2048 < r.len
 }
 
@@ -300,7 +436,19 @@ fn join_chain(
     index: &mut [u16],
     start: Reach,
     first: usize,
-) -> Reach {
+) -> Reach
+    requires { ⌜
+        Ready (now exponents) (now basis) (standing (now blocks) (now pairs) (now table) (now index) start)
+        × (plain < length (now basis))
+        × FindsSum (now basis) (sumAt (now basis) first) first
+        × (first < 4096)
+        ⌝ }
+    ensures { λ r. ⌜
+        Grew (now (exponents .entry)) (now (basis .entry)) (WithSum (now (basis .entry)) (sumAt (now (basis .entry)) first))
+        (standing (now (blocks .entry)) (now (pairs .entry)) (now (table .entry)) (now (index .entry)) start)
+        (standing (now (blocks .exit)) (now (pairs .exit)) (now (table .exit)) (now (index .exit)) r)
+        ⌝ }
+{
     let s = sum_at(basis, first);
     let mut r = start;
     let mut v = first + 1;
@@ -327,7 +475,17 @@ fn join_sum(
     index: &mut [u16],
     start: Reach,
     s: u64,
-) -> Reach {
+) -> Reach
+    requires { ⌜
+        Ready (now exponents) (now basis) (standing (now blocks) (now pairs) (now table) (now index) start)
+        × (plain < length (now basis))
+        ⌝ }
+    ensures { λ r. ⌜
+        Grew (now (exponents .entry)) (now (basis .entry)) (WithSum (now (basis .entry)) s)
+        (standing (now (blocks .entry)) (now (pairs .entry)) (now (table .entry)) (now (index .entry)) start)
+        (standing (now (blocks .exit)) (now (pairs .exit)) (now (table .exit)) (now (index .exit)) r)
+        ⌝ }
+{
     let p = find_sum(basis, pairs, s, remainder(s));
     if 4095 < p {
         return start;
@@ -343,7 +501,14 @@ fn join_sum(
 
 // The numbers x - t that have no bits but those, in turn, and how many they are. A number that has others is written
 // over: this needs no jump, which would be foreseen badly.
-fn note_fits(fits: &mut [u64; 32], exponents: &[u64], bits: u64, x: u64) -> usize {
+fn note_fits(fits: &mut [u64; 32], exponents: &[u64], bits: u64, x: u64) -> usize
+    requires { ⌜ (length (now exponents) ≤ 32) × Bounded (16 * 2 ^ 56) (now exponents) ⌝ }
+    ensures { λ r. ⌜
+        (r ≤ 32)
+        × ((B : List ℕ) → length B ≤ 64 → SumBits B (64 * length B) bits
+        → Fitting (now (exponents .entry)) B x (take r (now (fits .exit))))
+        ⌝ }
+{
     let mut n = 0;
     let mut i = 0;
     while i < exponents.len() {
@@ -365,7 +530,17 @@ fn join_sums(
     index: &mut [u16],
     start: Reach,
     sums: &[u64],
-) -> Reach {
+) -> Reach
+    requires { ⌜
+        Ready (now exponents) (now basis) (standing (now blocks) (now pairs) (now table) (now index) start)
+        × (plain < length (now basis))
+        ⌝ }
+    ensures { λ r. ⌜
+        Grew (now (exponents .entry)) (now (basis .entry)) (SomeOf (WithSum (now (basis .entry))) (now (sums .entry)))
+        (standing (now (blocks .entry)) (now (pairs .entry)) (now (table .entry)) (now (index .entry)) start)
+        (standing (now (blocks .exit)) (now (pairs .exit)) (now (table .exit)) (now (index .exit)) r)
+        ⌝ }
+{
     let mut r = start;
     let mut i = 0;
     while i < sums.len() {
@@ -387,7 +562,18 @@ fn join_members(
     table: &mut [u64],
     index: &mut [u16],
     start: Reach,
-) -> Reach {
+) -> Reach
+    requires { ⌜
+        Ready (now exponents) (now basis) (standing (now blocks) (now pairs) (now table) (now index) start)
+        × (plain < length (now basis))
+        ⌝ }
+    ensures { λ r. ⌜
+        Grew (now (exponents .entry)) (now (basis .entry)) (Through (now (exponents .entry)) (now (basis .entry))
+        (cameLast (standing (now (blocks .entry)) (now (pairs .entry)) (now (table .entry)) (now (index .entry)) start)))
+        (standing (now (blocks .entry)) (now (pairs .entry)) (now (table .entry)) (now (index .entry)) start)
+        (standing (now (blocks .exit)) (now (pairs .exit)) (now (table .exit)) (now (index .exit)) r)
+        ⌝ }
+{
     let mut fits = [0u64; 32];
     let mut r = start;
     let mut m = start.since;
@@ -412,7 +598,20 @@ fn is_open(
     until: usize,
     len: usize,
     p: usize,
-) -> bool {
+) -> bool
+    requires { ⌜
+        ForBasis (now table) (now index) len (now exponents) (now basis)
+        × (until ≤ len)
+        × (length (now blocks) ≡ 128)
+        × (p / 64 < length (now basis))
+        × (p % 64 < length (now basis))
+        ⌝ }
+    ensures { λ r. ⌜
+        r
+        ≡ cond (eqb (getD (now (blocks .entry)) (p / 64) 0) (getD (now (blocks .entry)) (p % 64) 0)) false
+        (linked (keysIn until (now (table .entry))) (now (exponents .entry)) (sumAt (now (basis .entry)) p))
+        ⌝ }
+{
     if blocks[p / 64] == blocks[p % 64] {
         return false;
     }
@@ -429,7 +628,17 @@ fn join_row(
     index: &mut [u16],
     start: Reach,
     i: usize,
-) -> Reach {
+) -> Reach
+    requires { ⌜
+        Ready (now exponents) (now basis) (standing (now blocks) (now pairs) (now table) (now index) start)
+        × (i < length (now basis))
+        ⌝ }
+    ensures { λ r. ⌜
+        Grew (now (exponents .entry)) (now (basis .entry)) (LinkedIn (now (exponents .entry)) (now (basis .entry)) (keysIn (start .until) (now (table .entry))) (64 * i) (64 * (i + 1)))
+        (standing (now (blocks .entry)) (now (pairs .entry)) (now (table .entry)) (now (index .entry)) start)
+        (standing (now (blocks .exit)) (now (pairs .exit)) (now (table .exit)) (now (index .exit)) r)
+        ⌝ }
+{
     let mut r = start;
     let mut k = i + 1;
     while k < basis.len() {
@@ -454,7 +663,16 @@ fn join_rows(
     table: &mut [u64],
     index: &mut [u16],
     start: Reach,
-) -> Reach {
+) -> Reach
+    requires { ⌜
+        Ready (now exponents) (now basis) (standing (now blocks) (now pairs) (now table) (now index) start)
+        ⌝ }
+    ensures { λ r. ⌜
+        Grew (now (exponents .entry)) (now (basis .entry)) (Through (now (exponents .entry)) (now (basis .entry)) (keysIn (start .until) (now (table .entry))))
+        (standing (now (blocks .entry)) (now (pairs .entry)) (now (table .entry)) (now (index .entry)) start)
+        (standing (now (blocks .exit)) (now (pairs .exit)) (now (table .exit)) (now (index .exit)) r)
+        ⌝ }
+{
     let mut r = start;
     let mut i = 0;
     while i < basis.len() {
@@ -476,7 +694,16 @@ pub fn join(
     table: &mut [u64],
     index: &mut [u16],
     r: Reach,
-) -> Reach {
+) -> Reach
+    requires { ⌜
+        JoiningAsks (now exponents) (now basis) (standing (now blocks) (now pairs) (now table) (now index) r)
+        ⌝ }
+    ensures { λ r′. ⌜
+        Grew (now (exponents .entry)) (now (basis .entry)) (Through (now (exponents .entry)) (now (basis .entry)) (keysIn (r .until) (now (table .entry))))
+        (standing (now (blocks .entry)) (now (pairs .entry)) (now (table .entry)) (now (index .entry)) r)
+        (standing (now (blocks .exit)) (now (pairs .exit)) (now (table .exit)) (now (index .exit)) r′)
+        ⌝ }
+{
     if r.blocks < 2 {
         return r;
     }
@@ -486,28 +713,60 @@ pub fn join(
     join_members(blocks, basis, exponents, pairs, table, index, r)
 }
 
-// A pair put into the index of those before it.
-fn note_pair(pairs: &mut [u16], h: usize, p: usize) {
+// A pair put into the index of those before it; its sum.
+fn note_pair(pairs: &mut [u16], basis: &[u64], i: usize, k: usize) -> u64
+    requires { ⌜
+        SmallBasis (now basis)
+        × PairIndex (now basis) (64 * i + k) (now pairs)
+        × (i < k)
+        × (k < length (now basis))
+        ⌝ }
+    ensures { λ r. ⌜
+        (r ≡ getD (now (basis .entry)) i 0 + getD (now (basis .entry)) k 0)
+        × PairIndex (now (basis .entry)) (64 * i + k + 1) (now (pairs .exit))
+        × Beside (now (basis .entry)) (now (pairs .entry)) (now (pairs .exit))
+        ⌝ }
+{
+    let h = remainder_of(pairs, i, k);
+    let p = 64 * i + k;
     let last = pairs[h];
     pairs[LINKS + p] = last;
     pairs[h] = (p + 1) as u16;
+    basis[i] + basis[k]
 }
 
 // Those of index i with each index after it; the bits of their sums, with those given.
-fn note_row(pairs: &mut [u16], basis: &[u64], i: usize, given: u64) -> u64 {
+fn note_row(pairs: &mut [u16], basis: &[u64], i: usize, given: u64) -> u64
+    requires { ⌜
+        SmallBasis (now basis)
+        × PairIndex (now basis) (64 * i) (now pairs)
+        × SumBits (now basis) (64 * i) given
+        × (i < length (now basis))
+        ⌝ }
+    ensures { λ r. ⌜
+        PairIndex (now (basis .entry)) (64 * (i + 1)) (now (pairs .exit))
+        × SumBits (now (basis .entry)) (64 * (i + 1)) r
+        × Beside (now (basis .entry)) (now (pairs .entry)) (now (pairs .exit))
+        ⌝ }
+{
     let mut bits = given;
     let mut k = i + 1;
     while k < basis.len() {
-        let h = remainder_of(pairs, i, k);
-        note_pair(pairs, h, 64 * i + k);
-        bits = bits | (basis[i] + basis[k]);
+        bits = bits | note_pair(pairs, basis, i, k);
         k += 1;
     }
     bits
 }
 
 // The pairs of a basis put into the index; the bits of their sums.
-fn note_pairs(pairs: &mut [u16], basis: &[u64]) -> u64 {
+fn note_pairs(pairs: &mut [u16], basis: &[u64]) -> u64
+    requires { ⌜ SmallBasis (now basis) × PairIndex (now basis) 0 (now pairs) ⌝ }
+    ensures { λ r. ⌜
+        AllPairs (now (basis .entry)) (now (pairs .exit))
+        × SumBits (now (basis .entry)) (64 * length (now (basis .entry))) r
+        × Beside (now (basis .entry)) (now (pairs .entry)) (now (pairs .exit))
+        ⌝ }
+{
     let mut bits = 0u64;
     let mut i = 0;
     while i < basis.len() {
@@ -518,7 +777,13 @@ fn note_pairs(pairs: &mut [u16], basis: &[u64]) -> u64 {
 }
 
 // The slots of the exponents put into it.
-fn note_slots(pairs: &mut [u16], exponents: &[u64]) {
+fn note_slots(pairs: &mut [u16], exponents: &[u64])
+    requires { ⌜ NoPairs (now pairs) × (length (now exponents) ≤ 32) ⌝ }
+    ensures { λ _. ⌜
+        Slots (now (exponents .entry)) (now (pairs .exit))
+        × ((q : ℕ) → q < 6144 → getD (now (pairs .exit)) q 0 ≡ 0)
+        ⌝ }
+{
     let mut i = 0;
     while i < exponents.len() {
         pairs[SLOTS + i] = key_set::slot(exponents[i]) as u16;
@@ -527,7 +792,13 @@ fn note_slots(pairs: &mut [u16], exponents: &[u64]) {
 }
 
 // The remainders of the basis put into it.
-fn note_remainders(pairs: &mut [u16], basis: &[u64]) {
+fn note_remainders(pairs: &mut [u16], basis: &[u64])
+    requires { ⌜ (length (now pairs) ≡ 6240) × (length (now basis) ≤ 64) ⌝ }
+    ensures { λ _. ⌜
+        Remainders (now (basis .entry)) (now (pairs .exit))
+        × ((q : ℕ) → q < 6176 → getD (now (pairs .exit)) q 0 ≡ getD (now (pairs .entry)) q 0)
+        ⌝ }
+{
     let mut i = 0;
     while i < basis.len() {
         pairs[REMAINDERS + i] = remainder(basis[i]) as u16;
@@ -536,7 +807,10 @@ fn note_remainders(pairs: &mut [u16], basis: &[u64]) {
 }
 
 // The index of the pairs of a basis, made in one that holds nothing; the bits of their sums.
-pub fn note(pairs: &mut [u16], basis: &[u64], exponents: &[u64]) -> u64 {
+pub fn note(pairs: &mut [u16], basis: &[u64], exponents: &[u64]) -> u64
+    requires { ⌜ NoPairs (now pairs) × OneBasis (now exponents) (now basis) ⌝ }
+    ensures { λ r. ⌜ PairsMade (now (exponents .entry)) (now (basis .entry)) r (now (pairs .exit)) ⌝ }
+{
     note_slots(pairs, exponents);
     note_remainders(pairs, basis);
     note_pairs(pairs, basis)
@@ -549,7 +823,13 @@ pub fn add_squares(
     len: usize,
     basis: &[u64],
     exponents: &[u64],
-) -> usize {
+) -> usize
+    requires { ⌜ ForBasis (now table) (now index) len (now exponents) (now basis) ⌝ }
+    ensures { λ r. ⌜
+        Stored len (addSquares (now (exponents .entry)) (now (basis .entry)) (keysIn len (now (table .entry))))
+        (now (table .entry)) r (now (table .exit)) (now (index .exit))
+        ⌝ }
+{
     let mut n = len;
     let mut i = 0;
     while i < basis.len() {
@@ -562,7 +842,7 @@ pub fn add_squares(
     n
 }
 
-// The products of index k with each index of its block put in.
+// The products of index i with itself and each index after it in its block put in.
 fn add_own(
     labels: &[u8],
     basis: &[u64],
@@ -570,19 +850,29 @@ fn add_own(
     table: &mut [u64],
     index: &mut [u16],
     len: usize,
-    k: usize,
-) -> usize {
-    let a = labels[k];
+    i: usize,
+) -> usize
+    requires { ⌜
+        ForBasis (now table) (now index) len (now exponents) (now basis)
+        × (length (now labels) ≡ length (now basis))
+        × (i < length (now basis))
+        ⌝ }
+    ensures { λ r. ⌜
+        Stored len
+        (addRow (now (exponents .entry)) (now (basis .entry)) (now (labels .entry)) i
+        (keysIn len (now (table .entry)))) (now (table .entry)) r (now (table .exit)) (now (index .exit))
+        ⌝ }
+{
     let mut n = len;
-    let mut i = a as usize;
-    while i <= k {
-        if labels[i] == a {
+    let mut k = i;
+    while k < basis.len() {
+        if labels[i] == labels[k] {
             n = add_terms(table, index, n, exponents, basis[i] + basis[k]);
             if 2048 < n {
                 return n;
             }
         }
-        i += 1;
+        k += 1;
     }
     n
 }
@@ -595,15 +885,25 @@ pub fn add_blocks(
     table: &mut [u64],
     index: &mut [u16],
     len: usize,
-) -> usize {
+) -> usize
+    requires { ⌜
+        ForBasis (now table) (now index) len (now exponents) (now basis)
+        × (length (now labels) ≡ length (now basis))
+        ⌝ }
+    ensures { λ r. ⌜
+        Stored len
+        (extend (now (exponents .entry)) (now (basis .entry)) (now (labels .entry)) (keysIn len (now (table .entry))))
+        (now (table .entry)) r (now (table .exit)) (now (index .exit))
+        ⌝ }
+{
     let mut n = len;
-    let mut k = 0;
-    while k < basis.len() {
-        n = add_own(labels, basis, exponents, table, index, n, k);
+    let mut i = 0;
+    while i < basis.len() {
+        n = add_own(labels, basis, exponents, table, index, n, i);
         if 2048 < n {
             return n;
         }
-        k += 1;
+        i += 1;
     }
     n
 }
