@@ -22,7 +22,7 @@ pub record DoneTold (T B S pairs : List ℕ) : Type 0 where
 
 -- a basis that is not small has its index
 pub record WithIndex (T B pairs : List ℕ) : Type 0 where
-  pub pairs : plain < length B → AllPairs B pairs
+  pub all : plain < length B → AllPairs B pairs
   pub slots : plain < length B → Slots T pairs
 
 -- what the adding of products asks

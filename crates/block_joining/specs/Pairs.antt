@@ -64,7 +64,7 @@ pub record PairsMade (T B : List ℕ) (bits : ℕ) (pairs : List ℕ) : Type 0 w
   pub index : AllPairs B pairs
   pub slots : Slots T pairs
   pub untold : (p : ℕ) → pairAt B p ≡ true → getD pairs (toldAt p) 0 ≡ 0
-  pub bits : SumBits B (64 * length B) bits
+  pub sums : SumBits B (64 * length B) bits
 
 -- ---- what is found in it
 -- the place of the last pair with the sum s, or 4,096 where there is none
@@ -86,7 +86,8 @@ pub record Marked (B : List ℕ) (s : ℕ) (pairs pairs′ : List ℕ) : Type 0 
   pub long : length pairs′ ≡ length pairs
   pub rest : (q : ℕ) → 6144 ≤ q → getD pairs′ q 0 ≡ getD pairs q 0
   pub index : AllPairs B pairs → AllPairs B pairs′
-  pub done : (q : ℕ) → pairAt B q ≡ true → 1 ≤ getD pairs′ (toldAt q) 0 → (1 ≤ getD pairs (toldAt q) 0) ⊎ (sumAt B q ≡ s)
+  pub done : (q : ℕ) → pairAt B q ≡ true → 1 ≤ getD pairs′ (toldAt q) 0
+      → (1 ≤ getD pairs (toldAt q) 0) ⊎ (sumAt B q ≡ s)
   pub met : (q : ℕ) → pairAt B q ≡ true → 2 ≤ getD pairs′ (toldAt q) 0 → 2 ≤ getD pairs (toldAt q) 0
 
 -- what is known of a sum that is looked at for its products: they were put in, or from now on it is told that they were

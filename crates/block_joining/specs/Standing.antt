@@ -40,9 +40,9 @@ support s = keysIn (s .reach .len) (s .table)
 abbrev pub lookedAt : Standing → List ℕ
 lookedAt s = keysIn (s .reach .until) (s .table)
 
--- the members that came last
-abbrev pub cameLast : Standing → List ℕ
-cameLast s = take (s .reach .until - s .reach .since) (drop (s .reach .since) (s .table))
+-- the members that came after the first a of b
+abbrev pub latest : List ℕ → ℕ → ℕ → List ℕ
+latest t a b = take (b - a) (drop a t)
 
 -- the blocks are lists in the order of Lists.antt of round_laws
 pub record BlockBytes (n : ℕ) (bytes : List ℕ) : Type 0 where
@@ -96,4 +96,4 @@ pub record Grew (T B : List ℕ) (P : ℕ → ℕ → Type 0) (s s′ : Standing
 -- what a joining by the members that came last asks: all else that is linked is joined already
 pub record JoiningAsks (T B : List ℕ) (s : Standing) : Type 0 where
   pub ready : Ready T B s
-  pub recent : Recent (lookedAt s) T B (labelled B s) (cameLast s)
+  pub recent : Recent (lookedAt s) T B (labelled B s) (latest (s .table) (s .reach .since) (s .reach .until))

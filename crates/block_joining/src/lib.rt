@@ -23,12 +23,12 @@ ghost use Rattle.joining_rule.specs.Extend.{addTerms, addRow, extend};
 ghost use Rattle.key_set.specs.Table.{keysIn, Stored};
 ghost use Rattle.round_laws.specs.Joins.{Two, WithSum, Through, SomeOf, LinkedIn};
 ghost use Rattle.round_laws.specs.Added.{addList, addLists};
-ghost use Rattle.round_laws.specs.Lists.{Lists, listFrom, labelsOf, followOf};
+ghost use Rattle.round_laws.specs.Lists.{Lists, listFrom, labelsOf, followOf, TwoBlocks};
 ghost use Rattle.round_laws.specs.Fits.{SumBits, Fitting};
 ghost use Rattle.block_joining.specs.Limits.{SmallBasis, OneBasis, ForSums, ForBasis};
 ghost use Rattle.block_joining.specs.Pairs.{sumAt, sumDivisor, toldAt, Remainders, PairIndex, AllPairs, Slots, NoPairs, FindsSum, DoneBefore, Beside, PairsMade};
 ghost use Rattle.block_joining.specs.Adding.{plain, AddingAsks, AddedAll, addSquares};
-ghost use Rattle.block_joining.specs.Standing.{standing, cameLast, BlockBytes, OwnBlock, TwoBlocks, Ready, Grew, JoiningAsks};
+ghost use Rattle.block_joining.specs.Standing.{standing, latest, BlockBytes, OwnBlock, Ready, Grew, JoiningAsks};
 
 // Up to so many monomials a basis joins by its pairs: that is faster than making their index.
 pub const PLAIN: usize = 24;
@@ -52,7 +52,7 @@ pub struct Reach {
 }
 
 // Two blocks, by their numbers, the lower one first; or a block and an index.
-struct Two {
+struct Cross {
     a: u8,
     b: u8,
 }
@@ -263,7 +263,7 @@ fn add_row(
     table: &mut [u64],
     index: &mut [u16],
     len: usize,
-    c: Two,
+    c: Cross,
 ) -> usize
     requires { ⌜
         AddingAsks (now exponents) (now basis) (now pairs) (now table) (now index) len
@@ -300,7 +300,7 @@ fn add_cross(
     table: &mut [u64],
     index: &mut [u16],
     len: usize,
-    m: Two,
+    m: Cross,
 ) -> usize
     requires { ⌜
         AddingAsks (now exponents) (now basis) (now pairs) (now table) (now index) len
@@ -318,7 +318,7 @@ fn add_cross(
     let mut n = len;
     let mut k = m.b;
     while k < 64 {
-        let c = Two { a: m.a, b: k };
+        let c = Cross { a: m.a, b: k };
         n = add_row(blocks, basis, exponents, pairs, table, index, n, c);
         if 2048 < n {
             return n;
@@ -329,7 +329,7 @@ fn add_cross(
 }
 
 // The block b put behind the first index of the block a.
-fn splice(blocks: &mut [u8], size: usize, m: Two)
+fn splice(blocks: &mut [u8], size: usize, m: Cross)
     requires { ⌜ TwoBlocks size (m .a) (m .b) (now blocks) ⌝ }
     ensures { λ _. ⌜
         (labelsOf size (now (blocks .exit)) ≡ merged (m .a) (m .b) (labelsOf size (now (blocks .entry))))
@@ -357,7 +357,7 @@ fn merge(
     table: &mut [u64],
     index: &mut [u16],
     r: Reach,
-    m: Two,
+    m: Cross,
 ) -> Reach
     requires { ⌜
         Ready (now exponents) (now basis) (standing (now blocks) (now pairs) (now table) (now index) r)
@@ -412,9 +412,9 @@ fn join_two(
         return r;
     }
     let m = if a < b {
-        Two { a, b }
+        Cross { a, b }
     } else {
-        Two { a: b, b: a }
+        Cross { a: b, b: a }
     };
     merge(blocks, basis, exponents, pairs, table, index, r, m)
 }
@@ -444,7 +444,8 @@ fn join_chain(
         × (first < 4096)
         ⌝ }
     ensures { λ r. ⌜
-        Grew (now (exponents .entry)) (now (basis .entry)) (WithSum (now (basis .entry)) (sumAt (now (basis .entry)) first))
+        Grew (now (exponents .entry)) (now (basis .entry))
+        (WithSum (now (basis .entry)) (sumAt (now (basis .entry)) first))
         (standing (now (blocks .entry)) (now (pairs .entry)) (now (table .entry)) (now (index .entry)) start)
         (standing (now (blocks .exit)) (now (pairs .exit)) (now (table .exit)) (now (index .exit)) r)
         ⌝ }
@@ -568,8 +569,9 @@ fn join_members(
         × (plain < length (now basis))
         ⌝ }
     ensures { λ r. ⌜
-        Grew (now (exponents .entry)) (now (basis .entry)) (Through (now (exponents .entry)) (now (basis .entry))
-        (cameLast (standing (now (blocks .entry)) (now (pairs .entry)) (now (table .entry)) (now (index .entry)) start)))
+        Grew (now (exponents .entry)) (now (basis .entry))
+        (Through (now (exponents .entry)) (now (basis .entry))
+        (latest (now (table .entry)) (start .since) (start .until)))
         (standing (now (blocks .entry)) (now (pairs .entry)) (now (table .entry)) (now (index .entry)) start)
         (standing (now (blocks .exit)) (now (pairs .exit)) (now (table .exit)) (now (index .exit)) r)
         ⌝ }
@@ -634,7 +636,9 @@ fn join_row(
         × (i < length (now basis))
         ⌝ }
     ensures { λ r. ⌜
-        Grew (now (exponents .entry)) (now (basis .entry)) (LinkedIn (now (exponents .entry)) (now (basis .entry)) (keysIn (start .until) (now (table .entry))) (64 * i) (64 * (i + 1)))
+        Grew (now (exponents .entry)) (now (basis .entry))
+        (LinkedIn (now (exponents .entry)) (now (basis .entry)) (keysIn (start .until) (now (table .entry))) (64 * i)
+        (64 * (i + 1)))
         (standing (now (blocks .entry)) (now (pairs .entry)) (now (table .entry)) (now (index .entry)) start)
         (standing (now (blocks .exit)) (now (pairs .exit)) (now (table .exit)) (now (index .exit)) r)
         ⌝ }
@@ -668,7 +672,8 @@ fn join_rows(
         Ready (now exponents) (now basis) (standing (now blocks) (now pairs) (now table) (now index) start)
         ⌝ }
     ensures { λ r. ⌜
-        Grew (now (exponents .entry)) (now (basis .entry)) (Through (now (exponents .entry)) (now (basis .entry)) (keysIn (start .until) (now (table .entry))))
+        Grew (now (exponents .entry)) (now (basis .entry))
+        (Through (now (exponents .entry)) (now (basis .entry)) (keysIn (start .until) (now (table .entry))))
         (standing (now (blocks .entry)) (now (pairs .entry)) (now (table .entry)) (now (index .entry)) start)
         (standing (now (blocks .exit)) (now (pairs .exit)) (now (table .exit)) (now (index .exit)) r)
         ⌝ }
@@ -699,7 +704,8 @@ pub fn join(
         JoiningAsks (now exponents) (now basis) (standing (now blocks) (now pairs) (now table) (now index) r)
         ⌝ }
     ensures { λ r′. ⌜
-        Grew (now (exponents .entry)) (now (basis .entry)) (Through (now (exponents .entry)) (now (basis .entry)) (keysIn (r .until) (now (table .entry))))
+        Grew (now (exponents .entry)) (now (basis .entry))
+        (Through (now (exponents .entry)) (now (basis .entry)) (keysIn (r .until) (now (table .entry))))
         (standing (now (blocks .entry)) (now (pairs .entry)) (now (table .entry)) (now (index .entry)) r)
         (standing (now (blocks .exit)) (now (pairs .exit)) (now (table .exit)) (now (index .exit)) r′)
         ⌝ }

@@ -14,7 +14,7 @@ use Rattle.joining_rule.specs.Extend.{addTerms}
 use Rattle.joining_rule.proofs.Elements.{not-nil, in-cons, in-here, in-there}
 use Rattle.joining_rule.proofs.Labels.{merged-long, merged-at, two-low, other-same}
 use Rattle.round_laws.specs.Added.{Crossed, addList, addLists}
-use Rattle.round_laws.specs.Lists.{listFrom, Ends, BlockList, Lists, lastOf, relabel, spliced, labelsOf, followOf}
+use Rattle.round_laws.specs.Lists.{listFrom, Ends, BlockList, Lists, lastOf, relabel, spliced, labelsOf, followOf, TwoBlocks}
 use Rattle.round_laws.proofs.Crossing.{lists-crossed}
 use Rattle.round_laws.proofs.Walks.{list-none, list-next, next-ends}
 use Rattle.round_laws.proofs.Lists.{lists-splice}
@@ -81,16 +81,6 @@ pub record Merging (n a b : ℕ) (bytes₀ bytes : List ℕ) (last k : ℕ) : Ty
   pub kept : last < n
   pub last-is : lastOf last (listFrom (followOf bytes₀) k) ≡ lastOf b (listFrom (followOf bytes₀) b)
   pub labels : relabel a (listFrom (followOf bytes₀) k) (labelsOf n bytes) ≡ merged a b (labelsOf n bytes₀)
-
--- the blocks a and b of n indices are two
-pub record TwoBlocks (n a b : ℕ) (bytes : List ℕ) : Type 0 where
-  pub long : length bytes ≡ 128
-  pub lists : Lists (followOf bytes) (labelsOf n bytes)
-  pub few : n ≤ 64
-  pub below : a < b
-  pub inside : b < n
-  pub own : getD bytes a 0 ≡ a
-  pub other : getD bytes b 0 ≡ b
 
 module _ (n a b : ℕ) (bytes₀ : List ℕ) (t : TwoBlocks n a b bytes₀) where
   size : length (labelsOf n bytes₀) ≡ n

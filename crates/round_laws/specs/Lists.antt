@@ -59,3 +59,13 @@ labelsOf n bytes = take n bytes
 
 abbrev pub followOf : List ℕ → List ℕ
 followOf bytes = drop 64 bytes
+
+-- the blocks a and b of n indices are two
+pub record TwoBlocks (n a b : ℕ) (bytes : List ℕ) : Type 0 where
+  pub long : length bytes ≡ 128
+  pub lists : Lists (followOf bytes) (labelsOf n bytes)
+  pub few : n ≤ 64
+  pub below : a < b
+  pub inside : b < n
+  pub own : getD bytes a 0 ≡ a
+  pub other : getD bytes b 0 ≡ b
