@@ -2,3 +2,4 @@ pub mod Added
 pub mod Lists
 pub mod Joins
 pub mod Fits
+pub mod Index
