@@ -11,4 +11,5 @@ pub mod Joins
 pub mod Fresh
 pub mod Rows
 pub mod Index
+pub mod Walk
 pub mod Fits
