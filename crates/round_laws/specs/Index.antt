@@ -6,6 +6,8 @@ use mathlib.Core.List.{List}
 use Prim.Native.Nat.{ℕ, zero, suc, _+_, _*_, _/_, _%_, _≤_, _<_}
 use lib.Dec.{ltb, eqb}
 use lib.ListN.{length, getD}
+use Rattle.round_laws.specs.Added.{Done}
+use Rattle.round_laws.specs.Joins.{Has, WithSum}
 
 -- what a sum is divided by: the remainder is its place in the index. Any number up to 2,048 would do
 abbrev pub pairDivisor : ℕ
@@ -46,3 +48,9 @@ pub record LastPair (B : List ℕ) (s p : ℕ) : Type 0 where
 -- no pair has it
 pub record NoPair (B : List ℕ) (s : ℕ) : Type 0 where
   pub none : (x y : ℕ) → x < y → y < length B → getD B x 0 + getD B y 0 ≡ s → ⊥
+
+-- what the index tells of the sum of the pair at a place: from 1 on that every t + b + b' of it is in S, if the basis
+-- adds, and from 2 on that all pairs with it are in one block
+pub record Told (adding : Bool) (T B L S : List ℕ) (told : ℕ → ℕ) : Type 0 where
+  pub done : adding ≡ true → (p : ℕ) → PairAt B p → 1 ≤ told p → Done T S (sumAt B p)
+  pub met : (p : ℕ) → PairAt B p → 2 ≤ told p → Has (WithSum B (sumAt B p)) (length B) L
