@@ -1,6 +1,6 @@
 -- Laws of the loops that gather the bits of a basis's sums, and the sums that a member of the support leads to.
-use mathlib.Core.Path.{_≡_, refl, sym, ap, _∙_}
-use mathlib.Core.Logic.{inl, inr, ⊎-elim}
+use mathlib.Core.Path.{_≡_, refl, sym}
+use mathlib.Core.Logic.{inr, ⊎-elim}
 use mathlib.Core.List.{List, [], _∷_, _++_}
 use Prim.Native.Nat.{ℕ, _+_, _*_, _%_, _^_, _≤_, _<_}
 use native.Mathlib.Nat.{add-comm}
@@ -10,12 +10,10 @@ use lib.Bits.{bitOr, or-lt}
 use lib.ListN.{length, getD, take}
 use lib.Seq.{take-suc}
 use Rattle.counting.proofs.Cases.{lt-or-le}
-use Rattle.counting.proofs.Listed.{same-or-not}
-use Rattle.joining_rule.specs.Sets.{In}
-use Rattle.joining_rule.proofs.Elements.{not-nil, in-cons, in-here, in-snoc, snoc-keeps, snoc-in}
-use Rattle.round_laws.specs.Joins.{Together, Joins, WithSum, Through, SomeOf}
+use Rattle.joining_rule.proofs.Elements.{not-nil, in-here, in-snoc, snoc-keeps, snoc-in}
+use Rattle.round_laws.specs.Joins.{Joins, WithSum, Through, SomeOf}
 use Rattle.round_laws.specs.Fits.{SumBits, Takes, Taken, Fitting}
-use Rattle.round_laws.proofs.Bits.{fits-new, fits-old, fit-is, only-fit}
+use Rattle.round_laws.proofs.Bits.{fits-new, fits-old, only-fit}
 use Rattle.round_laws.proofs.Joins.{joins-more, joins-as, has-ordered}
 use Rattle.round_laws.proofs.Fresh.{only-one}
 

@@ -1,6 +1,6 @@
 -- Laws of the walk over the pairs whose sum has a remainder, from the last to the first: a search for the last pair with a
 -- sum, and a joining of all that have it.
-use mathlib.Core.Path.{_≡_, refl, sym, ap, _∙_}
+use mathlib.Core.Path.{_≡_, sym, ap, _∙_}
 use mathlib.Core.Logic.{_⊎_, inl, inr, ⊎-elim}
 use mathlib.Core.Bool.{true}
 use mathlib.Core.List.{List}
