@@ -1,5 +1,5 @@
--- The index of a basis's pairs by their sums. Place 64i + k belongs to the pair of the indices i < k, and its sum is that
--- of their keys. `head` and `next` are what the index has for a remainder and for a place.
+-- The index of a basis's pairs by their sums. Place 64i + k belongs to the pair of the indices i < k, and its sum is
+-- that of their keys. `head` and `next` are what the index has for a remainder and for a place.
 use mathlib.Core.Path.{_≡_}
 use mathlib.Core.Bool.{Bool, true, false, cond}
 use mathlib.Core.List.{List}

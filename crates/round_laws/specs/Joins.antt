@@ -24,7 +24,8 @@ pub record Joins (P : ℕ → ℕ → Type 0) (n : ℕ) (L L′ : List ℕ) : Ty
   pub joins : Has P n L′
   pub only : (M : List ℕ) → Has P n M → Has (Together L) n M → Has (Together L′) n M
 
--- the pairs: i and k; two with a sum; two that some exponent t links, with t + b + b' in S; those of the items in a list
+-- the pairs: i and k; two with a sum; two that some exponent t links, with t + b + b' in S; those of the items of a
+-- list
 pub record Two (i k x y : ℕ) : Type 0 where
   pub first : x ≡ i
   pub second : y ≡ k
