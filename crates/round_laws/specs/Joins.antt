@@ -3,7 +3,7 @@
 use mathlib.Core.Path.{_≡_}
 use mathlib.Core.Logic.{_⊎_}
 use mathlib.Core.List.{List}
-use Prim.Native.Nat.{ℕ, _+_, _*_, _<_}
+use Prim.Native.Nat.{ℕ, _+_, _*_, _≤_, _<_}
 use lib.ListN.{length, getD}
 use Rattle.joining_rule.specs.Sets.{In}
 use Rattle.joining_rule.proofs.Numbered.{Numbered}
@@ -43,9 +43,10 @@ pub record SomeOf (P : ℕ → ℕ → ℕ → Type 0) (items : List ℕ) (x y :
   pub listed : In item items
   pub holds : P item x y
 
--- those that S links, in their order, at the places before p: place 64x + y belongs to the indices x and y
-pub record LinkedTo (T B S : List ℕ) (p x y : ℕ) : Type 0 where
+-- those that S links, in their order, at the places from q on and before p: place 64x + y belongs to the indices x and y
+pub record LinkedIn (T B S : List ℕ) (q p x y : ℕ) : Type 0 where
   pub order : x < y
+  pub from : q ≤ 64 * x + y
   pub before : 64 * x + y < p
   pub through : Through T B S x y
 
