@@ -1,9 +1,9 @@
 -- A sum of two indices is looked at once: its products stay in the support, and its pairs in one block.
 use mathlib.Core.Path.{_≡_, refl}
 use mathlib.Core.Logic.{⊎-elim}
-use mathlib.Core.Bool.{Bool, true}
+use mathlib.Core.Bool.{true}
 use mathlib.Core.List.{List, []}
-use Prim.Native.Nat.{ℕ, _+_, _≤_, _<_}
+use Prim.Native.Nat.{ℕ, _+_, _<_}
 use native.Mathlib.Omega.{arith}
 use lib.ListN.{length, getD}
 use Rattle.counting.proofs.Listed.{same-or-not}
@@ -15,9 +15,7 @@ use Rattle.joining_rule.proofs.Members.{add-in, add-full}
 use Rattle.joining_rule.proofs.FullSets.{Full}
 use Rattle.joining_rule.proofs.Full.{full-any}
 use Rattle.round_laws.specs.Added.{Products, Between, Done}
-use Rattle.round_laws.specs.Joins.{Together, Has, WithSum}
-use Rattle.round_laws.specs.Index.{PairAt, sumAt, Told}
-use Rattle.round_laws.proofs.Between.{has-then}
+use Rattle.round_laws.specs.Joins.{Has, WithSum}
 
 -- ---- every t + s is there: after it was put in, and from then on; then nothing is left to put in
 pub done-added : (T S : List ℕ) (s : ℕ) → Done T (addTerms T s S) s
@@ -57,27 +55,3 @@ products-all n g L S₀ S j h nine p = record {
             p .full _ (record { j = j; i = i; k = k; t = t; adding = h; pair = record { basis = nine; first = omega arith; second = u; exponent = m }; together = e; value = refl });
       };
 }
-
--- ---- what the index tells of sums
-module _ (adding : Bool) (T B : List ℕ) where
-  pub told-nothing : (L S : List ℕ) (told : ℕ → ℕ) → ((p : ℕ) → PairAt B p → told p ≡ 0) → Told adding T B L S told
-  told-nothing L S told z = record { done = λ _ p a h. absurd (omega (arith, z p a)); met = λ p a h. absurd (omega (arith, z p a)) }
-
-  -- it stays true
-  pub told-grows : (L L′ S S′ : List ℕ) (told : ℕ → ℕ) → Has (Together L) (length B) L′ → ((x : ℕ) → In x S → In x S′) → Told adding T B L S told → Told adding T B L′ S′ told
-  told-grows L L′ S S′ told h k t = record {
-    done = λ e p a b. done-grows T S S′ (sumAt B p) k (t .done e p a b);
-    met = λ p a b. has-then (WithSum B (sumAt B p)) (length B) L L′ (t .met p a b) h;
-  }
-
-  -- another number for one place
-  pub told-set : (L S : List ℕ) (told told′ : ℕ → ℕ) (p : ℕ) → Told adding T B L S told
-      → ((q : ℕ) → PairAt B q → (q ≡ p → ⊥) → told′ q ≡ told q)
-      → (adding ≡ true → 1 ≤ told′ p → Done T S (sumAt B p)) → (2 ≤ told′ p → Has (WithSum B (sumAt B p)) (length B) L)
-      → Told adding T B L S told′
-  told-set L S told told′ p t others done met = record {
-    done = λ e q a b.
-        ⊎-elim (λ (w : q ≡ p). rw w (done e (rw w at b))) (λ d. t .done e q a (omega (arith, others q a d))) (same-or-not q p);
-    met = λ q a b.
-        ⊎-elim (λ (w : q ≡ p). rw w (met (rw w at b))) (λ d. t .met q a (omega (arith, others q a d))) (same-or-not q p);
-  }

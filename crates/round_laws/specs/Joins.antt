@@ -50,6 +50,12 @@ pub record LinkedIn (T B S : List ℕ) (q p x y : ℕ) : Type 0 where
   pub before : 64 * x + y < p
   pub through : Through T B S x y
 
+-- those with the sum s, in their order, at the places from v on
+pub record SumFrom (B : List ℕ) (s v x y : ℕ) : Type 0 where
+  pub sum : getD B x 0 + getD B y 0 ≡ s
+  pub order : x < y
+  pub from : v ≤ 64 * x + y
+
 -- what a joining of B by pairs asks of its blocks
 pub record Blocks (B L : List ℕ) : Type 0 where
   pub long : length L ≡ length B

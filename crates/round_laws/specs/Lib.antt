@@ -2,4 +2,3 @@ pub mod Added
 pub mod Lists
 pub mod Joins
 pub mod Fits
-pub mod Index
