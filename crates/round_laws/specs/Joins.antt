@@ -43,7 +43,8 @@ pub record SomeOf (P : ℕ → ℕ → ℕ → Type 0) (items : List ℕ) (x y :
   pub listed : In item items
   pub holds : P item x y
 
--- those that S links, in their order, at the places from q on and before p: place 64x + y belongs to the indices x and y
+-- those that S links, in their order, at the places from q on and before p: place 64x + y belongs to the indices x
+-- and y
 pub record LinkedIn (T B S : List ℕ) (q p x y : ℕ) : Type 0 where
   pub order : x < y
   pub from : q ≤ 64 * x + y
