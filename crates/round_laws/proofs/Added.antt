@@ -1,9 +1,9 @@
 -- The support in the rounds is the start and the products of every pair in one block: a basis whose pairs that come into
 -- one block add their products keeps it so, there is one such set only, and the set after a round is it.
-use mathlib.Core.Path.{_≡_, refl, sym, subst, _∙_}
+use mathlib.Core.Path.{_≡_, refl, sym, subst}
 use mathlib.Core.Logic.{_⊎_, inl, inr, ⊎-elim}
 use mathlib.Core.List.{List, []}
-use Prim.Native.Nat.{ℕ, _+_, _≤_, _<_, min}
+use Prim.Native.Nat.{ℕ, _≤_, _<_}
 use native.Mathlib.Omega.{arith}
 use lib.Dec.{ltb}
 use lib.ListN.{length, getD, set}
@@ -12,14 +12,14 @@ use borrow.Author.Tests.{ltb-true, lt-ltb}
 use Rattle.counting.proofs.Listed.{same-or-not}
 use Rattle.joining_rule.specs.Sets.{In}
 use Rattle.joining_rule.specs.Rounds.{Bases, State, joinAll, extendTo, addingBases, round}
-use Rattle.joining_rule.specs.Meaning.{Pair, sumOf}
+use Rattle.joining_rule.specs.Meaning.{sumOf}
 use Rattle.joining_rule.proofs.Rising.{Rising}
 use Rattle.joining_rule.proofs.Joined.{join-equal}
 use Rattle.joining_rule.proofs.Full.{full-any}
 use Rattle.joining_rule.proofs.Products.{products-extend, products-full, products-within}
 use Rattle.joining_rule.proofs.Rounds.{Shaped, round-labels, round-shaped, adding-most}
-use Rattle.joining_rule.proofs.Only.{rising-same}
-use Rattle.round_laws.specs.Added.{Product, Products, PairProduct, NewProduct, Between}
+use Rattle.joining_rule.proofs.Only.{rising-same, rising-shorter}
+use Rattle.round_laws.specs.Added.{Product, Products, PairProduct, Between, Within}
 use Rattle.round_laws.specs.Joins.{Together, Has}
 
 module _ (n : ℕ) (g : Bases) (S₀ : List ℕ) where
@@ -41,6 +41,19 @@ module _ (n : ℕ) (g : Bases) (S₀ : List ℕ) where
     pair = c .pair;
     together = h (c .j) (c .i) (c .k) (c .adding) (c .pair .first) (c .pair .second) (c .together);
     value = c .value;
+  }
+
+  -- a product of one basis is one of all
+  pair-product : (L : List (List ℕ)) (j : ℕ) (M : List ℕ) (x : ℕ) → j < n → j < 9 → getD L j [] ≡ M → PairProduct (g .multiplier j) (g .basis j) M x → Product n g L x
+  pair-product L j M x adding nine e w = record {
+    j = j;
+    i = w .i;
+    k = w .k;
+    t = w .t;
+    adding = adding;
+    pair = record { basis = nine; first = w .first; second = w .second; exponent = w .exponent };
+    together = rw e (w .together);
+    value = w .value;
   }
 
   -- an extension by the blocks L makes it so, of any set between the start and it
@@ -94,23 +107,11 @@ module _ (n : ℕ) (g : Bases) (S₀ : List ℕ) where
           (λ d. c .keeps x (p .full x (before x q (let f = elsewhere (q .j) d in rw f at (q .together)))))
           (same-or-not j (q .j));
       only = λ x m.
-          ⊎-elim (λ w. ⊎-elim (λ s. inl s) (λ q. inr (product-grows L L′ x kept q)) (p .only x w)) (λ w. inr (new x (ltb-true j n (w .0)) (w .1 .product))) (c .only x m);
+          ⊎-elim (λ w. ⊎-elim (λ s. inl s) (λ q. inr (product-grows L L′ x kept q)) (p .only x w)) (λ w. inr (pair-product L′ j M x (ltb-true j n (w .0)) nine here (w .1 .product))) (c .only x m);
     }
       where
         before : (x : ℕ) (q : Product n g L′ x) → getD (getD L (q .j) []) (q .i) 0 ≡ getD (getD L (q .j) []) (q .k) 0 → Product n g L x
         before x q e = record { j = q .j; i = q .i; k = q .k; t = q .t; adding = q .adding; pair = q .pair; together = e; value = q .value }
-
-        new : (x : ℕ) → j < n → PairProduct (g .multiplier j) (g .basis j) M x → Product n g L′ x
-        new x adding w = record {
-          j = j;
-          i = w .i;
-          k = w .k;
-          t = w .t;
-          adding = adding;
-          pair = record { basis = nine; first = w .first; second = w .second; exponent = w .exponent };
-          together = rw here (w .together);
-          value = w .value;
-        }
 
         at-here : (x i k t : ℕ) → j < n → i < length (g .basis j) → k < length (g .basis j) → In t (g .multiplier j) → getD (getD L′ j []) i 0 ≡ getD (getD L′ j []) k 0 → sumOf g j i k t ≡ x → In x S′
         at-here x i k t adding hi hk m w v =
@@ -118,6 +119,20 @@ module _ (n : ℕ) (g : Bases) (S₀ : List ℕ) where
             (λ s. c .keeps x (p .full x (record { j = j; i = i; k = k; t = t; adding = adding; pair = record { basis = nine; first = hi; second = hk; exponent = m }; together = s; value = v })))
             (λ d. c .adds (lt-ltb j n adding) x (record { product = record { i = i; k = k; t = t; first = hi; second = hk; exponent = m; together = rw here at w; value = v }; apart = d }))
             (same-or-not (getD (getD L j []) i 0) (getD (getD L j []) k 0))
+
+  -- where the joining of basis j is given up: all that came in is in the set of any blocks that have the blocks L and what
+  -- was to be joined, so that set has as many keys
+  pub within-products : (L L″ : List (List ℕ)) (S S′ S″ : List ℕ) → Products n g L S₀ S → Products n g L″ S₀ S″
+      → ((j i k : ℕ) → j < 9 → i < length (g .basis j) → k < length (g .basis j) → getD (getD L j []) i 0 ≡ getD (getD L j []) k 0 → getD (getD L″ j []) i 0 ≡ getD (getD L″ j []) k 0)
+      → n ≤ 9 → (j : ℕ) → j < 9 → (P : ℕ → ℕ → Type 0) → Has P (length (g .basis j)) (getD L″ j [])
+      → Within (ltb j n) P (g .multiplier j) (g .basis j) (getD L j []) S S′ → length S′ ≤ length S″
+  within-products L L″ S S′ S″ p q coarser most j nine P has w =
+      rising-shorter S′ S″ (w .rising (p .rising)) (q .rising)
+      (λ x m.
+      ⊎-elim
+      (λ s. ⊎-elim (q .starts x) (λ c. q .full x (product-grows L L″ x (λ y i k h. coarser y i k (omega arith)) c)) (p .only x s))
+      (λ c. q .full x (pair-product L″ j (getD L″ j []) x (ltb-true j n (c .0)) nine refl (c .1)))
+      (w .only (getD L″ j []) has (record { at = λ i k hi hk e. record { same = coarser j i k nine hi hk (e .same) } }) x m))
 
 -- A round of the definition joins every basis on the set S before it and then adds all products. Where the joining looked
 -- at S alone and left the blocks of the definition, and the set that grew meanwhile is the start and the products of

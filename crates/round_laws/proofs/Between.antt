@@ -4,12 +4,11 @@ use mathlib.Core.Path.{_≡_, refl, sym, _∙_}
 use mathlib.Core.Logic.{_⊎_, inl, inr, ⊎-elim}
 use mathlib.Core.Bool.{Bool, true, false}
 use mathlib.Core.List.{List}
-use Prim.Native.Nat.{ℕ, _+_, _<_, min}
+use Prim.Native.Nat.{ℕ, _<_}
 use native.Mathlib.Omega.{arith}
 use lib.ListN.{length, getD}
 use Rattle.counting.proofs.Cases.{never}
 use Rattle.counting.proofs.Listed.{same-or-not}
-use Rattle.joining_rule.specs.Sets.{In}
 use Rattle.joining_rule.specs.Join.{merged}
 use Rattle.joining_rule.proofs.Labels.{InOne, merged-at, two-low, in-one}
 use Rattle.joining_rule.proofs.Labels.InOne.{two, other}

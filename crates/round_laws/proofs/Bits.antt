@@ -1,11 +1,10 @@
 -- The bits of the sums of a basis: a number that has others is no sum of two of its keys. x − t is taken modulo 2^64, so
 -- it needs no test whether t is above x.
-use mathlib.Core.Path.{_≡_, refl, sym, ap, ap₂, _∙_}
-use Prim.Native.Nat.{ℕ, _+_, _-_, _*_, _/_, _%_, _^_, _≤_, _<_, max}
-use native.Mathlib.Nat.{mod-eq-of-lt, div-add-mod'}
+use mathlib.Core.Path.{_≡_, refl, sym, ap, _∙_}
+use Prim.Native.Nat.{ℕ, _+_, _-_, _/_, _%_, _^_, _≤_, _<_, max}
 use native.Mathlib.Omega.{arith}
 use lib.Arith.{bin-ind, digits-div, digits-mod}
-use lib.Bits.{bitOr, bitAnd, or-step, or-zero-l, or-comm, or-self, or-add-and, and-le-r}
+use lib.Bits.{bitOr, or-step, or-comm, or-self, or-add-and, and-le-r}
 
 -- ---- the digits of a or b
 or-half : (a b : ℕ) → bitOr a b / 2 ≡ bitOr (a / 2) (b / 2)

@@ -9,7 +9,7 @@ use Rattle.joining_rule.specs.Extend.{addTerms}
 use Rattle.joining_rule.proofs.Elements.{not-nil, in-cons, in-here, in-there}
 use Rattle.joining_rule.proofs.Members.{add-from, add-in}
 use Rattle.joining_rule.proofs.Extending.{Extends, extends-refl, extends-trans, add-extends}
-use Rattle.round_laws.specs.Added.{CrossProduct, Crossed, addList, addLists}
+use Rattle.round_laws.specs.Added.{Crossed, addList, addLists}
 
 module _ (T B : List ℕ) where
   pub list-extends : (k : ℕ) (is S : List ℕ) → Extends S (addList T B k is S)

@@ -1,6 +1,6 @@
 -- Laws of the loops that gather the bits of a basis's sums, and the sums that a member of the support leads to.
-use mathlib.Core.Path.{_≡_, refl, sym, ap, _∙_}
-use mathlib.Core.Logic.{inl, inr, ⊎-elim}
+use mathlib.Core.Path.{_≡_, refl, sym}
+use mathlib.Core.Logic.{inr, ⊎-elim}
 use mathlib.Core.List.{List, [], _∷_, _++_}
 use Prim.Native.Nat.{ℕ, _+_, _*_, _%_, _^_, _≤_, _<_}
 use native.Mathlib.Nat.{add-comm}
@@ -10,13 +10,11 @@ use lib.Bits.{bitOr, or-lt}
 use lib.ListN.{length, getD, take}
 use lib.Seq.{take-suc}
 use Rattle.counting.proofs.Cases.{lt-or-le}
-use Rattle.counting.proofs.Listed.{same-or-not}
-use Rattle.joining_rule.specs.Sets.{In}
-use Rattle.joining_rule.proofs.Elements.{not-nil, in-cons, in-here, in-snoc, snoc-keeps, snoc-in}
-use Rattle.round_laws.specs.Joins.{Together, Joins, WithSum, Through, SomeOf}
+use Rattle.joining_rule.proofs.Elements.{not-nil, in-here, in-snoc, snoc-keeps, snoc-in}
+use Rattle.round_laws.specs.Joins.{Joins, WithSum, Through, SomeOf}
 use Rattle.round_laws.specs.Fits.{SumBits, Takes, Taken, Fitting}
-use Rattle.round_laws.proofs.Bits.{fits-new, fits-old, fit-is, only-fit}
-use Rattle.round_laws.proofs.Joins.{joins-as}
+use Rattle.round_laws.proofs.Bits.{fits-new, fits-old, only-fit}
+use Rattle.round_laws.proofs.Joins.{joins-more, joins-as, has-ordered}
 use Rattle.round_laws.proofs.Fresh.{only-one}
 
 -- ---- the bits of the sums
@@ -107,17 +105,12 @@ module _ (T B : List ℕ) (x : ℕ) where
 
   pub fitting-through : (sums L L′ : List ℕ) → Fitting T B x sums → Joins (SomeOf (WithSum B) sums) (length B) L L′ → Joins (Through T B (x ∷ [])) (length B) L L′
   fitting-through sums L L′ f j =
-      joins-as (length B) _ _ L L′ j
-      (λ u v hu hv p.
-      let e = sym (only-one _ x (p .hits)) in
-      ⊎-elim
-      (λ o. inr (record { item = getD B u 0 + getD B v 0; listed = f .all (p .t) u v (p .exponent) o hv (record { sum = e }); holds = record { sum = refl } }))
-      (λ o.
-      ⊎-elim
-      (λ w. inr (record { item = getD B v 0 + getD B u 0; listed = f .all (p .t) v u (p .exponent) w hu (record { sum = omega arith }); holds = record { sum = add-comm (getD B u 0) (getD B v 0) } }))
-      (λ w. let q : u ≡ v = omega arith in inl (record { same = ap (λ (z : ℕ). getD L z 0) q }))
-      (lt-or-le v u))
-      (lt-or-le u v))
+      joins-more (length B) _ _ L L′ j
       (λ u v _ _ p.
       let w = f .from (p .item) (p .listed) in
       record { t = w .t; exponent = w .exponent; hits = in-here _ x [] (omega (arith, w .sum, p .holds .sum)) })
+      (has-ordered (Through T B (x ∷ [])) (length B) L′
+      (λ u v p. record { t = p .t; exponent = p .exponent; hits = rw (add-comm (getD B v 0) (getD B u 0)) (p .hits) })
+      (λ u v o h p.
+      j .joins .at u v (omega arith) h
+      (record { item = getD B u 0 + getD B v 0; listed = f .all (p .t) u v (p .exponent) o h (record { sum = sym (only-one _ x (p .hits)) }); holds = record { sum = refl } })))

@@ -1,20 +1,18 @@
--- Laws of the loops that join a basis: by the items of a list in turn, which are the members that came last, the sums that
--- one of them leads to, or the exponents; and by its pairs in turn.
-use mathlib.Core.Path.{_≡_, refl, sym, ap}
+-- Laws of the loops that join a basis by the items of a list in turn: the members that came last, the sums that one of
+-- them leads to, or the exponents.
+use mathlib.Core.Path.{_≡_, refl, ap}
 use mathlib.Core.Logic.{_⊎_, inl, inr, ⊎-elim}
 use mathlib.Core.List.{List, [], _∷_, _++_}
-use Prim.Native.Nat.{ℕ, _+_, _-_, _*_, _≤_, _<_}
+use Prim.Native.Nat.{ℕ, _+_, _-_, _≤_, _<_}
 use native.Mathlib.Numerals.{add-one}
 use native.Mathlib.Omega.{arith}
 use lib.ListN.{length, getD, take, drop, take-append-drop}
 use lib.Seq.{take-suc, take-all}
-use Rattle.counting.proofs.Cases.{lt-or-le}
-use Rattle.counting.proofs.Listed.{same-or-not}
 use Rattle.joining_rule.specs.Sets.{In}
 use Rattle.joining_rule.proofs.Numbered.{Numbered}
 use Rattle.joining_rule.proofs.Elements.{not-nil, in-cons, in-here, append-keeps, in-snoc, snoc-keeps, snoc-in, member-at}
-use Rattle.round_laws.specs.Joins.{Together, Has, Joins, Two, WithSum, Through, SomeOf}
-use Rattle.round_laws.proofs.Joins.{joins-same, joins-then, joins-more, joins-as}
+use Rattle.round_laws.specs.Joins.{Joins, Through, SomeOf}
+use Rattle.round_laws.proofs.Joins.{joins-same, joins-then, joins-as}
 
 -- ---- item by item
 module _ (P : ℕ → ℕ → ℕ → Type 0) (n : ℕ) (items L₀ : List ℕ) where

@@ -1,11 +1,12 @@
 -- Laws of a joining by pairs of indices: one after another, there is one result only, and the rule's joining is it.
-use mathlib.Core.Path.{_≡_, refl, sym, _∙_}
+use mathlib.Core.Path.{_≡_, refl, sym, ap, _∙_}
 use mathlib.Core.Logic.{_⊎_, inl, inr, ⊎-elim}
 use mathlib.Core.List.{List}
 use Prim.Native.Nat.{ℕ, _+_, _≤_, _<_}
 use native.Mathlib.Omega.{arith}
 use lib.ListN.{length, getD}
 use lib.Seq.{ext-getD}
+use Rattle.counting.proofs.Cases.{lt-or-le}
 use Rattle.joining_rule.specs.Join.{merged, joinPair, join}
 use Rattle.joining_rule.proofs.Numbered.{Numbered}
 use Rattle.round_laws.specs.Joins.{Together, Has, Joins, Two, Through, Blocks, Recent}
@@ -26,6 +27,16 @@ together M = record {
 
 inside : (n : ℕ) (L M : List ℕ) → length L ≡ n → Has (Together L) n M → Inside (Together M) n L
 inside n L M e h = record { long = e; at = λ x y hx hy q. h .at x y hx hy (record { same = q }) }
+
+-- two indices in any order
+pub has-ordered : (P : ℕ → ℕ → Type 0) (n : ℕ) (L : List ℕ) → ((x y : ℕ) → P x y → P y x) → ((x y : ℕ) → x < y → y < n → P x y → Together L x y) → Has P n L
+has-ordered P n L turned h = record {
+  at = λ x y hx hy p.
+      ⊎-elim
+      (λ o. h x y o hy p)
+      (λ o. ⊎-elim (λ w. record { same = sym (h y x w hx (turned x y p) .same) }) (λ w. let q : x ≡ y = omega arith in record { same = ap (λ (z : ℕ). getD L z 0) q }) (lt-or-le y x))
+      (lt-or-le x y);
+}
 
 module _ (n : ℕ) where
   -- nothing to be joined

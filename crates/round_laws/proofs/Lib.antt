@@ -10,4 +10,5 @@ pub mod Ending
 pub mod Joins
 pub mod Fresh
 pub mod Rows
+pub mod Walk
 pub mod Fits

@@ -1,19 +1,19 @@
 -- Laws of blocks as lists: single blocks, and one block put behind the first index of another.
-use mathlib.Core.Path.{_≡_, refl, sym, ap, _∙_}
+use mathlib.Core.Path.{_≡_, refl, sym, _∙_}
 use mathlib.Core.Logic.{_⊎_, inl, inr, ⊎-elim}
 use mathlib.Core.List.{List, [], _∷_, _++_}
-use Prim.Native.Nat.{ℕ, zero, suc, _+_, _≤_, _<_, min}
+use Prim.Native.Nat.{ℕ, _+_, _≤_, _<_}
 use native.Mathlib.Omega.{arith}
 use lib.ListN.{length, getD, set, length-set}
-use lib.Seq.{getD-set-same, getD-set-other, ext-getD}
+use lib.Seq.{getD-set-same}
 use Rattle.counting.specs.Counting.{listed}
 use Rattle.counting.proofs.Listed.{same-or-not, listed-length, listed-at}
 use Rattle.joining_rule.specs.Sets.{In}
 use Rattle.joining_rule.specs.Join.{merged}
 use Rattle.joining_rule.proofs.Elements.{not-nil, in-cons, in-here, in-there, in-append, append-in, append-keeps}
-use Rattle.joining_rule.proofs.Labels.{inOne, InOne, merged-long, merged-at, two-low, other-same, in-one}
+use Rattle.joining_rule.proofs.Labels.{InOne, merged-long, merged-at, two-low, other-same, in-one}
 use Rattle.joining_rule.proofs.Labels.InOne.{two, other}
-use Rattle.round_laws.specs.Lists.{listFrom, Ends, Once, BlockList, Lists, lastOf, relabel, spliced}
+use Rattle.round_laws.specs.Lists.{listFrom, Once, BlockList, Lists, lastOf, spliced}
 use Rattle.round_laws.proofs.Walks.{list-next, next-ends, list-set, Leads, leads-set, leads-append, leads-last, last-in, Ended, list-leads, leads-list, once-few}
 
 -- ---- the lists of a block's indices: different elements in one list, and in one after another

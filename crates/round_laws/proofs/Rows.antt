@@ -1,5 +1,5 @@
 -- Laws of the loops that join a basis by its pairs in turn. T, B and S are as in Join.antt of joining_rule.
-use mathlib.Core.Path.{_≡_, refl, sym, ap, _∙_}
+use mathlib.Core.Path.{_≡_, sym, _∙_}
 use mathlib.Core.Logic.{_⊎_, inl, inr, ⊎-elim}
 use mathlib.Core.Bool.{true, false}
 use mathlib.Core.List.{List}
@@ -12,7 +12,7 @@ use Rattle.joining_rule.specs.Join.{linked}
 use Rattle.joining_rule.proofs.Numbered.{Numbered}
 use Rattle.joining_rule.proofs.Members.{linked-from, linked-by}
 use Rattle.round_laws.specs.Joins.{Together, Joins, Two, Through, LinkedIn}
-use Rattle.round_laws.proofs.Joins.{joins-same, joins-then, joins-more, joins-as}
+use Rattle.round_laws.proofs.Joins.{joins-same, joins-then, joins-more, joins-as, has-ordered}
 
 module _ (T B S : List ℕ) where
   -- what a look at the support tells
@@ -77,14 +77,6 @@ module _ (T B S : List ℕ) where
   pub rows-end : (L₀ L : List ℕ) → length B ≤ 64 → Joins (LinkedIn T B S 0 (64 * length B)) (length B) L₀ L → Joins (Through T B S) (length B) L₀ L
   rows-end L₀ L few j =
       joins-more (length B) _ _ L₀ L j (λ x y _ _ p. p .through)
-      (record {
-        at = λ x y hx hy p.
-            ⊎-elim
-            (λ o. j .joins .at x y hx hy (record { order = o; from = omega arith; before = omega arith; through = p }))
-            (λ o.
-            ⊎-elim
-            (λ w. record { same = sym (j .joins .at y x hy hx (record { order = w; from = omega arith; before = omega arith; through = record { t = p .t; exponent = p .exponent; hits = rw (add-comm (getD B y 0) (getD B x 0)) (p .hits) } }) .same) })
-            (λ w. let q : x ≡ y = omega arith in record { same = ap (λ (z : ℕ). getD L z 0) q })
-            (lt-or-le y x))
-            (lt-or-le x y);
-      })
+      (has-ordered (Through T B S) (length B) L
+      (λ x y p. record { t = p .t; exponent = p .exponent; hits = rw (add-comm (getD B y 0) (getD B x 0)) (p .hits) })
+      (λ x y o h p. j .joins .at x y (omega arith) h (record { order = o; from = omega arith; before = omega arith; through = p })))

@@ -12,7 +12,7 @@ use borrow.Author.Tests.{lt-ltb, le-ltb}
 use Rattle.counting.proofs.Cases.{lt-or-le}
 use Rattle.joining_rule.specs.Sets.{In, member, insert, insertAll}
 use Rattle.joining_rule.proofs.Rising.{Above, Rising}
-use Rattle.joining_rule.proofs.Elements.{not-nil, in-cons, in-here, in-there, in-insert, length-insert-new, above-in}
+use Rattle.joining_rule.proofs.Elements.{not-nil, in-here, in-there, in-insert, length-insert-new}
 use Rattle.joining_rule.proofs.Insertions.{insertAll-rising, insertAll-from}
 use Rattle.round_laws.specs.Lists.{walk, listFrom, Ends, Once, lastOf}
 

@@ -57,8 +57,8 @@ pub record Between (adding : Bool) (T B L L′ S S′ : List ℕ) : Type 0 where
   pub adds : adding ≡ true → (x : ℕ) → NewProduct T B L L′ x → In x S′
   pub only : (x : ℕ) → In x S′ → In x S ⊎ ((adding ≡ true) × NewProduct T B L L′ x)
 
--- S′ is S and products of pairs that are in one block of any blocks M that have L and the pairs P: so it is also where a
--- joining by P is given up because S′ has too many keys
+-- S′ is S and products of pairs that are in one block of any blocks M that have L and the pairs P: so it is also where
+-- a joining by P is given up because S′ has too many keys
 pub record Within (adding : Bool) (P : ℕ → ℕ → Type 0) (T B L S S′ : List ℕ) : Type 0 where
   pub rising : Rising S → Rising S′
   pub keeps : (x : ℕ) → In x S → In x S′

@@ -1,5 +1,5 @@
--- The sums s = b + b' of a basis that an exponent t takes to a member x, t + s = x: they are among the numbers x − t that
--- have no other bits than the sums of the basis.
+-- The sums s = b + b' of a basis that an exponent t takes to a member x, t + s = x: they are among the numbers x − t
+-- that have no other bits than the sums of the basis.
 use mathlib.Core.Path.{_≡_}
 use mathlib.Core.List.{List}
 use Prim.Native.Nat.{ℕ, _+_, _*_, _^_, _<_}

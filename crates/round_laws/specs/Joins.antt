@@ -24,7 +24,8 @@ pub record Joins (P : ℕ → ℕ → Type 0) (n : ℕ) (L L′ : List ℕ) : Ty
   pub joins : Has P n L′
   pub only : (M : List ℕ) → Has P n M → Has (Together L) n M → Has (Together L′) n M
 
--- the pairs: i and k; two with a sum; two that some exponent t links, with t + b + b' in S; those of the items in a list
+-- the pairs: i and k; two with a sum; two that some exponent t links, with t + b + b' in S; those of the items of a
+-- list
 pub record Two (i k x y : ℕ) : Type 0 where
   pub first : x ≡ i
   pub second : y ≡ k
@@ -42,12 +43,19 @@ pub record SomeOf (P : ℕ → ℕ → ℕ → Type 0) (items : List ℕ) (x y :
   pub listed : In item items
   pub holds : P item x y
 
--- those that S links, in their order, at the places from q on and before p: place 64x + y belongs to the indices x and y
+-- those that S links, in their order, at the places from q on and before p: place 64x + y belongs to the indices x
+-- and y
 pub record LinkedIn (T B S : List ℕ) (q p x y : ℕ) : Type 0 where
   pub order : x < y
   pub from : q ≤ 64 * x + y
   pub before : 64 * x + y < p
   pub through : Through T B S x y
+
+-- those with the sum s, in their order, at the places from v on
+pub record SumFrom (B : List ℕ) (s v x y : ℕ) : Type 0 where
+  pub sum : getD B x 0 + getD B y 0 ≡ s
+  pub order : x < y
+  pub from : v ≤ 64 * x + y
 
 -- what a joining of B by pairs asks of its blocks
 pub record Blocks (B L : List ℕ) : Type 0 where

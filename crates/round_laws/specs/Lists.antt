@@ -1,7 +1,7 @@
 -- A block as a list in an array: `follow` has at each index the index that follows it in its block, or a number from 64
 -- on where there is none. L has the block number of each index.
 use mathlib.Core.Path.{_≡_}
-use mathlib.Core.Bool.{true, false, cond}
+use mathlib.Core.Bool.{cond}
 use mathlib.Core.List.{List, [], _∷_}
 use Prim.Native.Nat.{ℕ, zero, suc, _≤_, _<_}
 use lib.Dec.{ltb}
