@@ -1,6 +1,6 @@
 -- Laws of products that are put in where the index of pairs tells of some sums that theirs are in: one pair of indices,
 -- and the loops through the lists of two blocks.
-use mathlib.Core.Path.{_≡_, refl, sym, ap, _∙_}
+use mathlib.Core.Path.{_≡_, refl, sym, _∙_}
 use mathlib.Core.Logic.{⊎-elim}
 use mathlib.Core.Bool.{true}
 use mathlib.Core.List.{List}

@@ -4,11 +4,11 @@ use native.Mathlib.Omega.{arith}
 use mathlib.Core.Path.{sym, ap, _∙_}
 use mathlib.Core.Logic.{⊎-elim}
 use Prim.Native.Nat.{_+_, _-_, _≤_, _<_}
-use lib.ListN.{length, getD}
+use lib.ListN.{length}
 use Rattle.counting.specs.Counting.{fromTo}
 use Rattle.counting.proofs.Steps.{fromTo-done, fromTo-more}
 use Rattle.key_set.specs.Table.{keysIn}
-use Rattle.joining_rule.specs.Extend.{addTerms, addPair, addRow}
+use Rattle.joining_rule.specs.Extend.{addPair, addRow}
 use Rattle.joining_rule.proofs.Extending.{add-extends, rest-of-row-extends}
 use Rattle.block_joining.proofs.Growing.{Growing, growing-start, growing-skip, growing-step, growing-stop, growing-end, one-same, one-apart}
 use Rattle.block_joining.proofs.add_own.Statement.{statement}

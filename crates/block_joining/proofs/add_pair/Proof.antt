@@ -1,9 +1,6 @@
 -- `block_joining::add_pair` meets its contract: a small basis adds all, another what it is not told of.
 use borrow.Author.Needs.{needs}
 use native.Mathlib.Omega.{arith}
-use mathlib.Core.Path.{_∙_}
-use Prim.Native.Nat.{_+_}
-use lib.ListN.{getD}
 use Rattle.block_joining.proofs.Adding.{added-plain, added-told, marked-slots, added-marked}
 use Rattle.block_joining.proofs.add_pair.Statement.{statement}
 use Rattle.block_joining.proofs.add_pair.Tie as tie
