@@ -1,0 +1,4 @@
+pub mod Growing
+pub mod Grew
+pub mod Adding
+pub mod Splicing
