@@ -14,7 +14,7 @@ use Rattle.joining_rule.proofs.Labels.{merged-long}
 use Rattle.joining_rule.proofs.Lowest.{some-block}
 use Rattle.key_set.specs.Table.{keysIn, Stored}
 use Rattle.key_set.proofs.Keys.{keys-rising, stored-none, grown-holds}
-use Rattle.round_laws.specs.Joins.{Joins, Two}
+use Rattle.round_laws.specs.Joins.{Together, Has, Joins, Two}
 use Rattle.round_laws.specs.Added.{Between, addLists}
 use Rattle.round_laws.specs.Lists.{Lists, listFrom, labelsOf, followOf, TwoBlocks}
 use Rattle.round_laws.proofs.Joins.{joins-two}
@@ -27,6 +27,7 @@ use Rattle.block_joining.specs.Adding.{plain, DoneTold, WithIndex, Addin
 use Rattle.block_joining.specs.Standing.{Standing, standing, labelled, support, OwnBlock, Ready, Grew}
 use Rattle.block_joining.specs.declared.Reach.{Reach}
 use Rattle.block_joining.proofs.Growing.{grown-length}
+use Rattle.block_joining.proofs.Grew.{grew-to}
 
 -- ---- the support, when the blocks of s have become L′: it grew to `set`
 pub record Grows (T B : List ℕ) (s : Standing) (L′ : List ℕ) (n : ℕ) (t idx pairs : List ℕ) : Type 0 where
@@ -144,3 +145,58 @@ module _ (T B : List ℕ) (s : Standing) (r : Ready T B s) where
         same = record { since = refl; until = refl; bits = refl; adds = refl };
         fits = λ c. record { joins = rw labels joins; ready = ready c };
       }
+
+-- ---- the blocks of two indices, by their numbers
+module _ (T B : List ℕ) (s : Standing) (r : Ready T B s) (i k : ℕ) (hi : i < length B) (hk : k < length B) where
+  at-index : (x : ℕ) → x < length B → getD (labelled B s) x 0 ≡ getD (s .blocks) x 0
+  at-index x h = getD-take (length B) (s .blocks) x 0 h
+
+  block-low : (x : ℕ) → x < length B → getD (s .blocks) x 0 < length B
+  block-low x h = omega (arith, at-index x h, labels-long T B s r, r .blocks .numbered .lowest x (omega (arith, labels-long T B s r)))
+
+  block-own : (x : ℕ) → x < length B → getD (s .blocks) (getD (s .blocks) x 0) 0 ≡ getD (s .blocks) x 0
+  block-own x h =
+      sym (at-index (getD (s .blocks) x 0) (block-low x h)) ∙ (rw (at-index x h) at (r .blocks .numbered .own x (omega (arith, labels-long T B s r))))
+
+  -- in one block
+  pub two-same : getD (s .blocks) i 0 ≡ getD (s .blocks) k 0 → Has (Two i k) (length B) (labelled B s)
+  two-same e = record { at = λ x y _ _ w. rw (w .first, w .second) (record { same = at-index i hi ∙ e ∙ sym (at-index k hk) }) }
+
+  -- in two
+  pub two-blocks : getD (s .blocks) i 0 < getD (s .blocks) k 0 → TwoBlocks (length B) (getD (s .blocks) i 0) (getD (s .blocks) k 0) (s .blocks)
+  two-blocks h = record {
+    long = r .blocks .long;
+    lists = r .blocks .lists;
+    few = r .blocks .few;
+    below = h;
+    inside = block-low k hk;
+    own = block-own i hi;
+    other = block-own k hk;
+  }
+
+  -- an index and the number of its block are in one block
+  number : (x : ℕ) → (h : x < length B) → (M : List ℕ) → Has (Together (labelled B s)) (length B) M → Together M x (getD (s .blocks) x 0)
+  number x h M l = l .at x _ h (block-low x h) (record { same = at-index x h ∙ sym (block-own x h) ∙ sym (at-index _ (block-low x h)) })
+
+  pub two-grew : (s′ : Standing) → Grew T B (Two (getD (s .blocks) i 0) (getD (s .blocks) k 0)) s s′ → Grew T B (Two i k) s s′
+  two-grew s′ g =
+      grew-to T B _ (Two i k) s s′ g
+      (λ M l p. record { at = λ x y _ _ w. rw (w .first, w .second) (record { same = sym (number i hi M l .same) ∙ p .at i k hi hk (record { first = refl; second = refl }) .same ∙ number k hk M l .same }) })
+      (λ c.
+      let j = g .fits c .joins in
+      let l = j .keeps in
+      record {
+        at = λ x y _ _ w.
+            rw (w .first, w .second)
+            (record {
+              same = number i hi _ l .same ∙ j .joins .at _ _ (block-low i hi) (block-low k hk) (record { first = refl; second = refl }) .same ∙ sym (number k hk _ l .same);
+            });
+      })
+
+-- in the other order
+pub two-turned : (T B : List ℕ) (s s′ : Standing) (i k : ℕ) → i < length B → k < length B → Grew T B (Two i k) s s′ → Grew T B (Two k i) s s′
+two-turned T B s s′ i k hi hk g =
+    grew-to T B _ (Two k i) s s′ g
+    (λ M l p. record { at = λ x y _ _ w. rw (w .first, w .second) (record { same = sym (p .at k i hk hi (record { first = refl; second = refl }) .same) }) })
+    (λ c.
+    record { at = λ x y _ _ w. rw (w .first, w .second) (record { same = sym (g .fits c .joins .joins .at i k hi hk (record { first = refl; second = refl }) .same) }) })
