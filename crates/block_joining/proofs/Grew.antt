@@ -1,21 +1,17 @@
 -- Laws of a joining that adds: nothing to join, the same pairs told in another way, and one joining after another. A
 -- joining that is given up because of too many keys, or that ends because one block is left, is one by more pairs.
-use mathlib.Core.Path.{_≡_, refl, sym, ap, _∙_}
+use mathlib.Core.Path.{_≡_, refl, sym, _∙_}
 use mathlib.Core.Logic.{_⊎_, inl, inr, ⊎-elim}
-use mathlib.Core.Bool.{Bool, true}
 use mathlib.Core.List.{List}
 use Prim.Native.Nat.{ℕ, _≤_, _<_}
 use native.Mathlib.Omega.{arith}
 use lib.ListN.{length}
-use Rattle.joining_rule.specs.Sets.{In}
 use Rattle.joining_rule.proofs.Only.{rising-shorter}
-use Rattle.key_set.specs.Table.{keysIn}
 use Rattle.key_set.proofs.Keys.{keys-rising, stored-none}
 use Rattle.round_laws.specs.Joins.{Together, Has, Joins}
-use Rattle.round_laws.specs.Added.{Within}
 use Rattle.round_laws.proofs.Joins.{joins-same, joins-then}
 use Rattle.round_laws.proofs.Ending.{one-has}
-use Rattle.block_joining.specs.Standing.{Standing, labelled, support, Ready, SameReach, JoinedBy, Grew}
+use Rattle.block_joining.specs.Standing.{Standing, labelled, support, Ready, Grew}
 use Rattle.block_joining.proofs.Growing.{grown-length, stored-then}
 
 module _ (T B : List ℕ) where
@@ -46,6 +42,10 @@ module _ (T B : List ℕ) where
 
     more : ((x y : ℕ) → x < n → y < n → P x y → R x y) → (M : List ℕ) → Has (Together (labelled B s)) n M → Has R n M → Has P n M
     more p M l r = record { at = λ x y hx hy q. r .at x y hx hy (p x y hx hy q) }
+
+    -- a law of joinings gives the blocks
+    pub grew-is : ((x y : ℕ) → x < n → y < n → P x y → R x y) → (s′ .reach .len ≤ 2048 → Joins P n (labelled B s) (labelled B s′) → Joins R n (labelled B s) (labelled B s′)) → Grew T B R s s′
+    grew-is p j = grew-to (more p) (λ b. j b (g .fits b .joins) .joins)
 
     -- the same pairs, told in another way
     pub grew-as : ((x y : ℕ) → x < n → y < n → P x y → R x y) → ((x y : ℕ) → x < n → y < n → R x y → Together (labelled B s) x y ⊎ P x y) → Grew T B R s s′
@@ -80,8 +80,11 @@ module _ (T B : List ℕ) where
           grown-length (g .set) (s .table) (s′ .reach .len) (s′ .table) (g .stored .grown) b,
         )
 
-    pub grew-then : ((x y : ℕ) → x < n → y < n → R x y → P x y ⊎ Q x y) → ((x y : ℕ) → x < n → y < n → P x y → R x y) → ((x y : ℕ) → x < n → y < n → Q x y → R x y) → Grew T B R s s″
-    grew-then split p q = record {
+    -- a law of joinings gives the blocks
+    pub grew-next : ((x y : ℕ) → x < n → y < n → P x y → R x y) → ((x y : ℕ) → x < n → y < n → Q x y → R x y)
+        → (s″ .reach .len ≤ 2048 → Joins P n (labelled B s) (labelled B s′) → Joins Q n (labelled B s′) (labelled B s″) → Joins R n (labelled B s) (labelled B s″))
+        → Grew T B R s s″
+    grew-next p q j = record {
       set = h .set;
       stored = stored-then (s .reach .len) (g .set) (s .table) (s′ .reach .len) (s′ .table) (s′ .index) grown b (g .stored) (h .set) (s″ .reach .len) (s″ .table) (s″ .index) (h .stored);
       within = record {
@@ -101,9 +104,8 @@ module _ (T B : List ℕ) where
         bits = h .same .bits ∙ g .same .bits;
         adds = h .same .adds ∙ g .same .adds;
       };
-      fits = λ c.
-          record {
-            joins = joins-then n P Q R (labelled B s) (labelled B s′) (labelled B s″) (g .fits b .joins) (h .fits c .joins) split p q;
-            ready = h .fits c .ready;
-          };
+      fits = λ c. record { joins = j c (g .fits b .joins) (h .fits c .joins); ready = h .fits c .ready };
     }
+
+    pub grew-then : ((x y : ℕ) → x < n → y < n → R x y → P x y ⊎ Q x y) → ((x y : ℕ) → x < n → y < n → P x y → R x y) → ((x y : ℕ) → x < n → y < n → Q x y → R x y) → Grew T B R s s″
+    grew-then split p q = grew-next p q (λ c a d. joins-then n P Q R (labelled B s) (labelled B s′) (labelled B s″) a d split p q)

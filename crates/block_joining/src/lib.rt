@@ -12,10 +12,11 @@
 // basis: those of a sum are found by adding.
 
 ghost use mathlib.Core.Path.{_≡_};
-ghost use mathlib.Core.Bool.{false, cond, _||_};
+ghost use mathlib.Core.Logic.{_⊎_};
+ghost use mathlib.Core.Bool.{true, false, cond};
 ghost use mathlib.Core.List.{List};
 ghost use Prim.Native.Nat.{ℕ, _+_, _*_, _/_, _%_, _^_, _≤_, _<_};
-ghost use lib.Dec.{eqb, ltb};
+ghost use lib.Dec.{eqb};
 ghost use lib.ListN.{length, getD, take};
 ghost use Rattle.counting.specs.Counting.{Bounded};
 ghost use Rattle.joining_rule.specs.Join.{linked, merged};
@@ -421,7 +422,9 @@ fn join_two(
 
 // Whether nothing is left to join, or the support has too many keys.
 fn is_over(r: Reach) -> bool
-    ensures { λ o. ⌜ o ≡ (eqb (r .blocks) 1 || ltb 2048 (r .len)) ⌝ }
+    ensures { λ o. ⌜
+        (o ≡ true → (r .blocks ≡ 1) ⊎ (2048 < r .len)) × (o ≡ false → r .len ≤ 2048)
+        ⌝ }
 {
     r.blocks == 1 || 2048 < r.len
 }
