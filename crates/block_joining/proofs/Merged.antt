@@ -5,7 +5,7 @@ use mathlib.Core.List.{List}
 use Prim.Native.Nat.{ℕ, _+_, _-_, _*_, _≤_, _<_}
 use native.Mathlib.Omega.{arith}
 use lib.ListN.{length, getD}
-use lib.Seq.{length-take-le, getD-take}
+use lib.Seq.{getD-take}
 use Rattle.joining_rule.specs.Sets.{different}
 use Rattle.joining_rule.specs.Join.{merged}
 use Rattle.joining_rule.proofs.Only.{rising-shorter}
@@ -27,7 +27,7 @@ use Rattle.block_joining.specs.Adding.{plain, DoneTold, WithIndex, Addin
 use Rattle.block_joining.specs.Standing.{Standing, standing, labelled, support, OwnBlock, Ready, Grew}
 use Rattle.block_joining.specs.declared.Reach.{Reach}
 use Rattle.block_joining.proofs.Growing.{grown-length}
-use Rattle.block_joining.proofs.Grew.{grew-to}
+use Rattle.block_joining.proofs.Grew.{labels-long, grew-to}
 
 -- ---- the support, when the blocks of s have become L′: it grew to `set`
 pub record Grows (T B : List ℕ) (s : Standing) (L′ : List ℕ) (n : ℕ) (t idx pairs : List ℕ) : Type 0 where
@@ -42,12 +42,12 @@ module _ (T B : List ℕ) (s : Standing) (r : Ready T B s) where
   abbrev L : List ℕ
   L = labelled B s
 
-  pub labels-long : length L ≡ length B
-  labels-long = length-take-le (length B) (s .blocks) (omega (arith, r .blocks .long, r .blocks .few))
+  size : length L ≡ length B
+  size = labels-long T B s r
 
   -- there is a block
   pub some-left : 0 < length B → 1 ≤ s .reach .blocks
-  some-left h = omega (arith, r .count, some-block L (r .blocks .numbered) (omega (arith, labels-long)))
+  some-left h = omega (arith, r .count, some-block L (r .blocks .numbered) (omega (arith, size)))
 
   module _ (a b : ℕ) (t : TwoBlocks (length B) a b (s .blocks)) where
     apart : a ≡ b → ⊥
@@ -73,13 +73,13 @@ module _ (T B : List ℕ) (s : Standing) (r : Ready T B s) where
         → AddedAll T B (addLists T B (listFrom (followOf (s .blocks)) a) (listFrom (followOf (s .blocks)) b) (support s)) (s .reach .len) (s .table) (s .pairs) n t′ idx′ pairs′
         → Grows T B s (merged a b L) n t′ idx′ pairs′
     merge-adds e n t′ idx′ pairs′ g =
-        let ha : a < length L = omega (arith, labels-long, t .below, t .inside) in
-        let hb : b < length L = omega (arith, labels-long, t .inside) in
-        let c = blocks-crossed T B (followOf (s .blocks)) L a b (support s) labels-long (t .lists .at a ha at-a) (t .lists .at b hb at-b) in
+        let ha : a < length L = omega (arith, size, t .below, t .inside) in
+        let hb : b < length L = omega (arith, size, t .inside) in
+        let c = blocks-crossed T B (followOf (s .blocks)) L a b (support s) size (t .lists .at a ha at-a) (t .lists .at b hb at-b) in
         record {
           set = addLists T B (listFrom (followOf (s .blocks)) a) (listFrom (followOf (s .blocks)) b) (support s);
           stored = g .stored;
-          between = rw e (merge-between T B L a b labels-long (support s) _ c apart);
+          between = rw e (merge-between T B L a b size (support s) _ c apart);
           index = g .index;
           done = λ _. g .done;
           met = g .met;
@@ -99,13 +99,13 @@ module _ (T B : List ℕ) (s : Standing) (r : Ready T B s) where
     -- ---- with the lists of the blocks made one
     joins : Joins (Two a b) (length B) L (merged a b L)
     joins =
-        let ha : a < length L = omega (arith, labels-long, t .below, t .inside) in
-        let hb : b < length L = omega (arith, labels-long, t .inside) in
-        rw labels-long at (rw (at-a, at-b) at (joins-two L (r .blocks .numbered) a b ha hb))
+        let ha : a < length L = omega (arith, size, t .below, t .inside) in
+        let hb : b < length L = omega (arith, size, t .inside) in
+        rw size at (rw (at-a, at-b) at (joins-two L (r .blocks .numbered) a b ha hb))
 
     fewer : different (merged a b L) + 1 ≡ different L
     fewer =
-        merge-fewer L a b (r .blocks .numbered) (omega (arith, labels-long, t .below, t .inside)) (omega (arith, labels-long, t .inside)) at-a at-b apart
+        merge-fewer L a b (r .blocks .numbered) (omega (arith, size, t .below, t .inside)) (omega (arith, size, t .inside)) at-a at-b apart
 
     module _ (bytes n : _) (t′ idx′ pairs′ : List ℕ) (g : Grows T B s (merged a b L) n t′ idx′ pairs′) (long : length bytes ≡ 128)
         (labels : labelsOf (length B) bytes ≡ merged a b L) (lists : Lists (followOf bytes) (labelsOf (length B) bytes)) where
@@ -182,14 +182,13 @@ module _ (T B : List ℕ) (s : Standing) (r : Ready T B s) (i k : ℕ) (hi : i <
   two-grew s′ g =
       grew-to T B _ (Two i k) s s′ g
       (λ M l p. record { at = λ x y _ _ w. rw (w .first, w .second) (record { same = sym (number i hi M l .same) ∙ p .at i k hi hk (record { first = refl; second = refl }) .same ∙ number k hk M l .same }) })
-      (λ c.
-      let j = g .fits c .joins in
-      let l = j .keeps in
+      (λ c p.
+      let l = g .fits c .joins .keeps in
       record {
         at = λ x y _ _ w.
             rw (w .first, w .second)
             (record {
-              same = number i hi _ l .same ∙ j .joins .at _ _ (block-low i hi) (block-low k hk) (record { first = refl; second = refl }) .same ∙ sym (number k hk _ l .same);
+              same = number i hi _ l .same ∙ p .at _ _ (block-low i hi) (block-low k hk) (record { first = refl; second = refl }) .same ∙ sym (number k hk _ l .same);
             });
       })
 
@@ -198,5 +197,5 @@ pub two-turned : (T B : List ℕ) (s s′ : Standing) (i k : ℕ) → i < length
 two-turned T B s s′ i k hi hk g =
     grew-to T B _ (Two k i) s s′ g
     (λ M l p. record { at = λ x y _ _ w. rw (w .first, w .second) (record { same = sym (p .at k i hk hi (record { first = refl; second = refl }) .same) }) })
-    (λ c.
-    record { at = λ x y _ _ w. rw (w .first, w .second) (record { same = sym (g .fits c .joins .joins .at i k hi hk (record { first = refl; second = refl }) .same) }) })
+    (λ c p.
+    record { at = λ x y _ _ w. rw (w .first, w .second) (record { same = sym (p .at i k hi hk (record { first = refl; second = refl }) .same) }) })
