@@ -1,3 +1,6 @@
 pub mod Growing
 pub mod Grew
 pub mod Merged
+pub mod Places
+pub mod Going
+pub mod Walking
