@@ -99,6 +99,9 @@ module _ (T B : List ℕ) (s p : ℕ) (large : plain < length B) (e : pairAt B p
       bits = r .bits;
     }
 
-  pub met-grew : Grew T B (WithSum B s) a noted
-  met-grew =
+  told : Grew T B (WithSum B s) a noted
+  told =
       record { set = g .set; stored = g .stored; within = g .within; same = g .same; fits = λ b. record { joins = g .fits b .joins; ready = ready b } }
+
+  pub met-grew : (at : ℕ) → at ≡ toldAt p → Grew T B (WithSum B s) a (standing (a′ .blocks) (set (a′ .pairs) at 2) (a′ .table) (a′ .index) (a′ .reach))
+  met-grew at h = rw h told

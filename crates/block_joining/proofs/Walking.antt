@@ -26,8 +26,8 @@ module _ (T B : List ℕ) (s : ℕ) where
     pub here : Search (meets B (s % sumDivisor)) (λ _. ⊥) (64 * length B) v
 
   -- no pair has the sum
-  pub sum-none : (a : Standing) → Ready T B a → FindsSum B s 4096 → Grew T B (WithSum B s) a a
-  sum-none a r f =
+  pub sum-none : (a : Standing) (p : ℕ) → Ready T B a → 4095 < p → FindsSum B s p → Grew T B (WithSum B s) a a
+  sum-none a p r b f =
       grew-same T B (WithSum B s) a r
       (sums-has B s (labelled B a)
       (λ x y o h e.
@@ -108,3 +108,6 @@ module _ (T B : List ℕ) (s : ℕ) where
 -- the sum, told in another way
 pub sum-as : (T B : List ℕ) (s u : ℕ) (a a′ : Standing) → s ≡ u → Grew T B (WithSum B s) a a′ → Grew T B (WithSum B u) a a′
 sum-as T B s u a a′ e g = rw e at g
+
+pub finds-as : (B : List ℕ) (s u p : ℕ) → s ≡ u → FindsSum B s p → FindsSum B u p
+finds-as B s u p e f = rw e at f
