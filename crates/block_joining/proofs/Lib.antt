@@ -5,3 +5,4 @@ pub mod Places
 pub mod Told
 pub mod Going
 pub mod Walking
+pub mod Latest
