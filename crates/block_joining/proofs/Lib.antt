@@ -6,3 +6,4 @@ pub mod Told
 pub mod Going
 pub mod Walking
 pub mod Latest
+pub mod InRows
