@@ -1,16 +1,16 @@
 -- The loop that joins by the members that came last: its turns. It is at the member at place m of the table.
-use mathlib.Core.Path.{_≡_, refl, sym, ap, _∙_}
-use mathlib.Core.Logic.{_⊎_}
+use mathlib.Core.Path.{_≡_, sym, ap, _∙_}
+use mathlib.Core.Logic.{_⊎_, ⊎-elim}
 use mathlib.Core.List.{List, [], _∷_}
 use Prim.Native.Nat.{ℕ, _+_, _-_, _≤_, _<_}
 use native.Mathlib.Omega.{arith}
 use lib.ListN.{length, getD, take, drop, length-drop}
 use lib.Seq.{length-take-le, getD-take, getD-drop, take-all}
-use Rattle.round_laws.specs.Joins.{WithSum, Through, SomeOf}
+use Rattle.round_laws.specs.Joins.{WithSum, Through, SomeOf, Recent}
 use Rattle.round_laws.specs.Fits.{Fitting}
 use Rattle.round_laws.proofs.Fresh.{some-start, some-turn, some-before, through-some, some-through}
 use Rattle.round_laws.proofs.Fits.{sums-through, through-sums}
-use Rattle.block_joining.specs.Standing.{Standing, labelled, latest, Ready, Grew}
+use Rattle.block_joining.specs.Standing.{Standing, labelled, lookedAt, latest, Ready, Grew}
 use Rattle.block_joining.proofs.Grew.{grew-more, grew-as, grew-over, grew-then}
 use Rattle.block_joining.proofs.Going.{SameSizes, Going, going-start, going-then}
 
@@ -91,10 +91,23 @@ module _ (T B : List ℕ) (a : Standing) where
               grew-over T B (SomeOf By (take (i + 1) F)) (Through T B F) a a″
               (grew-then T B (SomeOf By (take i F)) (By (getD F i 0)) (SomeOf By (take (i + 1) F)) a a′ a″ r (w .going .fits) (w .going .grew) turn (some-turn By (length B) F i inside))
               (λ x y hx hy p. some-through (length B) T B F x y hx hy (some-before By (length B) F (i + 1) x y hx hy p))
-              r
               o
 
       pub members-end : until ≤ m → Grew T B (Through T B F) a a′
       members-end b =
           let g : Grew T B (SomeOf By F) a a′ = rw (take-all (m - since) F (omega (arith, long))) at (w .going .grew) in
           grew-as T B (SomeOf By F) (Through T B F) a a′ g (some-through (length B) T B F) (through-some (length B) T B F)
+
+  -- all else that is linked was in one block before
+  pub members-all : Recent (lookedAt a) T B (labelled B a) F → (a′ : Standing) → Grew T B (Through T B F) a a′ → Grew T B (Through T B (lookedAt a)) a a′
+  members-all c a′ g =
+      grew-more T B (Through T B F) (Through T B (lookedAt a)) a a′ g
+      (λ x y _ _ p. record { t = p .t; exponent = p .exponent; hits = c .members _ (p .hits) })
+      (λ b j.
+      record {
+        at = λ x y hx hy p.
+            ⊎-elim
+            (λ w. g .fits b .joins .keeps .at x y hx hy w)
+            (λ w. j .at x y hx hy (record { t = p .t; exponent = p .exponent; hits = w }))
+            (c .at x y (p .t) hx hy (p .exponent) (p .hits));
+      })
