@@ -1,9 +1,9 @@
 -- `block_joining::join_sums` meets its contract: the pairs with one of the first i sums are joined.
 use borrow.Author.Needs.{needs}
 use native.Mathlib.Omega.{arith}
-use mathlib.Core.Path.{_≡_, _∙_}
-use Prim.Native.Nat.{ℕ, _+_, _-_, _≤_, _<_}
-use lib.ListN.{length, getD, take}
+use mathlib.Core.Path.{_∙_}
+use Prim.Native.Nat.{_+_, _-_, _≤_}
+use lib.ListN.{length, take}
 use lib.Seq.{take-all}
 use Rattle.round_laws.specs.Joins.{WithSum, SomeOf}
 use Rattle.round_laws.proofs.Fresh.{some-start, some-turn, some-before}
