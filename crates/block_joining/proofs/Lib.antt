@@ -7,3 +7,5 @@ pub mod Going
 pub mod Walking
 pub mod Latest
 pub mod InRows
+pub mod Adding
+pub mod Splicing
