@@ -32,11 +32,13 @@ module _ (B : List ℕ) where
   skips : (n d : ℕ) (pairs : List ℕ) → ((p : ℕ) → n ≤ p → p < n + d → p / 64 < p % 64 → p % 64 < length B → ⊥) → PairIndex B n pairs → PairIndex B (n + d) pairs
   skips n zero pairs f x = let e : n + 0 ≡ n = omega arith in rw e x
   skips n (suc d) pairs f x =
+      let e : n + suc d ≡ n + d + 1 = omega arith in
       let i = skips n d pairs (λ p l u. f p l (omega arith)) x in
-      record {
+      rw e
+      (record {
         remainders = x .remainders;
         chain = chain-skip 2048 sumDivisor (meets B) (omega arith) (n + d) pairs (i .chain) (λ h. meets-none h (n + d) (pair-not (n + d) (f (n + d) (omega arith) (omega arith))));
-      }
+      })
 
   pub index-to : (n m : ℕ) → n ≤ m → (pairs : List ℕ) → ((p : ℕ) → n ≤ p → p < m → p / 64 < p % 64 → p % 64 < length B → ⊥) → PairIndex B n pairs → PairIndex B m pairs
   index-to n m h pairs f x =
