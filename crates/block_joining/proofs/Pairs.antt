@@ -7,10 +7,10 @@ use Prim.Native.Nat.{ℕ, zero, suc, _+_, _-_, _*_, _/_, _%_, _≤_, _<_}
 use native.Mathlib.Omega.{arith}
 use lib.ListN.{length, getD, set, length-set}
 use lib.Seq.{getD-set-same, getD-set-other}
-use borrow.Author.Tests.{eq-eqb, ne-eqb}
+use borrow.Author.Tests.{ne-eqb}
 use Rattle.counting.proofs.Cases.{lt-or-le}
 use Rattle.counting.proofs.Listed.{same-or-not}
-use Rattle.hash_chain.proofs.Chain.{Search, chain-start, chain-skip, chain-next, search-start, search-here, search-less, search-step}
+use Rattle.hash_chain.proofs.Chain.{Search, chain-start, chain-skip, chain-next, search-start, search-less, search-step}
 use Rattle.block_joining.specs.Pairs.{pairAt, sumAt, sumDivisor, meets, toldAt, Remainders, PairIndex, AllPairs, Beside, FindsSum, Marked}
 use Rattle.block_joining.proofs.Places.{pair-order, meets-pair, pair-meets, place-pair, place-sum}
 use Rattle.block_joining.proofs.Told.{told-low, told-rest, told-other, told-index}
@@ -100,7 +100,7 @@ module _ (B : List ℕ) where
   abbrev pub Seeks : ℕ → ℕ → Type 0
   Seeks s v = Search (meets B (s % sumDivisor)) (SumHere s) (64 * length B) v
 
-  module _ (few : length B ≤ 64) (s : ℕ) where
+  module _ (s : ℕ) where
     all : (q : ℕ) → SumHere s q → meets B (s % sumDivisor) q ≡ true
     all q e = pair-meets B s q (e .pair) (e .sum)
 
@@ -123,8 +123,8 @@ module _ (B : List ℕ) where
     pub seeks-pair : (v : ℕ) → Seeks s v → 0 < v → pairAt B (v - 1) ≡ true
     seeks-pair v c b = meets-pair B (s % sumDivisor) (v - 1) (c .hit (v - 1) (omega arith))
 
-    pub seeks-found : (v : ℕ) → Seeks s v → 0 < v → sumAt B (v - 1) ≡ s → FindsSum B s (v - 1)
-    seeks-found v c b e = record {
+    pub seeks-found : length B ≤ 64 → (v : ℕ) → Seeks s v → 0 < v → sumAt B (v - 1) ≡ s → FindsSum B s (v - 1)
+    seeks-found few v c b e = record {
       few = omega (arith, c .upto);
       pair = λ _. seeks-pair v c b;
       sum = λ _. e;

@@ -27,7 +27,7 @@ cast-v : tie.Need-cast-v Inv-loop μ-loop
 cast-v c = omega (arith, c .shared-slice-known3 .given (c .before .before .before .args .h))
 
 loop-holds : tie.Need-loop-holds Inv-loop μ-loop
-loop-holds c = let s = c .before .before .before in rw (s .pre .2) (seeks-start _ (s .pre .0 .few) _ _ (s .pre .1))
+loop-holds c = let s = c .before .before .before in rw (s .pre .2) (seeks-start _ _ _ (s .pre .1))
 
 sub-p : tie.Need-sub-p Inv-loop μ-loop
 sub-p c = search needs
@@ -35,13 +35,13 @@ sub-p c = search needs
 sum-at-requires : tie.Need-sum-at-requires Inv-loop μ-loop
 sum-at-requires c κs =
     let s = at-start (c .before) in
-    let o = pair-order _ _ (seeks-pair _ (s .pre .0 .few) _ _ (c .before .loop .inv) (c .loop-test .taken)) in
+    let o = pair-order _ _ (seeks-pair _ _ _ (c .before .loop .inv) (c .loop-test .taken)) in
     (s .pre .0, omega (arith, o .0, o .1), o .1)
 
 returns : tie.Need-returns Inv-loop μ-loop
 returns c =
     let l = c .before .before .before in
-    seeks-found _ (at-start l .pre .0 .few) _ _ (l .loop .inv) (c .before .before .loop-test .taken) (sym (c .before .sum-at .ensures) ∙ c .if1 .taken)
+    seeks-found _ _ (at-start l .pre .0 .few) _ (l .loop .inv) (c .before .before .loop-test .taken) (sym (c .before .sum-at .ensures) ∙ c .if1 .taken)
 
 add-v : tie.Need-add-v Inv-loop μ-loop
 add-v c = let l = c .before .before .before in omega (arith, l .loop .inv .upto, at-start l .pre .0 .few)
@@ -61,17 +61,15 @@ cast-v-2 c = let l = c .before .before .before .before in omega (arith, c .share
 loop-less : tie.Need-loop-less Inv-loop μ-loop
 loop-less c =
     let l = c .before .before .before .before in
-    let p = at-start l .pre in
-    seeks-less _ (p .0 .few) _ _ (p .1) _ (l .loop .inv) (c .before .before .before .loop-test .taken)
+    seeks-less _ _ _ (at-start l .pre .1) _ (l .loop .inv) (c .before .before .before .loop-test .taken)
 
 loop-again : tie.Need-loop-again Inv-loop μ-loop
 loop-again c =
     let l = c .before .before .before .before in
-    let p = at-start l .pre in
-    seeks-step _ (p .0 .few) _ _ (p .1) _ (l .loop .inv) (c .before .before .before .loop-test .taken) (λ e. c .before .if1 .left (c .before .before .sum-at .ensures ∙ e))
+    seeks-step _ _ _ (at-start l .pre .1) _ (l .loop .inv) (c .before .before .before .loop-test .taken) (λ e. c .before .if1 .left (c .before .before .sum-at .ensures ∙ e))
 
 returns-2 : tie.Need-returns-2 Inv-loop μ-loop
-returns-2 c = let l = c .before in seeks-none _ (at-start l .pre .0 .few) _ _ (l .loop .inv) (omega (arith, c .loop-test .left))
+returns-2 c = let l = c .before in seeks-none _ _ _ (l .loop .inv) (omega (arith, c .loop-test .left))
 
 pub find-sum-spec : {M : Type 1} → statement M
 find-sum-spec =

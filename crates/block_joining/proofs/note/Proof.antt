@@ -1,5 +1,4 @@
 -- `block_joining::note` meets its contract.
-use borrow.Author.Needs.{needs}
 use native.Mathlib.Omega.{arith}
 use mathlib.Core.Path.{sym, _∙_}
 use Rattle.block_joining.proofs.Told.{told-low}

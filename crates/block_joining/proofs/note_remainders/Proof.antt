@@ -1,7 +1,7 @@
 -- `block_joining::note_remainders` meets its contract: the remainders of the keys before i are written.
 use borrow.Author.Needs.{needs}
 use native.Mathlib.Omega.{arith}
-use mathlib.Core.Path.{_≡_, sym, _∙_}
+use mathlib.Core.Path.{_∙_}
 use Prim.Native.Nat.{ℕ, _-_, _%_, _≤_}
 use lib.ListN.{length, getD}
 use Rattle.block_joining.specs.Pairs.{sumDivisor}
