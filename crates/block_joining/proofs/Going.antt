@@ -1,11 +1,12 @@
 -- The loops that join: what holds before each turn, and how a turn keeps it. The pairs P are those of the turns so far.
-use mathlib.Core.Path.{_≡_, refl, _∙_}
-use mathlib.Core.Logic.{_⊎_}
+use mathlib.Core.Path.{_≡_, refl, sym, ap, _∙_}
 use mathlib.Core.List.{List}
-use Prim.Native.Nat.{ℕ, _≤_, _<_}
-use lib.ListN.{length}
+use Prim.Native.Nat.{ℕ, _≤_}
+use lib.ListN.{length, take}
+use lib.Seq.{take-take}
+use Rattle.key_set.proofs.Keys.{keys-first}
 use Rattle.round_laws.specs.Joins.{Has, Among, Parts}
-use Rattle.block_joining.specs.Standing.{Standing, labelled, Ready, Grew}
+use Rattle.block_joining.specs.Standing.{Standing, labelled, lookedAt, Ready, Grew}
 use Rattle.block_joining.proofs.Grew.{grew-same, grew-more, grew-then}
 
 -- the arrays are as long as before
@@ -42,3 +43,13 @@ module _ (T B : List ℕ) (P : ℕ → ℕ → Type 0) (s : Standing) where
     pub going-then : (Q R : ℕ → ℕ → Type 0) (s″ : Standing) → Ready T B s → Grew T B Q s′ s″ → SameSizes s′ s″ → s″ .reach .len ≤ 2048 → Parts P Q R (length B) → Going T B R s s″
     going-then Q R s″ r h z b c =
         record { grew = grew-then T B P Q R s s′ s″ r (g .fits) (g .grew) h c; fits = b; sizes = sizes-then s s′ s″ (g .sizes) z }
+
+    -- what the joining looks at stays
+    pub going-looked : Ready T B s → lookedAt s′ ≡ lookedAt s
+    going-looked r =
+        let u = g .grew .same .until in
+        rw u
+        (keys-first (s .reach .until) (s′ .table) (s .table)
+        (sym (take-take (s .reach .until) (s .reach .len) (s′ .table) (r .until))
+        ∙ ap (take (s .reach .until)) (g .grew .stored .first (g .fits))
+        ∙ take-take (s .reach .until) (s .reach .len) (s .table) (r .until)))

@@ -8,6 +8,7 @@ use native.Mathlib.Omega.{arith}
 use lib.ListN.{length}
 use lib.Seq.{length-take-le}
 use Rattle.joining_rule.proofs.Only.{rising-shorter}
+use Rattle.joining_rule.proofs.Lowest.{some-block}
 use Rattle.key_set.proofs.Keys.{keys-rising, stored-none}
 use Rattle.round_laws.specs.Joins.{Together, Has, Among, Parts}
 use Rattle.round_laws.proofs.Joins.{joins-same, joins-then}
@@ -21,6 +22,15 @@ module _ (T B : List ℕ) where
 
   pub labels-long : (s : Standing) → Ready T B s → length (labelled B s) ≡ n
   labels-long s r = length-take-le n (s .blocks) (omega (arith, r .blocks .long, r .blocks .few))
+
+  -- where one block is left, or none, all pairs are in one
+  pub has-few : (P : ℕ → ℕ → Type 0) (s : Standing) → Ready T B s → s .reach .blocks < 2 → Has P n (labelled B s)
+  has-few P s r h = record {
+    at = λ x y hx hy p.
+        let e = labels-long s r in
+        let z = some-block (labelled B s) (r .blocks .numbered) (omega arith) in
+        one-has P (labelled B s) (r .blocks .numbered) (omega (arith, r .count)) .at x y (omega arith) (omega arith) p;
+  }
 
   pub grew-same : (P : ℕ → ℕ → Type 0) (s : Standing) → Ready T B s → Has P n (labelled B s) → Grew T B P s s
   grew-same P s r h = record {
@@ -53,14 +63,12 @@ module _ (T B : List ℕ) where
     grew-as p q = grew-more p (λ _ j. record { at = λ x y hx hy r. j .at x y hx hy (q x y hx hy r) })
 
     -- ended because one block is left, or because of too many keys
-    pub grew-over : Among P R n → Ready T B s → (s′ .reach .blocks ≡ 1) ⊎ (2048 < s′ .reach .len) → Grew T B R s s′
-    grew-over p r o =
+    pub grew-over : Among P R n → (s′ .reach .blocks ≡ 1) ⊎ (2048 < s′ .reach .len) → Grew T B R s s′
+    grew-over p o =
         grew-more p
         (λ b _.
         ⊎-elim
-        (λ e.
-        let j = g .fits b in
-        rw (j .joins .long ∙ labels-long s r) at (one-has R (labelled B s′) (j .joins .numbered) (sym (j .ready .count) ∙ e)))
+        (λ e. has-few R s′ (g .fits b .ready) (omega arith))
         (λ k. absurd (omega arith))
         o)
 
@@ -113,5 +121,4 @@ grew-last T B P Q R s s′ s″ r b g h p q o =
     grew-over T B (λ x y. P x y ⊎ Q x y) R s s″
     (grew-then T B P Q (λ x y. P x y ⊎ Q x y) s s′ s″ r b g h (record { split = λ x y _ _ w. w; left = λ x y _ _ w. inl w; right = λ x y _ _ w. inr w }))
     (λ x y hx hy w. ⊎-elim (p x y hx hy) (q x y hx hy) w)
-    r
     o

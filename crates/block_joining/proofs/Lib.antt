@@ -6,3 +6,5 @@ pub mod Told
 pub mod Pairs
 pub mod Going
 pub mod Walking
+pub mod Latest
+pub mod InRows

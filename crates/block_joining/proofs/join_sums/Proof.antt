@@ -75,7 +75,6 @@ returns c =
     (grew-then _ _ _ _ _ (entry s) _ _ (s .pre .0) (g .fits) (g .grew) (j .join-sum .ensures)
     (some-turn (WithSum (s .args .basis .now)) (length (s .args .basis .now)) (s .args .sums .now) (l .loop .i) (t .loop-test .taken)))
     (some-before (WithSum (s .args .basis .now)) (length (s .args .basis .now)) (s .args .sums .now) (l .loop .i + 1))
-    (s .pre .0)
     (c .before .is-over .ensures .0 (c .if1 .taken))
 
 add-i : tie.Need-add-i Inv-loop μ-loop
