@@ -8,3 +8,5 @@ pub mod Going
 pub mod Walking
 pub mod Latest
 pub mod InRows
+pub mod Adding
+pub mod Splicing

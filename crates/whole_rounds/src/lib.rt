@@ -1,46 +1,71 @@
 // The joining rule over all nine bases, round by round. The problem's bases and multipliers stand in `keys` and `sizes`
-// as in the crate flat; the block numbers of basis j stand from place 64j on in `labels`. The first numbers of `table`
-// are the support, in the order in which they came, with `index`. The index of the pairs of basis j stands from place
-// 6240j on in `pairs`, where the basis is not small.
+// as in the crate flat. The first numbers of `table` are the support, in the order in which they came, with `index`. The
+// blocks of basis j stand from place 128j on in `blocks`, as in the crate block_joining, and the index of its pairs from
+// place 6240j on in `pairs`, where the basis is not small. Place j of `state` has the number of its blocks, and place
+// 9 + j the bits of the sums of its pairs.
+ghost use mathlib.Core.Path.{_≡_};
+ghost use mathlib.Core.Bool.{true};
+ghost use Prim.Native.Nat.{ℕ, _+_, _≤_, _<_};
+ghost use lib.ListN.{length, getD, replicate};
+ghost use Rattle.counting.specs.Counting.{listed, sumTo};
+ghost use Rattle.key_set.specs.Table.{keysIn, Stored};
+ghost use Rattle.joining_rule.specs.Rounds.{extendTo, addingBases, round, closingOf};
+ghost use Rattle.joining_rule.specs.Bytes.{blockBytes};
+ghost use Rattle.block_joining.specs.Adding.{plain};
+ghost use Rattle.whole_rounds.specs.Parts.{basesIn, labelsIn, squaresTo, Sizes, Arrays, SingleBlocks, Room};
+ghost use Rattle.whole_rounds.specs.Nine.{nine, stage, begun, AsksAt, JoinedAt, RoundAsks, Rounded, AllNoted, AllSingle};
+ghost use Rattle.whole_rounds.specs.Settled.{Supported, Starting, Settled, Missing};
 use block_joining::Reach;
 
 // Each index of a basis is a block of its own.
-fn number(part: &mut [u8], size: usize) {
+fn number(part: &mut [u8])
+    requires { ⌜ length (now part) ≤ 64 ⌝ }
+    ensures { λ _. ⌜ now (part .exit) ≡ listed (length (now (part .entry))) (λ i. i) ⌝ }
+{
     let mut i = 0;
-    while i < size {
+    while i < part.len() {
         part[i] = i as u8;
         i += 1;
     }
 }
 
 // The blocks at the start, in bytes that are 255 everywhere: each index of each basis.
-fn start_blocks(blocks: &mut [u8], sizes: &[usize]) {
+fn start_blocks(blocks: &mut [u8], sizes: &[usize])
+    requires { ⌜ Sizes (now sizes) × (now blocks ≡ replicate 1152 255) ⌝ }
+    ensures { λ _. ⌜ SingleBlocks (now (sizes .entry)) (now (blocks .exit)) ⌝ }
+{
     let mut j = 0;
     while j < 9 {
         let a = 128 * j;
-        let e = a + 64;
-        number(&mut blocks[a..e], sizes[j]);
+        let e = a + sizes[j];
+        number(&mut blocks[a..e]);
         j += 1;
     }
 }
 
-// The block numbers of one basis, from its blocks.
-fn copy(part: &mut [u8], blocks: &[u8]) {
+// Bytes copied.
+fn copy(part: &mut [u8], from: &[u8])
+    requires { ⌜ length (now part) ≡ length (now from) ⌝ }
+    ensures { λ _. ⌜ now (part .exit) ≡ now (from .entry) ⌝ }
+{
     let mut i = 0;
-    while i < 64 {
-        part[i] = blocks[i];
+    while i < part.len() {
+        part[i] = from[i];
         i += 1;
     }
 }
 
-// The block numbers of every basis.
-fn write_labels(labels: &mut [u8; 576], blocks: &[u8; 1152]) {
+// The block numbers of every basis, in bytes that are 255 everywhere.
+fn write_labels(labels: &mut [u8], blocks: &[u8], sizes: &[usize])
+    requires { ⌜ Sizes (now sizes) × (length (now blocks) ≡ 1152) × (now labels ≡ replicate 576 255) ⌝ }
+    ensures { λ _. ⌜ now (labels .exit) ≡ blockBytes (labelsIn 128 (now (sizes .entry)) (now (blocks .entry))) ⌝ }
+{
     let mut j = 0;
     while j < 9 {
         let a = 64 * j;
-        let e = a + 64;
+        let e = a + sizes[j];
         let b = 128 * j;
-        let f = b + 64;
+        let f = b + sizes[j];
         copy(&mut labels[a..e], &blocks[b..f]);
         j += 1;
     }
@@ -62,16 +87,10 @@ pub struct Closed {
     pub blocks: usize,
 }
 
-fn closed(len: usize, rounds: usize, blocks: usize) -> Closed {
-    Closed {
-        len,
-        rounds,
-        blocks,
-    }
-}
-
 // How many bases add to the support in a round.
-fn adding_bases(rule: usize) -> usize {
+fn adding_bases(rule: usize) -> usize
+    ensures { λ r. ⌜ r ≡ addingBases rule ⌝ }
+{
     if rule == 2 { 1 } else { 9 }
 }
 
@@ -85,7 +104,14 @@ fn join_at(
     index: &mut [u16],
     r: Reach,
     j: usize,
-) -> Reach {
+) -> Reach
+    requires { ⌜ AsksAt (now keys) (now sizes) (now blocks) (now pairs) (now table) (now index) r j ⌝ }
+    ensures { λ r′. ⌜
+        JoinedAt (now (keys .entry)) (now (sizes .entry)) (now (blocks .entry)) (now (pairs .entry))
+        (now (table .entry)) (now (index .entry)) r j (now (blocks .exit)) (now (pairs .exit)) (now (table .exit))
+        (now (index .exit)) r′
+        ⌝ }
+{
     let basis = flat::basis(keys, sizes, j);
     let exponents = flat::exponents(keys, sizes, j);
     let a = 128 * j;
@@ -100,8 +126,8 @@ fn join_at(
     block_joining::join(part, basis, exponents, &mut pairs[p..q], table, index, r)
 }
 
-// What a round is given, and what it leaves: the members after the first `since` came in the round before, and the
-// support had `until` keys when it began; the bases before `adding` add.
+// How far a round is: the members after the first `since` came in the round before, and the support had `until` keys
+// when it began; now it has `len`, and the bases before `adding` add.
 struct Stage {
     since: usize,
     until: usize,
@@ -109,8 +135,8 @@ struct Stage {
     adding: usize,
 }
 
-// A round: every basis joins by the members before `until`, and adds the products of the blocks that it makes one. Of
-// basis j place j of `state` has the number of blocks, and place 9 + j the bits of the sums of its pairs.
+// A round: every basis joins by the members before `until`, and adds the products of the blocks that it makes one. The
+// number of the support's keys.
 fn round(
     blocks: &mut [u8],
     keys: &[u64],
@@ -120,7 +146,22 @@ fn round(
     index: &mut [u16],
     state: &mut [u64; 18],
     s: Stage,
-) -> usize {
+) -> usize
+    requires { ⌜
+        RoundAsks (now keys) (now sizes) (nine (now blocks) (now pairs) (now table) (now index) (now state) s)
+        ⌝ }
+    ensures { λ r. ⌜
+        ((rule : ℕ) → addingBases rule ≡ s .adding
+        → Rounded (now (keys .entry)) (now (sizes .entry))
+        (round rule (basesIn (now (keys .entry)) (now (sizes .entry)))
+        (begun (now (sizes .entry))
+        (nine (now (blocks .entry)) (now (pairs .entry)) (now (table .entry)) (now (index .entry))
+        (now (state .entry)) s)))
+        (s .len) (now (table .entry))
+        (nine (now (blocks .exit)) (now (pairs .exit)) (now (table .exit)) (now (index .exit)) (now (state .exit))
+        (stage (s .since) (s .until) r (s .adding))))
+        ⌝ }
+{
     let mut n = s.len;
     let mut j = 0;
     while j < 9 {
@@ -144,7 +185,10 @@ fn round(
 }
 
 // How many blocks all bases have.
-fn total(state: &[u64; 18]) -> usize {
+fn total(state: &[u64; 18]) -> usize
+    requires { ⌜ ((j : ℕ) → j < 9 → getD (now state) j 0 ≤ 64) ⌝ }
+    ensures { λ r. ⌜ r ≡ sumTo 9 (λ j. getD (now (state .entry)) j 0) ⌝ }
+{
     let mut n = 0;
     let mut j = 0;
     while j < 9 {
@@ -154,7 +198,7 @@ fn total(state: &[u64; 18]) -> usize {
     n
 }
 
-// The products of each index of basis j with itself put in, for the bases before `adding`.
+// The products of each index with itself put in, for the bases before `adding`.
 fn add_squares(
     table: &mut [u64],
     index: &mut [u16],
@@ -162,7 +206,14 @@ fn add_squares(
     keys: &[u64],
     sizes: &[usize],
     adding: usize,
-) -> usize {
+) -> usize
+    requires { ⌜ Supported (now table) (now index) len (now keys) (now sizes) × (adding ≤ 9) ⌝ }
+    ensures { λ r. ⌜
+        Stored len
+        (squaresTo adding (basesIn (now (keys .entry)) (now (sizes .entry))) (keysIn len (now (table .entry))))
+        (now (table .entry)) r (now (table .exit)) (now (index .exit))
+        ⌝ }
+{
     let mut n = len;
     let mut j = 0;
     while j < adding {
@@ -187,49 +238,86 @@ fn run(
     index: &mut [u16],
     state: &mut [u64; 18],
     support: Support,
-) -> Closed {
+) -> Closed
+    requires { ⌜
+        Starting (now table) (now index) support (now keys) (now sizes)
+        × AllSingle (now sizes) (now blocks) (now state)
+        × AllNoted (now keys) (now sizes) (now pairs) (now state)
+        ⌝ }
+    ensures { λ r. ⌜
+        Settled
+        (closingOf (support .rule) (support .most) (basesIn (now (keys .entry)) (now (sizes .entry)))
+        (keysIn (support .len) (now (table .entry)))) (support .len) (now (table .entry)) r (now (table .exit))
+        (now (index .exit)) (blockBytes (labelsIn 128 (now (sizes .entry)) (now (blocks .exit))))
+        ⌝ }
+{
     let adding = adding_bases(support.rule);
     let mut left = total(state);
     let mut since = 0;
     let mut until = support.len;
     let mut len = add_squares(table, index, until, keys, sizes, adding);
     let mut rounds = 0;
+    if 2048 < len {
+        return Closed {
+            len,
+            rounds,
+            blocks: left,
+        };
+    }
     while rounds < support.most {
-        if 2048 < len {
-            return closed(len, rounds, left);
-        }
         let s = Stage {
             since,
             until,
             len,
             adding,
         };
-        let n = round(blocks, keys, sizes, pairs, table, index, state, s);
+        len = round(blocks, keys, sizes, pairs, table, index, state, s);
         rounds += 1;
+        if 2048 < len {
+            return Closed {
+                len,
+                rounds,
+                blocks: left,
+            };
+        }
         let now = total(state);
-        if n == until && now == left {
-            return closed(n, rounds, now);
+        if len == until && now == left {
+            return Closed {
+                len,
+                rounds,
+                blocks: left,
+            };
         }
         left = now;
         since = until;
-        until = n;
-        len = n;
+        until = len;
     }
-    closed(len, rounds, left)
+    Closed {
+        len,
+        rounds,
+        blocks: left,
+    }
 }
 
-// The products of every pair in one block put in, for the bases from `adding` on.
-fn add_missing(
+// The in-block products that the support may lack after the rounds, put in: those of the bases that do not add.
+pub fn put_missing(
     labels: &[u8],
     keys: &[u64],
     sizes: &[usize],
     table: &mut [u64],
     index: &mut [u16],
-    len: usize,
-    adding: usize,
-) -> usize {
-    let mut n = len;
-    let mut j = adding;
+    support: Support,
+) -> usize
+    requires { ⌜ Missing (now table) (now index) support (now keys) (now sizes) (now labels) ⌝ }
+    ensures { λ r. ⌜
+        Stored (support .len)
+        (extendTo 9 (basesIn (now (keys .entry)) (now (sizes .entry)))
+        (labelsIn 64 (now (sizes .entry)) (now (labels .entry))) (keysIn (support .len) (now (table .entry))))
+        (now (table .entry)) r (now (table .exit)) (now (index .exit))
+        ⌝ }
+{
+    let mut n = support.len;
+    let mut j = adding_bases(support.rule);
     while j < 9 {
         let basis = flat::basis(keys, sizes, j);
         let exponents = flat::exponents(keys, sizes, j);
@@ -244,28 +332,21 @@ fn add_missing(
     n
 }
 
-// The in-block products that the support may lack after the rounds, put in: those of the bases that do not add.
-pub fn put_missing(
-    labels: &[u8],
-    keys: &[u64],
-    sizes: &[usize],
-    table: &mut [u64],
-    index: &mut [u16],
-    support: Support,
-) -> usize {
-    let adding = adding_bases(support.rule);
-    add_missing(labels, keys, sizes, table, index, support.len, adding)
-}
-
 // The pairs of every basis that is not small put into the index, and the bits of their sums into `state`.
-fn note_all(pairs: &mut [u16], state: &mut [u64; 18], keys: &[u64], sizes: &[usize]) {
+fn note_all(pairs: &mut [u16], state: &mut [u64; 18], keys: &[u64], sizes: &[usize])
+    requires { ⌜ Arrays (now keys) (now sizes) × (now pairs ≡ replicate 56160 0) ⌝ }
+    ensures { λ _. ⌜
+        AllNoted (now (keys .entry)) (now (sizes .entry)) (now (pairs .exit)) (now (state .exit))
+        × ((j : ℕ) → j < 9 → getD (now (state .exit)) j 0 ≡ getD (now (state .entry)) j 0)
+        ⌝ }
+{
     let mut j = 0;
     while j < 9 {
         if block_joining::PLAIN < sizes[j] {
             let basis = flat::basis(keys, sizes, j);
+            let exponents = flat::exponents(keys, sizes, j);
             let a = 6240 * j;
             let e = a + 6240;
-            let exponents = flat::exponents(keys, sizes, j);
             state[9 + j] = block_joining::note(&mut pairs[a..e], basis, exponents);
         }
         j += 1;
@@ -281,7 +362,18 @@ fn run_indexed(
     index: &mut [u16],
     state: &mut [u64; 18],
     support: Support,
-) -> Closed {
+) -> Closed
+    requires { ⌜
+        Starting (now table) (now index) support (now keys) (now sizes)
+        × AllSingle (now sizes) (now blocks) (now state)
+        ⌝ }
+    ensures { λ r. ⌜
+        Settled
+        (closingOf (support .rule) (support .most) (basesIn (now (keys .entry)) (now (sizes .entry)))
+        (keysIn (support .len) (now (table .entry)))) (support .len) (now (table .entry)) r (now (table .exit))
+        (now (index .exit)) (blockBytes (labelsIn 128 (now (sizes .entry)) (now (blocks .exit))))
+        ⌝ }
+{
     let mut pairs = [0u16; 56160];
     note_all(&mut pairs, state, keys, sizes);
     run(
@@ -297,7 +389,10 @@ fn run_indexed(
 }
 
 // Whether every basis is small.
-fn are_small(sizes: &[usize]) -> bool {
+fn are_small(sizes: &[usize]) -> bool
+    requires { ⌜ 9 ≤ length (now sizes) ⌝ }
+    ensures { λ r. ⌜ (r ≡ true → (j : ℕ) → j < 9 → getD (now (sizes .entry)) j 0 ≤ plain) ⌝ }
+{
     let mut j = 0;
     while j < 9 {
         if block_joining::PLAIN < sizes[j] {
@@ -309,7 +404,10 @@ fn are_small(sizes: &[usize]) -> bool {
 }
 
 // Each basis has as many blocks as monomials.
-fn start_state(sizes: &[usize]) -> [u64; 18] {
+fn start_state(sizes: &[usize]) -> [u64; 18]
+    requires { ⌜ Sizes (now sizes) ⌝ }
+    ensures { λ r. ⌜ ((j : ℕ) → j < 9 → getD r j 0 ≡ getD (now (sizes .entry)) j 0) ⌝ }
+{
     let mut state = [0u64; 18];
     let mut j = 0;
     while j < 9 {
@@ -327,7 +425,15 @@ pub fn close(
     table: &mut [u64],
     index: &mut [u16],
     support: Support,
-) -> Closed {
+) -> Closed
+    requires { ⌜ Starting (now table) (now index) support (now keys) (now sizes) ⌝ }
+    ensures { λ r. ⌜
+        Settled
+        (closingOf (support .rule) (support .most) (basesIn (now (keys .entry)) (now (sizes .entry)))
+        (keysIn (support .len) (now (table .entry)))) (support .len) (now (table .entry)) r (now (table .exit))
+        (now (index .exit)) (now (labels .exit))
+        ⌝ }
+{
     let mut blocks = [255u8; 1152];
     start_blocks(&mut blocks, sizes);
     let mut state = start_state(sizes);
@@ -348,6 +454,7 @@ pub fn close(
     } else {
         run_indexed(&mut blocks, keys, sizes, table, index, &mut state, support)
     };
-    write_labels(labels, &blocks);
+    *labels = [255u8; 576];
+    write_labels(labels, &blocks, sizes);
     c
 }

@@ -1,83 +1,87 @@
+-- `block_joining::add_pair` meets its contract: a small basis adds all, another what it is not told of.
 use borrow.Author.Needs.{needs}
 use native.Mathlib.Omega.{arith}
-use mathlib.Core.Path.{_≡_, refl, sym, ap, _∙_, subst}
-use Prim.Native.Nat.{ℕ, zero, suc, _+_, _-_, _*_, _≤_, _<_}
-use lib.ListN.{length, getD, take, drop, set, length-set}
+use Rattle.block_joining.proofs.Adding.{added-plain, added-told, marked-slots, added-marked}
 use Rattle.block_joining.proofs.add_pair.Statement.{statement}
 use Rattle.block_joining.proofs.add_pair.Tie as tie
-use Rattle.block_joining.proofs.add_pair.Reads as reads
-use Rattle.block_joining.proofs.add_pair.Lts as lts
-use Rattle.block_joining.proofs.add_slotted.Reads as add-slotted-reads
-use Rattle.block_joining.proofs.add_terms.Reads as add-terms-reads
-use Rattle.block_joining.proofs.is_done.Reads as is-done-reads
 
--- src/lib.rt:247:13
 mul-s : tie.Need-mul-s
 mul-s c = search needs
 
--- src/lib.rt:247:13
 shared-slice-read-s : tie.Need-shared-slice-read-s
-shared-slice-read-s c = search needs
+shared-slice-read-s c = c .before .before .before .before .before .before .pre .1
 
--- src/lib.rt:247:24
 mul-s-2 : tie.Need-mul-s-2
 mul-s-2 c = search needs
 
--- src/lib.rt:247:24
 shared-slice-read-s-2 : tie.Need-shared-slice-read-s-2
-shared-slice-read-s-2 c = search needs
+shared-slice-read-s-2 c = c .before .before .before .before .before .before .before .pre .2
 
--- src/lib.rt:247:13
 add-s : tie.Need-add-s
-add-s c = search needs
+add-s c =
+    let s = c .before .before .before .before .before .before .before in
+    omega (arith, s .pre .0 .basis .basis .basis .keys (s .args .i), s .pre .0 .basis .basis .basis .keys (s .args .k))
 
--- src/lib.rt:249:9
 add-terms-requires : tie.Need-add-terms-requires
-add-terms-requires c κs = search needs
+add-terms-requires c κs =
+    let s = c .before .before .before .before .before .before .before .before .before .before in
+    let b = s .pre .0 .basis in
+    record {
+      support = b .support;
+      index = b .index;
+      exponents = b .basis .exponents;
+      low = omega (arith, b .basis .basis .keys (s .args .i), b .basis .basis .keys (s .args .k));
+    }
 
--- src/lib.rt:249:9
 same-length : tie.Need-same-length
-same-length c = search needs
+same-length c = c .before .before .before .before .add-terms .kept .0
 
--- src/lib.rt:249:9
 same-length-2 : tie.Need-same-length-2
-same-length-2 c = search needs
+same-length-2 c = c .before .before .before .before .add-terms .kept .1 .0
 
--- src/lib.rt:249:9
 returns : tie.Need-returns
-returns c = search needs
+returns c = added-plain _ _ _ _ _ _ _ (c .before .before .before .before .before .before .before .before .before .before .before .before .before .before .before .pre .0) (c .before .before .before .before .before .before .before .if1 .taken) _ _ _ (c .before .before .before .before .add-terms .ensures)
 
--- src/lib.rt:251:8
 is-done-requires : tie.Need-is-done-requires
-is-done-requires c κs = search needs
+is-done-requires c κs =
+    let s = c .before .before .before .before .before .before .before .before .before in
+    let p = s .pre .0 in
+    (p .basis .basis .basis, p .index .all (c .before .if1 .left), s .pre .1, s .pre .2)
 
--- src/lib.rt:252:9
 same-length-3 : tie.Need-same-length-3
-same-length-3 c = search needs
+same-length-3 c = c .before .before .before .is-done .kept .0
 
--- src/lib.rt:252:9
 returns-2 : tie.Need-returns-2
-returns-2 c = search needs
+returns-2 c =
+    let d = c .before .before .before .is-done .ensures in
+    added-told _ _ _ _ _ _ _ (c .before .before .before .before .before .before .before .before .before .before .before .before .before .pre .0) (c .before .before .before .before .before .if1 .left) _ (d .before (c .if2 .taken)) (d .same (c .if2 .taken))
 
--- src/lib.rt:254:5
 add-slotted-requires : tie.Need-add-slotted-requires
-add-slotted-requires c κs = search needs
+add-slotted-requires c κs =
+    let s = c .before .before .before .before .before .before .before .before .before .before .before .before .before .before .before .before in
+    let b = s .pre .0 .basis in
+    (
+      record {
+        support = b .support;
+        index = b .index;
+        exponents = b .basis .exponents;
+        low = omega (arith, b .basis .basis .keys (s .args .i), b .basis .basis .keys (s .args .k));
+      },
+      b .basis .few,
+      marked-slots _ _ _ _ _ _ _ (s .pre .0) (c .before .before .before .before .before .before .before .before .if1 .left) _ (c .before .before .before .before .before .before .is-done .ensures .marked (c .before .before .before .if2 .left)),
+    )
 
--- src/lib.rt:225:1
 same-length-4 : tie.Need-same-length-4
-same-length-4 c = search needs
+same-length-4 c = c .before .before .before .before .add-slotted .kept .0
 
--- src/lib.rt:225:1
 same-length-5 : tie.Need-same-length-5
-same-length-5 c = search needs
+same-length-5 c = c .before .before .before .before .add-slotted .kept .1 .0
 
--- src/lib.rt:225:1
 same-length-6 : tie.Need-same-length-6
-same-length-6 c = search needs
+same-length-6 c = c .before .before .before .before .before .before .before .before .before .before .before .is-done .kept .0
 
--- src/lib.rt:225:1
 returns-3 : tie.Need-returns-3
-returns-3 c = search needs
+returns-3 c = added-marked _ _ _ _ _ _ _ (c .before .before .before .before .before .before .before .before .before .before .before .before .before .before .before .before .before .before .before .before .before .pre .0) (c .before .before .before .before .before .before .before .before .before .before .before .before .before .if1 .left) _ (c .before .before .before .before .before .before .before .before .before .before .before .is-done .ensures .marked (c .before .before .before .before .before .before .before .before .if2 .left)) _ _ _ (c .before .before .before .before .add-slotted .ensures)
 
 pub add-pair-spec : {M : Type 1} → statement M
 add-pair-spec =

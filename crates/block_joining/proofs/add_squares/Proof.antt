@@ -1,75 +1,94 @@
+-- `block_joining::add_squares` meets its contract: the products of the indices from i on with themselves are still to be
+-- added.
 use borrow.Author.Needs.{needs}
 use native.Mathlib.Omega.{arith}
-use mathlib.Core.Path.{_≡_, refl, sym, ap, _∙_, subst}
-use Prim.Native.Nat.{ℕ, zero, suc, _+_, _-_, _*_, _≤_, _<_}
-use lib.ListN.{length, getD, take, drop, set, length-set}
+use mathlib.Core.Path.{sym, _∙_}
+use Prim.Native.Nat.{_+_, _-_, _*_, _≤_}
+use lib.ListN.{length, getD}
+use Rattle.counting.specs.Counting.{fromTo}
+use Rattle.counting.proofs.Steps.{fromTo-done, fromTo-more}
+use Rattle.key_set.specs.Table.{keysIn}
+use Rattle.joining_rule.specs.Extend.{addTerms}
+use Rattle.joining_rule.proofs.Extending.{add-extends, fromTo-extends}
+use Rattle.block_joining.specs.Adding.{addSquares}
+use Rattle.block_joining.proofs.Growing.{Growing, growing-start, growing-step, growing-stop, growing-end}
 use Rattle.block_joining.proofs.add_squares.Statement.{statement}
 use Rattle.block_joining.proofs.add_squares.Tie as tie
-use Rattle.block_joining.proofs.add_squares.Reads as reads
-use Rattle.block_joining.proofs.add_squares.Lts as lts
-use Rattle.block_joining.proofs.add_terms.Reads as add-terms-reads
 
 abbrev Inv-loop : tie.InvT-loop
-Inv-loop table₀ index₀ len basis exponents n₀ i₀ table index n i = ?
+Inv-loop table₀ index₀ len basis exponents n₀ i₀ table index n i =
+    (i ≤ length basis)
+    × Growing table₀ len (addSquares exponents basis (keysIn len table₀)) (fromTo i (length basis) (λ j. addTerms exponents (2 * getD basis j 0))) n table index
 
 abbrev μ-loop : tie.MeasureT-loop
-μ-loop table₀ index₀ len basis exponents n₀ i₀ table index n i = ?
+μ-loop table₀ index₀ len basis exponents n₀ i₀ table index n i = length basis - i
 
--- src/lib.rt:841:5
 loop-holds : tie.Need-loop-holds Inv-loop μ-loop
-loop-holds c = search needs
+unfolding addSquares
+loop-holds c =
+    let s = c .before .before .before .before in
+    (omega arith, growing-start _ _ _ _ (s .pre .support) (s .pre .index))
 
--- src/lib.rt:842:55
 mul-add-terms : tie.Need-mul-add-terms Inv-loop μ-loop
 mul-add-terms c = search needs
 
--- src/lib.rt:842:55
 shared-slice-read-add-terms : tie.Need-shared-slice-read-add-terms Inv-loop μ-loop
-shared-slice-read-add-terms c = search needs
+shared-slice-read-add-terms c = omega arith
 
--- src/lib.rt:842:51
 mul-add-terms-2 : tie.Need-mul-add-terms-2 Inv-loop μ-loop
-mul-add-terms-2 c = search needs
+mul-add-terms-2 c =
+    let s = c .before .before .before .before .before .before .before .before .before in
+    omega (arith, s .pre .basis .basis .keys (c .before .before .before .before .loop .i))
 
--- src/lib.rt:842:9
 add-terms-requires : tie.Need-add-terms-requires Inv-loop μ-loop
-add-terms-requires c κs = search needs
+add-terms-requires c κs =
+    let s = c .before .before .before .before .before .before .before .before .before in
+    let l = c .before .before .before .before in
+    record {
+      support = l .loop .inv .1 .holds;
+      index = l .loop .inv .1 .index;
+      exponents = s .pre .basis .exponents;
+      low = omega (arith, s .pre .basis .basis .keys (l .loop .i));
+    }
 
--- src/lib.rt:844:13
 same-length : tie.Need-same-length Inv-loop μ-loop
-same-length c = search needs
+same-length c = c .before .before .before .before .before .add-terms .kept .0 ∙ c .before .before .before .before .before .before .before .before .before .before .loop .inv .1 .long
 
--- src/lib.rt:844:13
 same-length-2 : tie.Need-same-length-2 Inv-loop μ-loop
-same-length-2 c = search needs
+same-length-2 c = c .before .before .before .before .before .add-terms .kept .1 .0 ∙ c .before .before .before .before .before .before .before .before .before .before .loop .inv .1 .index .long ∙ sym (c .before .before .before .before .before .before .before .before .before .before .before .before .before .before .before .pre .index .long)
 
--- src/lib.rt:844:13
 returns : tie.Need-returns Inv-loop μ-loop
-returns c = search needs
+returns c =
+    let l = c .before .before .before .before .before .before .before .before .before .before in
+    let s = c .before .before .before .before .before .before .before .before .before .before .before .before .before .before .before in
+    growing-stop _ _ _ _ _ _ _ (l .loop .inv .1) _ _ _ _ (c .before .before .before .before .before .add-terms .ensures) (fromTo (l .loop .i + 1) _ _)
+    (fromTo-more _ _ _ _ (omega arith)) (c .if1 .taken) (fromTo-extends _ (λ j. add-extends (s .args .exponents .now) (2 * getD (s .args .basis .now) j 0)) (l .loop .i + 1) _ _)
 
--- src/lib.rt:846:9
 add-i : tie.Need-add-i Inv-loop μ-loop
 add-i c = search needs
 
--- src/lib.rt:841:5
 loop-less : tie.Need-loop-less Inv-loop μ-loop
 loop-less c = search needs
 
--- src/lib.rt:841:5
 loop-again : tie.Need-loop-again Inv-loop μ-loop
-loop-again c = search needs
+loop-again c =
+    let l = c .before .before .before .before .before .before .before .before .before .before in
+    let s = c .before .before .before .before .before .before .before .before .before .before .before .before .before .before .before in
+    (
+      omega arith,
+      growing-step _ _ _ _ _ _ _ (l .loop .inv .1) _ _ _ _ (c .before .before .before .before .before .add-terms .ensures) _ (fromTo-more _ _ _ _ (omega arith)) (c .if1 .left) (add-extends (s .args .exponents .now) (2 * getD (s .args .basis .now) (l .loop .i) 0) _),
+    )
 
--- src/lib.rt:826:1
 same-length-3 : tie.Need-same-length-3 Inv-loop μ-loop
-same-length-3 c = search needs
+same-length-3 c = c .before .loop .inv .1 .long
 
--- src/lib.rt:826:1
 same-length-4 : tie.Need-same-length-4 Inv-loop μ-loop
-same-length-4 c = search needs
+same-length-4 c = c .before .loop .inv .1 .index .long ∙ sym (c .before .before .before .before .before .before .pre .index .long)
 
--- src/lib.rt:826:1
 returns-2 : tie.Need-returns-2 Inv-loop μ-loop
-returns-2 c = search needs
+returns-2 c =
+    let l = c .before in
+    growing-end _ _ _ _ _ _ _ (l .loop .inv .1) (fromTo-done _ _ _ _ (omega arith))
 
 pub add-squares-spec : {M : Type 1} → statement M
 add-squares-spec =
