@@ -3,6 +3,7 @@ pub mod Grew
 pub mod Merged
 pub mod Places
 pub mod Told
+pub mod Pairs
 pub mod Going
 pub mod Walking
 pub mod Latest
