@@ -1,5 +1,5 @@
--- Laws of the loops that join a basis by the items of a list in turn: the members that came last, or the sums that one of
--- them leads to.
+-- Laws of the loops that join a basis by the items of a list in turn: the members that came last, or the sums that one
+-- of them leads to.
 use mathlib.Core.Path.{_≡_, refl}
 use mathlib.Core.Logic.{_⊎_, inl, inr, ⊎-elim}
 use mathlib.Core.List.{List, [], _∷_, _++_}

@@ -27,8 +27,7 @@ sum-at-requires c κs =
 is-linked-requires : tie.Need-is-linked-requires
 is-linked-requires c κs =
     let s = c .before .before .before .before .before .before .before .before .before in
-    let b = s .pre .0 in
-    (
+    let b = s .pre .0 in (
       record {
         support = b .support;
         index = b .index;

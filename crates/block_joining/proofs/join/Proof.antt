@@ -1,5 +1,5 @@
--- `block_joining::join` meets its contract: one block joins nothing, a small basis joins by its pairs, another one by the
--- members that came last.
+-- `block_joining::join` meets its contract: one block joins nothing, a small basis joins by its pairs, another one by
+-- the members that came last.
 use native.Mathlib.Omega.{arith}
 use Rattle.block_joining.specs.Standing.{Standing, standing}
 use Rattle.block_joining.proofs.Grew.{has-few, grew-same}

@@ -1,4 +1,4 @@
--- `block_joining::join_sum` meets its contract: a sum of which it is told that its pairs are in one block needs nothing.
+-- `block_joining::join_sum` meets its contract: a sum whose pairs are told to be in one block needs no joining.
 use borrow.Author.Needs.{needs}
 use native.Mathlib.Omega.{arith}
 use mathlib.Core.Path.{sym, _∙_, subst}

@@ -91,13 +91,12 @@ loop-again c =
     let t = turn j in
     let l = t .before in
     let s = begun l in
-    let k = j .join-sum .kept in
-    (
+    let k = j .join-sum .kept in (
       omega arith,
       going-then _ _ _ (entry s) _ (l .loop .inv .1) _ _ _ (s .pre .0) (j .join-sum .ensures)
-      (record { blocks = k .0; pairs = k .1 .1 .1 .0; table = k .1 .1 .1 .1 .0; index = k .1 .1 .1 .1 .1 .0 })
-      (c .before .is-over .ensures .1 (c .if1 .left))
-      (some-turn (WithSum (s .args .basis .now)) (length (s .args .basis .now)) (s .args .sums .now) (l .loop .i) (t .loop-test .taken)),
+          (record { blocks = k .0; pairs = k .1 .1 .1 .0; table = k .1 .1 .1 .1 .0; index = k .1 .1 .1 .1 .1 .0 })
+          (c .before .is-over .ensures .1 (c .if1 .left))
+          (some-turn (WithSum (s .args .basis .now)) (length (s .args .basis .now)) (s .args .sums .now) (l .loop .i) (t .loop-test .taken)),
     )
 
 same-length-5 : tie.Need-same-length-5 Inv-loop μ-loop

@@ -28,13 +28,12 @@ returns c =
 merge-requires : tie.Need-merge-requires
 merge-requires c κs =
     let j = c .before .before .before .before in
-    let s = j .before .before .before .before .before .before .before .before .before .before in
-    (
+    let s = j .before .before .before .before .before .before .before .before .before .before in (
       s .pre .0,
       ⊎-elim
-      (λ w. rw (w .1) (two-blocks _ _ (first s) (s .pre .0) _ _ (s .pre .1) (s .pre .2) (w .0 .taken)))
-      (λ w. rw (w .1) (two-blocks _ _ (first s) (s .pre .0) _ _ (s .pre .2) (s .pre .1) (omega (arith, w .0 .left, j .before .if1 .left))))
-      (j .if2 .came),
+          (λ w. rw (w .1) (two-blocks _ _ (first s) (s .pre .0) _ _ (s .pre .1) (s .pre .2) (w .0 .taken)))
+          (λ w. rw (w .1) (two-blocks _ _ (first s) (s .pre .0) _ _ (s .pre .2) (s .pre .1) (omega (arith, w .0 .left, j .before .if1 .left))))
+          (j .if2 .came),
     )
 
 same-length : tie.Need-same-length
