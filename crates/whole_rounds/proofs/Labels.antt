@@ -1,6 +1,6 @@
 -- Laws of nine lists of block numbers in bytes: 64 for each basis where they are handed out, 128 in the rounds.
 use mathlib.Core.Path.{_≡_, refl, sym, ap, _∙_}
-use mathlib.Core.Logic.{⊎-elim}
+use mathlib.Core.Logic.{inl, ⊎-elim}
 use mathlib.Core.List.{List, [], _++_}
 use Prim.Native.Nat.{ℕ, _+_, _-_, _*_, _/_, _%_, _≤_, _<_}
 use native.Mathlib.Nat.{add-sub-cancel-left}
@@ -16,8 +16,8 @@ use Rattle.joining_rule.specs.Rounds.{Bases}
 use Rattle.joining_rule.proofs.Bytes.{bytes-long, bytes-at, bytes-from}
 use Rattle.joining_rule.proofs.Rounds.{Shaped}
 use Rattle.round_laws.specs.Lists.{labelsOf}
-use Rattle.whole_rounds.specs.Parts.{piece, labelsIn, Sizes, PieceOnly}
-use Rattle.whole_rounds.proofs.Pieces.{turned, turned-long, turned-none, turned-from, turned-more, turned-all, taken-long, replaced-long, replaced-before, replaced-in, replaced-after}
+use Rattle.whole_rounds.specs.Parts.{piece, labelsIn, Sizes, PieceOnly, SingleBlocks}
+use Rattle.whole_rounds.proofs.Pieces.{turned, turned-long, turned-none, turned-from, turned-more, turned-all, taken-long, replaced-long, replaced-before, replaced-in, replaced-after, new-part, new-other}
 
 -- empty lists leave 255 everywhere
 bytes-none : (L : List (List ℕ)) → ((j : ℕ) → j < 9 → getD L j [] ≡ []) → blockBytes L ≡ replicate 576 255
@@ -103,37 +103,83 @@ module _ (sizes : List ℕ) (s : Sizes sizes) where
           ∙ getD-drop (64 * j) (blockBytes L) i 255
           ∙ bytes-from L j i h (omega arith))
 
-  -- ---- the block numbers written, basis by basis
-  module _ (blocks : List ℕ) (long : length blocks ≡ 1152) where
-    abbrev held : ℕ → List ℕ
-    held j = labelsOf (getD sizes j 0) (piece 128 blocks j)
+-- ---- the block numbers written, basis by basis
+unfoldable pub writtenTo : List ℕ → List ℕ → ℕ → List (List ℕ)
+writtenTo sizes blocks i = turned (λ j. labelsOf (getD sizes j 0) (piece 128 blocks j)) (λ _. []) i
 
-    abbrev none : ℕ → List ℕ
-    none j = []
+module _ (sizes blocks : List ℕ) where
+  abbrev held : ℕ → List ℕ
+  held j = labelsOf (getD sizes j 0) (piece 128 blocks j)
 
-    abbrev pub writtenTo : ℕ → List (List ℕ)
-    writtenTo i = turned held none i
+  abbrev none : ℕ → List ℕ
+  none j = []
 
-    pub writing-start : replicate 576 255 ≡ blockBytes (writtenTo 0)
-    writing-start = rw (turned-none held none) (sym (bytes-none (listed 9 none) (λ j h. listed-at 9 none j [] h)))
+  pub writing-start : replicate 576 255 ≡ blockBytes (writtenTo sizes blocks 0)
+  unfolding writtenTo
+  writing-start = rw (turned-none held none) (sym (bytes-none (listed 9 none) (λ j h. listed-at 9 none j [] h)))
 
-    module _ (i : ℕ) (l : List ℕ) (e : l ≡ blockBytes (writtenTo i)) where
-      pub writing-long : length l ≡ 576
-      writing-long = ap length e ∙ bytes-long (writtenTo i)
+  module _ (i : ℕ) (l : List ℕ) (e : l ≡ blockBytes (writtenTo sizes blocks i)) where
+    pub writing-long : length l ≡ 576
+    writing-long = ap length e ∙ bytes-long (writtenTo sizes blocks i)
 
-      pub writing-turn : (m : List ℕ) → i < 9 → m ≡ take (128 * i + getD sizes i 0 - 128 * i) (drop (128 * i) blocks)
-          → take (64 * i) l ++ (m ++ drop (64 * i + getD sizes i 0 - 64 * i) (drop (64 * i) l)) ≡ blockBytes (writtenTo (i + 1))
-      writing-turn m h f =
-          let z = s .small i h in
-          let q : m ≡ held i = f ∙ part-is 128 blocks i h (omega arith) in
-          let n : length m ≡ getD sizes i 0 = ap length f ∙ taken-long (128 * i) (getD sizes i 0) blocks (omega arith) in
-          let d : getD (writtenTo i) i [] ≡ [] = turned-from held none i i h (omega arith) [] in
-          rw (add-sub-cancel-left (64 * i) (getD sizes i 0), e)
-          (bytes-set (writtenTo i) (turned-long held none i) m i (getD sizes i 0) h n z (omega (arith, ap length d)) ∙ rw (q, turned-more held none i))
+    pub writing-turn : Sizes sizes → length blocks ≡ 1152 → (m : List ℕ) → i < 9 → m ≡ take (128 * i + getD sizes i 0 - 128 * i) (drop (128 * i) blocks)
+        → take (64 * i) l ++ (m ++ drop (64 * i + getD sizes i 0 - 64 * i) (drop (64 * i) l)) ≡ blockBytes (writtenTo sizes blocks (i + 1))
+    unfolding writtenTo
+    writing-turn s long m h f =
+        let z = s .small i h in
+        let q : m ≡ held i = f ∙ part-is sizes s 128 blocks i h (omega arith) in
+        let n : length m ≡ getD sizes i 0 = ap length f ∙ taken-long (128 * i) (getD sizes i 0) blocks (omega arith) in
+        let d : getD (writtenTo sizes blocks i) i [] ≡ [] = turned-from held none i i h (omega arith) [] in
+        rw (add-sub-cancel-left (64 * i) (getD sizes i 0), e)
+        (bytes-set (writtenTo sizes blocks i) (turned-long held none i) m i (getD sizes i 0) h n z (omega (arith, ap length d)) ∙ rw (q, turned-more held none i))
 
-      pub writing-end : i ≡ 9 → l ≡ blockBytes (labelsIn 128 sizes blocks)
-      unfolding labelsIn
-      writing-end q = e ∙ ap blockBytes (ap writtenTo q ∙ turned-all held none)
+    pub writing-end : i ≡ 9 → l ≡ blockBytes (labelsIn 128 sizes blocks)
+    unfolding labelsIn writtenTo
+    writing-end q = e ∙ ap blockBytes (ap (writtenTo sizes blocks) q ∙ turned-all held none)
+
+-- ---- the bases numbered, one by one
+pub record NumberedTo (sizes : List ℕ) (i : ℕ) (l : List ℕ) : Type 0 where
+  pub long : length l ≡ 1152
+  pub labels : (j : ℕ) → j < i → j < 9 → labelsOf (getD sizes j 0) (piece 128 l j) ≡ listed (getD sizes j 0) (λ x. x)
+  pub last : (j x : ℕ) → j < 9 → x < 64 → 64 ≤ getD l (128 * j + (64 + x)) 0
+
+pub numbering-start : (sizes : List ℕ) → NumberedTo sizes 0 (replicate 1152 255)
+numbering-start sizes = record {
+  long = length-replicate {A = ℕ} 1152 255;
+  labels = λ j b. absurd (omega arith);
+  last = λ j x b c. let d : 128 * j + (64 + x) < 1152 = omega arith in rw (getD-replicate {A = ℕ} 1152 (128 * j + (64 + x)) 255 0 d) (omega arith);
+}
+
+module _ (sizes : List ℕ) (i : ℕ) (l : List ℕ) (n : NumberedTo sizes i l) where
+  pub numbering-turn : Sizes sizes → (m : List ℕ) → i < 9 → m ≡ listed (length (take (128 * i + getD sizes i 0 - 128 * i) (drop (128 * i) l))) (λ x. x)
+      → NumberedTo sizes (i + 1) (take (128 * i) l ++ (m ++ drop (128 * i + getD sizes i 0 - 128 * i) (drop (128 * i) l)))
+  numbering-turn s m h f =
+      let z = s .small i h in
+      let fits : 128 * i + getD sizes i 0 ≤ length l = omega (arith, n .long) in
+      let q : m ≡ listed (getD sizes i 0) (λ x. x) = f ∙ ap (λ (k : ℕ). listed k (λ x. x)) (taken-long (128 * i) (getD sizes i 0) l fits) in
+      let e : length m ≡ getD sizes i 0 = ap length q ∙ listed-length (getD sizes i 0) (λ x. x) in
+      rw (add-sub-cancel-left (128 * i) (getD sizes i 0))
+      record {
+        long = replaced-long l m (128 * i) (getD sizes i 0) e fits 0 ∙ n .long;
+        labels = λ j b c.
+            ⊎-elim
+            (λ d.
+            rw d
+            (take-take (getD sizes i 0) 128 _ (omega arith) ∙ new-part l m (128 * i) (getD sizes i 0) e fits ∙ q))
+            (λ d.
+            ap (labelsOf (getD sizes j 0)) (new-other l m (128 * i) (getD sizes i 0) e fits (128 * j) 128 (omega (arith, n .long)) (inl (omega arith)))
+            ∙ n .labels j (omega arith) c)
+            (same-or-not j i);
+        last = λ j x b c.
+            rw (⊎-elim
+            (λ d. replaced-before l m (128 * i) (getD sizes i 0) e fits 0 (128 * j + (64 + x)) (omega arith))
+            (λ d. replaced-after l m (128 * i) (getD sizes i 0) e fits 0 (128 * j + (64 + x)) (omega arith))
+            (lt-or-le j i))
+            (n .last j x b c);
+      }
+
+  pub numbering-end : i ≡ 9 → SingleBlocks sizes l
+  numbering-end q = record { long = n .long; labels = λ j b. n .labels j (omega arith) b; last = n .last }
 
 -- ---- the loops over bytes and bases
 pub copy-more : (l m : List ℕ) (i : ℕ) → i < length l → i < length m → take i l ≡ take i m → take (i + 1) (set l i (getD m i 0)) ≡ take (i + 1) m

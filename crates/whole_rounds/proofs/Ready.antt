@@ -1,9 +1,8 @@
 -- Laws of how things stand with one basis: while the others join, and what its own joining leaves.
-use mathlib.Core.Path.{_≡_, refl, sym, _∙_}
+use mathlib.Core.Path.{_≡_, sym, _∙_}
 use mathlib.Core.Logic.{inl, inr, ⊎-elim}
-use mathlib.Core.Bool.{true}
 use mathlib.Core.List.{List}
-use Prim.Native.Nat.{ℕ, _*_, _≤_, _<_}
+use Prim.Native.Nat.{ℕ, _≤_, _<_}
 use native.Mathlib.Omega.{arith}
 use lib.ListN.{length, getD}
 use Rattle.counting.proofs.Listed.{same-or-not}
@@ -12,14 +11,10 @@ use Rattle.joining_rule.proofs.Full.{full-any}
 use Rattle.joining_rule.proofs.Only.{rising-shorter}
 use Rattle.key_set.specs.Table.{keysIn, Holds, Indexed, Stored}
 use Rattle.key_set.proofs.Keys.{keys-rising}
-use Rattle.round_laws.specs.Joins.{Joins, Through}
 use Rattle.round_laws.specs.Added.{Between}
-use Rattle.round_laws.specs.Fits.{SumBits}
-use Rattle.round_laws.proofs.Joins.{joins-once, join-is}
 use Rattle.round_laws.proofs.Sums.{done-grows}
-use Rattle.joining_rule.specs.Join.{join}
 use Rattle.block_joining.specs.Adding.{plain}
-use Rattle.block_joining.specs.Standing.{Standing, standing, labelled, support, Ready, SameReach, JoinedBy, Grew}
+use Rattle.block_joining.specs.Standing.{Standing, standing, labelled, support, Ready, Grew}
 use Rattle.block_joining.specs.declared.Reach.{Reach}
 use Rattle.block_joining.proofs.Growing.{grown-length}
 
@@ -115,7 +110,3 @@ module _ (T B : List ℕ) where
               (same-or-not (getD (labelled B s) (q .i) 0) (getD (labelled B s) (q .k) 0)))
               (g .within .only (labelled B s′) (j .joins .joins) (j .joins .keeps) x m);
         }
-
-    -- the blocks are those of the rule
-    pub grew-joined : (S : List ℕ) → length (labelled B s) ≡ length B → ((x y : ℕ) → P x y ≡ Through T B S x y) → Unit {0}
-    grew-joined S e q = tt
