@@ -1,3 +1,4 @@
 pub mod Pieces
 pub mod Labels
 pub mod Ready
+pub mod Turns
