@@ -2,3 +2,4 @@ pub mod Pieces
 pub mod Labels
 pub mod Ready
 pub mod Turns
+pub mod Lending
