@@ -31,8 +31,8 @@ pub record AddingAsks (T B pairs t idx : List ℕ) (len : ℕ) : Type 0 where
   pub index : WithIndex T B pairs
   pub done : plain < length B → DoneTold T B (keysIn len t) pairs
 
--- what it leaves, where the table had n keys: the table grown to hold S, and the index of pairs, which tells of no other
--- sum that its pairs are in one block
+-- what it leaves, where the table had n keys: the table grown to hold S, and the index of pairs, which tells of no
+-- other sum that its pairs are in one block
 pub record AddedAll (T B S : List ℕ) (n : ℕ) (t pairs : List ℕ) (r : ℕ) (t′ idx′ pairs′ : List ℕ) : Type 0 where
   pub stored : Stored n S t r t′ idx′
   pub index : WithIndex T B pairs′

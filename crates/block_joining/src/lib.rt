@@ -12,10 +12,11 @@
 // basis: those of a sum are found by adding.
 
 ghost use mathlib.Core.Path.{_≡_};
-ghost use mathlib.Core.Bool.{false, cond, _||_};
+ghost use mathlib.Core.Logic.{_⊎_};
+ghost use mathlib.Core.Bool.{true, false, cond};
 ghost use mathlib.Core.List.{List};
 ghost use Prim.Native.Nat.{ℕ, _+_, _*_, _/_, _%_, _^_, _≤_, _<_};
-ghost use lib.Dec.{eqb, ltb};
+ghost use lib.Dec.{eqb};
 ghost use lib.ListN.{length, getD, take};
 ghost use Rattle.counting.specs.Counting.{Bounded};
 ghost use Rattle.joining_rule.specs.Join.{linked, merged};
@@ -421,7 +422,9 @@ fn join_two(
 
 // Whether nothing is left to join, or the support has too many keys.
 fn is_over(r: Reach) -> bool
-    ensures { λ o. ⌜ o ≡ (eqb (r .blocks) 1 || ltb 2048 (r .len)) ⌝ }
+    ensures { λ o. ⌜
+        (o ≡ true → (r .blocks ≡ 1) ⊎ (2048 < r .len)) × (o ≡ false → r .len ≤ 2048)
+        ⌝ }
 {
     r.blocks == 1 || 2048 < r.len
 }
@@ -503,9 +506,12 @@ fn join_sum(
 // The numbers x - t that have no bits but those, in turn, and how many they are. A number that has others is written
 // over: this needs no jump, which would be foreseen badly.
 fn note_fits(fits: &mut [u64; 32], exponents: &[u64], bits: u64, x: u64) -> usize
-    requires { ⌜ (length (now exponents) ≤ 32) × Bounded (16 * 2 ^ 56) (now exponents) ⌝ }
+    requires { ⌜
+        (length (now fits) ≡ 32) × (length (now exponents) ≤ 32) × Bounded (16 * 2 ^ 56) (now exponents)
+        ⌝ }
     ensures { λ r. ⌜
-        (r ≤ 32)
+        (length (now (fits .exit)) ≡ 32)
+        × (r ≤ 32)
         × ((B : List ℕ) → length B ≤ 64 → SumBits B (64 * length B) bits
         → Fitting (now (exponents .entry)) B x (take r (now (fits .exit))))
         ⌝ }
