@@ -3,3 +3,5 @@ pub mod Labels
 pub mod Ready
 pub mod Turns
 pub mod Lending
+pub mod Squares
+pub mod Noting
