@@ -506,9 +506,12 @@ fn join_sum(
 // The numbers x - t that have no bits but those, in turn, and how many they are. A number that has others is written
 // over: this needs no jump, which would be foreseen badly.
 fn note_fits(fits: &mut [u64; 32], exponents: &[u64], bits: u64, x: u64) -> usize
-    requires { ⌜ (length (now exponents) ≤ 32) × Bounded (16 * 2 ^ 56) (now exponents) ⌝ }
+    requires { ⌜
+        (length (now fits) ≡ 32) × (length (now exponents) ≤ 32) × Bounded (16 * 2 ^ 56) (now exponents)
+        ⌝ }
     ensures { λ r. ⌜
-        (r ≤ 32)
+        (length (now (fits .exit)) ≡ 32)
+        × (r ≤ 32)
         × ((B : List ℕ) → length B ≤ 64 → SumBits B (64 * length B) bits
         → Fitting (now (exponents .entry)) B x (take r (now (fits .exit))))
         ⌝ }

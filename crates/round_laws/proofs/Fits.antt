@@ -1,6 +1,6 @@
 -- Laws of the loops that gather the bits of a basis's sums, and the sums that a member of the support leads to.
 use mathlib.Core.Path.{_≡_, refl, sym}
-use mathlib.Core.Logic.{inr, ⊎-elim}
+use mathlib.Core.Logic.{⊎-elim}
 use mathlib.Core.List.{List, [], _∷_, _++_}
 use Prim.Native.Nat.{ℕ, _+_, _*_, _%_, _^_, _≤_, _<_}
 use native.Mathlib.Nat.{add-comm}
@@ -11,10 +11,10 @@ use lib.ListN.{length, getD, take}
 use lib.Seq.{take-suc}
 use Rattle.counting.proofs.Cases.{lt-or-le}
 use Rattle.joining_rule.proofs.Elements.{not-nil, in-here, in-snoc, snoc-keeps, snoc-in}
-use Rattle.round_laws.specs.Joins.{Joins, WithSum, Through, SomeOf}
+use Rattle.round_laws.specs.Joins.{Has, Among, WithSum, Through, SomeOf}
 use Rattle.round_laws.specs.Fits.{SumBits, Takes, Taken, Fitting}
 use Rattle.round_laws.proofs.Bits.{fits-new, fits-old, only-fit}
-use Rattle.round_laws.proofs.Joins.{joins-more, joins-as, has-ordered}
+use Rattle.round_laws.proofs.Joins.{has-ordered}
 use Rattle.round_laws.proofs.Fresh.{only-one}
 
 -- ---- the bits of the sums
@@ -56,18 +56,7 @@ module _ (B : List ℕ) (bits : ℕ) (b : SumBits B (64 * length B) bits) (few :
       (λ o. ⊎-elim (λ w. absurd (d (in-order v u w hu (record { sum = omega (arith, p .sum) })))) (λ w. omega arith) (lt-or-le v u))
       (lt-or-le u v)
 
--- ---- what a member links, exponent by exponent
-module _ (n : ℕ) (T B : List ℕ) (x : ℕ) (L L′ : List ℕ) where
-  pub takes-sum : (t s : ℕ) → t + s ≡ x → Joins (WithSum B s) n L L′ → Joins (Takes B x t) n L L′
-  takes-sum t s e j = joins-as n _ _ L L′ j (λ u v _ _ p. inr (record { sum = omega (arith, p .sum) })) (λ u v _ _ p. record { sum = omega (arith, p .sum) })
-
-  pub takes-through : Joins (SomeOf (Takes B x) T) n L L′ → Joins (Through T B (x ∷ [])) n L L′
-  takes-through j =
-      joins-as n _ _ L L′ j
-      (λ u v _ _ p. inr (record { item = p .t; listed = p .exponent; holds = record { sum = sym (only-one _ x (p .hits)) } }))
-      (λ u v _ _ p. record { t = p .item; exponent = p .listed; hits = in-here _ x [] (sym (p .holds .sum)) })
-
--- or by the list of the sums
+-- ---- what a member links, by the list of the sums that lead to it
 module _ (T B : List ℕ) (x : ℕ) where
   pub fitting-start : Fitting (take 0 T) B x []
   fitting-start = record { from = λ s m. not-nil s m; all = λ t u v m _ _ _. not-nil t m }
@@ -103,14 +92,17 @@ module _ (T B : List ℕ) (x : ℕ) where
           (in-snoc t (take i T) (getD T i 0) (rw more at m));
     }
 
-  pub fitting-through : (sums L L′ : List ℕ) → Fitting T B x sums → Joins (SomeOf (WithSum B) sums) (length B) L L′ → Joins (Through T B (x ∷ [])) (length B) L L′
-  fitting-through sums L L′ f j =
-      joins-more (length B) _ _ L L′ j
-      (λ u v _ _ p.
-      let w = f .from (p .item) (p .listed) in
-      record { t = w .t; exponent = w .exponent; hits = in-here _ x [] (omega (arith, w .sum, p .holds .sum)) })
-      (has-ordered (Through T B (x ∷ [])) (length B) L′
-      (λ u v p. record { t = p .t; exponent = p .exponent; hits = rw (add-comm (getD B v 0) (getD B u 0)) (p .hits) })
-      (λ u v o h p.
-      j .joins .at u v (omega arith) h
-      (record { item = getD B u 0 + getD B v 0; listed = f .all (p .t) u v (p .exponent) o h (record { sum = sym (only-one _ x (p .hits)) }); holds = record { sum = refl } })))
+  -- the pairs with one of these sums are those that x links
+  module _ (sums : List ℕ) (f : Fitting T B x sums) where
+    pub sums-through : Among (SomeOf (WithSum B) sums) (Through T B (x ∷ [])) (length B)
+    sums-through u v _ _ p =
+        let w = f .from (p .item) (p .listed) in
+        record { t = w .t; exponent = w .exponent; hits = in-here _ x [] (omega (arith, w .sum, p .holds .sum)) }
+
+    pub through-sums : (L : List ℕ) → Has (SomeOf (WithSum B) sums) (length B) L → Has (Through T B (x ∷ [])) (length B) L
+    through-sums L j =
+        has-ordered (Through T B (x ∷ [])) (length B) L
+        (λ u v p. record { t = p .t; exponent = p .exponent; hits = rw (add-comm (getD B v 0) (getD B u 0)) (p .hits) })
+        (λ u v o h p.
+        j .at u v (omega arith) h
+        (record { item = getD B u 0 + getD B v 0; listed = f .all (p .t) u v (p .exponent) o h (record { sum = sym (only-one _ x (p .hits)) }); holds = record { sum = refl } }))

@@ -24,6 +24,15 @@ pub record Joins (P : ℕ → ℕ → Type 0) (n : ℕ) (L L′ : List ℕ) : Ty
   pub joins : Has P n L′
   pub only : (M : List ℕ) → Has P n M → Has (Together L) n M → Has (Together L′) n M
 
+-- pairs of indices below n that are among others, and pairs that are those of two kinds
+abbrev pub Among : (ℕ → ℕ → Type 0) → (ℕ → ℕ → Type 0) → ℕ → Type 0
+Among P R n = (x y : ℕ) → x < n → y < n → P x y → R x y
+
+pub record Parts (P Q R : ℕ → ℕ → Type 0) (n : ℕ) : Type 0 where
+  pub split : (x y : ℕ) → x < n → y < n → R x y → P x y ⊎ Q x y
+  pub left : Among P R n
+  pub right : Among Q R n
+
 -- the pairs: i and k; two with a sum; two that some exponent t links, with t + b + b' in S; those of the items of a
 -- list
 pub record Two (i k x y : ℕ) : Type 0 where

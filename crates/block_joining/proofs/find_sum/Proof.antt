@@ -1,75 +1,75 @@
+-- `block_joining::find_sum` meets its contract: the pairs with the remainder from place v on have other sums.
 use borrow.Author.Needs.{needs}
 use native.Mathlib.Omega.{arith}
-use mathlib.Core.Path.{_≡_, refl, sym, ap, _∙_, subst}
-use Prim.Native.Nat.{ℕ, zero, suc, _+_, _-_, _*_, _≤_, _<_}
-use lib.ListN.{length, getD, take, drop, set, length-set}
+use mathlib.Core.Path.{sym, _∙_}
+use Prim.Native.Nat.{_+_, _-_}
+use Rattle.block_joining.proofs.Places.{pair-order}
+use Rattle.block_joining.proofs.Pairs.{Seeks, seeks-start, seeks-less, seeks-step, seeks-pair, seeks-found, seeks-none}
 use Rattle.block_joining.proofs.find_sum.Statement.{statement}
 use Rattle.block_joining.proofs.find_sum.Tie as tie
-use Rattle.block_joining.proofs.find_sum.Reads as reads
-use Rattle.block_joining.proofs.find_sum.Lts as lts
-use Rattle.block_joining.proofs.sum_at.Reads as sum-at-reads
 
 abbrev Inv-loop : tie.InvT-loop
-Inv-loop basis pairs s h v₀ v = ?
+Inv-loop basis pairs s h v₀ v = Seeks basis s v
 
 abbrev μ-loop : tie.MeasureT-loop
-μ-loop basis pairs s h v₀ v = ?
+μ-loop basis pairs s h v₀ v = v
 
--- src/lib.rt:180:17
+abbrev at-start : tie.At-loop Inv-loop μ-loop → tie.Start Inv-loop μ-loop
+at-start l = l .before .before .before .before
+
 mul-v : tie.Need-mul-v Inv-loop μ-loop
-mul-v c = search needs
+mul-v c = omega (arith, c .before .before .pre .2)
 
--- src/lib.rt:180:17
 shared-slice-read-v : tie.Need-shared-slice-read-v Inv-loop μ-loop
-shared-slice-read-v c = search needs
+shared-slice-read-v c = let s = c .before .before .before in omega (arith, s .pre .2, s .pre .1 .remainders .long)
 
--- src/lib.rt:180:17
 cast-v : tie.Need-cast-v Inv-loop μ-loop
-cast-v c = search needs
+cast-v c = omega (arith, c .shared-slice-known3 .given (c .before .before .before .args .h))
 
--- src/lib.rt:181:5
 loop-holds : tie.Need-loop-holds Inv-loop μ-loop
-loop-holds c = search needs
+loop-holds c = let s = c .before .before .before in rw (s .pre .2) (seeks-start _ _ _ (s .pre .1))
 
--- src/lib.rt:182:17
 sub-p : tie.Need-sub-p Inv-loop μ-loop
 sub-p c = search needs
 
--- src/lib.rt:183:12
 sum-at-requires : tie.Need-sum-at-requires Inv-loop μ-loop
-sum-at-requires c κs = search needs
+sum-at-requires c κs =
+    let s = at-start (c .before) in
+    let o = pair-order _ _ (seeks-pair _ _ _ (c .before .loop .inv) (c .loop-test .taken)) in
+    (s .pre .0, omega (arith, o .0, o .1), o .1)
 
--- src/lib.rt:184:13
 returns : tie.Need-returns Inv-loop μ-loop
-returns c = search needs
+returns c =
+    let l = c .before .before .before in
+    seeks-found _ _ (at-start l .pre .0 .few) _ (l .loop .inv) (c .before .before .loop-test .taken) (sym (c .before .sum-at .ensures) ∙ c .if1 .taken)
 
--- src/lib.rt:186:19
 add-v : tie.Need-add-v Inv-loop μ-loop
-add-v c = search needs
+add-v c = let l = c .before .before .before in omega (arith, l .loop .inv .upto, at-start l .pre .0 .few)
 
--- src/lib.rt:186:13
 mul-v-2 : tie.Need-mul-v-2 Inv-loop μ-loop
-mul-v-2 c = search needs
+mul-v-2 c = let l = c .before .before .before in omega (arith, l .loop .inv .upto, at-start l .pre .0 .few)
 
--- src/lib.rt:186:13
 shared-slice-read-v-2 : tie.Need-shared-slice-read-v-2 Inv-loop μ-loop
-shared-slice-read-v-2 c = search needs
+shared-slice-read-v-2 c =
+    let l = c .before .before .before .before in
+    let p = at-start l .pre in
+    omega (arith, l .loop .inv .upto, p .0 .few, p .1 .remainders .long)
 
--- src/lib.rt:186:13
 cast-v-2 : tie.Need-cast-v-2 Inv-loop μ-loop
-cast-v-2 c = search needs
+cast-v-2 c = let l = c .before .before .before .before in omega (arith, c .shared-slice-known4 .given (2048 + (l .loop .v - 1)))
 
--- src/lib.rt:181:5
 loop-less : tie.Need-loop-less Inv-loop μ-loop
-loop-less c = search needs
+loop-less c =
+    let l = c .before .before .before .before in
+    seeks-less _ _ _ (at-start l .pre .1) _ (l .loop .inv) (c .before .before .before .loop-test .taken)
 
--- src/lib.rt:181:5
 loop-again : tie.Need-loop-again Inv-loop μ-loop
-loop-again c = search needs
+loop-again c =
+    let l = c .before .before .before .before in
+    seeks-step _ _ _ (at-start l .pre .1) _ (l .loop .inv) (c .before .before .before .loop-test .taken) (λ e. c .before .if1 .left (c .before .before .sum-at .ensures ∙ e))
 
--- src/lib.rt:176:1
 returns-2 : tie.Need-returns-2 Inv-loop μ-loop
-returns-2 c = search needs
+returns-2 c = let l = c .before in seeks-none _ _ _ (l .loop .inv) (omega (arith, c .loop-test .left))
 
 pub find-sum-spec : {M : Type 1} → statement M
 find-sum-spec =

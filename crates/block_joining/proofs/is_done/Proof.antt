@@ -1,87 +1,97 @@
+-- `block_joining::is_done` meets its contract: it is told of a sum at the place of its last pair.
 use borrow.Author.Needs.{needs}
 use native.Mathlib.Omega.{arith}
-use mathlib.Core.Path.{_≡_, refl, sym, ap, _∙_, subst}
-use Prim.Native.Nat.{ℕ, zero, suc, _+_, _-_, _*_, _≤_, _<_}
-use lib.ListN.{length, getD, take, drop, set, length-set}
+use mathlib.Core.Path.{refl, sym}
+use Prim.Native.Nat.{_<_}
+use Rattle.counting.proofs.Cases.{never}
+use Rattle.block_joining.proofs.Told.{told-low}
+use Rattle.block_joining.proofs.Pairs.{marked-same, marked-one}
 use Rattle.block_joining.proofs.is_done.Statement.{statement}
 use Rattle.block_joining.proofs.is_done.Tie as tie
-use Rattle.block_joining.proofs.is_done.Reads as reads
-use Rattle.block_joining.proofs.is_done.Lts as lts
-use Rattle.block_joining.proofs.find_sum.Reads as find-sum-reads
-use Rattle.block_joining.proofs.remainder_of.Reads as remainder-of-reads
-use Rattle.block_joining.proofs.told_at.Reads as told-at-reads
 
--- src/lib.rt:212:36
+abbrev looked : tie.After-find-sum → tie.Start
+looked f = f .before .before .before .before .before .before .before
+
 mul-find-sum : tie.Need-mul-find-sum
 mul-find-sum c = search needs
 
--- src/lib.rt:212:36
 shared-slice-read-find-sum : tie.Need-shared-slice-read-find-sum
 shared-slice-read-find-sum c = search needs
 
--- src/lib.rt:212:47
 mul-find-sum-2 : tie.Need-mul-find-sum-2
 mul-find-sum-2 c = search needs
 
--- src/lib.rt:212:47
 shared-slice-read-find-sum-2 : tie.Need-shared-slice-read-find-sum-2
 shared-slice-read-find-sum-2 c = search needs
 
--- src/lib.rt:212:36
 add-find-sum : tie.Need-add-find-sum
-add-find-sum c = search needs
+add-find-sum c = let s = c .before .before .before .before .before in omega (arith, s .pre .0 .keys (s .args .i), s .pre .0 .keys (s .args .k))
 
--- src/lib.rt:212:57
 remainder-of-requires : tie.Need-remainder-of-requires
-remainder-of-requires c κs = search needs
+remainder-of-requires c κs =
+    let p = c .before .before .before .before .before .pre in
+    let r = p .1 .remainders in
+    (r .long, (omega (arith, p .2, p .0 .few), omega (arith, r .at _ (p .2))), (omega (arith, p .3, p .0 .few), omega (arith, r .at _ (p .3))))
 
--- src/lib.rt:212:9
 find-sum-requires : tie.Need-find-sum-requires
-find-sum-requires c κs = search needs
+find-sum-requires c κs =
+    let p = c .before .before .before .before .before .before .pre in
+    let r = p .1 .remainders in
+    (p .0, p .1, omega (arith, c .remainder-of .ensures, r .at _ (p .2), r .at _ (p .3)))
 
--- src/lib.rt:214:9
 same-length : tie.Need-same-length
 same-length c = search needs
 
--- src/lib.rt:214:9
 returns : tie.Need-returns
-returns c = search needs
+returns c = record { before = λ e. never e; same = λ e. never e; marked = λ _. marked-same _ _ _ }
 
--- src/lib.rt:216:9
 told-at-requires : tie.Need-told-at-requires
-told-at-requires c κs = search needs
+told-at-requires c κs = omega (arith, c .if1 .left)
 
--- src/lib.rt:217:12
 mul-if2 : tie.Need-mul-if2
-mul-if2 c = search needs
+mul-if2 c = omega (arith, c .told-at .ensures, c .before .if1 .left)
 
--- src/lib.rt:217:12
 slice-read-if2 : tie.Need-slice-read-if2
-slice-read-if2 c = search needs
+slice-read-if2 c =
+    let e = c .before .before in
+    let f = e .before in
+    let p = looked f .pre in
+    omega (arith, c .before .told-at .ensures, told-low _ (p .0 .few) _ (f .find-sum .ensures .pair (omega (arith, e .if1 .left))), p .1 .remainders .long)
 
--- src/lib.rt:218:9
 same-length-2 : tie.Need-same-length-2
 same-length-2 c = search needs
 
--- src/lib.rt:218:9
 returns-2 : tie.Need-returns-2
-returns-2 c = search needs
+returns-2 c =
+    let e = c .before .before .before in
+    let b : e .before .find-sum .result < 4096 = omega (arith, e .if1 .left) in
+    let f = e .before .find-sum .ensures in
+    record {
+      before = λ _. record { p = _; pair = f .pair b; sum = f .sum b; told = rw (c .before .before .told-at .ensures) at (c .if2 .taken) };
+      same = λ _. refl;
+      marked = λ d. never (sym d);
+    }
 
--- src/lib.rt:220:5
 mul-pairs : tie.Need-mul-pairs
 mul-pairs c = search needs
 
--- src/lib.rt:220:5
 slice-write-pairs : tie.Need-slice-write-pairs
 slice-write-pairs c = search needs
 
--- src/lib.rt:200:1
 same-length-3 : tie.Need-same-length-3
 same-length-3 c = search needs
 
--- src/lib.rt:200:1
 returns-3 : tie.Need-returns-3
-returns-3 c = search needs
+returns-3 c =
+    let e = c .before .before .before in
+    let p = looked (e .before) .pre in
+    let b : e .before .find-sum .result < 4096 = omega (arith, e .if1 .left) in
+    let f = e .before .find-sum .ensures in
+    record {
+      before = λ d. never d;
+      same = λ d. never d;
+      marked = λ _. rw (c .before .before .told-at .ensures) (marked-one _ (p .0 .few) _ _ (f .pair b) (f .sum b) _ (p .1 .remainders .long));
+    }
 
 pub is-done-spec : {M : Type 1} → statement M
 is-done-spec =

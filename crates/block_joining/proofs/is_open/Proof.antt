@@ -1,38 +1,45 @@
-use borrow.Author.Needs.{needs}
+-- `block_joining::is_open` meets its contract.
 use native.Mathlib.Omega.{arith}
-use mathlib.Core.Path.{_≡_, refl, sym, ap, _∙_, subst}
-use Prim.Native.Nat.{ℕ, zero, suc, _+_, _-_, _*_, _≤_, _<_}
-use lib.ListN.{length, getD, take, drop, set, length-set}
+use Prim.Native.Nat.{_/_, _%_}
+use borrow.Author.Tests.{eq-eqb, ne-eqb}
 use Rattle.block_joining.proofs.is_open.Statement.{statement}
 use Rattle.block_joining.proofs.is_open.Tie as tie
-use Rattle.block_joining.proofs.is_open.Reads as reads
-use Rattle.block_joining.proofs.is_open.Lts as lts
-use Rattle.block_joining.proofs.is_linked.Reads as is-linked-reads
-use Rattle.block_joining.proofs.sum_at.Reads as sum-at-reads
 
--- src/lib.rt:617:8
+-- which index is at hand
 shared-slice-read-if1 : tie.Need-shared-slice-read-if1
-shared-slice-read-if1 c = search needs
+shared-slice-read-if1 c =
+    let s = c .before .before .before .before .before .before in
+    omega (arith, s .pre .2, s .pre .3, s .pre .0 .basis .basis .few)
 
--- src/lib.rt:617:26
 shared-slice-read-if1-2 : tie.Need-shared-slice-read-if1-2
-shared-slice-read-if1-2 c = search needs
+shared-slice-read-if1-2 c =
+    let s = c .before .before .before .before .before .before .before in
+    omega (arith, s .pre .2, s .pre .4, s .pre .0 .basis .basis .few)
 
--- src/lib.rt:618:9
 returns : tie.Need-returns
-returns c = search needs
+returns c = rw (eq-eqb _ _ (c .if1 .taken))
 
--- src/lib.rt:620:52
 sum-at-requires : tie.Need-sum-at-requires
-sum-at-requires c κs = search needs
+sum-at-requires c κs =
+    let s = c .before .before .before .before .before .before .before .before in
+    (s .pre .0 .basis .basis, s .pre .3, s .pre .4)
 
--- src/lib.rt:620:5
 is-linked-requires : tie.Need-is-linked-requires
-is-linked-requires c κs = search needs
+is-linked-requires c κs =
+    let s = c .before .before .before .before .before .before .before .before .before in
+    let b = s .pre .0 in (
+      record {
+        support = b .support;
+        index = b .index;
+        exponents = b .basis .exponents;
+        low = omega (arith, c .sum-at .ensures, b .basis .basis .keys (s .args .p / 64), b .basis .basis .keys (s .args .p % 64));
+      },
+      s .pre .1,
+    )
 
--- src/lib.rt:594:1
 returns-2 : tie.Need-returns-2
-returns-2 c = search needs
+returns-2 c =
+    rw (ne-eqb _ _ (c .before .before .if1 .left)) (rw (c .before .sum-at .ensures) at (c .is-linked .ensures))
 
 pub is-open-spec : {M : Type 1} → statement M
 is-open-spec =

@@ -1,35 +1,50 @@
-use borrow.Author.Needs.{needs}
+-- `block_joining::note` meets its contract.
 use native.Mathlib.Omega.{arith}
-use mathlib.Core.Path.{_≡_, refl, sym, ap, _∙_, subst}
-use Prim.Native.Nat.{ℕ, zero, suc, _+_, _-_, _*_, _≤_, _<_}
-use lib.ListN.{length, getD, take, drop, set, length-set}
+use mathlib.Core.Path.{sym, _∙_}
+use Rattle.block_joining.proofs.Told.{told-low}
+use Rattle.block_joining.proofs.Pairs.{index-start}
 use Rattle.block_joining.proofs.note.Statement.{statement}
 use Rattle.block_joining.proofs.note.Tie as tie
-use Rattle.block_joining.proofs.note.Reads as reads
-use Rattle.block_joining.proofs.note.Lts as lts
-use Rattle.block_joining.proofs.note_pairs.Reads as note-pairs-reads
-use Rattle.block_joining.proofs.note_remainders.Reads as note-remainders-reads
-use Rattle.block_joining.proofs.note_slots.Reads as note-slots-reads
 
--- src/lib.rt:820:5
 note-slots-requires : tie.Need-note-slots-requires
-note-slots-requires c κs = search needs
+note-slots-requires c κs = let p = c .before .before .before .before .pre in (p .0, p .1 .few)
 
--- src/lib.rt:821:5
 note-remainders-requires : tie.Need-note-remainders-requires
-note-remainders-requires c κs = search needs
+note-remainders-requires c κs =
+    let a = c .before .before .before in
+    (a .note-slots .ensures .0 .long, a .before .before .before .before .before .pre .1 .basis .few)
 
--- src/lib.rt:822:5
 note-pairs-requires : tie.Need-note-pairs-requires
-note-pairs-requires c κs = search needs
+note-pairs-requires c κs =
+    let b = c .before .before .before in
+    let a = b .before .before .before .before in
+    let r = b .note-remainders .ensures in
+    (a .before .before .before .before .before .pre .1 .basis, index-start _ _ (r .0) (λ q h. r .1 q (omega (arith, h)) ∙ a .note-slots .ensures .1 q (omega (arith, h))))
 
--- src/lib.rt:816:1
 same-length : tie.Need-same-length
-same-length c = search needs
+same-length c =
+    let n = c .before .before in
+    let a = n .before .before .before .before .before .before .before .before in
+    n .note-pairs .ensures .0 .remainders .long ∙ sym (a .before .before .before .before .before .pre .0 .long)
 
--- src/lib.rt:816:1
 returns : tie.Need-returns
-returns c = search needs
+returns c =
+    let n = c .before .before in
+    let b = n .before .before .before .before in
+    let a = b .before .before .before .before in
+    let p = a .before .before .before .before .before .pre in
+    let v = n .note-pairs .ensures in
+    let r = b .note-remainders .ensures in
+    let s = a .note-slots .ensures in
+    record {
+      index = v .0;
+      slots = record {
+        long = v .0 .remainders .long;
+        at = λ i h. v .2 .slots _ (omega arith) ∙ r .1 _ (omega (arith, h, p .1 .few)) ∙ s .0 .at i h;
+      };
+      untold = λ q e. let l = told-low _ (p .1 .basis .few) q e in v .2 .told q e ∙ r .1 _ (omega (arith, l)) ∙ s .1 _ l;
+      sums = v .1;
+    }
 
 pub note-spec : {M : Type 1} → statement M
 note-spec =

@@ -1,89 +1,85 @@
+-- `block_joining::note_pair` meets its contract.
 use borrow.Author.Needs.{needs}
 use native.Mathlib.Omega.{arith}
-use mathlib.Core.Path.{_≡_, refl, sym, ap, _∙_, subst}
-use Prim.Native.Nat.{ℕ, zero, suc, _+_, _-_, _*_, _≤_, _<_}
-use lib.ListN.{length, getD, take, drop, set, length-set}
+use mathlib.Core.Path.{refl}
+use Prim.Native.Nat.{_+_, _*_, _<_}
+use lib.ListN.{length, getD, length-set}
+use Rattle.block_joining.proofs.Pairs.{index-next, beside-next}
 use Rattle.block_joining.proofs.note_pair.Statement.{statement}
 use Rattle.block_joining.proofs.note_pair.Tie as tie
-use Rattle.block_joining.proofs.note_pair.Reads as reads
-use Rattle.block_joining.proofs.note_pair.Lts as lts
-use Rattle.block_joining.proofs.remainder_of.Reads as remainder-of-reads
 
--- src/lib.rt:736:9
 remainder-of-requires : tie.Need-remainder-of-requires
-remainder-of-requires c κs = search needs
+remainder-of-requires c κs =
+    let s = c .before .before .before in
+    let p = s .pre in
+    let r = p .1 .remainders in
+    let h : s .args .i < length (s .args .basis .now) = omega (arith, p .2, p .3) in
+    (r .long, (omega (arith, h, p .0 .few), omega (arith, r .at _ h)), (omega (arith, p .3, p .0 .few), omega (arith, r .at _ (p .3))))
 
--- src/lib.rt:737:13
 mul-p : tie.Need-mul-p
-mul-p c = search needs
+mul-p c = let p = c .before .before .before .before .pre in omega (arith, p .2, p .3, p .0 .few)
 
--- src/lib.rt:737:13
 add-p : tie.Need-add-p
-add-p c = search needs
+add-p c = let p = c .before .before .before .before .pre in omega (arith, p .2, p .3, p .0 .few)
 
--- src/lib.rt:738:16
 mul-last : tie.Need-mul-last
-mul-last c = search needs
+mul-last c = omega (arith, c .remainder-of .ensures)
 
--- src/lib.rt:738:16
 slice-read-last : tie.Need-slice-read-last
-slice-read-last c = search needs
+slice-read-last c = let p = c .before .before .before .before .before .pre in omega (arith, c .before .remainder-of .ensures, p .1 .remainders .long)
 
--- src/lib.rt:739:11
 add-pairs : tie.Need-add-pairs
-add-pairs c = search needs
+add-pairs c = let p = c .before .before .before .before .before .pre in omega (arith, p .2, p .3, p .0 .few)
 
--- src/lib.rt:739:5
 mul-pairs : tie.Need-mul-pairs
-mul-pairs c = search needs
+mul-pairs c = let p = c .before .before .before .before .before .pre in omega (arith, p .2, p .3, p .0 .few)
 
--- src/lib.rt:739:5
 slice-write-pairs : tie.Need-slice-write-pairs
-slice-write-pairs c = search needs
+slice-write-pairs c = let p = c .before .before .before .before .before .pre in omega (arith, p .2, p .3, p .0 .few, p .1 .remainders .long)
 
--- src/lib.rt:740:17
 add-pairs-2 : tie.Need-add-pairs-2
-add-pairs-2 c = search needs
+add-pairs-2 c = let p = c .before .before .before .before .before .pre in omega (arith, p .2, p .3, p .0 .few)
 
--- src/lib.rt:740:16
 cast-pairs : tie.Need-cast-pairs
-cast-pairs c = search needs
+cast-pairs c = let p = c .before .before .before .before .before .pre in omega (arith, p .2, p .3, p .0 .few)
 
--- src/lib.rt:740:5
 mul-pairs-2 : tie.Need-mul-pairs-2
-mul-pairs-2 c = search needs
+mul-pairs-2 c = omega (arith, c .before .remainder-of .ensures)
 
--- src/lib.rt:740:5
 slice-write-pairs-2 : tie.Need-slice-write-pairs-2
-slice-write-pairs-2 c = search needs
+slice-write-pairs-2 c =
+    let s = c .before .before .before .before .before in
+    let h = c .before .remainder-of in
+    omega (arith, h .ensures, s .pre .1 .remainders .long, length-set (s .args .pairs .now) (2048 + (64 * s .args .i + s .args .k)) (getD (s .args .pairs .now) (h .result) 0))
 
--- src/lib.rt:741:5
 mul-result : tie.Need-mul-result
 mul-result c = search needs
 
--- src/lib.rt:741:5
 shared-slice-read-result : tie.Need-shared-slice-read-result
 shared-slice-read-result c = search needs
 
--- src/lib.rt:741:16
 mul-result-2 : tie.Need-mul-result-2
 mul-result-2 c = search needs
 
--- src/lib.rt:741:16
 shared-slice-read-result-2 : tie.Need-shared-slice-read-result-2
 shared-slice-read-result-2 c = search needs
 
--- src/lib.rt:741:5
 add-result : tie.Need-add-result
-add-result c = search needs
+add-result c =
+    let s = c .before .before .before .before .before .before .before in
+    omega (arith, s .pre .0 .keys (s .args .i), s .pre .0 .keys (s .args .k))
 
--- src/lib.rt:723:1
 same-length : tie.Need-same-length
 same-length c = search needs
 
--- src/lib.rt:723:1
 returns : tie.Need-returns
-returns c = search needs
+returns c =
+    let p = c .before .before .before .before .before .before .before .pre in
+    let e = c .before .before .before .remainder-of .ensures in (
+      refl,
+      index-next _ (p .0 .few) _ _ (p .2) (p .3) _ (p .1) _ e,
+      beside-next _ (p .0 .few) _ _ (p .2) (p .3) _ (p .1) _ e,
+    )
 
 pub note-pair-spec : {M : Type 1} → statement M
 note-pair-spec =

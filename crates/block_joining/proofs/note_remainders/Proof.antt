@@ -1,71 +1,70 @@
+-- `block_joining::note_remainders` meets its contract: the remainders of the keys before i are written.
 use borrow.Author.Needs.{needs}
 use native.Mathlib.Omega.{arith}
-use mathlib.Core.Path.{_≡_, refl, sym, ap, _∙_, subst}
-use Prim.Native.Nat.{ℕ, zero, suc, _+_, _-_, _*_, _≤_, _<_}
-use lib.ListN.{length, getD, take, drop, set, length-set}
+use mathlib.Core.Path.{_∙_}
+use Prim.Native.Nat.{ℕ, _-_, _%_, _≤_}
+use lib.ListN.{length, getD}
+use Rattle.block_joining.specs.Pairs.{sumDivisor}
+use Rattle.block_joining.proofs.Pairs.{Written, written-start, written-next}
 use Rattle.block_joining.proofs.note_remainders.Statement.{statement}
 use Rattle.block_joining.proofs.note_remainders.Tie as tie
-use Rattle.block_joining.proofs.note_remainders.Reads as reads
-use Rattle.block_joining.proofs.note_remainders.Lts as lts
-use Rattle.block_joining.proofs.remainder.Reads as remainder-reads
 
 abbrev Inv-loop : tie.InvT-loop
-Inv-loop pairs₀ basis i₀ pairs i = ?
+Inv-loop pairs₀ basis i₀ pairs i = (i ≤ length basis) × Written 6176 (λ (j : ℕ). getD basis j 0 % sumDivisor) pairs₀ i pairs
 
 abbrev μ-loop : tie.MeasureT-loop
-μ-loop pairs₀ basis i₀ pairs i = ?
+μ-loop pairs₀ basis i₀ pairs i = length basis - i
 
--- src/lib.rt:809:5
+abbrev at-start : tie.At-loop Inv-loop μ-loop → tie.Start Inv-loop μ-loop
+at-start l = l .before .before .before
+
 loop-holds : tie.Need-loop-holds Inv-loop μ-loop
-loop-holds c = search needs
+loop-holds c = (omega arith, written-start _ _ _)
 
--- src/lib.rt:810:43
 mul-remainder : tie.Need-mul-remainder Inv-loop μ-loop
 mul-remainder c = search needs
 
--- src/lib.rt:810:43
 shared-slice-read-remainder : tie.Need-shared-slice-read-remainder Inv-loop μ-loop
 shared-slice-read-remainder c = search needs
 
--- src/lib.rt:810:33
 remainder-requires : tie.Need-remainder-requires Inv-loop μ-loop
 remainder-requires c κs = search needs
 
--- src/lib.rt:810:33
 cast-pairs : tie.Need-cast-pairs Inv-loop μ-loop
-cast-pairs c = search needs
+cast-pairs c = omega (arith, c .remainder .ensures)
 
--- src/lib.rt:810:15
 add-pairs : tie.Need-add-pairs Inv-loop μ-loop
-add-pairs c = search needs
+add-pairs c = let l = c .before .before .before in omega (arith, at-start l .pre .1, c .before .before .loop-test .taken)
 
--- src/lib.rt:810:9
 mul-pairs : tie.Need-mul-pairs Inv-loop μ-loop
-mul-pairs c = search needs
+mul-pairs c = let l = c .before .before .before in omega (arith, at-start l .pre .1, c .before .before .loop-test .taken)
 
--- src/lib.rt:810:9
 slice-write-pairs : tie.Need-slice-write-pairs Inv-loop μ-loop
-slice-write-pairs c = search needs
+slice-write-pairs c =
+    let l = c .before .before .before in
+    omega (arith, at-start l .pre .1, c .before .before .loop-test .taken, l .loop .inv .1 .long, at-start l .pre .0)
 
--- src/lib.rt:811:9
 add-i : tie.Need-add-i Inv-loop μ-loop
 add-i c = search needs
 
--- src/lib.rt:809:5
 loop-less : tie.Need-loop-less Inv-loop μ-loop
 loop-less c = search needs
 
--- src/lib.rt:809:5
 loop-again : tie.Need-loop-again Inv-loop μ-loop
-loop-again c = search needs
+loop-again c =
+    let l = c .before .before .before in
+    let h = c .before .before .loop-test .taken in
+    let p = at-start l .pre in
+    (omega (arith, h), written-next _ _ _ _ _ (l .loop .inv .1) (omega (arith, p .1, h, p .0)) _ (c .remainder .ensures))
 
--- src/lib.rt:801:1
 same-length : tie.Need-same-length Inv-loop μ-loop
-same-length c = search needs
+same-length c = c .before .loop .inv .1 .long
 
--- src/lib.rt:801:1
 returns : tie.Need-returns Inv-loop μ-loop
-returns c = search needs
+returns c =
+    let l = c .before in
+    let w = l .loop .inv .1 in
+    (record { long = w .long ∙ at-start l .pre .0; at = λ j h. w .at j (omega (arith, h, c .loop-test .left)) }, w .before)
 
 pub note-remainders-spec : {M : Type 1} → statement M
 note-remainders-spec =
