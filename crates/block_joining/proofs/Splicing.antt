@@ -14,10 +14,10 @@ use Rattle.round_laws.proofs.Walks.{list-next, list-less}
 use Rattle.round_laws.proofs.Merging.{Merging}
 
 module _ (n a b : ℕ) (bytes₀ : List ℕ) (t : TwoBlocks n a b bytes₀) (bytes : List ℕ) (last k : ℕ) (m : Merging n a b bytes₀ bytes last k) where
-  pub merging-less : k < 64 → length (listFrom (followOf bytes₀) (getD (set bytes k a) (64 + k) 0)) < length (listFrom (followOf bytes₀) k)
-  merging-less h =
-      let q : getD (set bytes k a) (64 + k) 0 ≡ getD (followOf bytes₀) k 0 =
-      getD-set-other bytes k (64 + k) a 0 (λ e. omega arith) ∙ sym (getD-drop 64 bytes k 0) ∙ ap (λ (f : List ℕ). getD f k 0) (m .follow) in
+  pub merging-less : k < 64 → (v : ℕ) → length (listFrom (followOf bytes₀) (getD (set bytes k v) (64 + k) 0)) < length (listFrom (followOf bytes₀) k)
+  merging-less h v =
+      let q : getD (set bytes k v) (64 + k) 0 ≡ getD (followOf bytes₀) k 0 =
+      getD-set-other bytes k (64 + k) v 0 (λ e. omega arith) ∙ sym (getD-drop 64 bytes k 0) ∙ ap (λ (f : List ℕ). getD f k 0) (m .follow) in
       rw q (list-less (followOf bytes₀) k (m .ends) h)
 
   pub merging-end : n ≤ k → 64 ≤ k

@@ -5,19 +5,18 @@ use mathlib.Core.List.{List}
 use Prim.Native.Nat.{ℕ, _≤_, _<_}
 use native.Mathlib.Omega.{arith}
 use lib.Dec.{ltb}
-use lib.ListN.{length, getD, drop}
+use lib.ListN.{length, drop}
 use borrow.Author.Tests.{lt-ltb, le-ltb}
 use Rattle.counting.proofs.Cases.{clash}
 use Rattle.joining_rule.specs.Sets.{insert}
 use Rattle.key_set.specs.Table.{keysIn, Holds, Indexed, Grown, Stored}
 use Rattle.joining_rule.proofs.Elements.{insert-grows}
 use Rattle.joining_rule.specs.Rounds.{Bases, State, Closing, extendTo, start, after, closingOf, countedKeys}
-use Rattle.flat.specs.Flat.{basisAt}
-use Rattle.flat.proofs.Flat.{part-length}
-use Rattle.whole_rounds.specs.Parts.{basesIn, labelsIn, Sizes, Arrays}
+use Rattle.whole_rounds.specs.Parts.{basesIn, labelsIn, Arrays}
 use Rattle.joining_rule.specs.Bytes.{blockBytes}
 use Rattle.whole_rounds.specs.Settled.{Settled, Missing}
 use Rattle.whole_rounds.proofs.Labels.{labels-of}
+use Rattle.whole_rounds.proofs.Turns.{basis-long, arrays-sizes}
 use Rattle.joining_rule.proofs.Bytes.{bytes-long}
 use Rattle.joining_rule.proofs.Closing.{closing-state, closing-shaped, closing-full}
 use Rattle.joining_rule.proofs.Counted.{counted-extends}
@@ -96,17 +95,10 @@ module _ (rule most : ℕ) (keys sizes : List ℕ) (a : Arrays keys sizes) (S₀
   abbrev end : State
   end = closingOf rule most g S₀ .state
 
-  -- the sizes tell how long the bases are
-  sized : (j : ℕ) → j < 9 → length (g .basis j) ≡ getD sizes j 0
-  sized j h = part-length (getD sizes j 0) (basisAt j) keys (a .bases j h)
-
-  small : Sizes sizes
-  small = record { nine = omega (arith, a .counted); small = λ j h. omega (arith, sized j h, a .limits j h .basis .few) }
-
   module _ (l : List ℕ) (e : l ≡ blockBytes (end .labels)) where
-    -- so the bytes give the blocks back
+    -- the bytes give the blocks back
     pub labels-held : labelsIn 64 sizes l ≡ end .labels
-    labels-held = ap (labelsIn 64 sizes) e ∙ labels-of sizes small g sized (end .labels) (closing-shaped rule most g S₀)
+    labels-held = ap (labelsIn 64 sizes) e ∙ labels-of sizes (arrays-sizes keys sizes a) g (basis-long keys sizes a) (end .labels) (closing-shaped rule most g S₀)
 
     -- and S has the products of the bases that add
     pub products-held : 0 < most → (len : ℕ) (t idx : List ℕ) → Holds t len → Indexed idx t len → keysIn len t ≡ end .support

@@ -28,15 +28,7 @@ product-fits (suc zero) k h b = omega arith
 product-fits (suc (suc zero)) k h b = omega arith
 product-fits (suc (suc (suc c))) k h b = absurd (omega arith)
 
--- ---- one growth of an empty table after another
-module _ (S t : List ℕ) (n : ℕ) (t₁ idx₁ : List ℕ) (g : Stored 0 S t n t₁ idx₁) where
-  -- a set that is too large stays so
-  pub stored-over : 2048 < n → (S′ : List ℕ) → length S ≤ length S′ → Stored 0 S′ t n t₁ idx₁
-  stored-over b S′ x = record {
-    grown = record { count = omega (arith, g .grown .count); keys = λ q. absurd (omega arith); long = g .grown .long; rest = g .grown .rest };
-    index = λ q. absurd (omega arith);
-    first = λ q. absurd (omega arith);
-  }
-
-  pub stored-then : n ≤ 2048 → (f : List ℕ → List ℕ) (r : ℕ) (t₂ idx₂ : List ℕ) → Stored n (f (keysIn n t₁)) t₁ r t₂ idx₂ → Stored 0 (f S) t r t₂ idx₂
-  stored-then b f r t₂ idx₂ k = Growing.stored-then 0 S t n t₁ idx₁ (omega arith) b g (f S) r t₂ idx₂ (rw (g .grown .keys b) at k)
+-- a growth of an empty table after another
+pub stored-then : (S t : List ℕ) (n : ℕ) (t₁ idx₁ : List ℕ) → Stored 0 S t n t₁ idx₁ → n ≤ 2048
+    → (f : List ℕ → List ℕ) (r : ℕ) (t₂ idx₂ : List ℕ) → Stored n (f (keysIn n t₁)) t₁ r t₂ idx₂ → Stored 0 (f S) t r t₂ idx₂
+stored-then S t n t₁ idx₁ g b f r t₂ idx₂ k = Growing.stored-then 0 S t n t₁ idx₁ (omega arith) b g (f S) r t₂ idx₂ (rw (g .grown .keys b) at k)

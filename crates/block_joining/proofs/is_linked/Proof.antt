@@ -31,7 +31,7 @@ add-is-before c = omega (arith, c .before .before .before .before .before .befor
 is-before-requires : tie.Need-is-before-requires Inv-loop μ-loop
 is-before-requires c κs =
     let s = c .before .before .before .before .before .before in
-    (s .pre .0 .support, s .pre .0 .index, s .pre .1)
+    (s .pre .0 .support, s .pre .0 .index, omega (arith, s .pre .1))
 
 returns : tie.Need-returns Inv-loop μ-loop
 returns c =

@@ -3,7 +3,7 @@ use borrow.Author.Needs.{needs}
 use native.Mathlib.Omega.{arith}
 use mathlib.Core.Path.{sym, _∙_}
 use Prim.Native.Nat.{_+_}
-use lib.ListN.{length, getD, set, length-set}
+use lib.ListN.{length, length-set}
 use Rattle.round_laws.specs.Lists.{listFrom, followOf}
 use Rattle.round_laws.proofs.Merging.{Merging, merging-start, merging-step, merging-labels, merging-lists}
 use Rattle.block_joining.proofs.Splicing.{merging-less, merging-end}
@@ -32,13 +32,13 @@ add-k : tie.Need-add-k Inv-loop μ-loop
 add-k c = omega (arith, c .loop-test .taken, c .before .before .before .before .pre .few)
 
 slice-read-k : tie.Need-slice-read-k Inv-loop μ-loop
-slice-read-k c = omega (arith, c .before .loop-test .taken, c .before .before .before .before .before .pre .few, c .before .before .loop .inv .long, length-set (c .before .before .loop .blocks) (c .before .before .loop .k) (c .before .before .before .before .before .args .m .a))
+slice-read-k c = simp length-set (omega (arith, c .before .loop-test .taken, c .before .before .before .before .before .pre .few, c .before .before .loop .inv .long))
 
 cast-k : tie.Need-cast-k Inv-loop μ-loop
 cast-k c = omega (arith, c .slice-known .given (64 + c .before .before .loop .k))
 
 loop-less : tie.Need-loop-less Inv-loop μ-loop
-loop-less c = merging-less _ _ _ _ (c .before .before .before .before .before .pre) _ _ _ (c .before .before .loop .inv) (omega (arith, c .before .loop-test .taken, c .before .before .before .before .before .pre .few))
+loop-less c = merging-less _ _ _ _ (c .before .before .before .before .before .pre) _ _ _ (c .before .before .loop .inv) (omega (arith, c .before .loop-test .taken, c .before .before .before .before .before .pre .few)) _
 
 loop-again : tie.Need-loop-again Inv-loop μ-loop
 loop-again c = merging-step _ _ _ _ (c .before .before .before .before .before .pre) _ _ _ (c .before .before .loop .inv) (omega (arith, c .before .loop-test .taken, c .before .before .before .before .before .pre .few))
@@ -62,14 +62,10 @@ slice-write-blocks-3 : tie.Need-slice-write-blocks-3 Inv-loop μ-loop
 slice-write-blocks-3 c =
     let l = c .before .before in
     let s = c .before .before .before .before .before in
-    omega (arith, s .pre .few, s .pre .below, s .pre .inside, l .loop .inv .long, length-set (l .loop .blocks) (64 + l .loop .last) (getD (l .loop .blocks) (64 + s .args .m .a) 0))
+    simp length-set (omega (arith, s .pre .few, s .pre .below, s .pre .inside, l .loop .inv .long))
 
 same-length : tie.Need-same-length Inv-loop μ-loop
-same-length c =
-    let l = c .before .before in
-    let s = c .before .before .before .before .before in
-    let g = l .loop .blocks in
-    length-set (set g (64 + l .loop .last) (getD g (64 + s .args .m .a) 0)) (64 + s .args .m .a) (s .args .m .b) ∙ length-set g (64 + l .loop .last) _ ∙ l .loop .inv .long ∙ sym (s .pre .long)
+same-length c = simp length-set (c .before .before .loop .inv .long ∙ sym (c .before .before .before .before .before .pre .long))
 
 returns : tie.Need-returns Inv-loop μ-loop
 returns c =
