@@ -7,7 +7,7 @@ use lib.ListN.{length, getD, take, drop}
 use Rattle.counting.specs.Counting.{listed, fromTo}
 use Rattle.joining_rule.specs.Rounds.{Bases}
 use Rattle.flat.specs.Flat.{basisAt, exponentsAt, countAt, basisIn}
-use Rattle.round_laws.specs.Lists.{labelsOf, followOf}
+use Rattle.round_laws.specs.Lists.{labelsOf}
 use Rattle.block_joining.specs.Limits.{OneBasis}
 use Rattle.block_joining.specs.Adding.{plain, addSquares}
 
@@ -53,7 +53,7 @@ pub record SingleBlocks (sizes blocks : List ℕ) : Type 0 where
   pub long : length blocks ≡ 1152
   pub labels : (j : ℕ) → j < 9
       → labelsOf (getD sizes j 0) (piece 128 blocks j) ≡ listed (getD sizes j 0) (λ i. i)
-  pub last : (j i : ℕ) → j < 9 → i < 64 → 64 ≤ getD (followOf (piece 128 blocks j)) i 0
+  pub last : (j i : ℕ) → j < 9 → i < 64 → 64 ≤ getD blocks (128 * j + (64 + i)) 0
 
 -- there is room for the pairs, unless every basis is small
 pub record Room (sizes pairs : List ℕ) : Type 0 where

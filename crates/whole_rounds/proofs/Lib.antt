@@ -1,0 +1,4 @@
+pub mod Pieces
+pub mod Labels
+pub mod Ready
+pub mod Turns
