@@ -10,7 +10,7 @@ use lib.ListN.{length, getD}
 use borrow.Author.Tests.{eqb-true}
 use Rattle.counting.proofs.Cases.{never}
 use Rattle.joining_rule.specs.Join.{linked}
-use Rattle.round_laws.specs.Joins.{Together, Two, Through, LinkedIn}
+use Rattle.round_laws.specs.Joins.{Two, Through, LinkedIn}
 use Rattle.round_laws.proofs.Rows.{linked-through, not-through, rows-none, rows-more, rows-then, rows-hit, rows-same, rows-not, rows-end}
 use Rattle.block_joining.specs.Pairs.{sumAt}
 use Rattle.block_joining.specs.Standing.{Standing, labelled, lookedAt, Ready, Grew}

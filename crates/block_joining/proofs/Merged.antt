@@ -1,16 +1,14 @@
 -- Two blocks made one: what a basis that adds and one that does not leave in the support, and that this is a joining.
-use mathlib.Core.Path.{_≡_, refl, sym, ap, _∙_}
-use mathlib.Core.Bool.{Bool, true, false}
+use mathlib.Core.Path.{_≡_, refl, sym, _∙_}
+use mathlib.Core.Bool.{true, false}
 use mathlib.Core.List.{List}
-use Prim.Native.Nat.{ℕ, _+_, _-_, _*_, _≤_, _<_}
+use Prim.Native.Nat.{ℕ, _+_, _-_, _≤_, _<_}
 use native.Mathlib.Omega.{arith}
 use lib.ListN.{length, getD}
 use lib.Seq.{getD-take}
 use Rattle.joining_rule.specs.Sets.{different}
 use Rattle.joining_rule.specs.Join.{merged}
 use Rattle.joining_rule.proofs.Only.{rising-shorter}
-use Rattle.joining_rule.proofs.Numbered.{Numbered}
-use Rattle.joining_rule.proofs.Labels.{merged-long}
 use Rattle.joining_rule.proofs.Lowest.{some-block}
 use Rattle.key_set.specs.Table.{keysIn, Stored}
 use Rattle.key_set.proofs.Keys.{keys-rising, stored-none, grown-holds}
@@ -25,7 +23,6 @@ use Rattle.round_laws.proofs.Sums.{full-between}
 use Rattle.block_joining.specs.Pairs.{pairAt, toldAt}
 use Rattle.block_joining.specs.Adding.{plain, DoneTold, WithIndex, AddingAsks, AddedAll}
 use Rattle.block_joining.specs.Standing.{Standing, standing, labelled, support, OwnBlock, Ready, Grew}
-use Rattle.block_joining.specs.declared.Reach.{Reach}
 use Rattle.block_joining.proofs.Growing.{grown-length}
 use Rattle.block_joining.proofs.Grew.{labels-long, grew-to}
 

@@ -6,7 +6,7 @@ use mathlib.Core.List.{List}
 use Prim.Native.Nat.{ℕ, _+_, _*_, _/_, _%_, _≤_, _<_}
 use native.Mathlib.Omega.{arith}
 use lib.ListN.{length, getD, set, length-set}
-use lib.Seq.{getD-set-same, getD-set-other}
+use lib.Seq.{getD-set-other}
 use Rattle.counting.proofs.Listed.{same-or-not}
 use Rattle.hash_chain.proofs.Chain.{chain-set}
 use Rattle.round_laws.specs.Joins.{Has, WithSum}

@@ -1,13 +1,13 @@
 -- The loop that joins the pairs with one sum, from the last to the first: its turns.
-use mathlib.Core.Path.{_≡_, refl, sym, ap, _∙_}
-use mathlib.Core.Logic.{_⊎_, inl, inr}
+use mathlib.Core.Path.{_≡_, _∙_}
+use mathlib.Core.Logic.{inr}
 use mathlib.Core.Bool.{true}
 use mathlib.Core.List.{List}
-use Prim.Native.Nat.{ℕ, suc, _+_, _-_, _*_, _/_, _%_, _≤_, _<_}
+use Prim.Native.Nat.{ℕ, _+_, _-_, _*_, _/_, _%_, _≤_, _<_}
 use native.Mathlib.Omega.{arith}
 use lib.ListN.{length, getD}
-use Rattle.hash_chain.proofs.Chain.{Search, search-here, search-less, search-only, search-step}
-use Rattle.round_laws.specs.Joins.{Has, Two, WithSum, SumFrom}
+use Rattle.hash_chain.proofs.Chain.{Search, search-less, search-only, search-step}
+use Rattle.round_laws.specs.Joins.{Two, WithSum, SumFrom}
 use Rattle.round_laws.proofs.Walk.{sums-has, walk-start, walk-more, walk-hit, walk-miss, walk-end}
 use Rattle.block_joining.specs.Pairs.{pairAt, sumAt, sumDivisor, meets, AllPairs, FindsSum}
 use Rattle.block_joining.specs.Adding.{plain}

@@ -4,19 +4,19 @@
 ghost use mathlib.Core.Path.{_≡_};
 ghost use mathlib.Core.Bool.{true};
 ghost use mathlib.Core.List.{List};
-ghost use Prim.Native.Nat.{_*_, _^_, _≤_, _<_};
+ghost use Prim.Native.Nat.{_*_, _^_, _≤_};
 ghost use lib.IntN.{ℤ};
 ghost use lib.ListN.{length};
 ghost use Rattle.counting.specs.Counting.{fromTo, Bounded};
 ghost use Rattle.format.specs.ProblemRules.{Problem};
 ghost use Rattle.joining_rule.specs.Sets.{insertAll};
-ghost use Rattle.joining_rule.specs.Rounds.{extendTo, mostRounds, closingOf};
+ghost use Rattle.joining_rule.specs.Rounds.{mostRounds, closingOf};
 ghost use Rattle.joining_rule.specs.Joining.{multiples, basesOf, closing};
 ghost use Rattle.key_set.specs.Table.{keysIn, Holds, Indexed, Stored};
 ghost use Rattle.flat.specs.Flat.{FlatProblem};
-ghost use Rattle.whole_rounds.specs.Parts.{basesIn, labelsIn};
-ghost use Rattle.whole_rounds.specs.Arrays.{Arrays, JoiningAll};
-ghost use Rattle.closure.specs.Tables.{FlatKeys, exponentsIn, startIn, Missing, ClosureLeft};
+ghost use Rattle.whole_rounds.specs.Parts.{exponentsIn, basesIn};
+ghost use Rattle.whole_rounds.specs.Settled.{Starting};
+ghost use Rattle.closure.specs.Tables.{FlatKeys, startIn, ClosureLeft};
 use whole_rounds::Support;
 
 // The support with each key times `factor` put in; 2,049 where it has too many.
@@ -144,7 +144,15 @@ fn settle(
     table: &mut [u64],
     index: &mut [u16],
     support: Support,
-) -> Joined {
+) -> Joined
+    requires { ⌜ Starting (now table) (now index) support (now keys) (now sizes) ⌝ }
+    ensures { λ r. ⌜
+        ClosureLeft (basesIn (now (keys .entry)) (now (sizes .entry)))
+        (closingOf (support .rule) (support .most) (basesIn (now (keys .entry)) (now (sizes .entry)))
+        (keysIn (support .len) (now (table .entry)))) (now (table .entry)) r (now (table .exit)) (now (index .exit))
+        (now (labels .exit))
+        ⌝ }
+{
     let c = whole_rounds::close(labels, keys, sizes, table, index, support);
     let m = c.len;
     if 2048 < m {

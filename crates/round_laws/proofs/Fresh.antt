@@ -1,14 +1,14 @@
--- Laws of the loops that join a basis by the items of a list in turn: the members that came last, or the sums that one of
--- them leads to.
+-- Laws of the loops that join a basis by the items of a list in turn: the members that came last, or the sums that one
+-- of them leads to.
 use mathlib.Core.Path.{_≡_, refl}
 use mathlib.Core.Logic.{_⊎_, inl, inr, ⊎-elim}
 use mathlib.Core.List.{List, [], _∷_, _++_}
-use Prim.Native.Nat.{ℕ, _+_, _≤_, _<_}
+use Prim.Native.Nat.{ℕ, _+_, _<_}
 use native.Mathlib.Numerals.{add-one}
 use lib.ListN.{length, getD, take, drop, take-append-drop}
 use lib.Seq.{take-suc}
 use Rattle.joining_rule.specs.Sets.{In}
-use Rattle.joining_rule.proofs.Elements.{not-nil, in-cons, in-here, append-keeps, in-snoc, snoc-keeps, snoc-in, member-at}
+use Rattle.joining_rule.proofs.Elements.{not-nil, in-cons, in-here, append-keeps, in-snoc, snoc-keeps, snoc-in}
 use Rattle.round_laws.specs.Joins.{Has, Among, Parts, Through, SomeOf}
 
 -- ---- item by item

@@ -1,5 +1,5 @@
--- Laws of the walk that joins the pairs with a sum s, from the last to the first. It is at place v - 1, and the next one
--- is v′ - 1; which places it comes by, the index of pairs tells.
+-- Laws of the walk that joins the pairs with a sum s, from the last to the first. It is at place v - 1, and the next
+-- one is v′ - 1; which places it comes by, the index of pairs tells.
 use mathlib.Core.Path.{_≡_, _∙_}
 use mathlib.Core.Logic.{_⊎_, inl, inr, ⊎-elim}
 use mathlib.Core.List.{List}

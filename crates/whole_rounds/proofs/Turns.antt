@@ -6,7 +6,7 @@ use mathlib.Core.List.{List, []}
 use Prim.Native.Nat.{ℕ, _+_, _-_, _*_, _≤_, _<_}
 use native.Mathlib.Omega.{arith}
 use lib.Dec.{ltb}
-use lib.ListN.{length, getD, take, drop, set}
+use lib.ListN.{length, getD, take, drop, set, length-set}
 use lib.Seq.{length-take-le, take-take, getD-set-same, getD-set-other}
 use Rattle.counting.specs.Counting.{listed}
 use Rattle.counting.proofs.Cases.{lt-or-le}
@@ -112,6 +112,7 @@ pub record Turn (keys sizes : List ℕ) (s₀ : Nine) (j : ℕ) (s : Nine) : Typ
   pub products : Products (s₀ .stage .adding) (basesIn keys sizes) (labelsIn 128 sizes (s .blocks)) (begun sizes s₀ .support) (keysIn (s .stage .len) (s .table))
   pub stored : Stored (s₀ .stage .len) (keysIn (s .stage .len) (s .table)) (s₀ .table) (s .stage .len) (s .table) (s .index)
   pub more : s₀ .stage .len ≤ s .stage .len
+  pub pairs : length (s .pairs) ≡ length (s₀ .pairs)
 
 recent-as : (S S′ T B L L′ F F′ : List ℕ) → S ≡ S′ → L ≡ L′ → F ≡ F′ → Recent S′ T B L′ F′ → Recent S T B L F
 recent-as S S′ T B L L′ F F′ a b c r = rw (a, b, c) r
@@ -135,6 +136,7 @@ module _ (keys sizes : List ℕ) (s₀ : Nine) (asks : RoundAsks keys sizes s₀
         products = asks .products;
         stored = stored-none (b .support) (b .index);
         more = omega arith;
+        pairs = refl;
       }
 
   module _ (j : ℕ) (blocks pairs t idx state : List ℕ) (n : ℕ) (u : Turn keys sizes s₀ j (nine blocks pairs t idx state (stage (s₀ .stage .since) (s₀ .stage .until) n (s₀ .stage .adding)))) where
@@ -235,44 +237,45 @@ module _ (keys sizes : List ℕ) (s₀ : Nine) (asks : RoundAsks keys sizes s₀
           now-more : n ≤ r′ .len
           now-more = grew-more T B _ (standingAt s j) _ (u .ready .at j h) (k .grew) b
 
-          module _ (eighteen : length state ≡ 18) where
-            now-ready : (y : ℕ) → y < 9 → Ready (exponentsIn keys sizes y) (basisIn keys sizes y) (standingAt s′ y)
-            now-ready y c = ⊎-elim (λ e. rw e here) other (same-or-not y j)
-              where
-                d : Ready T B (standing (piece 128 blocks′ j) (piece 6240 pairs′ j) t′ idx′ r′)
-                d = k .grew .fits b .ready
+          now-ready : (y : ℕ) → y < 9 → Ready (exponentsIn keys sizes y) (basisIn keys sizes y) (standingAt s′ y)
+          now-ready y c = ⊎-elim (λ e. rw e here) other (same-or-not y j)
+            where
+              d : Ready T B (standing (piece 128 blocks′ j) (piece 6240 pairs′ j) t′ idx′ r′)
+              d = k .grew .fits b .ready
 
-                v : Ready (exponentsIn keys sizes y) (basisIn keys sizes y) (standingAt s y)
-                v = u .ready .at y c
+              v : Ready (exponentsIn keys sizes y) (basisIn keys sizes y) (standingAt s y)
+              v = u .ready .at y c
 
-                here : Ready T B (standingAt s′ j)
-                here =
-                    ready-grows T B _ _ t′ idx′ r′ d t′ idx′ (reachAt (s′ .state) (s′ .stage) j) (d .basis .support) (d .basis .index) (λ x m. m) (v .since) (omega (arith, v .until, now-more))
-                    (getD-set-same state j (r′ .blocks) 0 (omega arith))
-                    (λ _. getD-set-other state j (9 + j) (r′ .blocks) 0 (λ q. omega arith) ∙ sym (k .grew .same .bits))
-                    (sym (k .grew .same .adds))
+              here : Ready T B (standingAt s′ j)
+              here =
+                  ready-grows T B _ _ t′ idx′ r′ d t′ idx′ (reachAt (s′ .state) (s′ .stage) j) (d .basis .support) (d .basis .index) (λ x m. m) (v .since) (omega (arith, v .until, now-more))
+                  (getD-set-same state j (r′ .blocks) 0 (omega (arith, u .ready .numbers)))
+                  (λ _. getD-set-other state j (9 + j) (r′ .blocks) 0 (λ q. omega arith) ∙ sym (k .grew .same .bits))
+                  (sym (k .grew .same .adds))
 
-                other : (y ≡ j → ⊥) → Ready (exponentsIn keys sizes y) (basisIn keys sizes y) (standingAt s′ y)
-                other q =
-                    rw (k .other-blocks .others y c q, k .other-pairs .others y c q)
-                    (ready-grows (exponentsIn keys sizes y) (basisIn keys sizes y) _ _ t idx _ v t′ idx′ (reachAt (s′ .state) (s′ .stage) y) (d .basis .support) (d .basis .index)
-                    (λ x m. rw new (k .grew .within .keeps x m)) (v .since) (omega (arith, v .until, now-more))
-                    (getD-set-other state j y (r′ .blocks) 0 q)
-                    (λ _. getD-set-other state j (9 + y) (r′ .blocks) 0 (λ e. omega arith))
-                    refl)
+              other : (y ≡ j → ⊥) → Ready (exponentsIn keys sizes y) (basisIn keys sizes y) (standingAt s′ y)
+              other q =
+                  rw (k .other-blocks .others y c q, k .other-pairs .others y c q)
+                  (ready-grows (exponentsIn keys sizes y) (basisIn keys sizes y) _ _ t idx _ v t′ idx′ (reachAt (s′ .state) (s′ .stage) y) (d .basis .support) (d .basis .index)
+                  (λ x m. rw new (k .grew .within .keeps x m)) (v .since) (omega (arith, v .until, now-more))
+                  (getD-set-other state j y (r′ .blocks) 0 q)
+                  (λ _. getD-set-other state j (9 + y) (r′ .blocks) 0 (λ e. omega arith))
+                  refl)
 
-            pub turn-next : Turn keys sizes s₀ (j + 1) s′
-            turn-next = record {
-              ready = record {
-                long = k .other-blocks .long ∙ u .ready .long;
-                room = record { at = λ y c l. k .other-pairs .long ∙ u .ready .room .at y c l };
-                at = now-ready;
-              };
-              labels = now-labels ∙ rw (u .labels, turn-joined) (joined-more g o j);
-              products = rw (now-labels, new) now-products;
-              stored = rw new (stored-then (s₀ .stage .len) (keysIn n t) (s₀ .table) n t idx (u .more) few (u .stored) (k .grew .set) (r′ .len) t′ idx′ (k .grew .stored));
-              more = omega (arith, u .more, now-more);
-            }
+          pub turn-next : Turn keys sizes s₀ (j + 1) s′
+          turn-next = record {
+            ready = record {
+              long = k .other-blocks .long ∙ u .ready .long;
+              room = record { at = λ y c l. k .other-pairs .long ∙ u .ready .room .at y c l };
+              numbers = length-set state j (r′ .blocks) ∙ u .ready .numbers;
+              at = now-ready;
+            };
+            labels = now-labels ∙ rw (u .labels, turn-joined) (joined-more g o j);
+            products = rw (now-labels, new) now-products;
+            stored = rw new (stored-then (s₀ .stage .len) (keysIn n t) (s₀ .table) n t idx (u .more) few (u .stored) (k .grew .set) (r′ .len) t′ idx′ (k .grew .stored));
+            more = omega (arith, u .more, now-more);
+            pairs = k .other-pairs .long ∙ u .pairs;
+          }
 
     -- all have joined
     pub turn-end : 9 ≤ j → j ≤ 9 → (rule : ℕ) → addingBases rule ≡ s₀ .stage .adding → Rounded keys sizes (round rule g o) (s₀ .stage .len) (s₀ .table) s

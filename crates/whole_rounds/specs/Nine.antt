@@ -78,6 +78,7 @@ pub record JoinedAt (keys sizes blocks pairs t idx : List ℕ) (r : Reach) (j : 
 pub record AllReady (keys sizes : List ℕ) (s : Nine) : Type 0 where
   pub long : length (s .blocks) ≡ 1152
   pub room : Room sizes (s .pairs)
+  pub numbers : length (s .state) ≡ 18
   pub at : (j : ℕ) → j < 9 → Ready (exponentsIn keys sizes j) (basisIn keys sizes j) (standingAt s j)
 
 -- what a round asks: the support has, beside the members before `until`, the products of the bases that add, and what
@@ -108,4 +109,5 @@ pub record AllNoted (keys sizes pairs state : List ℕ) : Type 0 where
 -- every index is a block of its own
 pub record AllSingle (sizes blocks state : List ℕ) : Type 0 where
   pub single : SingleBlocks sizes blocks
+  pub numbers : length state ≡ 18
   pub counts : (j : ℕ) → j < 9 → getD state j 0 ≡ getD sizes j 0

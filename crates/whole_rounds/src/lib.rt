@@ -334,9 +334,10 @@ pub fn put_missing(
 
 // The pairs of every basis that is not small put into the index, and the bits of their sums into `state`.
 fn note_all(pairs: &mut [u16], state: &mut [u64; 18], keys: &[u64], sizes: &[usize])
-    requires { ⌜ Arrays (now keys) (now sizes) × (now pairs ≡ replicate 56160 0) ⌝ }
+    requires { ⌜ Arrays (now keys) (now sizes) × (now pairs ≡ replicate 56160 0) × (length (now state) ≡ 18) ⌝ }
     ensures { λ _. ⌜
         AllNoted (now (keys .entry)) (now (sizes .entry)) (now (pairs .exit)) (now (state .exit))
+        × (length (now (state .exit)) ≡ length (now (state .entry)))
         × ((j : ℕ) → j < 9 → getD (now (state .exit)) j 0 ≡ getD (now (state .entry)) j 0)
         ⌝ }
 {
@@ -406,7 +407,7 @@ fn are_small(sizes: &[usize]) -> bool
 // Each basis has as many blocks as monomials.
 fn start_state(sizes: &[usize]) -> [u64; 18]
     requires { ⌜ Sizes (now sizes) ⌝ }
-    ensures { λ r. ⌜ ((j : ℕ) → j < 9 → getD r j 0 ≡ getD (now (sizes .entry)) j 0) ⌝ }
+    ensures { λ r. ⌜ (length r ≡ 18) × ((j : ℕ) → j < 9 → getD r j 0 ≡ getD (now (sizes .entry)) j 0) ⌝ }
 {
     let mut state = [0u64; 18];
     let mut j = 0;

@@ -30,8 +30,7 @@ loop-holds c =
 add-own-requires : tie.Need-add-own-requires Inv-loop μ-loop
 add-own-requires c κs =
     let s = c .before .before .before .before .before .before .before .before .before in
-    let l = c .before .before .before in
-    (
+    let l = c .before .before .before in (
       record { support = l .loop .inv .1 .holds; index = l .loop .inv .1 .index; basis = s .pre .0 .basis },
       s .pre .1,
       c .before .before .loop-test .taken,
@@ -59,11 +58,10 @@ loop-less c = search needs
 loop-again : tie.Need-loop-again Inv-loop μ-loop
 loop-again c =
     let l = c .before .before .before .before .before .before .before .before .before in
-    let s = c .before .before .before .before .before .before .before .before .before .before .before .before .before .before .before in
-    (
+    let s = c .before .before .before .before .before .before .before .before .before .before .before .before .before .before .before in (
       omega (arith, c .before .before .before .before .before .before .before .before .loop-test .taken),
       growing-step _ _ _ _ _ _ _ (l .loop .inv .1) _ _ _ _ (c .before .before .before .before .before .add-own .ensures) _ (fromTo-more _ _ _ _ (c .before .before .before .before .before .before .before .before .loop-test .taken)) (c .if1 .left)
-      (rest-of-row-extends (s .args .exponents .now) (s .args .basis .now) (s .args .labels .now) (l .loop .i) (l .loop .i) _),
+          (rest-of-row-extends (s .args .exponents .now) (s .args .basis .now) (s .args .labels .now) (l .loop .i) (l .loop .i) _),
     )
 
 same-length-3 : tie.Need-same-length-3 Inv-loop μ-loop

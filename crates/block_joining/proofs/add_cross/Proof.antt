@@ -29,8 +29,7 @@ loop-holds c =
 add-row-requires : tie.Need-add-row-requires Inv-loop μ-loop
 add-row-requires c κs =
     let s = c .before .before .before .before .before .before .before .before .before .before .before in
-    let l = c .before .before .before .before in
-    (
+    let l = c .before .before .before .before in (
       adding-asks _ _ _ _ _ _ _ _ _ _ _ (l .loop .inv .1) _ (s .pre .0),
       s .pre .1,
       s .pre .2,
@@ -70,11 +69,10 @@ loop-less c =
 loop-again : tie.Need-loop-again Inv-loop μ-loop
 loop-again c =
     let l = c .before .before .before .before .before .before .before .before .before .before .before .before .before in
-    let s = c .before .before .before .before .before .before .before .before .before .before .before .before .before .before .before .before .before .before .before .before in
-    (
+    let s = c .before .before .before .before .before .before .before .before .before .before .before .before .before .before .before .before .before .before .before .before in (
       rest-next _ _ _ (l .loop .inv .0) (c .before .before .before .before .before .before .before .before .before .before .before .before .loop-test .taken),
       adding-step _ _ _ _ _ _ _ _ _ _ _ (l .loop .inv .1) _ _ _ _ _ (c .before .before .before .before .before .before .before .before .add-row .ensures) _
-      (cross-turn _ _ _ (l .loop .inv .0) (c .before .before .before .before .before .before .before .before .before .before .before .before .loop-test .taken) _ _ _ _) (c .before .if1 .left) (c .before .before .before .before .before .before .before .before .add-row .kept .1 .1 .1 .0) (list-extends (s .args .exponents .now) (s .args .basis .now) _ _ _),
+          (cross-turn _ _ _ (l .loop .inv .0) (c .before .before .before .before .before .before .before .before .before .before .before .before .loop-test .taken) _ _ _ _) (c .before .if1 .left) (c .before .before .before .before .before .before .before .before .add-row .kept .1 .1 .1 .0) (list-extends (s .args .exponents .now) (s .args .basis .now) _ _ _),
     )
 
 same-length-4 : tie.Need-same-length-4 Inv-loop μ-loop

@@ -96,15 +96,13 @@ loop-again c =
     let m = fromTo-more (l .loop .k) (length B) (addPair T B L (s .args .i)) _ h in
     ⊎-elim
     (λ w.
-    rw (w .11, w .12, w .13)
-    (
+    rw (w .11, w .12, w .13) (
       (omega arith, omega (arith, h)),
       growing-step _ _ _ _ _ _ _ (l .loop .inv .1) _ _ _ _ (w .5 .ensures) _
-      (m ∙ ap (fromTo (l .loop .k + 1) _ _) (sym (one-same T B L (s .args .i) (l .loop .k) _ (w .0 .taken)))) (w .10 .left) (add-extends T _ _),
+          (m ∙ ap (fromTo (l .loop .k + 1) _ _) (sym (one-same T B L (s .args .i) (l .loop .k) _ (w .0 .taken)))) (w .10 .left) (add-extends T _ _),
     ))
     (λ w.
-    rw (w .1, w .2, w .3)
-    (
+    rw (w .1, w .2, w .3) (
       (omega arith, omega (arith, h)),
       growing-skip _ _ _ _ _ _ _ (l .loop .inv .1) _ (m ∙ ap (fromTo (l .loop .k + 1) _ _) (sym (one-apart T B L (s .args .i) (l .loop .k) _ (w .0 .left)))),
     ))

@@ -59,8 +59,7 @@ returns-2 c =
 add-slotted-requires : tie.Need-add-slotted-requires
 add-slotted-requires c κs =
     let s = c .before .before .before .before .before .before .before .before .before .before .before .before .before .before .before .before in
-    let b = s .pre .0 .basis in
-    (
+    let b = s .pre .0 .basis in (
       record {
         support = b .support;
         index = b .index;

@@ -36,8 +36,7 @@ loop-holds c =
 add-pair-requires : tie.Need-add-pair-requires Inv-loop μ-loop
 add-pair-requires c κs =
     let s = c .before .before .before .before .before .before .before .before .before .before .before .before .before in
-    let l = c .before .before .before .before in
-    (
+    let l = c .before .before .before .before in (
       adding-asks _ _ _ _ _ _ _ _ _ _ _ (l .loop .inv .1) _ (s .pre .0),
       rest-low _ _ _ (l .loop .inv .0) (c .before .before .before .loop-test .taken),
       s .pre .3,
@@ -78,11 +77,10 @@ loop-less c =
 loop-again : tie.Need-loop-again Inv-loop μ-loop
 loop-again c =
     let l = c .before .before .before .before .before .before .before .before .before .before .before .before .before in
-    let s = c .before .before .before .before .before .before .before .before .before .before .before .before .before .before .before .before .before .before .before .before .before .before in
-    (
+    let s = c .before .before .before .before .before .before .before .before .before .before .before .before .before .before .before .before .before .before .before .before .before .before in (
       rest-next _ _ _ (l .loop .inv .0) (c .before .before .before .before .before .before .before .before .before .before .before .before .loop-test .taken),
       adding-step _ _ _ _ _ _ _ _ _ _ _ (l .loop .inv .1) _ _ _ _ _ (c .before .before .before .before .before .before .before .before .add-pair .ensures) _
-      (row-turn _ _ _ (l .loop .inv .0) (c .before .before .before .before .before .before .before .before .before .before .before .before .loop-test .taken) _ _ _ _) (c .before .if1 .left) (c .before .before .before .before .before .before .before .before .add-pair .kept .1 .1 .1 .1 .1 .0) (add-extends (s .args .exponents .now) _ _),
+          (row-turn _ _ _ (l .loop .inv .0) (c .before .before .before .before .before .before .before .before .before .before .before .before .loop-test .taken) _ _ _ _) (c .before .if1 .left) (c .before .before .before .before .before .before .before .before .add-pair .kept .1 .1 .1 .1 .1 .0) (add-extends (s .args .exponents .now) _ _),
     )
 
 same-length-4 : tie.Need-same-length-4 Inv-loop μ-loop

@@ -62,8 +62,7 @@ add-put-at c =
 put-at-requires : tie.Need-put-at-requires Inv-loop μ-loop
 put-at-requires c κs =
     let s = c .before .before .before .before .before .before .before .before .before .before .before .before in
-    let l = c .before .before .before .before .before .before in
-    (
+    let l = c .before .before .before .before .before .before in (
       (l .loop .inv .1 .holds, l .loop .inv .1 .index),
       omega (arith, c .before .before .before .before .before .before .before .slot .ensures, c .before .before .before .slot-of-sum .ensures, s .pre .2 .at (l .loop .i) (omega arith)),
     )
@@ -91,11 +90,10 @@ loop-less c = search needs
 loop-again : tie.Need-loop-again Inv-loop μ-loop
 loop-again c =
     let l = c .before .before .before .before .before .before .before .before .before .before .before .before in
-    let s = c .before .before .before .before .before .before .before .before .before .before .before .before .before .before .before .before .before .before in
-    (
+    let s = c .before .before .before .before .before .before .before .before .before .before .before .before .before .before .before .before .before .before in (
       omega (arith, c .before .before .before .before .before .before .before .before .before .before .before .loop-test .taken),
       growing-step _ _ _ _ _ _ _ (l .loop .inv .1) _ _ _ _ (c .before .before .before .before .before .put-at .ensures) _
-      (add-next (s .args .exponents .now) (s .args .s) _ (l .loop .i) (c .before .before .before .before .before .before .before .before .before .before .before .loop-test .taken)) (c .if1 .left) (insert-extends _ _),
+          (add-next (s .args .exponents .now) (s .args .s) _ (l .loop .i) (c .before .before .before .before .before .before .before .before .before .before .before .loop-test .taken)) (c .if1 .left) (insert-extends _ _),
     )
 
 same-length-3 : tie.Need-same-length-3 Inv-loop μ-loop

@@ -73,8 +73,7 @@ loop-less c = search needs
 loop-again : tie.Need-loop-again Inv-loop μ-loop
 loop-again c =
     let l = c .before .before .before .before .before .before .before .before .before .before in
-    let s = c .before .before .before .before .before .before .before .before .before .before .before .before .before .before .before in
-    (
+    let s = c .before .before .before .before .before .before .before .before .before .before .before .before .before .before .before in (
       omega arith,
       growing-step _ _ _ _ _ _ _ (l .loop .inv .1) _ _ _ _ (c .before .before .before .before .before .add-terms .ensures) _ (fromTo-more _ _ _ _ (omega arith)) (c .if1 .left) (add-extends (s .args .exponents .now) (2 * getD (s .args .basis .now) (l .loop .i) 0) _),
     )

@@ -1,10 +1,6 @@
 -- `block_joining::is_open` meets its contract.
-use borrow.Author.Needs.{needs}
 use native.Mathlib.Omega.{arith}
-use mathlib.Core.Path.{_≡_, refl, sym, ap, _∙_}
-use mathlib.Core.Bool.{Bool, false, cond}
-use Prim.Native.Nat.{ℕ, _/_, _%_}
-use lib.ListN.{length, getD}
+use Prim.Native.Nat.{_/_, _%_}
 use borrow.Author.Tests.{eq-eqb, ne-eqb}
 use Rattle.block_joining.proofs.is_open.Statement.{statement}
 use Rattle.block_joining.proofs.is_open.Tie as tie
@@ -31,8 +27,7 @@ sum-at-requires c κs =
 is-linked-requires : tie.Need-is-linked-requires
 is-linked-requires c κs =
     let s = c .before .before .before .before .before .before .before .before .before in
-    let b = s .pre .0 in
-    (
+    let b = s .pre .0 in (
       record {
         support = b .support;
         index = b .index;

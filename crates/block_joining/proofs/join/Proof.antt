@@ -1,10 +1,6 @@
--- `block_joining::join` meets its contract: one block joins nothing, a small basis joins by its pairs, another one by the
--- members that came last.
-use borrow.Author.Needs.{needs}
+-- `block_joining::join` meets its contract: one block joins nothing, a small basis joins by its pairs, another one by
+-- the members that came last.
 use native.Mathlib.Omega.{arith}
-use mathlib.Core.Path.{_≡_}
-use Prim.Native.Nat.{ℕ, _≤_, _<_}
-use lib.ListN.{length}
 use Rattle.block_joining.specs.Standing.{Standing, standing}
 use Rattle.block_joining.proofs.Grew.{has-few, grew-same}
 use Rattle.block_joining.proofs.Latest.{members-all}

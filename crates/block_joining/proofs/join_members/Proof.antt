@@ -2,7 +2,7 @@
 use borrow.Author.Needs.{needs}
 use native.Mathlib.Omega.{arith}
 use mathlib.Core.Path.{_≡_, refl, sym, _∙_}
-use Prim.Native.Nat.{ℕ, _+_, _-_, _≤_, _<_}
+use Prim.Native.Nat.{_-_, _<_}
 use lib.ListN.{length, getD, take}
 use lib.Seq.{length-take-le}
 use Rattle.round_laws.specs.Fits.{Fitting}
@@ -118,11 +118,10 @@ loop-again c =
     let n = noted j in
     let l = at (turn n) in
     let s = begun l in
-    let k = j .join-sums .kept in
-    (
+    let k = j .join-sums .kept in (
       members-turn _ _ (entry s) (s .pre .0) _ (l .loop .m) (l .loop .inv .0) (turn n .if1 .taken) _ (fitting n) _ (j .join-sums .ensures)
-      (record { blocks = k .0; pairs = k .1 .1 .1 .0; table = k .1 .1 .1 .1 .0; index = k .1 .1 .1 .1 .1 .0 })
-      (c .before .is-over .ensures .1 (c .if2 .left)),
+          (record { blocks = k .0; pairs = k .1 .1 .1 .0; table = k .1 .1 .1 .1 .0; index = k .1 .1 .1 .1 .1 .0 })
+          (c .before .is-over .ensures .1 (c .if2 .left)),
       n .note-fits .ensures .0,
     )
 

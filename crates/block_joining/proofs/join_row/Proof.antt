@@ -1,9 +1,8 @@
 -- `block_joining::join_row` meets its contract: what is linked of i and the indices before k is joined.
-use borrow.Author.Needs.{needs}
 use native.Mathlib.Omega.{arith}
 use mathlib.Core.Logic.{⊎-elim}
-use mathlib.Core.Path.{_≡_, sym, _∙_}
-use Prim.Native.Nat.{ℕ, _+_, _-_, _*_, _/_, _%_, _≤_, _<_}
+use mathlib.Core.Path.{sym, _∙_}
+use Prim.Native.Nat.{_-_, _<_}
 use lib.ListN.{length}
 use Rattle.block_joining.specs.Standing.{Standing, standing}
 use Rattle.block_joining.proofs.Going.{going-ready}

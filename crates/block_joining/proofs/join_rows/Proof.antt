@@ -1,8 +1,8 @@
 -- `block_joining::join_rows` meets its contract: what is linked of the pairs of the rows before i is joined.
 use borrow.Author.Needs.{needs}
 use native.Mathlib.Omega.{arith}
-use mathlib.Core.Path.{_≡_, _∙_}
-use Prim.Native.Nat.{ℕ, _+_, _-_, _≤_, _<_}
+use mathlib.Core.Path.{_∙_}
+use Prim.Native.Nat.{_-_}
 use lib.ListN.{length}
 use Rattle.block_joining.specs.Standing.{Standing, standing}
 use Rattle.block_joining.proofs.Going.{going-ready}

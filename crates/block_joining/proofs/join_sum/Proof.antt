@@ -1,10 +1,9 @@
--- `block_joining::join_sum` meets its contract: a sum of which it is told that its pairs are in one block needs nothing.
+-- `block_joining::join_sum` meets its contract: a sum whose pairs are told to be in one block needs no joining.
 use borrow.Author.Needs.{needs}
 use native.Mathlib.Omega.{arith}
-use mathlib.Core.Path.{_≡_, sym, ap, _∙_, subst}
+use mathlib.Core.Path.{sym, _∙_, subst}
 use Prim.Native.Nat.{ℕ, _≤_, _<_}
-use lib.ListN.{length, getD, length-set}
-use Rattle.block_joining.specs.Pairs.{sumAt, toldAt}
+use lib.ListN.{getD, length-set}
 use Rattle.block_joining.specs.Standing.{Standing, standing}
 use Rattle.block_joining.proofs.Grew.{grew-same}
 use Rattle.block_joining.proofs.Told.{told-low, met-grew}

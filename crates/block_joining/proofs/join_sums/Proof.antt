@@ -1,9 +1,9 @@
 -- `block_joining::join_sums` meets its contract: the pairs with one of the first i sums are joined.
 use borrow.Author.Needs.{needs}
 use native.Mathlib.Omega.{arith}
-use mathlib.Core.Path.{_≡_, _∙_}
-use Prim.Native.Nat.{ℕ, _+_, _-_, _≤_, _<_}
-use lib.ListN.{length, getD, take}
+use mathlib.Core.Path.{_∙_}
+use Prim.Native.Nat.{_+_, _-_, _≤_}
+use lib.ListN.{length, take}
 use lib.Seq.{take-all}
 use Rattle.round_laws.specs.Joins.{WithSum, SomeOf}
 use Rattle.round_laws.proofs.Fresh.{some-start, some-turn, some-before}
@@ -91,13 +91,12 @@ loop-again c =
     let t = turn j in
     let l = t .before in
     let s = begun l in
-    let k = j .join-sum .kept in
-    (
+    let k = j .join-sum .kept in (
       omega arith,
       going-then _ _ _ (entry s) _ (l .loop .inv .1) _ _ _ (s .pre .0) (j .join-sum .ensures)
-      (record { blocks = k .0; pairs = k .1 .1 .1 .0; table = k .1 .1 .1 .1 .0; index = k .1 .1 .1 .1 .1 .0 })
-      (c .before .is-over .ensures .1 (c .if1 .left))
-      (some-turn (WithSum (s .args .basis .now)) (length (s .args .basis .now)) (s .args .sums .now) (l .loop .i) (t .loop-test .taken)),
+          (record { blocks = k .0; pairs = k .1 .1 .1 .0; table = k .1 .1 .1 .1 .0; index = k .1 .1 .1 .1 .1 .0 })
+          (c .before .is-over .ensures .1 (c .if1 .left))
+          (some-turn (WithSum (s .args .basis .now)) (length (s .args .basis .now)) (s .args .sums .now) (l .loop .i) (t .loop-test .taken)),
     )
 
 same-length-5 : tie.Need-same-length-5 Inv-loop μ-loop

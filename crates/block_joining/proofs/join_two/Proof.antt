@@ -1,13 +1,7 @@
 -- `block_joining::join_two` meets its contract: where the blocks are two, the lower number goes first.
-use borrow.Author.Needs.{needs}
 use native.Mathlib.Omega.{arith}
 use mathlib.Core.Logic.{⊎-elim}
-use mathlib.Core.Path.{_≡_, refl, sym, ap, _∙_}
-use Prim.Native.Nat.{ℕ, _/_, _%_}
-use lib.ListN.{length, getD}
-use Rattle.round_laws.specs.Lists.{TwoBlocks}
-use Rattle.round_laws.specs.Joins.{Two}
-use Rattle.block_joining.specs.Standing.{Standing, standing, Ready, Grew}
+use Rattle.block_joining.specs.Standing.{Standing, standing}
 use Rattle.block_joining.proofs.Grew.{grew-same}
 use Rattle.block_joining.proofs.Merged.{two-same, two-blocks, two-grew, two-turned}
 use Rattle.block_joining.proofs.join_two.Statement.{statement}
@@ -34,13 +28,12 @@ returns c =
 merge-requires : tie.Need-merge-requires
 merge-requires c κs =
     let j = c .before .before .before .before in
-    let s = j .before .before .before .before .before .before .before .before .before .before in
-    (
+    let s = j .before .before .before .before .before .before .before .before .before .before in (
       s .pre .0,
       ⊎-elim
-      (λ w. rw (w .1) (two-blocks _ _ (first s) (s .pre .0) _ _ (s .pre .1) (s .pre .2) (w .0 .taken)))
-      (λ w. rw (w .1) (two-blocks _ _ (first s) (s .pre .0) _ _ (s .pre .2) (s .pre .1) (omega (arith, w .0 .left, j .before .if1 .left))))
-      (j .if2 .came),
+          (λ w. rw (w .1) (two-blocks _ _ (first s) (s .pre .0) _ _ (s .pre .1) (s .pre .2) (w .0 .taken)))
+          (λ w. rw (w .1) (two-blocks _ _ (first s) (s .pre .0) _ _ (s .pre .2) (s .pre .1) (omega (arith, w .0 .left, j .before .if1 .left))))
+          (j .if2 .came),
     )
 
 same-length : tie.Need-same-length

@@ -1,13 +1,10 @@
 -- `block_joining::merge` meets its contract: the support after the branch is that of the blocks made one.
-use borrow.Author.Needs.{needs}
 use native.Mathlib.Omega.{arith}
 use mathlib.Core.Logic.{⊎-elim}
-use mathlib.Core.Path.{_≡_, sym, ap, _∙_}
-use mathlib.Core.List.{List}
-use Prim.Native.Nat.{ℕ}
+use mathlib.Core.Path.{ap, _∙_}
 use lib.ListN.{length}
 use Rattle.joining_rule.specs.Join.{merged}
-use Rattle.block_joining.specs.Standing.{Standing, standing, labelled, Ready}
+use Rattle.block_joining.specs.Standing.{Standing, standing, labelled}
 use Rattle.block_joining.proofs.Merged.{Grows, adding-asks, own-a, own-b, some-left, merge-adds, merge-only, merge-grew}
 use Rattle.block_joining.proofs.merge.Statement.{statement}
 use Rattle.block_joining.proofs.merge.Tie as tie

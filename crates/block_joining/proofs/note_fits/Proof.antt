@@ -3,7 +3,7 @@ use borrow.Author.Needs.{needs}
 use native.Mathlib.Omega.{arith}
 use native.Mathlib.Numerals.{add-one}
 use mathlib.Core.Logic.{⊎-elim}
-use mathlib.Core.Path.{_≡_, refl, sym, ap, _∙_}
+use mathlib.Core.Path.{_≡_, _∙_}
 use mathlib.Core.List.{List}
 use Prim.Native.Nat.{ℕ, _+_, _-_, _*_, _%_, _^_, _≤_, _<_}
 use lib.Bits.{bitOr}
@@ -87,22 +87,20 @@ loop-again c =
     let l = i .before in
     let s = l .before .before in
     let v = l .loop .inv in
-    let room : l .loop .n < length (l .loop .fits) = omega (arith, v .0, v .2, i .loop-test .taken, s .pre .1) in
-    (
+    let room : l .loop .n < length (l .loop .fits) = omega (arith, v .0, v .2, i .loop-test .taken, s .pre .1) in (
       omega (arith, one j, v .0),
       omega (arith, i .loop-test .taken),
       length-set (l .loop .fits) (l .loop .n) (w .result) ∙ v .2,
       ⊎-elim
-      (λ u. rw (u .1) (hit _ _ _ _ (i .loop-test .taken) (s .pre .2 (l .loop .i)) _ _ room (v .3) (w .result) (w .ok) (w .ensures) (u .0 .taken)))
-      (λ u. rw (u .1) (miss _ _ _ _ (i .loop-test .taken) (s .pre .2 (l .loop .i)) _ _ room (v .3) (w .result) (w .ok) (w .ensures) (u .0 .left)))
-      (j .if1 .came),
+          (λ u. rw (u .1) (hit _ _ _ _ (i .loop-test .taken) (s .pre .2 (l .loop .i)) _ _ room (v .3) (w .result) (w .ok) (w .ensures) (u .0 .taken)))
+          (λ u. rw (u .1) (miss _ _ _ _ (i .loop-test .taken) (s .pre .2 (l .loop .i)) _ _ room (v .3) (w .result) (w .ok) (w .ensures) (u .0 .left)))
+          (j .if1 .came),
     )
 
 returns : tie.Need-returns Inv-loop μ-loop
 returns c =
     let l = c .before in
-    let s = l .before .before in
-    (
+    let s = l .before .before in (
       l .loop .inv .2,
       omega (arith, l .loop .inv .0, l .loop .inv .1, s .pre .1),
       rw (take-all (l .loop .i) (s .args .exponents .now) (c .loop-test .left)) at (l .loop .inv .3),

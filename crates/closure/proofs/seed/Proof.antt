@@ -16,7 +16,8 @@ use Rattle.flat.proofs.Flat.{basis-fits}
 use Rattle.joining_rule.proofs.Extending.{Extends, fromTo-extends}
 use Rattle.joining_rule.specs.Joining.{multiples, startFrom}
 use Rattle.joining_rule.proofs.Start.{insertAll-extends}
-use Rattle.closure.specs.Tables.{exponentsIn, startIn}
+use Rattle.whole_rounds.specs.Parts.{exponentsIn}
+use Rattle.closure.specs.Tables.{startIn}
 use Rattle.closure.proofs.Start.{stored-over, stored-then}
 use Rattle.closure.proofs.Laid.{all-low}
 use Rattle.closure.proofs.seed.Statement.{statement}

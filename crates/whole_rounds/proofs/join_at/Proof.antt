@@ -1,118 +1,93 @@
+-- `whole_rounds::join_at` meets its contract: the parts of basis j are lent, and what the joining leaves is put in place.
 use borrow.Author.Needs.{needs}
 use native.Mathlib.Omega.{arith}
 use mathlib.Core.Path.{_≡_, refl, sym, ap, _∙_}
 use Prim.Native.Nat.{ℕ, _+_, _-_, _*_, _≤_, _<_}
 use lib.ListN.{length, getD, take, drop, set, length-set}
+use Rattle.whole_rounds.proofs.Lending.{lend-small, left-small, lend-large, left-large}
 use Rattle.whole_rounds.proofs.join_at.Statement.{statement}
 use Rattle.whole_rounds.proofs.join_at.Tie as tie
 
--- src/lib.rt:115:9
 basis-requires : tie.Need-basis-requires
-basis-requires c κs = ?
+basis-requires c κs = let s = c .before .before .before .before .before .before in let a = s .pre .arrays in (omega (arith, a .counted, s .pre .basis), a .bases _ (s .pre .basis))
 
--- src/lib.rt:116:9
 exponents-requires : tie.Need-exponents-requires
-exponents-requires c κs = ?
+exponents-requires c κs = let s = c .before .before .before .before .before .before .before in let a = s .pre .arrays in (omega (arith, a .counted, s .pre .basis), a .multipliers _ (s .pre .basis))
 
--- src/lib.rt:117:13
 mul-a : tie.Need-mul-a
 mul-a c = search needs
 
--- src/lib.rt:118:13
 add-e : tie.Need-add-e
 add-e c = search needs
 
--- src/lib.rt:119:16
 sub-part : tie.Need-sub-part
 sub-part c = search needs
 
--- src/lib.rt:119:16
 part-part-start : tie.Need-part-part-start
 part-part-start c = search needs
 
--- src/lib.rt:119:16
 part-part-end : tie.Need-part-part-end
 part-part-end c = search needs
 
--- src/lib.rt:120:8
 mul-if1 : tie.Need-mul-if1
 mul-if1 c = search needs
 
--- src/lib.rt:120:8
 shared-slice-read-if1 : tie.Need-shared-slice-read-if1
 shared-slice-read-if1 c = search needs
 
--- src/lib.rt:122:60
 slice-aggregate-join : tie.Need-slice-aggregate-join
 slice-aggregate-join c = search needs
 
--- src/lib.rt:122:9
 join-requires : tie.Need-join-requires
-join-requires c κs = ?
+join-requires c κs = lend-small _ _ _ _ _ _ _ _ (c .before .before .before .before .before .before .before .before .before .before .before .before .before .before .pre) _ _ (c .before .before .before .before .before .before .exponents .ensures) (c .before .before .before .before .before .before .before .basis .ensures) (c .before .before .before .if1 .taken) _
 
--- src/lib.rt:122:9
 same-length : tie.Need-same-length
 same-length c = search needs
 
--- src/lib.rt:122:9
 same-length-2 : tie.Need-same-length-2
 same-length-2 c = search needs
 
--- src/lib.rt:122:9
 same-length-3 : tie.Need-same-length-3
 same-length-3 c = search needs
 
--- src/lib.rt:122:9
 returns : tie.Need-returns
-returns c = ?
+returns c = left-small _ _ _ _ _ _ _ _ (c .before .before .before .before .before .before .before .before .before .before .before .before .before .before .before .before .before .before .before .before .before .before .pre) _ _ (c .before .before .before .before .before .before .before .before .before .before .before .before .before .before .exponents .ensures) (c .before .before .before .before .before .before .before .before .before .before .before .before .before .before .before .basis .ensures) (c .before .before .before .before .before .before .before .before .before .before .before .if1 .taken) _ _ _ _ _ _ (c .before .before .before .before .before .before .before .join .kept .0) (c .before .before .before .before .before .before .before .join .ensures)
 
--- src/lib.rt:124:13
 mul-p : tie.Need-mul-p
 mul-p c = search needs
 
--- src/lib.rt:125:13
 add-q : tie.Need-add-q
 add-q c = search needs
 
--- src/lib.rt:126:49
 mul-join : tie.Need-mul-join
 mul-join c = search needs
 
--- src/lib.rt:126:49
 sub-join : tie.Need-sub-join
 sub-join c = search needs
 
--- src/lib.rt:126:49
 part-join-start : tie.Need-part-join-start
 part-join-start c = search needs
 
--- src/lib.rt:126:49
 part-join-end : tie.Need-part-join-end
-part-join-end c = ?
+part-join-end c = let s = c .before .before .before .before .before .before .before .before .before .before .before in omega (arith, s .pre .room .at _ (s .pre .basis) (c .if1 .left))
 
--- src/lib.rt:126:5
 join-requires-2 : tie.Need-join-requires-2
-join-requires-2 c κs = ?
+join-requires-2 c κs = lend-large _ _ _ _ _ _ _ _ (c .before .before .before .before .before .before .before .before .before .before .before .before .before .before .pre) _ _ (c .before .before .before .before .before .before .exponents .ensures) (c .before .before .before .before .before .before .before .basis .ensures) (c .before .before .before .if1 .left)
 
--- src/lib.rt:98:1
 same-length-4 : tie.Need-same-length-4
 same-length-4 c = search needs
 
--- src/lib.rt:98:1
 same-length-5 : tie.Need-same-length-5
 same-length-5 c = search needs
 
--- src/lib.rt:98:1
 same-length-6 : tie.Need-same-length-6
 same-length-6 c = search needs
 
--- src/lib.rt:98:1
 same-length-7 : tie.Need-same-length-7
 same-length-7 c = search needs
 
--- src/lib.rt:98:1
 returns-2 : tie.Need-returns-2
-returns-2 c = ?
+returns-2 c = left-large _ _ _ _ _ _ _ _ (c .before .before .before .before .before .before .before .before .before .before .before .before .before .before .before .before .before .before .before .before .before .before .before .pre) _ _ (c .before .before .before .before .before .before .before .before .before .before .before .before .before .before .before .exponents .ensures) (c .before .before .before .before .before .before .before .before .before .before .before .before .before .before .before .before .basis .ensures) (c .before .before .before .before .before .before .before .before .before .before .before .before .if1 .left) _ _ _ _ _ (c .before .before .before .before .before .before .before .before .join2 .kept .0) (c .before .before .before .before .before .before .before .before .join2 .kept .1 .1 .1 .0) (c .before .before .before .before .before .before .before .before .join2 .ensures)
 
 pub join-at-spec : {M : Type 1} → statement M
 join-at-spec =

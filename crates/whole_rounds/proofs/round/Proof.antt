@@ -1,106 +1,98 @@
+-- `whole_rounds::round` meets its contract: the bases before j have joined.
 use borrow.Author.Needs.{needs}
 use native.Mathlib.Omega.{arith}
 use mathlib.Core.Path.{_≡_, refl, sym, ap, _∙_}
 use Prim.Native.Nat.{ℕ, _+_, _-_, _*_, _≤_, _<_}
 use lib.ListN.{length, getD, take, drop, set, length-set}
+use Rattle.whole_rounds.specs.Nine.{nine, stage}
+use Rattle.whole_rounds.proofs.Turns.{Turn, turn-start, turn-asks, turn-over, turn-next, turn-end}
 use Rattle.whole_rounds.proofs.round.Statement.{statement}
 use Rattle.whole_rounds.proofs.round.Tie as tie
 
 abbrev Inv-loop : tie.InvT-loop
-Inv-loop blocks₀ keys sizes pairs₀ table₀ index₀ state₀ s n₀ j₀ blocks pairs table index state n j =
-    ?
+Inv-loop blocks₀ keys sizes pairs₀ table₀ index₀ state₀ s n₀ j₀ blocks pairs table index state n j = (j ≤ 9) × Turn keys sizes (nine blocks₀ pairs₀ table₀ index₀ state₀ s) j (nine blocks pairs table index state (stage (s .since) (s .until) n (s .adding)))
 
 abbrev μ-loop : tie.MeasureT-loop
-μ-loop blocks₀ keys sizes pairs₀ table₀ index₀ state₀ s n₀ j₀ blocks pairs table index state n j =
-    ?
+μ-loop blocks₀ keys sizes pairs₀ table₀ index₀ state₀ s n₀ j₀ blocks pairs table index state n j = 9 - j
 
--- src/lib.rt:167:5
 loop-holds : tie.Need-loop-holds Inv-loop μ-loop
-loop-holds c = ?
+loop-holds c = (omega arith, turn-start _ _ _ (c .before .before .before .before .before .before .pre))
 
--- src/lib.rt:172:21
 mul-t14 : tie.Need-mul-t14 Inv-loop μ-loop
-mul-t14 c = ?
+mul-t14 c = search needs
 
--- src/lib.rt:172:21
 element-copy-out-t17 : tie.Need-element-copy-out-t17 Inv-loop μ-loop
-element-copy-out-t17 c = ?
+element-copy-out-t17 c = search needs
 
--- src/lib.rt:173:25
 add-t18 : tie.Need-add-t18 Inv-loop μ-loop
-add-t18 c = ?
+add-t18 c = search needs
 
--- src/lib.rt:173:19
 mul-t19 : tie.Need-mul-t19 Inv-loop μ-loop
-mul-t19 c = ?
+mul-t19 c = search needs
 
--- src/lib.rt:173:19
 element-copy-out-t22 : tie.Need-element-copy-out-t22 Inv-loop μ-loop
-element-copy-out-t22 c = ?
+element-copy-out-t22 c = search needs
 
--- src/lib.rt:176:13
 join-at-requires : tie.Need-join-at-requires Inv-loop μ-loop
-join-at-requires c κs = ?
+join-at-requires c κs = let l = c .before .before .before .before .before .before .before .before in turn-asks _ _ _ (c .before .before .before .before .before .before .before .before .before .before .before .before .before .before .before .pre) (l .loop .j) _ _ _ _ _ _ (l .loop .inv .1) (omega arith)
 
--- src/lib.rt:178:9
 mul-state : tie.Need-mul-state Inv-loop μ-loop
-mul-state c = ?
+mul-state c = search needs
 
--- src/lib.rt:178:9
 element-write-state : tie.Need-element-write-state Inv-loop μ-loop
-element-write-state c = ?
+element-write-state c = search needs
 
--- src/lib.rt:180:13
 same-length : tie.Need-same-length Inv-loop μ-loop
-same-length c = ?
+same-length c = c .before .before .before .before .before .before .before .before .before .join-at .kept .0 ∙ c .before .before .before .before .before .before .before .before .before .before .before .before .before .before .before .before .before .before .loop .inv .1 .ready .long ∙ sym (c .before .before .before .before .before .before .before .before .before .before .before .before .before .before .before .before .before .before .before .before .before .before .before .before .before .pre .ready .long)
 
--- src/lib.rt:180:13
 same-length-2 : tie.Need-same-length-2 Inv-loop μ-loop
-same-length-2 c = ?
+same-length-2 c = c .before .before .before .before .before .before .before .before .before .join-at .kept .1 .1 .1 .0 ∙ c .before .before .before .before .before .before .before .before .before .before .before .before .before .before .before .before .before .before .loop .inv .1 .pairs
 
--- src/lib.rt:180:13
 same-length-3 : tie.Need-same-length-3 Inv-loop μ-loop
-same-length-3 c = ?
+same-length-3 c = search needs
 
--- src/lib.rt:180:13
 same-length-4 : tie.Need-same-length-4 Inv-loop μ-loop
-same-length-4 c = ?
+same-length-4 c = c .before .before .before .before .before .before .before .before .before .join-at .kept .1 .1 .1 .1 .1 .0 ∙ c .before .before .before .before .before .before .before .before .before .before .before .before .before .before .before .before .before .before .loop .inv .1 .ready .at 0 (omega arith) .basis .index .long ∙ sym (c .before .before .before .before .before .before .before .before .before .before .before .before .before .before .before .before .before .before .before .before .before .before .before .before .before .pre .ready .at 0 (omega arith) .basis .index .long)
 
--- src/lib.rt:180:13
 returns : tie.Need-returns Inv-loop μ-loop
-returns c = ?
+returns c =
+    λ rule e.
+    let l = c .before .before .before .before .before .before .before .before .before .before .before .before .before .before .before .before .before .before in
+    record {
+      stored = turn-over _ _ _ (c .before .before .before .before .before .before .before .before .before .before .before .before .before .before .before .before .before .before .before .before .before .before .before .before .before .pre) (l .loop .j) _ _ _ _ _ _ (l .loop .inv .1) (c .before .before .before .before .before .before .before .before .before .before .before .before .before .before .before .before .before .loop-test .taken) _ _ _ _ _ (c .before .before .before .before .before .before .before .before .before .join-at .ensures) (c .if1 .taken) rule e;
+      labels = λ q. absurd (omega (arith, c .if1 .taken));
+      ready = λ q. absurd (omega (arith, c .if1 .taken));
+    }
 
--- src/lib.rt:182:9
 add-j : tie.Need-add-j Inv-loop μ-loop
-add-j c = ?
+add-j c = search needs
 
--- src/lib.rt:167:5
 loop-less : tie.Need-loop-less Inv-loop μ-loop
-loop-less c = ?
+loop-less c = search needs
 
--- src/lib.rt:167:5
 loop-again : tie.Need-loop-again Inv-loop μ-loop
-loop-again c = ?
+loop-again c =
+    let l = c .before .before .before .before .before .before .before .before .before .before .before .before .before .before .before .before .before .before in
+    let h = c .before .before .before .before .before .before .before .before .before .before .before .before .before .before .before .before .before .loop-test .taken in
+    (
+      omega arith,
+      turn-next _ _ _ (c .before .before .before .before .before .before .before .before .before .before .before .before .before .before .before .before .before .before .before .before .before .before .before .before .before .pre) (l .loop .j) _ _ _ _ _ _ (l .loop .inv .1) (c .before .before .before .before .before .before .before .before .before .before .before .before .before .before .before .before .before .loop-test .taken) _ _ _ _ _ (c .before .before .before .before .before .before .before .before .before .join-at .ensures) (c .if1 .left),
+    )
 
--- src/lib.rt:140:1
 same-length-5 : tie.Need-same-length-5 Inv-loop μ-loop
-same-length-5 c = ?
+same-length-5 c = search needs
 
--- src/lib.rt:140:1
 same-length-6 : tie.Need-same-length-6 Inv-loop μ-loop
-same-length-6 c = ?
+same-length-6 c = c .before .loop .inv .1 .pairs
 
--- src/lib.rt:140:1
 same-length-7 : tie.Need-same-length-7 Inv-loop μ-loop
-same-length-7 c = ?
+same-length-7 c = search needs
 
--- src/lib.rt:140:1
 same-length-8 : tie.Need-same-length-8 Inv-loop μ-loop
-same-length-8 c = ?
+same-length-8 c = c .before .loop .inv .1 .ready .at 0 (omega arith) .basis .index .long ∙ sym (c .before .before .before .before .before .before .before .before .pre .ready .at 0 (omega arith) .basis .index .long)
 
--- src/lib.rt:140:1
 returns-2 : tie.Need-returns-2 Inv-loop μ-loop
-returns-2 c = ?
+returns-2 c = λ rule e. let l = c .before in turn-end _ _ _ (c .before .before .before .before .before .before .before .before .pre) (l .loop .j) _ _ _ _ _ _ (l .loop .inv .1) (omega arith) (l .loop .inv .0) rule e
 
 pub round-spec : {M : Type 1} → statement M
 round-spec =

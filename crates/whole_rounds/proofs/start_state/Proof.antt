@@ -54,7 +54,7 @@ loop-again c =
     )
 
 returns : tie.Need-returns Inv-loop μ-loop
-returns c = λ i h. c .before .loop .inv .2 i (omega arith)
+returns c = (c .before .loop .inv .1, λ i h. c .before .loop .inv .2 i (omega arith))
 
 pub start-state-spec : {M : Type 1} → statement M
 start-state-spec =
