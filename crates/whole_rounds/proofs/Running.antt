@@ -180,12 +180,9 @@ module _ (rule most : ℕ) (o : Closing) (n₀ : ℕ) (t₀ keys sizes : List �
       labels = λ q. absurd (omega arith);
     }
 
-    module _ (b : n ≤ 2048) where
-      abbrev total : ℕ
-      total = sumTo 9 (λ j. getD state j 0)
-
+    module _ (b : n ≤ 2048) (total : ℕ) (e : total ≡ sumTo 9 (λ j. getD state j 0)) where
       counted : total ≡ blocksIn (labelsIn 128 sizes blocks)
-      counted = counts-all keys sizes (r .asks .arrays) _ (k .ready b)
+      counted = e ∙ counts-all keys sizes (r .asks .arrays) _ (k .ready b)
 
       new : keysIn n t ≡ round rule g old .support
       new = k .stored .grown .keys b
@@ -195,9 +192,9 @@ module _ (rule most : ℕ) (o : Closing) (n₀ : ℕ) (t₀ keys sizes : List �
 
       -- this round has changed nothing
       pub running-last : n ≡ s .stage .until → total ≡ left → Settled o n₀ t₀ (record { len = n; rounds = c + 1; blocks = left }) t idx (blockBytes (labelsIn 128 sizes blocks))
-      running-last e f =
+      running-last q f =
           let w : left ≡ blocksIn (round rule g old .labels) = sym f ∙ counted ∙ ap blocksIn (k .labels b) in
-          let u : round rule g old ≡ old = last-round rule g old numbered (size ∙ e ∙ sym (r .apart)) (sym w ∙ r .blocks) in
+          let u : round rule g old ≡ old = last-round rule g old numbered (size ∙ q ∙ sym (r .apart)) (sym w ∙ r .blocks) in
           let y : sameState old (round rule g old) ≡ true = state-same old (round rule g old) (ap (λ (v : State). v .labels) u) (ap (λ (v : State). v .support) u) in
           let v : record { state = round rule g old; rounds = c + 1 } ≡ o = rw y at (sym step ∙ r .leads) in
           record {

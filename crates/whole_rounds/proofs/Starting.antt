@@ -1,43 +1,40 @@
 -- Laws of the start of the rounds: every index is a block of its own, and the products of each with itself are put in.
-use mathlib.Core.Path.{_≡_, refl, sym, ap, ap₂, _∙_}
-use mathlib.Core.Logic.{inl, inr, ⊎-elim}
+use mathlib.Core.Path.{_≡_, sym, ap, _∙_}
+use mathlib.Core.Logic.{inr, ⊎-elim}
 use mathlib.Core.List.{List, []}
 use Prim.Native.Nat.{ℕ, _+_, _-_, _*_, _≤_, _<_}
 use native.Mathlib.Omega.{arith}
-use lib.ListN.{length, getD, take, drop, length-drop}
+use lib.ListN.{length, getD, drop, length-drop}
 use lib.Seq.{getD-take, getD-drop}
 use borrow.Author.Tests.{ltb-true}
 use Rattle.counting.specs.Counting.{listed, sumTo}
-use Rattle.counting.proofs.Listed.{listed-length, listed-same, listed-at}
-use Rattle.counting.proofs.Steps.{fromTo-more, fromTo-fixed, fromTo-same}
-use Rattle.joining_rule.specs.Extend.{addTerms, addPair, addRow, extend}
-use Rattle.joining_rule.specs.Rounds.{Bases, State, Closing, singles, start, extendTo, addingBases, round, closeFrom, closingOf}
-use Rattle.joining_rule.proofs.Rising.{Rising}
+use Rattle.counting.proofs.Listed.{listed-length, listed-same}
+use Rattle.joining_rule.specs.Rounds.{Bases, State, Closing, singles, start, addingBases, round, closeFrom, closingOf}
 use Rattle.joining_rule.proofs.Elements.{not-nil}
 use Rattle.joining_rule.proofs.Lowest.{singles-numbered, singles-count}
 use Rattle.joining_rule.proofs.Only.{rising-shorter}
 use Rattle.joining_rule.proofs.Rounds.{Shaped, adding-most}
 use Rattle.key_set.specs.Table.{keysIn, Stored}
-use Rattle.key_set.proofs.Keys.{keys-rising, keys-first, grown-holds}
+use Rattle.key_set.proofs.Keys.{keys-rising, keys-first, stored-none, grown-holds}
 use Rattle.flat.specs.Flat.{basisIn}
 use Rattle.flat.proofs.Flat.{part-length}
 use Rattle.round_laws.specs.Joins.{Recent}
 use Rattle.round_laws.specs.Added.{Products}
 use Rattle.round_laws.specs.Lists.{Lists, labelsOf, followOf}
-use Rattle.round_laws.proofs.Added.{extend-products}
 use Rattle.round_laws.proofs.Sums.{products-all}
 use Rattle.round_laws.proofs.Lists.{lists-single}
-use Rattle.block_joining.specs.Adding.{plain, addSquares}
-use Rattle.block_joining.specs.Standing.{labelled, latest, BlockBytes, Ready}
-use Rattle.block_joining.proofs.Growing.{grown-length, one-same, one-apart}
+use Rattle.block_joining.specs.Adding.{plain}
+use Rattle.block_joining.specs.Standing.{latest, Ready}
+use Rattle.block_joining.proofs.Growing.{grown-length, stored-then}
 use Rattle.whole_rounds.specs.Parts.{piece, exponentsIn, basesIn, labelsIn, squaresTo}
-use Rattle.whole_rounds.specs.Nine.{Nine, nine, stage, standingAt, AllReady, RoundAsks, AllNoted, AllSingle}
+use Rattle.whole_rounds.specs.Nine.{Nine, nine, stage, standingAt, RoundAsks, AllNoted, AllSingle}
 use Rattle.whole_rounds.specs.Settled.{Starting, Settled}
 use Rattle.whole_rounds.specs.declared.Support.{Support}
+use Rattle.whole_rounds.specs.declared.Closed.{Closed}
 use Rattle.whole_rounds.proofs.Labels.{labels-nine, labels-at}
 use Rattle.whole_rounds.proofs.Ready.{stored-over}
 use Rattle.whole_rounds.proofs.Squares.{squares-products}
-use Rattle.whole_rounds.proofs.Turns.{basis-long, arrays-sizes, held-at}
+use Rattle.whole_rounds.proofs.Turns.{basis-long, held-at}
 use Rattle.whole_rounds.proofs.Running.{Running, close-first, round-more, latest-in, latest-or, counts-all}
 
 -- ---- at the start every member is one of those that came last
@@ -48,7 +45,7 @@ recent-start t n T B L = record {
 }
 
 -- ---- the squares are put in
-module _ (keys sizes t₀ idx₀ : List ℕ) (p : Support) (z : Starting t₀ idx₀ p keys sizes) (blocks pairs state : List ℕ) (single : AllSingle sizes blocks state)
+module _ (keys sizes t₀ idx₀ : List ℕ) (p : Support) (z : Starting t₀ idx₀ p keys sizes) (blocks state : List ℕ) (single : AllSingle sizes blocks state)
     (adding : ℕ) (e : adding ≡ addingBases (p .rule)) (n : ℕ) (t idx : List ℕ)
     (k : Stored (p .len) (squaresTo adding (basesIn keys sizes) (keysIn (p .len) t₀)) t₀ n t idx) where
   abbrev g : Bases
@@ -66,11 +63,12 @@ module _ (keys sizes t₀ idx₀ : List ℕ) (p : Support) (z : Starting t₀ id
   labels-one : (j : ℕ) → j < 9 → labelsOf (length (basisIn keys sizes j)) (piece 128 blocks j) ≡ listed (length (basisIn keys sizes j)) (λ i. i)
   labels-one j h = rw (basis-long keys sizes (z .held .arrays) j h) (single .single .labels j h)
 
-  alone : (j : ℕ) → j < 9 → getD L j [] ≡ listed (length (basisIn keys sizes j)) (λ i. i)
-  alone j h = held-at keys sizes (z .held .arrays) (nine blocks pairs t idx state (stage 0 (p .len) n adding)) j h ∙ labels-one j h
-
   shaped : Shaped g L
-  shaped = record { nine = labels-nine 128 sizes blocks; long = λ j h. ap length (alone j h) ∙ listed-length (length (basisIn keys sizes j)) (λ i. i) }
+  shaped = record {
+    nine = labels-nine 128 sizes blocks;
+    long = λ j h.
+        ap length (labels-at 128 sizes blocks j h ∙ single .single .labels j h) ∙ listed-length (getD sizes j 0) (λ i. i) ∙ sym (basis-long keys sizes (z .held .arrays) j h);
+  }
 
   few : adding ≤ 9
   few = omega (arith, adding-most (p .rule))
@@ -101,10 +99,7 @@ module _ (keys sizes t₀ idx₀ : List ℕ) (p : Support) (z : Starting t₀ id
         labels = λ q. absurd (omega arith);
       }
 
-  module _ (noted : AllNoted keys sizes pairs state) (b : n ≤ 2048) where
-    abbrev s : Nine
-    s = nine blocks pairs t idx state (stage 0 (p .len) n adding)
-
+  module _ (b : n ≤ 2048) where
     new : keysIn n t ≡ squaresTo adding g S₀
     new = k .grown .keys b
 
@@ -120,64 +115,80 @@ module _ (keys sizes t₀ idx₀ : List ℕ) (p : Support) (z : Starting t₀ id
           grown-length (squaresTo adding g S₀) t₀ n t (k .grown) b,
         )
 
-    module _ (j : ℕ) (h : j < 9) where
-      abbrev T : List ℕ
-      T = exponentsIn keys sizes j
+    -- what the rounds lead to from here
+    pub starting-then : (c : Closed) (t′ idx′ l : List ℕ) → Settled (closingOf (p .rule) (p .most) g (keysIn (p .len) t)) n t c t′ idx′ l → Settled o (p .len) t₀ c t′ idx′ l
+    starting-then c t′ idx′ l w =
+        let u : Settled o n t c t′ idx′ l = rw same-first at w in
+        record {
+          stored = stored-then (p .len) (squaresTo adding g S₀) t₀ n t idx longer b k (o .state .support) (c .len) t′ idx′ (u .stored);
+          rounds = u .rounds;
+          blocks = u .blocks;
+          labels = u .labels;
+        }
 
-      abbrev B : List ℕ
-      B = basisIn keys sizes j
+    module _ (pairs : List ℕ) (noted : AllNoted keys sizes pairs state) where
+      abbrev s : Nine
+      s = nine blocks pairs t idx state (stage 0 (p .len) n adding)
 
-      part-long : length (piece 128 blocks j) ≡ 128
-      part-long = part-length 128 (128 * j) blocks (omega (arith, single .single .long))
+      module _ (j : ℕ) (h : j < 9) where
+        abbrev T : List ℕ
+        T = exponentsIn keys sizes j
 
-      small : length B ≤ 64
-      small = z .held .arrays .limits j h .basis .few
+        abbrev B : List ℕ
+        B = basisIn keys sizes j
 
-      ends : (x : ℕ) → x < length B → 64 ≤ getD (followOf (piece 128 blocks j)) x 0
-      ends x c =
-          rw (getD-drop 64 (piece 128 blocks j) x 0, getD-take 128 (drop (128 * j) blocks) (64 + x) 0 (omega (arith, small)), getD-drop (128 * j) blocks (64 + x) 0)
-          (single .single .last j x h (omega (arith, small)))
+        part-long : length (piece 128 blocks j) ≡ 128
+        part-long = part-length 128 (128 * j) blocks (omega (arith, single .single .long))
 
-      lists : Lists (followOf (piece 128 blocks j)) (labelsOf (length B) (piece 128 blocks j))
-      lists = rw (labels-one j h) (lists-single (length B) (followOf (piece 128 blocks j)) small (omega (arith, small, part-long, length-drop 64 (piece 128 blocks j))) ends)
+        small : length B ≤ 64
+        small = z .held .arrays .limits j h .basis .few
 
-      not-small : plain < length B → plain < getD sizes j 0
-      not-small l = omega (arith, basis-long keys sizes (z .held .arrays) j h)
+        ends : (x : ℕ) → x < length B → 64 ≤ getD (followOf (piece 128 blocks j)) x 0
+        ends x c =
+            rw (getD-drop 64 (piece 128 blocks j) x 0, getD-take 128 (drop (128 * j) blocks) (64 + x) 0 (omega (arith, small)), getD-drop (128 * j) blocks (64 + x) 0)
+            (single .single .last j x h (omega (arith, small)))
 
-      ready-one : Ready T B (standingAt s j)
-      ready-one = record {
-        basis = record { support = grown-holds (k .grown) (z .held .support .room) b; index = k .index b; basis = z .held .arrays .limits j h };
-        blocks = record { long = part-long; few = small; numbered = rw (labels-one j h) (singles-numbered (length B)); lists = lists };
-        count = single .counts j h ∙ sym (basis-long keys sizes (z .held .arrays) j h) ∙ rw (labels-one j h) (sym (singles-count (length B)));
-        since = omega arith;
-        until = longer;
-        full = λ q. rw (← held-at keys sizes (z .held .arrays) s j h, new) (products-all adding g L S₀ (squaresTo adding g S₀) j (ltb-true j adding q) h products);
-        index = record { all = λ l. noted .at j h (not-small l) .index; slots = λ l. noted .at j h (not-small l) .slots };
-        done = λ _ l. record { at = λ x q u. absurd (omega (arith, noted .at j h (not-small l) .untold x q)) };
-        met = λ l. record { at = λ x q u. absurd (omega (arith, noted .at j h (not-small l) .untold x q)) };
-        bits = λ l. noted .at j h (not-small l) .sums;
+        lists : Lists (followOf (piece 128 blocks j)) (labelsOf (length B) (piece 128 blocks j))
+        lists = rw (labels-one j h) (lists-single (length B) (followOf (piece 128 blocks j)) small (omega (arith, small, part-long, length-drop 64 (piece 128 blocks j))) ends)
+
+        not-small : plain < length B → plain < getD sizes j 0
+        not-small l = omega (arith, basis-long keys sizes (z .held .arrays) j h)
+
+        ready-one : Ready T B (standingAt s j)
+        ready-one = record {
+          basis = record { support = grown-holds (k .grown) (z .held .support .room) b; index = k .index b; basis = z .held .arrays .limits j h };
+          blocks = record { long = part-long; few = small; numbered = rw (labels-one j h) (singles-numbered (length B)); lists = lists };
+          count = single .counts j h ∙ sym (basis-long keys sizes (z .held .arrays) j h) ∙ rw (labels-one j h) (sym (singles-count (length B)));
+          since = omega arith;
+          until = longer;
+          full = λ q. rw (← held-at keys sizes (z .held .arrays) s j h, new) (products-all adding g L S₀ (squaresTo adding g S₀) j (ltb-true j adding q) h products);
+          index = record { all = λ l. noted .at j h (not-small l) .index; slots = λ l. noted .at j h (not-small l) .slots };
+          done = λ _ l. record { at = λ x q u. absurd (omega (arith, noted .at j h (not-small l) .untold x q)) };
+          met = λ l. record { at = λ x q u. absurd (omega (arith, noted .at j h (not-small l) .untold x q)) };
+          bits = λ l. noted .at j h (not-small l) .sums;
+        }
+
+      asks-first : RoundAsks keys sizes s
+      asks-first = record {
+        arrays = z .held .arrays;
+        adding = few;
+        ready = record { long = single .single .long; room = noted .room; numbers = single .numbers; at = ready-one };
+        products = rw (same-first, new) products;
+        recent = λ j h. recent-start t (p .len) (exponentsIn keys sizes j) (basisIn keys sizes j) _;
       }
 
-    asks-first : RoundAsks keys sizes s
-    asks-first = record {
-      arrays = z .held .arrays;
-      adding = few;
-      ready = record { long = single .single .long; room = noted .room; numbers = single .numbers; at = ready-one };
-      products = rw (same-first, new) products;
-      recent = λ j h. recent-start t (p .len) (exponentsIn keys sizes j) (basisIn keys sizes j) _;
-    }
-
-    pub starting-running : (left : ℕ) → left ≡ sumTo 9 (λ j. getD state j 0) → Running (p .rule) (p .most) o (p .len) t₀ keys sizes s 0 left
-    starting-running left f =
-        let q : p .most - 0 ≡ p .most = omega arith in
-        record {
-          upto = omega arith;
-          adding = e;
-          asks = asks-first;
-          leads = rw (q, same-first) leads;
-          stored = rw new k;
-          more = longer;
-          apart = ap length same-first ∙ z .held .support .apart;
-          whole = λ c. absurd (omega arith);
-          blocks = f ∙ counts-all keys sizes (z .held .arrays) s (asks-first .ready);
-        }
+      pub starting-running : (left : ℕ) → left ≡ sumTo 9 (λ j. getD state j 0) → Running (p .rule) (p .most) (closingOf (p .rule) (p .most) g (keysIn (p .len) t)) n t keys sizes s 0 left
+      starting-running left f =
+          let q : p .most - 0 ≡ p .most = omega arith in
+          let d = ready-one 0 (omega arith) .basis in
+          record {
+            upto = omega arith;
+            adding = e;
+            asks = asks-first;
+            leads = rw (q, same-first) leads;
+            stored = stored-none (d .support) (d .index);
+            more = omega arith;
+            apart = ap length same-first ∙ z .held .support .apart;
+            whole = λ c. absurd (omega arith);
+            blocks = f ∙ counts-all keys sizes (z .held .arrays) s (asks-first .ready);
+          }
