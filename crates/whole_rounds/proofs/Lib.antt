@@ -5,3 +5,5 @@ pub mod Turns
 pub mod Lending
 pub mod Squares
 pub mod Noting
+pub mod Running
+pub mod Starting
