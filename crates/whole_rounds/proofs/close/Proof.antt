@@ -3,12 +3,15 @@ use borrow.Author.Needs.{needs}
 use native.Mathlib.Omega.{arith}
 use mathlib.Core.Path.{_≡_, refl, sym, ap, _∙_}
 use mathlib.Core.Logic.{⊎-elim}
+use mathlib.Core.List.{List}
+use Prim.Native.Nat.{ℕ}
 use lib.ListN.{length}
 use Rattle.key_set.specs.Table.{keysIn}
-use Rattle.joining_rule.specs.Rounds.{closingOf}
+use Rattle.joining_rule.specs.Rounds.{Closing, closingOf}
 use Rattle.joining_rule.specs.Bytes.{blockBytes}
 use Rattle.whole_rounds.specs.Parts.{basesIn, labelsIn}
 use Rattle.whole_rounds.specs.Settled.{Settled}
+use Rattle.whole_rounds.specs.declared.Closed.{Closed}
 use Rattle.whole_rounds.proofs.Turns.{arrays-sizes}
 use Rattle.whole_rounds.proofs.close.Statement.{statement}
 use Rattle.whole_rounds.proofs.close.Tie as tie
@@ -17,16 +20,20 @@ use Rattle.whole_rounds.proofs.close.Tie as tie
 abbrev started : tie.Joined1 → tie.Start
 started j = j .before .before .before .before .before .before .before .before .before .before
 
+settled-as : (o : Closing) (n : ℕ) (t₀ sizes : List ℕ) {t t′ i i′ b b′ : List ℕ} {r r′ : Closed} → t ≡ t′ → i ≡ i′ → b ≡ b′ → r ≡ r′
+    → Settled o n t₀ r′ t′ i′ (blockBytes (labelsIn 128 sizes b′)) → Settled o n t₀ r t i (blockBytes (labelsIn 128 sizes b))
+settled-as o n t₀ sizes p q u v w = rw (p, q, u, v) w
+
 settled : (j : tie.Joined1) → let a = started j .args in
     Settled (closingOf (a .support .rule) (a .support .most) (basesIn (a .keys .now) (a .sizes .now)) (keysIn (a .support .len) (a .table .now))) (a .support .len) (a .table .now) (j .if1 .c) (j .if1 .table) (j .if1 .index)
     (blockBytes (labelsIn 128 (a .sizes .now) (j .if1 .blocks)))
 settled j =
     ⊎-elim
-    (λ w. rw (w .11, w .12, w .13, w .14) (w .5 .ensures))
+    (λ w. settled-as _ _ _ _ (w .11) (w .12) (w .13) (w .14) (w .5 .ensures))
     (λ v.
     ⊎-elim
-    (λ w. rw (w .15, w .16, w .17, w .18) (w .8 .ensures))
-    (λ w. rw (w .13, w .14, w .15, w .16) (w .7 .ensures))
+    (λ w. settled-as _ _ _ _ (w .15) (w .16) (w .17) (w .18) (w .8 .ensures))
+    (λ w. settled-as _ _ _ _ (w .13) (w .14) (w .15) (w .16) (w .7 .ensures))
     v)
     (j .if1 .came)
 
