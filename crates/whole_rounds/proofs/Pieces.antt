@@ -122,10 +122,10 @@ module _ (w j : ℕ) (l m : List ℕ) (long : length l ≡ w * 9) (h : j < 9) (e
 
   pub piece-only : PieceOnly w j l put
   piece-only = rw (add-sub-cancel-left (w * j) w)
-    record {
-      long = replaced-long l m (w * j) w e fits 0;
-      others = λ i b d. new-other l m (w * j) w e fits (w * i) w (omega (arith, upto i 9 b)) (⊎-elim (λ c. inl (upto i j c)) (λ c. inr (upto j i (omega arith))) (lt-or-le i j));
-    }
+      record {
+        long = replaced-long l m (w * j) w e fits 0;
+        others = λ i b d. new-other l m (w * j) w e fits (w * i) w (omega (arith, upto i 9 b)) (⊎-elim (λ c. inl (upto i j c)) (λ c. inr (upto j i (omega arith))) (lt-or-le i j));
+      }
 
 pub only-same : (w j : ℕ) (l : List ℕ) → PieceOnly w j l l
 only-same w j l = record { long = refl; others = λ _ _ _. refl }

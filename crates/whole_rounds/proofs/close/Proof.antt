@@ -75,8 +75,7 @@ slice-aggregate-run-2 c = search needs
 run-requires : tie.Need-run-requires
 run-requires c κs =
     let s = c .before .before .before .before .before .before .before .before .before .start-state .ensures in
-    let small = c .before .before .before .before .before .before .are-small .ensures (c .before .before .before .before .before .if2 .taken) in
-    (
+    let small = c .before .before .before .before .before .before .are-small .ensures (c .before .before .before .before .before .if2 .taken) in (
       c .before .before .before .before .before .before .before .before .before .before .before .before .before .before .before .before .before .pre,
       record { single = c .before .before .before .before .before .before .before .before .before .before .before .start-blocks .ensures; numbers = s .0; counts = s .1 },
       record { room = record { at = λ j h l. absurd (omega (arith, small j h)) }; at = λ j h l. absurd (omega (arith, small j h)) },

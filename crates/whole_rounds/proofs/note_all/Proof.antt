@@ -73,13 +73,12 @@ loop-less c = search needs
 loop-again : tie.Need-loop-again Inv-loop μ-loop
 loop-again c =
     let l = c .before .before .before in
-    let h = c .before .before .loop-test .taken in
-    (
+    let h = c .before .before .loop-test .taken in (
       omega arith,
       ⊎-elim
-      (λ w. rw (w .7, w .8) (noting-next _ _ _ (l .loop .j) _ _ (l .loop .inv .1) h _ _ (w .2 .ensures) (w .1 .ensures) _ (w .4 .kept .0) _ (w .4 .ensures)))
-      (λ w. rw (w .1, w .2) (noting-skip _ _ _ (l .loop .j) _ _ (l .loop .inv .1) (w .0 .left)))
-      (c .if1 .came),
+          (λ w. rw (w .7, w .8) (noting-next _ _ _ (l .loop .j) _ _ (l .loop .inv .1) h _ _ (w .2 .ensures) (w .1 .ensures) _ (w .4 .kept .0) _ (w .4 .ensures)))
+          (λ w. rw (w .1, w .2) (noting-skip _ _ _ (l .loop .j) _ _ (l .loop .inv .1) (w .0 .left)))
+          (c .if1 .came),
     )
 
 same-length : tie.Need-same-length Inv-loop μ-loop

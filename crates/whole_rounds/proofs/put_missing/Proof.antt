@@ -32,11 +32,10 @@ loop-holds c =
     let s = c .before .before .before .before .before .before in
     let h = s .pre .held in
     let e = c .adding-bases .ensures in
-    let m = adding-most (s .args .support .rule) in
-    (
+    let m = adding-most (s .args .support .rule) in (
       omega (arith, e),
       growing-skip _ _ _ _ _ _ _ (growing-start _ (extendTo 9 (basesIn (s .args .keys .now) (s .args .sizes .now)) (labelsIn 64 (s .args .sizes .now) (s .args .labels .now))) _ _ (h .support) (h .index)) _
-      (rw e (sym (missing-start _ _ _ _ m (keys-rising _ _) (s .pre .full)))),
+          (rw e (sym (missing-start _ _ _ _ m (keys-rising _ _) (s .pre .full)))),
     )
 
 basis-requires : tie.Need-basis-requires Inv-loop μ-loop
@@ -73,8 +72,7 @@ add-blocks-requires c κs =
     let a = s .pre .held .arrays in
     let h : l .loop .j < 9 = c .before .before .before .before .before .before .loop-test .taken in
     let n = getD (s .args .sizes .now) (l .loop .j) 0 in
-    rw (c .before .before .before .before .exponents .ensures, c .before .before .before .before .before .basis .ensures)
-    (
+    rw (c .before .before .before .before .exponents .ensures, c .before .before .before .before .before .basis .ensures) (
       record { support = l .loop .inv .1 .holds; index = l .loop .inv .1 .index; basis = a .limits (l .loop .j) h },
       taken-long (64 * l .loop .j) n (s .args .labels .now) (omega (arith, arrays-sizes _ _ a .small (l .loop .j) h, s .pre .long)) ∙ sym (basis-long _ _ a (l .loop .j) h),
     )

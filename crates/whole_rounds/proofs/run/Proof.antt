@@ -115,8 +115,7 @@ loop-less c = search needs
 loop-again : tie.Need-loop-again Inv-loop μ-loop
 loop-again c =
     let l = c .before .before .before .before .before .before .before .before .before .before .before .before .before .before .before .before .before .before .before .before in
-    let i = l .loop .inv .1 in
-    (
+    let i = l .loop .inv .1 in (
       c .before .before .before .before .before .before .before .before .before .before .before .before .round .kept .1 .1 .1 .0 ∙ l .loop .inv .0,
       (running-more _ _ _ _ _ _ _ _ _ _ i (c .before .before .before .before .before .before .before .before .before .before .before .before .before .before .before .before .before .before .if2 .taken) _ _ _ _ _ _ (c .before .before .before .before .before .before .before .before .before .before .before .before .round .ensures _ (sym (i .adding))) (c .before .before .before .if3 .left) _ (c .before .total2 .ensures) (⊎-elim (λ w e f. eqb-false _ _ (w .1 .left) f) (λ w e f. w .left e) (c .if4 .came))),
     )

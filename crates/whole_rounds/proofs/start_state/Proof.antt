@@ -42,8 +42,7 @@ loop-again : tie.Need-loop-again Inv-loop μ-loop
 loop-again c =
     let l = c .before .before in
     let s = l .before in
-    let v = getD (s .args .sizes .now) (l .loop .j) 0 in
-    (
+    let v = getD (s .args .sizes .now) (l .loop .j) 0 in (
       omega arith,
       length-set (l .loop .state) (l .loop .j) v ∙ l .loop .inv .1,
       λ i h.
