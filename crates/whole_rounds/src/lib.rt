@@ -1,8 +1,8 @@
 // The joining rule over all nine bases, round by round. The problem's bases and multipliers stand in `keys` and `sizes`
-// as in the crate flat. The first numbers of `table` are the support, in the order in which they came, with `index`. The
-// blocks of basis j stand from place 128j on in `blocks`, as in the crate block_joining, and the index of its pairs from
-// place 6240j on in `pairs`, where the basis is not small. Place j of `state` has the number of its blocks, and place
-// 9 + j the bits of the sums of its pairs.
+// as in the crate flat. The first numbers of `table` are the support, in the order in which they came, with `index`.
+// The blocks of basis j stand from place 128j on in `blocks`, as in the crate block_joining, and the index of its pairs
+// from place 6240j on in `pairs`, where the basis is not small. Place j of `state` has the number of its blocks, and
+// place 9 + j the bits of the sums of its pairs.
 ghost use mathlib.Core.Path.{_≡_};
 ghost use mathlib.Core.Bool.{true};
 ghost use Prim.Native.Nat.{ℕ, _+_, _≤_, _<_};
