@@ -1,5 +1,5 @@
--- Laws of the loop through the block that is put into another: it comes to an end, and the end of the list is the end of
--- the loop.
+-- Laws of the loop through the block that is put into another: it comes to an end, and the end of the list is the end
+-- of the loop.
 use mathlib.Core.Path.{_≡_, refl, sym, ap, _∙_}
 use mathlib.Core.Logic.{⊎-elim}
 use mathlib.Core.List.{List}

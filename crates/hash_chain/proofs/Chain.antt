@@ -117,7 +117,7 @@ module _ (links divisor : ℕ) (meets : ℕ → ℕ → Bool) (room : divisor �
       before = λ h p u e. getD-set-other idx q (links + p) v 0 (f h p u e) ∙ c .before h p u e;
     }
 
--- ---- a search for a place in Q, which all have the remainder h: it is at place v - 1, and those from v on are not in Q
+-- ---- a search for a place in Q, all with the remainder h: it is at place v - 1, and those from v on are not in Q
 pub record Search (meets : ℕ → Bool) (Q : ℕ → Type 0) (n v : ℕ) : Type 0 where
   pub upto : v ≤ n
   pub hit : (p : ℕ) → v ≡ suc p → meets p ≡ true

@@ -1,6 +1,6 @@
--- An index of the places below n by their remainders: place h of it has one more than the last of them with the remainder
--- h, or 0, and place links + p has the same for those before p. So a search goes from the last place with a remainder to
--- the first.
+-- An index of the places below n by their remainders: place h of it has one more than the last of them with the
+-- remainder h, or 0, and place links + p has the same for those before p. So a search goes from the last place with a
+-- remainder to the first.
 use mathlib.Core.Path.{_≡_}
 use mathlib.Core.Bool.{Bool, true, cond}
 use mathlib.Core.List.{List}

@@ -1,5 +1,5 @@
--- The support in the rounds is the start and the products of every pair in one block: a basis whose pairs that come into
--- one block add their products keeps it so, there is one such set only, and the set after a round is it.
+-- The support in the rounds is the start and the products of every pair in one block: a basis whose pairs that come
+-- into one block add their products keeps it so, there is one such set only, and the set after a round is it.
 use mathlib.Core.Path.{_≡_, refl, sym, subst}
 use mathlib.Core.Logic.{_⊎_, inl, inr, ⊎-elim}
 use mathlib.Core.List.{List, []}
@@ -120,8 +120,8 @@ module _ (n : ℕ) (g : Bases) (S₀ : List ℕ) where
             (λ d. c .adds (lt-ltb j n adding) x (record { product = record { i = i; k = k; t = t; first = hi; second = hk; exponent = m; together = rw here at w; value = v }; apart = d }))
             (same-or-not (getD (getD L j []) i 0) (getD (getD L j []) k 0))
 
-  -- where the joining of basis j is given up: all that came in is in the set of any blocks that have the blocks L and what
-  -- was to be joined, so that set has as many keys
+  -- where the joining of basis j is given up: all that came in is in the set of any blocks that have the blocks L and
+  -- what was to be joined, so that set has as many keys
   pub within-products : (L L″ : List (List ℕ)) (S S′ S″ : List ℕ) → Products n g L S₀ S → Products n g L″ S₀ S″
       → ((j i k : ℕ) → j < 9 → i < length (g .basis j) → k < length (g .basis j) → getD (getD L j []) i 0 ≡ getD (getD L j []) k 0 → getD (getD L″ j []) i 0 ≡ getD (getD L″ j []) k 0)
       → n ≤ 9 → (j : ℕ) → j < 9 → (P : ℕ → ℕ → Type 0) → Has P (length (g .basis j)) (getD L″ j [])
@@ -134,10 +134,10 @@ module _ (n : ℕ) (g : Bases) (S₀ : List ℕ) where
       (λ c. q .full x (pair-product L″ j (getD L″ j []) x (ltb-true j n (c .0)) nine refl (c .1)))
       (w .only (getD L″ j []) has (record { at = λ i k hi hk e. record { same = coarser j i k nine hi hk (e .same) } }) x m))
 
--- A round of the definition joins every basis on the set S before it and then adds all products. Where the joining looked
--- at S alone and left the blocks of the definition, and the set that grew meanwhile is the start and the products of
--- these blocks, it is the set of the definition. In the first round S is the start itself; later it is the start and
--- the products of the blocks before.
+-- A round of the definition joins every basis on the set S before it and then adds all products. Where the joining
+-- looked at S alone and left the blocks of the definition, and the set that grew meanwhile is the start and the
+-- products of these blocks, it is the set of the definition. In the first round S is the start itself; later it is the
+-- start and the products of the blocks before.
 pub round-agrees : (rule : ℕ) (g : Bases) (S₀ : List ℕ) (s : State) (S′ : List ℕ) → Shaped g (s .labels) → Rising (s .support) → ((x : ℕ) → In x S₀ → In x (s .support))
     → ((x : ℕ) → In x (s .support) → In x S₀ ⊎ Product (addingBases rule) g (s .labels) x) → Products (addingBases rule) g (round rule g s .labels) S₀ S′ → S′ ≡ round rule g s .support
 unfolding round

@@ -1,5 +1,5 @@
--- How the support grows with the blocks of one basis: nothing, a merge, and one after the other. Where a joining is given
--- up because of too many keys, all that came in belongs to the blocks that it would have ended in.
+-- How the support grows with the blocks of one basis: nothing, a merge, and one after the other. Where a joining is
+-- given up because of too many keys, all that came in belongs to the blocks that it would have ended in.
 use mathlib.Core.Path.{_≡_, refl, sym, _∙_}
 use mathlib.Core.Logic.{_⊎_, inl, inr, ⊎-elim}
 use mathlib.Core.Bool.{Bool, true, false}

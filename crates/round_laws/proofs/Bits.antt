@@ -1,5 +1,5 @@
--- The bits of the sums of a basis: a number that has others is no sum of two of its keys. x − t is taken modulo 2^64, so
--- it needs no test whether t is above x.
+-- The bits of the sums of a basis: a number that has others is no sum of two of its keys. x − t is taken modulo 2^64,
+-- so it needs no test whether t is above x.
 use mathlib.Core.Path.{_≡_, refl, sym, ap, _∙_}
 use Prim.Native.Nat.{ℕ, _+_, _-_, _/_, _%_, _^_, _≤_, _<_, max}
 use native.Mathlib.Omega.{arith}

@@ -1,4 +1,5 @@
--- Laws of two loops over the bases: the pairs of one after another are noted, and the products of one after another put in.
+-- Laws of two loops over the bases: the pairs of one after another are noted, and the products of one after another put
+-- in.
 use mathlib.Core.Path.{_≡_, refl, sym, ap, _∙_}
 use mathlib.Core.Logic.{⊎-elim}
 use mathlib.Core.List.{List, [], _++_}

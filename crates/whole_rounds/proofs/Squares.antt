@@ -1,5 +1,5 @@
--- The products of each index with itself: where every index is a block of its own, they are all products of pairs in one
--- block.
+-- The products of each index with itself: where every index is a block of its own, they are all products of pairs in
+-- one block.
 use mathlib.Core.Path.{_≡_, refl, sym, ap, _∙_}
 use mathlib.Core.Logic.{_⊎_, inl, inr}
 use mathlib.Core.List.{List, []}

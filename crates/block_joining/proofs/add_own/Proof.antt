@@ -1,4 +1,5 @@
--- `block_joining::add_own` meets its contract: the products of index i with the indices from k on are still to be added.
+-- `block_joining::add_own` meets its contract: the products of index i with the indices from k on are still to be
+-- added.
 use borrow.Author.Needs.{needs}
 use native.Mathlib.Omega.{arith}
 use mathlib.Core.Path.{sym, ap, _∙_}

@@ -1,5 +1,5 @@
--- `block_joining::add_squares` meets its contract: the products of the indices from i on with themselves are still to be
--- added.
+-- `block_joining::add_squares` meets its contract: the products of the indices from i on with themselves are still to
+-- be added.
 use borrow.Author.Needs.{needs}
 use native.Mathlib.Omega.{arith}
 use mathlib.Core.Path.{sym, _∙_}

@@ -1,4 +1,5 @@
--- `whole_rounds::close` meets its contract: the rounds begin with single blocks, and their numbers are copied at the end.
+-- `whole_rounds::close` meets its contract: the rounds begin with single blocks, and their numbers are copied at the
+-- end.
 use borrow.Author.Needs.{needs}
 use native.Mathlib.Omega.{arith}
 use mathlib.Core.Path.{_≡_, refl, sym, ap, _∙_}

@@ -1,4 +1,5 @@
--- `whole_rounds::join_at` meets its contract: the parts of basis j are lent, and what the joining leaves is put in place.
+-- `whole_rounds::join_at` meets its contract: the parts of basis j are lent, and what the joining leaves is put in
+-- place.
 use borrow.Author.Needs.{needs}
 use native.Mathlib.Omega.{arith}
 use mathlib.Core.Path.{_≡_, refl, sym, ap, _∙_}
