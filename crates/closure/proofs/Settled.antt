@@ -2,29 +2,27 @@
 use mathlib.Core.Path.{_≡_, sym, ap, _∙_}
 use mathlib.Core.Bool.{Bool, true, false}
 use mathlib.Core.List.{List}
-use Prim.Native.Nat.{ℕ, _-_, _≤_, _<_}
+use Prim.Native.Nat.{ℕ, _≤_, _<_}
 use native.Mathlib.Omega.{arith}
 use lib.Dec.{ltb}
 use lib.ListN.{length, drop}
 use borrow.Author.Tests.{lt-ltb, le-ltb}
 use Rattle.counting.proofs.Cases.{clash}
 use Rattle.joining_rule.specs.Sets.{insert}
-use Rattle.key_set.specs.Table.{keysIn, Grown, Stored}
+use Rattle.key_set.specs.Table.{keysIn, Holds, Indexed, Grown, Stored}
 use Rattle.joining_rule.proofs.Elements.{insert-grows}
-use Rattle.joining_rule.specs.Rounds.{Bases, State, Closing, extendTo, start, closingOf, blocksIn, countedKeys}
-use Rattle.whole_rounds.specs.Parts.{basesIn, labelsIn}
+use Rattle.joining_rule.specs.Rounds.{Bases, State, Closing, extendTo, start, after, closingOf, countedKeys}
+use Rattle.whole_rounds.specs.Parts.{basesIn, labelsIn, Arrays}
 use Rattle.joining_rule.specs.Bytes.{blockBytes}
-use Rattle.whole_rounds.specs.Arrays.{Settled, Arrays, Labelled}
-use Rattle.whole_rounds.proofs.Flat.{Shaped, part-long, labels-of, labelled-of}
-use Rattle.joining_rule.proofs.Closing.{closing-shaped, closing-numbered, closing-full, closing-rising}
+use Rattle.whole_rounds.specs.Settled.{Settled, Missing}
+use Rattle.whole_rounds.proofs.Labels.{labels-of}
+use Rattle.whole_rounds.proofs.Turns.{basis-long, arrays-sizes}
+use Rattle.joining_rule.proofs.Bytes.{bytes-long}
+use Rattle.joining_rule.proofs.Closing.{closing-state, closing-shaped, closing-full}
 use Rattle.joining_rule.proofs.Counted.{counted-extends}
-use Rattle.joining_rule.proofs.Products.{products-done}
-use Rattle.joining_rule.proofs.Rising.{Rising}
-use Rattle.joining_rule.proofs.Rounds.{adding-all}
-use Rattle.joining_rule.proofs.Numbered.{lowestIn, different-lowest}
-use Rattle.counting.proofs.Sums.{sumTo-same}
+use Rattle.joining_rule.proofs.Extending.{Extends}
+use Rattle.joining_rule.proofs.Rounds.{after-extends}
 use Rattle.whole_rounds.specs.declared.Closed.{Closed}
-use Rattle.whole_rounds.proofs.Rounding.{close-extends}
 use Rattle.closure.specs.Tables.{ClosureLeft}
 use Rattle.closure.specs.declared.Joined.{Joined}
 
@@ -35,8 +33,11 @@ large g o = ltb 2048 (length (countedKeys g (o .state)))
 module _ (rule most : ℕ) (g : Bases) (S₀ t : List ℕ) (n : ℕ) (t₁ : List ℕ) (grown : Grown S₀ t n t₁) where
   -- the counted keys have all of the start
   start-few : length S₀ ≤ length (countedKeys g (closingOf rule most g S₀ .state))
-  unfolding closingOf start
-  start-few = let m = close-extends rule g most (start g S₀) 0 .more in omega (arith, counted-extends g (closingOf rule most g S₀ .state) .more)
+  unfolding start after
+  start-few =
+      let x = after-extends rule g (start g S₀) 0 (closingOf rule most g S₀ .rounds) (omega arith) in
+      let y : Extends S₀ (closingOf rule most g S₀ .state .support) = rw (← closing-state rule most g S₀) at x in
+      omega (arith, y .more, counted-extends g (closingOf rule most g S₀ .state) .more)
 
   pub start-large : 2048 < n → true ≡ large g (closingOf rule most g S₀)
   start-large h = sym (lt-ltb 2048 (length (countedKeys g (closingOf rule most g S₀ .state))) (omega (arith, grown .count, start-few)))
@@ -87,35 +88,26 @@ module _ (g : Bases) (o : Closing) (n : ℕ) (t : List ℕ) (r : Closed) (t₁ i
       put-rest = last .rest ∙ products-rest
 
 -- ---- what the closing leaves in the arrays
-module _ (rule most : ℕ) (keys sizes exponents counts : List ℕ) (a : Arrays keys sizes exponents counts) (S₀ : List ℕ) where
+module _ (rule most : ℕ) (keys sizes : List ℕ) (a : Arrays keys sizes) (S₀ : List ℕ) where
   abbrev g : Bases
-  g = basesIn keys sizes exponents counts
+  g = basesIn keys sizes
 
   abbrev end : State
   end = closingOf rule most g S₀ .state
 
-  -- the blocks' lists are as long as the sizes say, so the bytes give them back
-  shaped : Shaped sizes (end .labels)
-  unfolding basesIn
-  shaped =
-      let c = closing-shaped rule most g S₀ in
-      record { nine = c .nine; long = λ j h. c .long j h ∙ part-long 64 sizes keys j (omega (arith, a .sized .small j, a .keys-long)) }
-
   module _ (l : List ℕ) (e : l ≡ blockBytes (end .labels)) where
-    pub labels-held : labelsIn sizes l ≡ end .labels
-    labels-held = ap (labelsIn sizes) e ∙ labels-of sizes (a .sized) (end .labels) shaped
+    -- the bytes give the blocks back
+    pub labels-held : labelsIn 64 sizes l ≡ end .labels
+    labels-held = ap (labelsIn 64 sizes) e ∙ labels-of sizes (arrays-sizes keys sizes a) g (basis-long keys sizes a) (end .labels) (closing-shaped rule most g S₀)
 
-    pub labelled-held : Labelled sizes l
-    labelled-held = rw e (labelled-of sizes (a .sized) (end .labels) shaped)
-
-    -- their numbers are lowest indices, so counting these counts the blocks
-    pub counted : lowestIn (labelsIn sizes l) ≡ blocksIn (end .labels)
-    unfolding lowestIn blocksIn
-    counted = ap lowestIn labels-held ∙ sumTo-same 9 _ _ (λ j h. sym (different-lowest _ (closing-numbered rule most g S₀ .at j h)))
-
-  -- where all bases add, as under rule 1, no product is missing after a round
-  pub none-missing : 0 < most → Rising S₀ → (rule ≡ 2 → ⊥) → extendTo 9 g (end .labels) (end .support) ≡ end .support
-  none-missing some rising d = products-done 9 g (end .labels) (end .support) (closing-rising rule most g S₀ rising) (rw (adding-all rule d) at (closing-full rule most g S₀ some))
+    -- and S has the products of the bases that add
+    pub products-held : 0 < most → (len : ℕ) (t idx : List ℕ) → Holds t len → Indexed idx t len → keysIn len t ≡ end .support
+        → Missing t idx (record { len = len; rule = rule; most = most }) keys sizes l
+    products-held some len t idx h i k = record {
+      held = record { support = h; index = i; arrays = a };
+      long = ap length e ∙ bytes-long (end .labels);
+      full = rw (labels-held, k) (closing-full rule most g S₀ some);
+    }
 
 -- a test that holds does not fail
 never : {b : Bool} {P : Type 0} → b ≡ true → b ≡ false → P

@@ -1,5 +1,5 @@
 -- Laws of the start of S: what putting keys into a set gives.
-use mathlib.Core.Path.{_≡_, refl, ap, _∙_}
+use mathlib.Core.Path.{_≡_, ap}
 use mathlib.Core.List.{List}
 use Prim.Native.Nat.{ℕ, zero, suc, _+_, _*_, _^_, _≤_, _<_}
 use native.Mathlib.Numerals.{add-one}
@@ -8,6 +8,7 @@ use lib.ListN.{length, drop, getD, drop-of-length-le}
 use lib.Seq.{drop-cons}
 use Rattle.joining_rule.specs.Sets.{insert, insertAll}
 use Rattle.key_set.specs.Table.{keysIn, Stored}
+use Rattle.block_joining.proofs.Growing as Growing
 use Rattle.joining_rule.specs.Joining.{multiples}
 
 -- ---- one key after another
@@ -27,21 +28,7 @@ product-fits (suc zero) k h b = omega arith
 product-fits (suc (suc zero)) k h b = omega arith
 product-fits (suc (suc (suc c))) k h b = absurd (omega arith)
 
--- ---- one growth of an empty table after another
-module _ (S t : List ℕ) (n : ℕ) (t₁ idx₁ : List ℕ) (g : Stored 0 S t n t₁ idx₁) where
-  -- a set that is too large stays so
-  pub stored-over : 2048 < n → (S′ : List ℕ) → length S ≤ length S′ → Stored 0 S′ t n t₁ idx₁
-  stored-over b S′ x = record {
-    grown = record { count = omega (arith, g .grown .count); keys = λ q. absurd (omega arith); long = g .grown .long; rest = g .grown .rest };
-    index = λ q. absurd (omega arith);
-    first = λ q. absurd (omega arith);
-  }
-
-  pub stored-then : n ≤ 2048 → (f : List ℕ → List ℕ) (r : ℕ) (t₂ idx₂ : List ℕ) → Stored n (f (keysIn n t₁)) t₁ r t₂ idx₂ → Stored 0 (f S) t r t₂ idx₂
-  stored-then b f r t₂ idx₂ k =
-      let k′ : Stored n (f S) t₁ r t₂ idx₂ = rw (g .grown .keys b) at k in
-      record {
-        grown = record { count = k′ .grown .count; keys = k′ .grown .keys; long = k′ .grown .long ∙ g .grown .long; rest = k′ .grown .rest ∙ g .grown .rest };
-        index = k′ .index;
-        first = λ _. refl;
-      }
+-- a growth of an empty table after another
+pub stored-then : (S t : List ℕ) (n : ℕ) (t₁ idx₁ : List ℕ) → Stored 0 S t n t₁ idx₁ → n ≤ 2048
+    → (f : List ℕ → List ℕ) (r : ℕ) (t₂ idx₂ : List ℕ) → Stored n (f (keysIn n t₁)) t₁ r t₂ idx₂ → Stored 0 (f S) t r t₂ idx₂
+stored-then S t n t₁ idx₁ g b f r t₂ idx₂ k = Growing.stored-then 0 S t n t₁ idx₁ (omega arith) b g (f S) r t₂ idx₂ (rw (g .grown .keys b) at k)

@@ -5,12 +5,13 @@ use mathlib.Core.List.{List}
 use Prim.Native.Nat.{ℕ}
 use lib.Dec.{ltb}
 use lib.IntN.{ℤ}
-use lib.ListN.{length, getD, take, drop}
-use Rattle.flat.specs.Flat.{objectiveNumber, exponentsAt, countAt, basisIn, FlatLimits}
+use lib.ListN.{length, drop}
+use Rattle.flat.specs.Flat.{objectiveNumber, FlatLimits}
 use Rattle.key_set.specs.Table.{keysIn, Indexed}
-use Rattle.joining_rule.specs.Rounds.{Bases, Closing, extendTo, blocksIn, countedKeys}
+use Rattle.joining_rule.specs.Rounds.{Bases, Closing, blocksIn, countedKeys}
 use Rattle.joining_rule.specs.Bytes.{blockBytes}
 use Rattle.joining_rule.specs.Joining.{startFrom, mostKeys}
+use Rattle.whole_rounds.specs.Parts.{exponentsIn, basesIn}
 use Rattle.closure.specs.declared.Joined.{Joined}
 
 -- arrays that a problem within the limits can stand in, whatever its coefficients are: the joining rule does not look
@@ -19,19 +20,9 @@ pub record FlatKeys (keys sizes : List ℕ) : Type 0 where
   pub coefficients : List ℤ
   pub limits : FlatLimits keys coefficients sizes
 
--- the exponents of polynomial j
-abbrev pub exponentsIn : List ℕ → List ℕ → ℕ → List ℕ
-exponentsIn keys sizes j = take (getD sizes (countAt j) 0) (drop (exponentsAt j) keys)
-
 -- the start of S, by the places of the arrays
 abbrev pub startIn : List ℕ → List ℕ → List ℕ
-startIn keys sizes =
-    startFrom (exponentsIn keys sizes objectiveNumber)
-    (record { basis = basisIn keys sizes; multiplier = exponentsIn keys sizes })
-
--- what is asked where in-block products may be missing in S: under another rule than 2 none is
-pub record Missing (rule : ℕ) (g : Bases) (L : List (List ℕ)) (S : List ℕ) : Type 0 where
-  pub none : (rule ≡ 2 → ⊥) → extendTo 9 g L S ≡ S
+startIn keys sizes = startFrom (exponentsIn keys sizes objectiveNumber) (basesIn keys sizes)
 
 -- what is left where the rounds end in o: the table t′ holds the closed S with all in-block products and the zero
 -- exponent, idx′ is its index, and l′ has the block numbers, unless it has more than 2,048 members

@@ -4,19 +4,19 @@
 ghost use mathlib.Core.Path.{_≡_};
 ghost use mathlib.Core.Bool.{true};
 ghost use mathlib.Core.List.{List};
-ghost use Prim.Native.Nat.{_*_, _^_, _≤_, _<_};
+ghost use Prim.Native.Nat.{_*_, _^_, _≤_};
 ghost use lib.IntN.{ℤ};
 ghost use lib.ListN.{length};
 ghost use Rattle.counting.specs.Counting.{fromTo, Bounded};
 ghost use Rattle.format.specs.ProblemRules.{Problem};
 ghost use Rattle.joining_rule.specs.Sets.{insertAll};
-ghost use Rattle.joining_rule.specs.Rounds.{extendTo, mostRounds, closingOf};
+ghost use Rattle.joining_rule.specs.Rounds.{mostRounds, closingOf};
 ghost use Rattle.joining_rule.specs.Joining.{multiples, basesOf, closing};
 ghost use Rattle.key_set.specs.Table.{keysIn, Holds, Indexed, Stored};
 ghost use Rattle.flat.specs.Flat.{FlatProblem};
-ghost use Rattle.whole_rounds.specs.Parts.{basesIn, labelsIn};
-ghost use Rattle.whole_rounds.specs.Arrays.{Arrays, JoiningAll};
-ghost use Rattle.closure.specs.Tables.{FlatKeys, exponentsIn, startIn, Missing, ClosureLeft};
+ghost use Rattle.whole_rounds.specs.Parts.{exponentsIn, basesIn};
+ghost use Rattle.whole_rounds.specs.Settled.{Starting};
+ghost use Rattle.closure.specs.Tables.{FlatKeys, startIn, ClosureLeft};
 use whole_rounds::Support;
 
 // The support with each key times `factor` put in; 2,049 where it has too many.
@@ -136,76 +136,24 @@ fn too_many() -> Joined
     }
 }
 
-// The in-block products that the support may lack after the rounds, put in: those of every basis under rule 2, none
-// under rule 1, where it has them all. The arrays are those of the crate whole_rounds.
-fn put_missing(
-    table: &mut [u64],
-    index: &mut [u16],
-    support: Support,
-    labels: &[u8],
-    keys: &[u64],
-    sizes: &[usize],
-    exponents: &[u64],
-    counts: &[usize],
-) -> usize
-    requires { ⌜
-        JoiningAll (now table) (now index) (support .len) (now keys) (now sizes) (now exponents) (now counts)
-        (now labels)
-        × Missing (support .rule) (basesIn (now keys) (now sizes) (now exponents) (now counts))
-        (labelsIn (now sizes) (now labels)) (keysIn (support .len) (now table))
-        ⌝ }
-    ensures { λ r. ⌜
-        Stored (support .len)
-        (extendTo 9 (basesIn (now (keys .entry)) (now (sizes .entry)) (now (exponents .entry)) (now (counts .entry)))
-        (labelsIn (now (sizes .entry)) (now (labels .entry))) (keysIn (support .len) (now (table .entry))))
-        (now (table .entry)) r (now (table .exit)) (now (index .exit))
-        ⌝ }
-{
-    let len = support.len;
-    if support.rule == 2 {
-        whole_rounds::put_products(table, index, len, labels, keys, sizes, exponents, counts)
-    } else {
-        len
-    }
-}
-
-// The joining rule from its start, the first numbers of the table, to its end. Basis j stands from place 64j on in
-// `keys`, the exponents of its multiplier from place 32j on in `exponents`, as in the crate whole_rounds.
+// The joining rule from its start, the first numbers of the table, to its end.
 fn settle(
     keys: &[u64],
     sizes: &[usize],
-    exponents: &[u64],
-    counts: &[usize],
     labels: &mut [u8; 576],
     table: &mut [u64],
     index: &mut [u16],
     support: Support,
 ) -> Joined
-    requires { ⌜
-        (Holds (now table) (support .len) × Indexed (now index) (now table) (support .len))
-        × Arrays (now keys) (now sizes) (now exponents) (now counts)
-        × (0 < support .most)
-        ⌝ }
+    requires { ⌜ Starting (now table) (now index) support (now keys) (now sizes) ⌝ }
     ensures { λ r. ⌜
-        ClosureLeft (basesIn (now (keys .entry)) (now (sizes .entry)) (now (exponents .entry)) (now (counts .entry)))
-        (closingOf (support .rule) (support .most)
-        (basesIn (now (keys .entry)) (now (sizes .entry)) (now (exponents .entry)) (now (counts .entry)))
+        ClosureLeft (basesIn (now (keys .entry)) (now (sizes .entry)))
+        (closingOf (support .rule) (support .most) (basesIn (now (keys .entry)) (now (sizes .entry)))
         (keysIn (support .len) (now (table .entry)))) (now (table .entry)) r (now (table .exit)) (now (index .exit))
         (now (labels .exit))
         ⌝ }
 {
-    *labels = [255u8; 576];
-    whole_rounds::start_labels(labels, sizes);
-    let c = whole_rounds::close(
-        labels,
-        keys,
-        sizes,
-        exponents,
-        counts,
-        table,
-        index,
-        support,
-    );
+    let c = whole_rounds::close(labels, keys, sizes, table, index, support);
     let m = c.len;
     if 2048 < m {
         return too_many();
@@ -215,7 +163,7 @@ fn settle(
         rule: support.rule,
         most: support.most,
     };
-    let n = put_missing(table, index, closed, labels, keys, sizes, exponents, counts);
+    let n = whole_rounds::put_missing(labels, keys, sizes, table, index, closed);
     if 2048 < n {
         return too_many();
     }
@@ -226,7 +174,7 @@ fn settle(
     Joined {
         full: false,
         rounds: c.rounds,
-        blocks: whole_rounds::count(labels, sizes),
+        blocks: c.blocks,
         len,
     }
 }
@@ -265,14 +213,5 @@ pub fn join(
         rule: sizes[flat::RULE],
         most: most_rounds(sizes[flat::ORDER]),
     };
-    settle(
-        &keys[..576],
-        &sizes[..9],
-        &keys[576..864],
-        &sizes[9..18],
-        labels,
-        table,
-        index,
-        support,
-    )
+    settle(keys, sizes, labels, table, index, support)
 }

@@ -7,8 +7,10 @@ use Prim.Native.Nat.{ℕ, zero, suc, _+_, _-_, _≤_, _<_}
 use native.Mathlib.Numerals.{add-one}
 use native.Mathlib.Omega.{arith}
 use lib.ListN.{length, getD, take, set, length-set}
+use lib.Dec.{ltb}
+use borrow.Author.Tests.{lt-ltb, le-ltb}
 use lib.Seq.{length-take-le, getD-take, take-suc, take-suc-set, take-set-le, drop-set-lt}
-use Rattle.counting.proofs.Cases.{clash}
+use Rattle.counting.proofs.Cases.{clash, lt-or-le}
 use Rattle.joining_rule.specs.Sets.{In, member, insert, insertAll}
 use Rattle.joining_rule.proofs.Rising.{Rising}
 use Rattle.key_set.specs.Table.{keysIn, Holds, Finds, Indexed, Grown, Stored}
@@ -101,6 +103,32 @@ module _ (k n : ℕ) (t : List ℕ) (r : Found) (f : Finds k (take n t) r) where
 
   pub found-nowhere : r ≡ Nowhere → false ≡ member k (keysIn n t)
   found-nowhere e = sym (keys-member n t k ∙ (rw e at f))
+
+-- ---- and what it tells of the first keys: a key has one place
+module _ {t : List ℕ} {n : ℕ} (h : Holds t n) (m : ℕ) (b : m ≤ n) (k : ℕ) where
+  not-first : ((q : ℕ) → q < m → getD t q 0 ≡ k → ⊥) → false ≡ member k (keysIn m t)
+  not-first f = go (member k (keysIn m t)) refl
+    where
+      go : (d : Bool) → member k (keysIn m t) ≡ d → false ≡ d
+      go true e =
+          let l = length-take-le m t (omega (arith, inside h)) in
+          in-place k (take m t) (λ q c g. absurd (f q (omega arith) (sym (getD-take m t q 0 (omega arith)) ∙ g))) (keys-from m t k e)
+      go false e = refl
+
+  pub before-at : (p : ℕ) → Finds k (take n t) (At p) → ltb p m ≡ member k (keysIn m t)
+  before-at p f =
+      let i = inside h in
+      let l = length-take-le n t i in
+      let e : getD t p 0 ≡ k = sym (getD-take n t p 0 (omega (arith, f .0))) ∙ f .1 in
+      ⊎-elim
+      (λ u. lt-ltb p m u ∙ sym (keys-in m t k (member-at k (take m t) p (omega (arith, length-take-le m t (omega arith))) (getD-take m t p 0 u ∙ e))))
+      (λ u. le-ltb p m u ∙ not-first (λ q c g. keys-apart h q p (omega arith) (omega (arith, f .0)) (g ∙ sym e)))
+      (lt-or-le p m)
+
+  pub before-nowhere : Finds k (take n t) Nowhere → false ≡ member k (keysIn m t)
+  before-nowhere f =
+      let l = length-take-le n t (inside h) in
+      not-first (λ q c g. let w = member-at k (take n t) q (omega arith) (getD-take n t q 0 (omega arith) ∙ g) in clash (cc))
 
 -- ---- a key put in
 module _ {t : List ℕ} {n : ℕ} (h : Holds t n) where

@@ -1,11 +1,12 @@
 -- The support in a lent table: its keys are the table's first numbers, each once, in the order in which they came. An
 -- index of 6,144 numbers finds them.
 use mathlib.Core.Path.{_≡_}
-use mathlib.Core.Bool.{cond, false}
+use mathlib.Core.Bool.{Bool, false}
 use mathlib.Core.List.{List, []}
-use Prim.Native.Nat.{ℕ, zero, suc, _+_, _%_, _≤_, _<_, min}
+use Prim.Native.Nat.{ℕ, _+_, _%_, _≤_, _<_, min}
 use lib.Dec.{eqb}
 use lib.ListN.{length, getD, take, drop, set}
+use Rattle.hash_chain.specs.Chain.{Chain}
 use Rattle.joining_rule.specs.Sets.{member, insertAll}
 use Rattle.key_set.specs.declared.Found.{Found}
 use Rattle.key_set.specs.declared.Found.the-variants.{At, Nowhere}
@@ -31,21 +32,19 @@ Finds k l Nowhere = member k l ≡ false
 abbrev pub divisor : ℕ
 divisor = 3821
 
--- one more than the last place before n with a number of remainder h, or 0
-unfoldable pub lastWith : ℕ → List ℕ → ℕ → ℕ
-lastWith h t zero = 0
-lastWith h t (suc n) = cond (eqb (getD t n 0 % divisor) h) (suc n) (lastWith h t n)
+-- whether the number at a place has the remainder h
+unfoldable pub hasRest : List ℕ → ℕ → ℕ → Bool
+hasRest t h p = eqb (getD t p 0 % divisor) h
 
 -- the index of the table's first n numbers: for each remainder the last of them, and for each of them the one before it
 -- with the same remainder
 pub record Indexed (idx t : List ℕ) (n : ℕ) : Type 0 where
   pub long : length idx ≡ 6144
-  pub last : (h : ℕ) → h < divisor → getD idx h 0 ≡ lastWith h t n
-  pub before : (p : ℕ) → p < n → getD idx (4096 + p) 0 ≡ lastWith (getD t p 0 % divisor) t p
+  pub chain : Chain 4096 divisor (hasRest t) n idx
 
--- the index of n numbers, with k as one more
+-- the index of n numbers, with one more of remainder h
 unfoldable pub noted : List ℕ → ℕ → ℕ → List ℕ
-noted idx n k = set (set idx (4096 + n) (getD idx (k % divisor) 0)) (k % divisor) (n + 1)
+noted idx n h = set (set idx (4096 + n) (getD idx h 0)) h (n + 1)
 
 -- ---- growth
 -- the table t, grown to hold the set S: r is the number of its keys, which t′ holds, or 2,049 where S has more than

@@ -3,7 +3,7 @@
 // place 4096 + p has the same for the keys before place p, so that a search goes from the last key with a remainder to
 // the first.
 ghost use mathlib.Core.Path.{_≡_};
-ghost use Prim.Native.Nat.{_+_, _%_, _<_};
+ghost use Prim.Native.Nat.{_+_, _%_, _≤_, _<_};
 ghost use lib.ListN.{length, take};
 ghost use Rattle.joining_rule.specs.Sets.{member, insert};
 ghost use Rattle.key_set.specs.Table.{divisor, keysIn, Holds, Indexed, noted, Finds, Stored};
@@ -71,18 +71,51 @@ pub fn contains(table: &[u64], index: &[u16], len: usize, key: u64) -> bool
     }
 }
 
-// The index of `len` keys, with one more.
-fn note(index: &mut [u16], len: usize, key: u64)
-    requires { ⌜ (length (now index) ≡ 6144) × (len < 2048) ⌝ }
-    ensures { λ _. ⌜ now (index .exit) ≡ noted (now (index .entry)) len key ⌝ }
+// Whether a key is among the first `until` of the set.
+pub fn is_before(table: &[u64], index: &[u16], until: usize, len: usize, key: u64) -> bool
+    requires { ⌜ Holds (now table) len × Indexed (now index) (now table) len × (until ≤ len) ⌝ }
+    ensures { λ r. ⌜ r ≡ member key (keysIn until (now (table .entry))) ⌝ }
 {
-    let h = slot(key);
-    let last = index[h];
-    index[4096 + len] = last;
-    index[h] = (len + 1) as u16;
+    match find(table, index, len, key) {
+        Found::At(p) => p < until,
+        Found::Nowhere => false,
+    }
 }
 
-// The set with a key put in, and the number of its keys: 2,049 where it would have more than 2,048.
+// The index of `len` keys, with one more, whose place in the index is known.
+fn note(index: &mut [u16], len: usize, at: usize)
+    requires { ⌜ (length (now index) ≡ 6144) × (len < 2048) × (at < divisor) ⌝ }
+    ensures { λ _. ⌜ now (index .exit) ≡ noted (now (index .entry)) len at ⌝ }
+{
+    let last = index[at];
+    index[4096 + len] = last;
+    index[at] = (len + 1) as u16;
+}
+
+// The set with a key put in whose place in the index is known, and the number of its keys: 2,049 where it would have
+// more than 2,048.
+pub fn put_at(table: &mut [u64], index: &mut [u16], len: usize, key: u64, at: usize) -> usize
+    requires { ⌜
+        (Holds (now table) len × Indexed (now index) (now table) len) × (at ≡ key % divisor)
+        ⌝ }
+    ensures { λ r. ⌜
+        Stored len (insert key (keysIn len (now (table .entry)))) (now (table .entry)) r (now (table .exit))
+        (now (index .exit))
+        ⌝ }
+{
+    match find_at(table, index, len, key, at) {
+        Found::At(_) => len,
+        Found::Nowhere => {
+            if 2047 < len {
+                return 2049;
+            }
+            table[len] = key;
+            note(index, len, at);
+            len + 1
+        }
+    }
+}
+
 pub fn put(table: &mut [u64], index: &mut [u16], len: usize, key: u64) -> usize
     requires { ⌜ Holds (now table) len × Indexed (now index) (now table) len ⌝ }
     ensures { λ r. ⌜
@@ -90,13 +123,5 @@ pub fn put(table: &mut [u64], index: &mut [u16], len: usize, key: u64) -> usize
         (now (index .exit))
         ⌝ }
 {
-    if contains(table, index, len, key) {
-        return len;
-    }
-    if 2047 < len {
-        return 2049;
-    }
-    table[len] = key;
-    note(index, len, key);
-    len + 1
+    put_at(table, index, len, key, slot(key))
 }

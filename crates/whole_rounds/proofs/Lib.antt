@@ -1,5 +1,9 @@
-pub mod Flat
-pub mod Passes
-pub mod Latest
-pub mod Rounding
-pub mod Lookup
+pub mod Pieces
+pub mod Labels
+pub mod Ready
+pub mod Turns
+pub mod Lending
+pub mod Squares
+pub mod Noting
+pub mod Running
+pub mod Starting

@@ -1,4 +1,3 @@
 pub mod Parts
-pub mod Arrays
-pub mod Lookup
-pub mod Between
+pub mod Nine
+pub mod Settled

@@ -1,15 +1,13 @@
 -- `join`: what is computed of the arrays is the problem's.
 use borrow.Author.Needs.{needs}
 use native.Mathlib.Omega.{arith}
-use mathlib.Core.Path.{sym}
 use Rattle.key_set.specs.Table.{Grown}
 use Rattle.key_set.proofs.Keys.{grown-holds}
-use Rattle.flat.proofs.Flat as Flat
 use Rattle.joining_rule.specs.Rounds.{mostRounds}
 use Rattle.joining_rule.specs.Joining.{basesOf, startSet, closing}
 use Rattle.joining_rule.proofs.Bound.{most-positive}
 use Rattle.closure.proofs.Settled.{start-large, left-full, left-from}
-use Rattle.closure.proofs.Laid.{arrays, start-held, closing-lent, counted-lent}
+use Rattle.closure.proofs.Laid.{arrays, start-held, closing-held, counted-held}
 use Rattle.closure.proofs.join.Statement.{statement}
 use Rattle.closure.proofs.join.Tie as tie
 
@@ -32,8 +30,8 @@ returns c p coefficients f =
     let h : Grown (startSet p) _ _ _ = rw (start-held p _ coefficients _ f) at g in
     left-full _ _ _ _ _ _ _ (c .too-many .ensures) (start-large (p .rule) (mostRounds (p .order)) (basesOf p) (startSet p) _ _ _ h (c .before .if1 .taken)) (g .long) (g .rest)
 
-shared-slice-read-settle : tie.Need-shared-slice-read-settle
-shared-slice-read-settle c = omega (arith, c .before .before .before .before .before .before .before .before .before .before .before .before .before .pre .2 .limits .sizes-length)
+shared-slice-read-t14 : tie.Need-shared-slice-read-t14
+shared-slice-read-t14 c = omega (arith, c .before .before .before .before .before .before .before .before .before .before .before .before .before .pre .2 .limits .sizes-length)
 
 shared-slice-read-most-rounds : tie.Need-shared-slice-read-most-rounds
 shared-slice-read-most-rounds c = omega (arith, c .before .before .before .before .before .before .before .before .before .before .before .before .before .before .pre .2 .limits .sizes-length)
@@ -41,36 +39,15 @@ shared-slice-read-most-rounds c = omega (arith, c .before .before .before .befor
 most-rounds-requires : tie.Need-most-rounds-requires
 most-rounds-requires c κs = search needs
 
-slice-aggregate-settle : tie.Need-slice-aggregate-settle
-slice-aggregate-settle c = sym (Flat.bases-length (c .before .before .before .before .before .before .before .before .before .before .before .before .before .before .before .before .pre .2 .limits))
-
-slice-aggregate-settle-2 : tie.Need-slice-aggregate-settle-2
-slice-aggregate-settle-2 c = sym (Flat.sizes-length (c .before .before .before .before .before .before .before .before .before .before .before .before .before .before .before .before .before .pre .2 .limits))
-
-sub-settle : tie.Need-sub-settle
-sub-settle c = search needs
-
-part-settle-start : tie.Need-part-settle-start
-part-settle-start c = search needs
-
-part-settle-end : tie.Need-part-settle-end
-part-settle-end c = omega (arith, c .before .before .before .before .before .before .before .before .before .before .before .before .before .before .before .before .before .pre .2 .limits .keys-length)
-
-sub-settle-2 : tie.Need-sub-settle-2
-sub-settle-2 c = search needs
-
-part-settle-start-2 : tie.Need-part-settle-start-2
-part-settle-start-2 c = search needs
-
-part-settle-end-2 : tie.Need-part-settle-end-2
-part-settle-end-2 c = omega (arith, c .before .before .before .before .before .before .before .before .before .before .before .before .before .before .before .before .before .before .pre .2 .limits .sizes-length)
-
 settle-requires : tie.Need-settle-requires
 settle-requires c κs =
-    let s = c .before .before .before .before .before .before .before .before .before .before .before .before .before .before .before .before .before .before .before .before .before .before in
-    let w = c .before .before .before .before .before .before .before .before .before .before .before .before .before .before .before .seed .ensures in
-    let few = c .before .before .before .before .before .before .before .before .before .before .if1 .left in
-    ((grown-holds (w .grown) (s .pre .0) few, w .index few), arrays _ _ (s .pre .2), rw (c .before .before .before .before .before .before .before .most-rounds .ensures) (most-positive _))
+    let s = c .before .before .before .before .before .before .before .before .before .before .before .before .before .before .before .before .before .before in
+    let w = c .before .before .before .before .before .before .before .before .before .before .before .seed .ensures in
+    let few = c .before .before .before .before .before .before .if1 .left in
+    record {
+      held = record { support = grown-holds (w .grown) (s .pre .0) few; index = w .index few; arrays = arrays _ _ (s .pre .2) };
+      some = rw (c .before .before .before .most-rounds .ensures) (most-positive _);
+    }
 
 same-length-3 : tie.Need-same-length-3
 same-length-3 c = search needs
@@ -80,9 +57,9 @@ same-length-4 c = search needs
 
 returns-2 : tie.Need-returns-2
 returns-2 c p coefficients f =
-    let g = c .before .before .before .before .before .before .before .before .before .before .before .before .before .before .before .before .before .before .before .before .seed .ensures .grown in
-    let e = closing-lent p _ coefficients _ f _ _ (c .before .before .before .before .before .before .before .before .before .before .before .before .most-rounds .ensures) (g .keys (c .before .before .before .before .before .before .before .before .before .before .before .before .before .before .before .if1 .left)) in
-    left-from _ _ _ _ _ _ _ (basesOf p) (counted-lent p _ coefficients _ f (closing p .state)) _ (g .long) (g .rest) (rw e at (c .before .before .before .before .settle .ensures))
+    let g = c .before .before .before .before .before .before .before .before .before .before .before .before .before .before .before .before .seed .ensures .grown in
+    let e = closing-held p _ coefficients _ f _ _ (c .before .before .before .before .before .before .before .before .most-rounds .ensures) (g .keys (c .before .before .before .before .before .before .before .before .before .before .before .if1 .left)) in
+    left-from _ _ _ _ _ _ _ (basesOf p) (counted-held p _ coefficients _ f (closing p .state)) _ (g .long) (g .rest) (rw e at (c .before .before .before .before .settle .ensures))
 
 pub join-spec : {M : Type 1} → statement M
 join-spec =
@@ -93,17 +70,9 @@ join-spec =
     same-length
     same-length-2
     returns
-    shared-slice-read-settle
+    shared-slice-read-t14
     shared-slice-read-most-rounds
     most-rounds-requires
-    slice-aggregate-settle
-    slice-aggregate-settle-2
-    sub-settle
-    part-settle-start
-    part-settle-end
-    sub-settle-2
-    part-settle-start-2
-    part-settle-end-2
     settle-requires
     same-length-3
     same-length-4

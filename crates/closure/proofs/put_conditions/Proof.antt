@@ -8,10 +8,10 @@ use Rattle.counting.specs.Counting.{fromTo}
 use Rattle.counting.proofs.Steps.{fromTo-done, fromTo-more}
 use Rattle.joining_rule.specs.Sets.{insertAll}
 use Rattle.key_set.specs.Table.{keysIn}
-use Rattle.half_rounds.proofs.Growth.{Growing, growing-start, growing-step, growing-stop, growing-end}
+use Rattle.block_joining.proofs.Growing.{Growing, growing-start, growing-step, growing-stop, growing-end}
 use Rattle.joining_rule.proofs.Extending.{fromTo-extends}
 use Rattle.joining_rule.proofs.Start.{insertAll-extends}
-use Rattle.closure.specs.Tables.{exponentsIn}
+use Rattle.whole_rounds.specs.Parts.{exponentsIn}
 use Rattle.closure.proofs.put_conditions.Statement.{statement}
 use Rattle.closure.proofs.put_conditions.Tie as tie
 

@@ -6,7 +6,7 @@ use Prim.Native.Nat.{_+_, _-_, _≤_}
 use lib.ListN.{length, drop}
 use Rattle.joining_rule.specs.Sets.{insertAll}
 use Rattle.key_set.specs.Table.{keysIn}
-use Rattle.half_rounds.proofs.Growth.{Growing, growing-start, growing-step, growing-stop, growing-end}
+use Rattle.block_joining.proofs.Growing.{Growing, growing-start, growing-step, growing-stop, growing-end}
 use Rattle.joining_rule.proofs.Extending.{insert-extends}
 use Rattle.joining_rule.specs.Joining.{multiples}
 use Rattle.closure.proofs.Start.{insert-next, insert-done, product-fits}

@@ -16,8 +16,10 @@ use Rattle.flat.proofs.Flat.{basis-fits}
 use Rattle.joining_rule.proofs.Extending.{Extends, fromTo-extends}
 use Rattle.joining_rule.specs.Joining.{multiples, startFrom}
 use Rattle.joining_rule.proofs.Start.{insertAll-extends}
-use Rattle.closure.specs.Tables.{exponentsIn, startIn}
-use Rattle.closure.proofs.Start.{stored-over, stored-then}
+use Rattle.whole_rounds.specs.Parts.{exponentsIn}
+use Rattle.closure.specs.Tables.{startIn}
+use Rattle.whole_rounds.proofs.Ready.{stored-over}
+use Rattle.closure.proofs.Start.{stored-then}
 use Rattle.closure.proofs.Laid.{all-low}
 use Rattle.closure.proofs.seed.Statement.{statement}
 use Rattle.closure.proofs.seed.Tie as tie
@@ -70,7 +72,7 @@ same-length-2 c = search needs
 returns : tie.Need-returns
 returns c =
     let s = c .before .before .before .before .before .before .before .before .before .before .before .before in
-    rw (← whole s) (stored-over _ _ _ _ _ (one (c .before .before .before .before .before)) (c .if1 .taken) _ (le-trans (more-conditions s (first s) .more) (more-doubled s (conditions s (first s)) .more)))
+    rw (← whole s) (stored-over _ _ _ _ _ _ (one (c .before .before .before .before .before)) (c .if1 .taken) _ (le-trans (more-conditions s (first s) .more) (more-doubled s (conditions s (first s)) .more)))
 
 put-conditions-requires : tie.Need-put-conditions-requires
 put-conditions-requires c κs =
@@ -88,7 +90,7 @@ same-length-4 c = search needs
 returns-2 : tie.Need-returns-2
 returns-2 c =
     let s = c .before .before .before .before .before .before .before .before .before .before .before .before .before .before .before .before .before .before .before .before in
-    rw (← whole s) (stored-over _ _ _ _ _ (two (c .before .before .before .before .before)) (c .if2 .taken) _ (more-doubled s (conditions s (first s)) .more))
+    rw (← whole s) (stored-over _ _ _ _ _ _ (two (c .before .before .before .before .before)) (c .if2 .taken) _ (more-doubled s (conditions s (first s)) .more))
 
 basis-requires : tie.Need-basis-requires
 basis-requires c κs = let s = c .before .before .before .before .before .before .before .before .before .before .before .before .before .before .before .before .before .before .before .before in (omega (arith, s .pre .2 .limits .sizes-length), basis-fits (s .pre .2 .limits) 0 (omega arith))

@@ -1,29 +1,14 @@
 -- `settle`: the rounds, the products that may be missing and the zero exponent, one growth of the table after another.
 use borrow.Author.Needs.{needs}
 use native.Mathlib.Omega.{arith}
-use mathlib.Core.Path.{refl, sym, ap, _∙_}
-use lib.ListN.{length}
 use Rattle.key_set.specs.Table.{keysIn}
-use Rattle.key_set.proofs.Keys.{keys-rising, grown-holds}
-use Rattle.joining_rule.specs.Bytes.{blockBytes}
-use Rattle.joining_rule.proofs.Bytes.{bytes-long}
-use Rattle.whole_rounds.proofs.Passes.{singles-sized}
-use Rattle.closure.proofs.Settled.{labels-held, labelled-held, counted, none-missing, close-large, products-large, products-long, products-rest, put-large, put-small, len-is, put-keys, put-long, put-rest, left-full}
+use Rattle.key_set.proofs.Keys.{grown-holds}
+use Rattle.closure.proofs.Settled.{labels-held, products-held, close-large, products-large, products-long, products-rest, put-large, put-small, len-is, put-keys, put-long, put-rest, left-full}
 use Rattle.closure.proofs.settle.Statement.{statement}
 use Rattle.closure.proofs.settle.Tie as tie
 
-start-labels-requires : tie.Need-start-labels-requires
-start-labels-requires c κs = (c .before .before .before .before .before .before .before .before .pre .1 .sized, refl)
-
 close-requires : tie.Need-close-requires
-close-requires c κs =
-    let s = c .before .before .before .before .before .before .before .before .before .before .before .before in
-    record {
-      support = s .pre .0 .0;
-      index = s .pre .0 .1;
-      arrays = s .pre .1;
-      labels = c .before .before .before .start-labels .ensures ∙ ap blockBytes (sym (singles-sized _ _ _ _ (s .pre .1)));
-    }
+close-requires c κs = c .before .before .before .before .before .before .before .pre
 
 too-many-requires : tie.Need-too-many-requires
 too-many-requires c κs = tt
@@ -41,22 +26,10 @@ returns c =
 
 put-missing-requires : tie.Need-put-missing-requires
 put-missing-requires c κs =
-    let s = c .before .before .before .before .before .before .before .before .before .before .before .before .before .before .before .before .before .before .before .before .before .before in
+    let s = c .before .before .before .before .before .before .before .before .before .before .before .before .before .before .before .before .before in
     let w = c .before .before .before .before .before .before .before .before .before .close .ensures in
     let few = c .before .before .before .before .if1 .left in
-    let l = w .labels few in (
-      record {
-        support = grown-holds (w .stored .grown) (s .pre .0 .0 .room) few;
-        index = w .stored .index few;
-        arrays = s .pre .1;
-        labels = labelled-held (s .args .support .rule) (s .args .support .most) (s .args .keys .now) (s .args .sizes .now) (s .args .exponents .now) (s .args .counts .now) (s .pre .1) (keysIn (s .args .support .len) (s .args .table .now)) _ l;
-      },
-      record {
-        none = λ d.
-            rw (labels-held (s .args .support .rule) (s .args .support .most) (s .args .keys .now) (s .args .sizes .now) (s .args .exponents .now) (s .args .counts .now) (s .pre .1) (keysIn (s .args .support .len) (s .args .table .now)) _ l, w .stored .grown .keys few)
-            (none-missing (s .args .support .rule) (s .args .support .most) (s .args .keys .now) (s .args .sizes .now) (s .args .exponents .now) (s .args .counts .now) (s .pre .1) (keysIn (s .args .support .len) (s .args .table .now)) (s .pre .2) (keys-rising _ _) d);
-      },
-    )
+    products-held (s .args .support .rule) (s .args .support .most) (s .args .keys .now) (s .args .sizes .now) (s .pre .held .arrays) (keysIn (s .args .support .len) (s .args .table .now)) _ (w .labels few) (s .pre .some) _ _ _ (grown-holds (w .stored .grown) (s .pre .held .support .room) few) (w .stored .index few) (w .stored .grown .keys few)
 
 too-many-requires-2 : tie.Need-too-many-requires-2
 too-many-requires-2 c κs = tt
@@ -69,20 +42,20 @@ same-length-4 c = search needs
 
 returns-2 : tie.Need-returns-2
 returns-2 c =
-    let s = c .before .before .before .before .before .before .before .before .before .before .before .before .before .before .before .before .before .before .before .before .before .before .before .before .before .before .before .before .before in
+    let s = c .before .before .before .before .before .before .before .before .before .before .before .before .before .before .before .before .before .before .before .before .before .before .before .before in
     let w = c .before .before .before .before .before .before .before .before .before .before .before .before .before .before .before .before .close .ensures in
     let few = c .before .before .before .before .before .before .before .before .before .before .before .if1 .left in
     let k = c .before .before .before .before .before .before .put-missing .ensures in
-    let e = labels-held (s .args .support .rule) (s .args .support .most) (s .args .keys .now) (s .args .sizes .now) (s .args .exponents .now) (s .args .counts .now) (s .pre .1) (keysIn (s .args .support .len) (s .args .table .now)) _ (w .labels few) in
+    let e = labels-held (s .args .support .rule) (s .args .support .most) (s .args .keys .now) (s .args .sizes .now) (s .pre .held .arrays) (keysIn (s .args .support .len) (s .args .table .now)) _ (w .labels few) in
     left-full _ _ _ _ _ _ _ (c .too-many2 .ensures) (products-large _ _ _ _ _ _ _ _ w few _ e _ _ _ k (c .before .if2 .taken)) (products-long _ _ _ _ _ _ _ _ w few _ e _ _ _ k) (products-rest _ _ _ _ _ _ _ _ w few _ e _ _ _ k)
 
 put-requires : tie.Need-put-requires
 put-requires c κs =
-    let s = c .before .before .before .before .before .before .before .before .before .before .before .before .before .before .before .before .before .before .before .before .before .before .before .before .before .before .before .before .before .before in
+    let s = c .before .before .before .before .before .before .before .before .before .before .before .before .before .before .before .before .before .before .before .before .before .before .before .before .before in
     let w = c .before .before .before .before .before .before .before .before .before .before .before .before .before .before .before .before .before .close .ensures .stored in
     let k = c .before .before .before .before .before .before .before .put-missing .ensures in
     let some = c .before .before .if2 .left in
-    (grown-holds (k .grown) (omega (arith, w .grown .long, s .pre .0 .0 .room)) some, k .index some)
+    (grown-holds (k .grown) (omega (arith, w .grown .long, s .pre .held .support .room)) some, k .index some)
 
 too-many-requires-3 : tie.Need-too-many-requires-3
 too-many-requires-3 c κs = tt
@@ -95,17 +68,14 @@ same-length-6 c = search needs
 
 returns-3 : tie.Need-returns-3
 returns-3 c =
-    let s = c .before .before .before .before .before .before .before .before .before .before .before .before .before .before .before .before .before .before .before .before .before .before .before .before .before .before .before .before .before .before .before .before .before .before .before .before .before in
+    let s = c .before .before .before .before .before .before .before .before .before .before .before .before .before .before .before .before .before .before .before .before .before .before .before .before .before .before .before .before .before .before .before .before in
     let w = c .before .before .before .before .before .before .before .before .before .before .before .before .before .before .before .before .before .before .before .before .before .before .before .before .close .ensures in
     let few = c .before .before .before .before .before .before .before .before .before .before .before .before .before .before .before .before .before .before .before .if1 .left in
     let k = c .before .before .before .before .before .before .before .before .before .before .before .before .before .before .put-missing .ensures in
-    let e = labels-held (s .args .support .rule) (s .args .support .most) (s .args .keys .now) (s .args .sizes .now) (s .args .exponents .now) (s .args .counts .now) (s .pre .1) (keysIn (s .args .support .len) (s .args .table .now)) _ (w .labels few) in
+    let e = labels-held (s .args .support .rule) (s .args .support .most) (s .args .keys .now) (s .args .sizes .now) (s .pre .held .arrays) (keysIn (s .args .support .len) (s .args .table .now)) _ (w .labels few) in
     let some = c .before .before .before .before .before .before .before .before .before .if2 .left in
     let p = c .before .before .before .before .before .before .put .ensures in
     left-full _ _ _ _ _ _ _ (c .too-many3 .ensures) (put-large _ _ _ _ _ _ _ _ w few _ e _ _ _ k some _ _ _ p (c .before .if3 .taken)) (put-long _ _ _ _ _ _ _ _ w few _ e _ _ _ k some _ _ _ p) (put-rest _ _ _ _ _ _ _ _ w few _ e _ _ _ k some _ _ _ p)
-
-count-requires : tie.Need-count-requires
-count-requires c κs = (c .before .before .before .before .before .before .before .before .before .before .before .before .before .before .before .before .before .before .before .before .before .before .before .before .before .before .before .before .before .before .before .before .before .before .before .before .before .before .pre .1 .sized, ap length (c .before .before .before .before .before .before .before .before .before .before .before .before .before .before .before .before .before .before .before .before .before .before .before .before .before .close .ensures .labels (c .before .before .before .before .before .before .before .before .before .before .before .before .before .before .before .before .before .before .before .before .if1 .left)) ∙ bytes-long _)
 
 same-length-7 : tie.Need-same-length-7
 same-length-7 c = search needs
@@ -115,23 +85,22 @@ same-length-8 c = search needs
 
 returns-4 : tie.Need-returns-4
 returns-4 c =
-    let s = c .before .before .before .before .before .before .before .before .before .before .before .before .before .before .before .before .before .before .before .before .before .before .before .before .before .before .before .before .before .before .before .before .before .before .before .before .before .before .before in
-    let w = c .before .before .before .before .before .before .before .before .before .before .before .before .before .before .before .before .before .before .before .before .before .before .before .before .before .before .close .ensures in
-    let few = c .before .before .before .before .before .before .before .before .before .before .before .before .before .before .before .before .before .before .before .before .before .if1 .left in
-    let l = w .labels few in
-    let k = c .before .before .before .before .before .before .before .before .before .before .before .before .before .before .before .before .put-missing .ensures in
-    let e = labels-held (s .args .support .rule) (s .args .support .most) (s .args .keys .now) (s .args .sizes .now) (s .args .exponents .now) (s .args .counts .now) (s .pre .1) (keysIn (s .args .support .len) (s .args .table .now)) _ l in
-    let some = c .before .before .before .before .before .before .before .before .before .before .before .if2 .left in
-    let p = c .before .before .before .before .before .before .before .before .put .ensures in
-    let small = c .before .before .before .if3 .left in
+    let s = c .before .before .before .before .before .before .before .before .before .before .before .before .before .before .before .before .before .before .before .before .before .before .before .before .before .before .before .before .before .before .before in
+    let w = c .before .before .before .before .before .before .before .before .before .before .before .before .before .before .before .before .before .before .before .before .before .before .before .close .ensures in
+    let few = c .before .before .before .before .before .before .before .before .before .before .before .before .before .before .before .before .before .before .if1 .left in
+    let k = c .before .before .before .before .before .before .before .before .before .before .before .before .before .put-missing .ensures in
+    let e = labels-held (s .args .support .rule) (s .args .support .most) (s .args .keys .now) (s .args .sizes .now) (s .pre .held .arrays) (keysIn (s .args .support .len) (s .args .table .now)) _ (w .labels few) in
+    let some = c .before .before .before .before .before .before .before .before .if2 .left in
+    let p = c .before .before .before .before .before .put .ensures in
+    let fits = c .if3 .left in
     record {
-      full = put-small _ _ _ _ _ _ _ _ w few _ e _ _ _ k some _ _ _ p small;
-      labels = λ _. l;
+      full = put-small _ _ _ _ _ _ _ _ w few _ e _ _ _ k some _ _ _ p fits;
+      labels = λ _. w .labels few;
       rounds = λ _. w .rounds few;
-      blocks = λ _. c .count .ensures ∙ counted (s .args .support .rule) (s .args .support .most) (s .args .keys .now) (s .args .sizes .now) (s .args .exponents .now) (s .args .counts .now) (s .pre .1) (keysIn (s .args .support .len) (s .args .table .now)) _ l;
-      len = λ _. len-is _ _ _ _ _ _ _ _ w few _ e _ _ _ k some _ _ _ p small;
-      keys = λ _. put-keys _ _ _ _ _ _ _ _ w few _ e _ _ _ k some _ _ _ p small;
-      index = λ _. p .index small;
+      blocks = λ _. w .blocks few;
+      len = λ _. len-is _ _ _ _ _ _ _ _ w few _ e _ _ _ k some _ _ _ p fits;
+      keys = λ _. put-keys _ _ _ _ _ _ _ _ w few _ e _ _ _ k some _ _ _ p fits;
+      index = λ _. p .index fits;
       long = put-long _ _ _ _ _ _ _ _ w few _ e _ _ _ k some _ _ _ p;
       rest = put-rest _ _ _ _ _ _ _ _ w few _ e _ _ _ k some _ _ _ p;
     }
@@ -140,7 +109,6 @@ pub settle-spec : {M : Type 1} → statement M
 settle-spec =
     tie.close
     (tie.spec
-    start-labels-requires
     close-requires
     too-many-requires
     same-length
@@ -156,7 +124,6 @@ settle-spec =
     same-length-5
     same-length-6
     returns-3
-    count-requires
     same-length-7
     same-length-8
     returns-4)

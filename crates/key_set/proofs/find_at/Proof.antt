@@ -5,12 +5,12 @@ use mathlib.Core.Path.{_∙_}
 use Prim.Native.Nat.{_+_, _-_}
 use lib.Seq.{getD-take, length-take-le}
 use Rattle.key_set.proofs.Keys.{inside}
-use Rattle.key_set.proofs.Index.{Chained, chained-start, chained-less, chained-step, chained-none}
+use Rattle.key_set.proofs.Index.{Seeks, seeks-start, seeks-less, seeks-step, seeks-none}
 use Rattle.key_set.proofs.find_at.Statement.{statement}
 use Rattle.key_set.proofs.find_at.Tie as tie
 
 abbrev Inv-loop : tie.InvT-loop
-Inv-loop table index len key at v₀ v = Chained table len key v
+Inv-loop table index len key at v₀ v = Seeks table len key v
 
 abbrev μ-loop : tie.MeasureT-loop
 μ-loop table index len key at v₀ v = v
@@ -28,7 +28,7 @@ cast-v : tie.Need-cast-v Inv-loop μ-loop
 cast-v c = omega (arith, c .shared-slice-known .given (c .before .args .at))
 
 loop-holds : tie.Need-loop-holds Inv-loop μ-loop
-loop-holds c = let p = c .before .pre in rw (p .1) (chained-start (p .0 .1) _)
+loop-holds c = let p = c .before .pre in rw (p .1) (seeks-start (p .0 .1) _)
 
 sub-p : tie.Need-sub-p Inv-loop μ-loop
 sub-p c = search needs
@@ -69,15 +69,15 @@ cast-v-2 c =
 loop-less : tie.Need-loop-less Inv-loop μ-loop
 loop-less c =
     let l = c .before .before .before .before in
-    chained-less (at-start l .pre .0 .1) _ _ (l .loop .inv) (c .before .before .before .loop-test .taken)
+    seeks-less (at-start l .pre .0 .1) _ _ (l .loop .inv) (c .before .before .before .loop-test .taken)
 
 loop-again : tie.Need-loop-again Inv-loop μ-loop
 loop-again c =
     let l = c .before .before .before .before in
-    chained-step (at-start l .pre .0 .1) _ _ (l .loop .inv) (c .before .before .before .loop-test .taken) (c .before .if1 .left)
+    seeks-step (at-start l .pre .0 .1) _ _ (l .loop .inv) (c .before .before .before .loop-test .taken) (c .before .if1 .left)
 
 returns-2 : tie.Need-returns-2 Inv-loop μ-loop
-returns-2 c = let l = c .before in chained-none (at-start l .pre .0 .0) _ _ (l .loop .inv) (omega (arith, c .loop-test .left))
+returns-2 c = let l = c .before in seeks-none (at-start l .pre .0 .0) _ _ (l .loop .inv) (omega (arith, c .loop-test .left))
 
 pub find-at-spec : {M : Type 1} → statement M
 find-at-spec =

@@ -1,18 +1,12 @@
 -- `key_set::note` meets its contract.
 use borrow.Author.Needs.{needs}
 use native.Mathlib.Omega.{arith}
-use mathlib.Core.Path.{ap}
-use Prim.Native.Nat.{ℕ, _+_, _-_}
-use lib.ListN.{getD, set, length-set}
+use mathlib.Core.Path.{refl}
+use Prim.Native.Nat.{_+_}
+use lib.ListN.{getD, length-set}
 use Rattle.key_set.specs.Table.{noted}
 use Rattle.key_set.proofs.note.Statement.{statement}
 use Rattle.key_set.proofs.note.Tie as tie
-use Rattle.key_set.proofs.note.Reads as reads
-use Rattle.key_set.proofs.note.Lts as lts
-use Rattle.key_set.proofs.slot.Reads as slot-reads
-
-slot-requires : tie.Need-slot-requires
-slot-requires c κs = search needs
 
 mul-last : tie.Need-mul-last
 mul-last c = search needs
@@ -39,20 +33,19 @@ mul-index-2 : tie.Need-mul-index-2
 mul-index-2 c = search needs
 
 slice-write-index-2 : tie.Need-slice-write-index-2
-slice-write-index-2 c = omega (arith, c .before .slot .ensures, c .before .before .before .pre .0, length-set (c .before .before .before .args .index .now) (4096 + c .before .before .before .args .len) (getD (c .before .before .before .args .index .now) (c .before .slot .result) 0))
+slice-write-index-2 c = let s = c .before in omega (arith, s .pre .0, s .pre .2, length-set (s .args .index .now) (4096 + s .args .len) (getD (s .args .index .now) (s .args .at) 0))
 
 same-length : tie.Need-same-length
 same-length c = search needs
 
 returns : tie.Need-returns
 unfolding noted
-returns c = let s = c .before .before .before in ap (λ (h : ℕ). set (set (s .args .index .now) (4096 + s .args .len) (getD (s .args .index .now) h 0)) h (s .args .len + 1)) (c .before .slot .ensures)
+returns c = refl
 
 pub note-spec : {M : Type 1} → statement M
 note-spec =
     tie.close
     (tie.spec
-    slot-requires
     mul-last
     slice-read-last
     add-index

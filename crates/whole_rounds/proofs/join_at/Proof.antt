@@ -1,59 +1,123 @@
--- `whole_rounds::join_at` meets its contract: by the pairs, and by the members that came last.
+-- `whole_rounds::join_at` meets its contract: the parts of basis j are lent, and what the joining leaves is put in
+-- place.
 use borrow.Author.Needs.{needs}
 use native.Mathlib.Omega.{arith}
-use Rattle.key_set.proofs.Keys.{inside}
-use Rattle.whole_rounds.specs.Parts.{basesIn}
-use Rattle.whole_rounds.proofs.Latest.{latest-part, fresh-joined}
+use mathlib.Core.Path.{_≡_, refl, sym, ap, _∙_}
+use Prim.Native.Nat.{ℕ, _+_, _-_, _*_, _≤_, _<_}
+use lib.ListN.{length, getD, take, drop, set, length-set}
+use Rattle.whole_rounds.proofs.Lending.{lend-small, left-small, lend-large, left-large}
 use Rattle.whole_rounds.proofs.join_at.Statement.{statement}
 use Rattle.whole_rounds.proofs.join_at.Tie as tie
 
-join-pairs-at-requires : tie.Need-join-pairs-at-requires
-join-pairs-at-requires c κs = let p = c .before .before .before .before .before .before .before .before .before .before .before .pre in (p .0 .joining, p .0 .basis, p .2)
+basis-requires : tie.Need-basis-requires
+basis-requires c κs = let s = c .before .before .before .before .before .before in let a = s .pre .arrays in (omega (arith, a .counted, s .pre .basis), a .bases _ (s .pre .basis))
 
-mul-fresh : tie.Need-mul-fresh
-mul-fresh c = search needs
+exponents-requires : tie.Need-exponents-requires
+exponents-requires c κs = let s = c .before .before .before .before .before .before .before in let a = s .pre .arrays in (omega (arith, a .counted, s .pre .basis), a .multipliers _ (s .pre .basis))
 
-sub-fresh : tie.Need-sub-fresh
-sub-fresh c = search needs
+mul-a : tie.Need-mul-a
+mul-a c = search needs
 
-part-fresh-start : tie.Need-part-fresh-start
-part-fresh-start c = search needs
+add-e : tie.Need-add-e
+add-e c = search needs
 
-part-fresh-end : tie.Need-part-fresh-end
-part-fresh-end c = inside (c .before .before .before .before .before .before .before .before .before .before .pre .0 .joining .support)
+sub-part : tie.Need-sub-part
+sub-part c = search needs
 
-join-fresh-at-requires : tie.Need-join-fresh-at-requires
-join-fresh-at-requires c κs =
-    let p = c .before .before .before .before .before .before .before .before .before .before .before .before .pre in
-    let q = p .0 in
-    (record { arrays = q .joining .arrays; labels = q .joining .labels; basis = q .basis; blocks = q .blocks }, p .1 .all (omega (arith, c .before .before .if1 .left)))
+part-part-start : tie.Need-part-part-start
+part-part-start c = search needs
+
+part-part-end : tie.Need-part-part-end
+part-part-end c = search needs
+
+mul-if1 : tie.Need-mul-if1
+mul-if1 c = search needs
+
+shared-slice-read-if1 : tie.Need-shared-slice-read-if1
+shared-slice-read-if1 c = search needs
+
+slice-aggregate-join : tie.Need-slice-aggregate-join
+slice-aggregate-join c = search needs
+
+join-requires : tie.Need-join-requires
+join-requires c κs = lend-small _ _ _ _ _ _ _ _ (c .before .before .before .before .before .before .before .before .before .before .before .before .before .before .pre) _ _ (c .before .before .before .before .before .before .exponents .ensures) (c .before .before .before .before .before .before .before .basis .ensures) (c .before .before .before .if1 .taken) _
 
 same-length : tie.Need-same-length
 same-length c = search needs
 
-returns : tie.Need-returns
-returns c = search needs
-
 same-length-2 : tie.Need-same-length-2
 same-length-2 c = search needs
 
+same-length-3 : tie.Need-same-length-3
+same-length-3 c = search needs
+
+returns : tie.Need-returns
+returns c = left-small _ _ _ _ _ _ _ _ (c .before .before .before .before .before .before .before .before .before .before .before .before .before .before .before .before .before .before .before .before .before .before .pre) _ _ (c .before .before .before .before .before .before .before .before .before .before .before .before .before .before .exponents .ensures) (c .before .before .before .before .before .before .before .before .before .before .before .before .before .before .before .basis .ensures) (c .before .before .before .before .before .before .before .before .before .before .before .if1 .taken) _ _ _ _ _ _ (c .before .before .before .before .before .before .before .join .kept .0) (c .before .before .before .before .before .before .before .join .ensures)
+
+mul-p : tie.Need-mul-p
+mul-p c = search needs
+
+add-q : tie.Need-add-q
+add-q c = search needs
+
+mul-join : tie.Need-mul-join
+mul-join c = search needs
+
+sub-join : tie.Need-sub-join
+sub-join c = search needs
+
+part-join-start : tie.Need-part-join-start
+part-join-start c = search needs
+
+part-join-end : tie.Need-part-join-end
+part-join-end c = let s = c .before .before .before .before .before .before .before .before .before .before .before in omega (arith, s .pre .room .at _ (s .pre .basis) (c .if1 .left))
+
+join-requires-2 : tie.Need-join-requires-2
+join-requires-2 c κs = lend-large _ _ _ _ _ _ _ _ (c .before .before .before .before .before .before .before .before .before .before .before .before .before .before .pre) _ _ (c .before .before .before .before .before .before .exponents .ensures) (c .before .before .before .before .before .before .before .basis .ensures) (c .before .before .before .if1 .left)
+
+same-length-4 : tie.Need-same-length-4
+same-length-4 c = search needs
+
+same-length-5 : tie.Need-same-length-5
+same-length-5 c = search needs
+
+same-length-6 : tie.Need-same-length-6
+same-length-6 c = search needs
+
+same-length-7 : tie.Need-same-length-7
+same-length-7 c = search needs
+
 returns-2 : tie.Need-returns-2
-returns-2 c =
-    let s = c .before .before .before .before .before .before .before .before .before .before .before .before .before .before .before in
-    let p = s .pre .0 in
-    fresh-joined (basesIn (s .args .keys .now) (s .args .sizes .now) (s .args .exponents .now) (s .args .counts .now)) _ _ _ _ _ (p .blocks) (p .recent) (rw (latest-part (s .args .table .now) (s .args .since) (s .args .len)) at (c .before .before .join-fresh-at .ensures))
+returns-2 c = left-large _ _ _ _ _ _ _ _ (c .before .before .before .before .before .before .before .before .before .before .before .before .before .before .before .before .before .before .before .before .before .before .before .pre) _ _ (c .before .before .before .before .before .before .before .before .before .before .before .before .before .before .before .exponents .ensures) (c .before .before .before .before .before .before .before .before .before .before .before .before .before .before .before .before .basis .ensures) (c .before .before .before .before .before .before .before .before .before .before .before .before .if1 .left) _ _ _ _ _ (c .before .before .before .before .before .before .before .before .join2 .kept .0) (c .before .before .before .before .before .before .before .before .join2 .kept .1 .1 .1 .0) (c .before .before .before .before .before .before .before .before .join2 .ensures)
 
 pub join-at-spec : {M : Type 1} → statement M
 join-at-spec =
     tie.close
     (tie.spec
-    join-pairs-at-requires
-    mul-fresh
-    sub-fresh
-    part-fresh-start
-    part-fresh-end
-    join-fresh-at-requires
+    basis-requires
+    exponents-requires
+    mul-a
+    add-e
+    sub-part
+    part-part-start
+    part-part-end
+    mul-if1
+    shared-slice-read-if1
+    slice-aggregate-join
+    join-requires
     same-length
-    returns
     same-length-2
+    same-length-3
+    returns
+    mul-p
+    add-q
+    mul-join
+    sub-join
+    part-join-start
+    part-join-end
+    join-requires-2
+    same-length-4
+    same-length-5
+    same-length-6
+    same-length-7
     returns-2)

@@ -1,60 +1,123 @@
--- `whole_rounds::round` meets its contract: the extension goes by the blocks that the joining left.
+-- `whole_rounds::round` meets its contract: the bases before j have joined.
 use borrow.Author.Needs.{needs}
-use mathlib.Core.Path.{refl}
-use Rattle.joining_rule.specs.Rounds.{round}
-use Rattle.whole_rounds.specs.Parts.{basesIn}
-use Rattle.whole_rounds.proofs.Passes.{joined-labelled, joined-labels}
+use native.Mathlib.Omega.{arith}
+use mathlib.Core.Path.{_≡_, refl, sym, ap, _∙_}
+use Prim.Native.Nat.{ℕ, _+_, _-_, _*_, _≤_, _<_}
+use lib.ListN.{length, getD, take, drop, set, length-set}
+use Rattle.whole_rounds.specs.Nine.{nine, stage}
+use Rattle.whole_rounds.proofs.Turns.{Turn, turn-start, turn-asks, turn-over, turn-next, turn-end}
 use Rattle.whole_rounds.proofs.round.Statement.{statement}
 use Rattle.whole_rounds.proofs.round.Tie as tie
 
-join-all-requires : tie.Need-join-all-requires
-join-all-requires c κs =
-    let w = c .before .before .before .before .before .before .before .before .before .before .before .before .before .pre in
-    let p = w .0 in
-    (record { joining = p .extending .joining; upto = p .upto; recent = p .recent }, w .1)
+abbrev Inv-loop : tie.InvT-loop
+Inv-loop blocks₀ keys sizes pairs₀ table₀ index₀ state₀ s n₀ j₀ blocks pairs table index state n j = (j ≤ 9) × Turn keys sizes (nine blocks₀ pairs₀ table₀ index₀ state₀ s) j (nine blocks pairs table index state (stage (s .since) (s .until) n (s .adding)))
 
-adding-bases-requires : tie.Need-adding-bases-requires
-adding-bases-requires c κs = tt
+abbrev μ-loop : tie.MeasureT-loop
+μ-loop blocks₀ keys sizes pairs₀ table₀ index₀ state₀ s n₀ j₀ blocks pairs table index state n j = 9 - j
 
-extend-all-requires : tie.Need-extend-all-requires
-extend-all-requires c κs =
-    let s = c .before .before .before .before .before .before .before .before .before .before .before .before .before .before .before .before .before .before .before .before in
-    let p = s .pre .0 .extending .joining in
-    rw (c .before .before .before .adding-bases .ensures)
-    (record {
-      joining = record {
-        support = p .support;
-        index = p .index;
-        arrays = p .arrays;
-        labels = joined-labelled (basesIn (s .args .keys .now) (s .args .sizes .now) (s .args .exponents .now) (s .args .counts .now)) _ _ _ _ (p .arrays .sized) (p .labels) refl _ (c .before .before .before .before .before .before .join-all .ensures);
-      };
-      before = s .pre .0 .extending .before;
-      bases = s .pre .0 .extending .bases;
-      filled = s .pre .0 .extending .filled;
-    })
+loop-holds : tie.Need-loop-holds Inv-loop μ-loop
+loop-holds c = (omega arith, turn-start _ _ _ (c .before .before .before .before .before .before .pre))
 
-same-length : tie.Need-same-length
-same-length c = search needs
+mul-t14 : tie.Need-mul-t14 Inv-loop μ-loop
+mul-t14 c = search needs
 
-same-length-2 : tie.Need-same-length-2
-same-length-2 c = search needs
+element-copy-out-t17 : tie.Need-element-copy-out-t17 Inv-loop μ-loop
+element-copy-out-t17 c = search needs
 
-same-length-3 : tie.Need-same-length-3
+add-t18 : tie.Need-add-t18 Inv-loop μ-loop
+add-t18 c = search needs
+
+mul-t19 : tie.Need-mul-t19 Inv-loop μ-loop
+mul-t19 c = search needs
+
+element-copy-out-t22 : tie.Need-element-copy-out-t22 Inv-loop μ-loop
+element-copy-out-t22 c = search needs
+
+join-at-requires : tie.Need-join-at-requires Inv-loop μ-loop
+join-at-requires c κs = let l = c .before .before .before .before .before .before .before .before in turn-asks _ _ _ (c .before .before .before .before .before .before .before .before .before .before .before .before .before .before .before .pre) (l .loop .j) _ _ _ _ _ _ (l .loop .inv .1) (omega arith)
+
+mul-state : tie.Need-mul-state Inv-loop μ-loop
+mul-state c = search needs
+
+element-write-state : tie.Need-element-write-state Inv-loop μ-loop
+element-write-state c = search needs
+
+same-length : tie.Need-same-length Inv-loop μ-loop
+same-length c = c .before .before .before .before .before .before .before .before .before .join-at .kept .0 ∙ c .before .before .before .before .before .before .before .before .before .before .before .before .before .before .before .before .before .before .loop .inv .1 .ready .long ∙ sym (c .before .before .before .before .before .before .before .before .before .before .before .before .before .before .before .before .before .before .before .before .before .before .before .before .before .pre .ready .long)
+
+same-length-2 : tie.Need-same-length-2 Inv-loop μ-loop
+same-length-2 c = c .before .before .before .before .before .before .before .before .before .join-at .kept .1 .1 .1 .0 ∙ c .before .before .before .before .before .before .before .before .before .before .before .before .before .before .before .before .before .before .loop .inv .1 .pairs
+
+same-length-3 : tie.Need-same-length-3 Inv-loop μ-loop
 same-length-3 c = search needs
 
-returns : tie.Need-returns
-unfolding round
+same-length-4 : tie.Need-same-length-4 Inv-loop μ-loop
+same-length-4 c = c .before .before .before .before .before .before .before .before .before .join-at .kept .1 .1 .1 .1 .1 .0 ∙ c .before .before .before .before .before .before .before .before .before .before .before .before .before .before .before .before .before .before .loop .inv .1 .ready .at 0 (omega arith) .basis .index .long ∙ sym (c .before .before .before .before .before .before .before .before .before .before .before .before .before .before .before .before .before .before .before .before .before .before .before .before .before .pre .ready .at 0 (omega arith) .basis .index .long)
+
+returns : tie.Need-returns Inv-loop μ-loop
 returns c =
-    let s = c .before .before .before .before .before .before .before .before .before .before .before .before .before .before .before .before .before .before .before .before .before .before .before .before .before in
-    let p = s .pre .0 .extending .joining in
-    let j = c .before .before .before .before .before .before .before .before .before .before .before .join-all .ensures in
-    let e = joined-labels (basesIn (s .args .keys .now) (s .args .sizes .now) (s .args .exponents .now) (s .args .counts .now)) _ _ _ _ (p .arrays .sized) (p .labels) refl _ j in
+    λ rule e.
+    let l = c .before .before .before .before .before .before .before .before .before .before .before .before .before .before .before .before .before .before in
     record {
-      labels = j;
-      support = rw (c .before .before .before .before .before .before .before .before .adding-bases .ensures, e) at (c .before .before .before .before .extend-all .ensures);
+      stored = turn-over _ _ _ (c .before .before .before .before .before .before .before .before .before .before .before .before .before .before .before .before .before .before .before .before .before .before .before .before .before .pre) (l .loop .j) _ _ _ _ _ _ (l .loop .inv .1) (c .before .before .before .before .before .before .before .before .before .before .before .before .before .before .before .before .before .loop-test .taken) _ _ _ _ _ (c .before .before .before .before .before .before .before .before .before .join-at .ensures) (c .if1 .taken) rule e;
+      labels = λ q. absurd (omega (arith, c .if1 .taken));
+      ready = λ q. absurd (omega (arith, c .if1 .taken));
     }
+
+add-j : tie.Need-add-j Inv-loop μ-loop
+add-j c = search needs
+
+loop-less : tie.Need-loop-less Inv-loop μ-loop
+loop-less c = search needs
+
+loop-again : tie.Need-loop-again Inv-loop μ-loop
+loop-again c =
+    let l = c .before .before .before .before .before .before .before .before .before .before .before .before .before .before .before .before .before .before in
+    let h = c .before .before .before .before .before .before .before .before .before .before .before .before .before .before .before .before .before .loop-test .taken in (
+      omega arith,
+      turn-next _ _ _ (c .before .before .before .before .before .before .before .before .before .before .before .before .before .before .before .before .before .before .before .before .before .before .before .before .before .pre) (l .loop .j) _ _ _ _ _ _ (l .loop .inv .1) (c .before .before .before .before .before .before .before .before .before .before .before .before .before .before .before .before .before .loop-test .taken) _ _ _ _ _ (c .before .before .before .before .before .before .before .before .before .join-at .ensures) (c .if1 .left),
+    )
+
+same-length-5 : tie.Need-same-length-5 Inv-loop μ-loop
+same-length-5 c = search needs
+
+same-length-6 : tie.Need-same-length-6 Inv-loop μ-loop
+same-length-6 c = c .before .loop .inv .1 .pairs
+
+same-length-7 : tie.Need-same-length-7 Inv-loop μ-loop
+same-length-7 c = search needs
+
+same-length-8 : tie.Need-same-length-8 Inv-loop μ-loop
+same-length-8 c = c .before .loop .inv .1 .ready .at 0 (omega arith) .basis .index .long ∙ sym (c .before .before .before .before .before .before .before .before .pre .ready .at 0 (omega arith) .basis .index .long)
+
+returns-2 : tie.Need-returns-2 Inv-loop μ-loop
+returns-2 c = λ rule e. let l = c .before in turn-end _ _ _ (c .before .before .before .before .before .before .before .before .pre) (l .loop .j) _ _ _ _ _ _ (l .loop .inv .1) (omega arith) (l .loop .inv .0) rule e
 
 pub round-spec : {M : Type 1} → statement M
 round-spec =
     tie.close
-    (tie.spec join-all-requires adding-bases-requires extend-all-requires same-length same-length-2 same-length-3 returns)
+    (tie.spec
+    Inv-loop
+    μ-loop
+    loop-holds
+    mul-t14
+    element-copy-out-t17
+    add-t18
+    mul-t19
+    element-copy-out-t22
+    join-at-requires
+    mul-state
+    element-write-state
+    same-length
+    same-length-2
+    same-length-3
+    same-length-4
+    returns
+    add-j
+    loop-less
+    loop-again
+    same-length-5
+    same-length-6
+    same-length-7
+    same-length-8
+    returns-2)

@@ -1,105 +1,145 @@
--- `whole_rounds::run` meets its contract: after each round, those that are left lead to the outcome.
+-- `whole_rounds::run` meets its contract: the squares are put in, and after each round those that are left lead to the
+-- outcome.
 use borrow.Author.Needs.{needs}
-use native.Mathlib.Omega.{arith}
-use mathlib.Core.Path.{_≡_, sym, _∙_}
-use mathlib.Core.Logic.{_≢_}
-use mathlib.Core.Bool.{false}
-use Prim.Native.Nat.{_-_, _≤_}
-use lib.Dec.{eqb}
 use borrow.Author.Tests.{eqb-true, eqb-false}
-use Rattle.counting.proofs.Cases.{never}
+use native.Mathlib.Omega.{arith}
+use mathlib.Core.Path.{_≡_, refl, sym, _∙_}
+use mathlib.Core.Logic.{⊎-elim}
+use Prim.Native.Nat.{_-_}
+use lib.ListN.{length}
+use Rattle.key_set.specs.Table.{keysIn}
+use Rattle.joining_rule.specs.Rounds.{closingOf}
+use Rattle.joining_rule.proofs.Rounds.{adding-most}
 use Rattle.whole_rounds.specs.Parts.{basesIn}
-use Rattle.whole_rounds.specs.Between.{closeAfter, Between}
-use Rattle.whole_rounds.proofs.Passes.{labelled-long}
-use Rattle.whole_rounds.proofs.Rounding.{between-start, between-last, between-more, between-out}
+use Rattle.whole_rounds.specs.Nine.{nine, stage}
+use Rattle.whole_rounds.proofs.Turns.{arrays-sizes}
+use Rattle.whole_rounds.proofs.Running.{Running, counts-few, running-over, running-last, running-more, running-out}
+use Rattle.whole_rounds.proofs.Starting.{starting-over, starting-running, starting-then}
 use Rattle.whole_rounds.proofs.run.Statement.{statement}
 use Rattle.whole_rounds.proofs.run.Tie as tie
 
 abbrev Inv-loop : tie.InvT-loop
-Inv-loop labels₀ keys sizes exponents counts heads next table₀ index₀ came done pause support stop rule blocks₀ n₀ since₀ rounds₀ labels table index blocks n since rounds = (rounds ≤ stop) × Between (support .rule) (support .most) (closeAfter (support .rule) (support .most) (basesIn keys sizes exponents counts) done sizes labels₀ (support .len) table₀) (support .len) table₀ keys sizes exponents counts blocks since n table index rounds
+Inv-loop blocks₀ keys sizes pairs₀ table₀ index₀ state₀ support adding left₀ since₀ until₀ len₀ rounds₀ blocks pairs table index state left since until len rounds = (length pairs ≡ length pairs₀) × Running (support .rule) (support .most) (closingOf (support .rule) (support .most) (basesIn keys sizes) (keysIn (support .len) table₀)) len₀ table₀ keys sizes (nine blocks pairs table index state (stage since until len adding)) rounds left
 
 abbrev μ-loop : tie.MeasureT-loop
-μ-loop labels₀ keys sizes exponents counts heads next table₀ index₀ came done pause support stop rule blocks₀ n₀ since₀ rounds₀ labels table index blocks n since rounds = stop - rounds
+μ-loop blocks₀ keys sizes pairs₀ table₀ index₀ state₀ support adding left₀ since₀ until₀ len₀ rounds₀ blocks pairs table index state left since until len rounds = support .most - rounds
 
--- ---- where the loop begins
-abbrev started : tie.At-loop Inv-loop μ-loop → tie.Start Inv-loop μ-loop
-started l = l .before .before .before .before .before .before .before .before .before .before .before
+-- ---- where the squares are in, and where it begins
+abbrev squared : tie.Else1 Inv-loop μ-loop → tie.After-add-squares Inv-loop μ-loop
+squared c = c .before .before .before .before .before
 
-smaller-requires : tie.Need-smaller-requires Inv-loop μ-loop
-smaller-requires c κs = search needs
+abbrev started : tie.After-add-squares Inv-loop μ-loop → tie.Start Inv-loop μ-loop
+started a = a .before .before .before .before .before .before .before .before .before .before .before .before
 
-loop-holds : tie.Need-loop-holds Inv-loop μ-loop
-loop-holds c =
-    let s = c .before .before .before .before .before .before .before .before .before .before in
-    (omega (arith, s .pre .0 .some, s .pre .0 .upto, c .before .smaller .ensures), between-start (s .args .support .rule) (s .args .support .most) (s .args .keys .now) (s .args .sizes .now) (s .args .exponents .now) (s .args .counts .now) _ _ _ _ _ _ (s .pre .0 .upto) (s .pre .0 .asks))
+adding-bases-requires : tie.Need-adding-bases-requires Inv-loop μ-loop
+adding-bases-requires c κs = search needs
 
-slice-aggregate-round : tie.Need-slice-aggregate-round Inv-loop μ-loop
-slice-aggregate-round c = sym (labelled-long (c .before .before .loop .inv .1 .asks .extending .joining .labels))
+total-requires : tie.Need-total-requires Inv-loop μ-loop
+total-requires c κs = let p = c .before .before .before .before .before .before .before .before .pre in λ j h. omega (arith, p .1 .counts j h, arrays-sizes _ _ (p .0 .held .arrays) .small j h)
 
-slice-aggregate-round-2 : tie.Need-slice-aggregate-round-2 Inv-loop μ-loop
-slice-aggregate-round-2 c = sym (labelled-long (c .before .before .before .loop .inv .1 .asks .extending .joining .labels))
-
-round-requires : tie.Need-round-requires Inv-loop μ-loop
-round-requires c κs = let l = c .before .before .before .before .before in (l .loop .inv .1 .asks, started l .pre .1)
-
-add-rounds : tie.Need-add-rounds Inv-loop μ-loop
-add-rounds c = omega (arith, c .before .before .before .before .before .before .before .before .before .before .loop-test .taken)
-
-slice-aggregate-is-last : tie.Need-slice-aggregate-is-last Inv-loop μ-loop
-slice-aggregate-is-last c = sym (labelled-long (c .before .before .before .before .before .before .before .before .before .before .before .before .loop .inv .1 .asks .extending .joining .labels))
-
-slice-aggregate-is-last-2 : tie.Need-slice-aggregate-is-last-2 Inv-loop μ-loop
-slice-aggregate-is-last-2 c = sym (c .before .before .before .before .before .before .before .round .kept .0 ∙ labelled-long (c .before .before .before .before .before .before .before .before .before .before .before .before .before .loop .inv .1 .asks .extending .joining .labels))
-
-is-last-requires : tie.Need-is-last-requires Inv-loop μ-loop
-is-last-requires c κs = sym (c .before .before .before .before .before .before .before .round .kept .0)
+add-squares-requires : tie.Need-add-squares-requires Inv-loop μ-loop
+add-squares-requires c κs = (c .before .before .before .before .before .before .before .before .before .before .before .pre .0 .held, omega (arith, c .before .before .before .before .adding-bases .ensures, adding-most (c .before .before .before .before .before .before .before .before .before .before .before .args .support .rule)))
 
 same-length : tie.Need-same-length Inv-loop μ-loop
-same-length c = c .before .before .before .before .before .before .before .before .before .round .kept .1 .1 .1 .1 .1 .1 .1 .1 .1 .0 ∙ c .before .before .before .before .before .before .before .before .before .before .before .before .before .before .before .loop .inv .1 .long
+same-length c = search needs
 
 same-length-2 : tie.Need-same-length-2 Inv-loop μ-loop
-same-length-2 c = let l = c .before .before .before .before .before .before .before .before .before .before .before .before .before .before .before in c .before .before .before .before .before .before .before .before .before .round .kept .1 .1 .1 .1 .1 .1 .1 .1 .1 .1 .0 ∙ l .loop .inv .1 .asks .extending .joining .index .long ∙ sym (started l .pre .0 .asks .extending .joining .index .long)
+same-length-2 c = search needs
 
 returns : tie.Need-returns Inv-loop μ-loop
 returns c =
-    let l = c .before .before .before .before .before .before .before .before .before .before .before .before .before .before .before in
-    let s = started l in
-    record {
-      done = λ _. between-last (s .args .support .rule) (s .args .support .most) (s .args .keys .now) (s .args .sizes .now) (s .args .exponents .now) (s .args .counts .now) _ _ _ _ _ _ _ _ _ (l .loop .inv .1) (omega (arith, c .before .before .before .before .before .before .before .before .before .before .before .before .before .before .loop-test .taken, l .before .before .smaller .ensures)) _ _ _ _ (c .before .before .before .before .before .before .before .before .before .round .ensures) (sym (c .before .is-last .ensures) ∙ c .if1 .taken);
-      left = λ e. never (sym e);
-      made = λ e. never (sym e);
-      more = λ e. never (sym e);
-    }
+    let a = c .before .before .before .before .before in
+    let p = started a .pre in
+    starting-over _ _ _ _ _ (p .0) _ _ (p .1) _ (a .before .before .before .before .before .adding-bases .ensures) _ _ _ (a .add-squares .ensures) (c .if1 .taken) _ _ _
+
+loop-holds : tie.Need-loop-holds Inv-loop μ-loop
+loop-holds c =
+    let a = squared c in
+    let p = started a .pre in
+    (refl, starting-running _ _ _ _ _ (p .0) _ _ (p .1) _ (a .before .before .before .before .before .adding-bases .ensures) _ _ _ (a .add-squares .ensures) (c .if1 .left) _ (p .2) _ (a .before .before .before .total .ensures))
+
+round-requires : tie.Need-round-requires Inv-loop μ-loop
+round-requires c κs = c .before .before .before .before .before .before .before .loop .inv .1 .asks
+
+add-rounds : tie.Need-add-rounds Inv-loop μ-loop
+add-rounds c = search needs
+
+same-length-3 : tie.Need-same-length-3 Inv-loop μ-loop
+same-length-3 c = let l = c .before .before .before .before .before .before .before .before .before .before .before .before .before .before .before .before .before in c .before .before .before .before .before .before .before .before .before .round .kept .0 ∙ l .loop .inv .1 .asks .ready .long ∙ sym (started (squared (l .before)) .pre .1 .single .long)
+
+same-length-4 : tie.Need-same-length-4 Inv-loop μ-loop
+same-length-4 c = let l = c .before .before .before .before .before .before .before .before .before .before .before .before .before .before .before .before .before in c .before .before .before .before .before .before .before .before .before .round .kept .1 .1 .1 .0 ∙ l .loop .inv .0
+
+same-length-5 : tie.Need-same-length-5 Inv-loop μ-loop
+same-length-5 c = let l = c .before .before .before .before .before .before .before .before .before .before .before .before .before .before .before .before .before in c .before .before .before .before .before .before .before .before .before .round .kept .1 .1 .1 .1 .0 ∙ l .loop .inv .1 .stored .grown .long ∙ squared (l .before) .add-squares .ensures .grown .long
+
+same-length-6 : tie.Need-same-length-6 Inv-loop μ-loop
+same-length-6 c = let l = c .before .before .before .before .before .before .before .before .before .before .before .before .before .before .before .before .before in c .before .before .before .before .before .before .before .before .before .round .kept .1 .1 .1 .1 .1 .0 ∙ l .loop .inv .1 .asks .ready .at 0 (omega arith) .basis .index .long ∙ sym (started (squared (l .before)) .pre .0 .held .index .long)
+
+returns-2 : tie.Need-returns-2 Inv-loop μ-loop
+returns-2 c =
+    let l = c .before .before .before .before .before .before .before .before .before .before .before .before .before .before .before .before .before in
+    let a = squared (l .before) in
+    let p = started a .pre in
+    let i = l .loop .inv .1 in
+    starting-then _ _ _ _ _ (p .0) _ _ (p .1) _ (a .before .before .before .before .before .adding-bases .ensures) _ _ _ (a .add-squares .ensures) (l .before .if1 .left) _ _ _ _
+    (running-over _ _ _ _ _ _ _ _ _ _ i (c .before .before .before .before .before .before .before .before .before .before .before .before .before .before .before .if2 .taken) _ _ _ _ _ _ (c .before .before .before .before .before .before .before .before .before .round .ensures _ (sym (i .adding))) (c .if3 .taken) _)
+
+total-requires-2 : tie.Need-total-requires-2 Inv-loop μ-loop
+total-requires-2 c κs = let i = c .before .before .before .before .before .before .before .before .before .before .before .before .before .before .before .before .before .before .loop .inv .1 in counts-few _ _ (i .asks .arrays) _ (c .before .before .before .before .before .before .before .before .before .before .round .ensures _ (sym (i .adding)) .ready (c .before .if3 .left))
+
+same-length-7 : tie.Need-same-length-7 Inv-loop μ-loop
+same-length-7 c = let l = c .before .before .before .before .before .before .before .before .before .before .before .before .before .before .before .before .before .before .before .before .before in c .before .before .before .before .before .before .before .before .before .before .before .before .before .round .kept .0 ∙ l .loop .inv .1 .asks .ready .long ∙ sym (started (squared (l .before)) .pre .1 .single .long)
+
+same-length-8 : tie.Need-same-length-8 Inv-loop μ-loop
+same-length-8 c = let l = c .before .before .before .before .before .before .before .before .before .before .before .before .before .before .before .before .before .before .before .before .before in c .before .before .before .before .before .before .before .before .before .before .before .before .before .round .kept .1 .1 .1 .0 ∙ l .loop .inv .0
+
+same-length-9 : tie.Need-same-length-9 Inv-loop μ-loop
+same-length-9 c = let l = c .before .before .before .before .before .before .before .before .before .before .before .before .before .before .before .before .before .before .before .before .before in c .before .before .before .before .before .before .before .before .before .before .before .before .before .round .kept .1 .1 .1 .1 .0 ∙ l .loop .inv .1 .stored .grown .long ∙ squared (l .before) .add-squares .ensures .grown .long
+
+same-length-10 : tie.Need-same-length-10 Inv-loop μ-loop
+same-length-10 c = let l = c .before .before .before .before .before .before .before .before .before .before .before .before .before .before .before .before .before .before .before .before .before in c .before .before .before .before .before .before .before .before .before .before .before .before .before .round .kept .1 .1 .1 .1 .1 .0 ∙ l .loop .inv .1 .asks .ready .at 0 (omega arith) .basis .index .long ∙ sym (started (squared (l .before)) .pre .0 .held .index .long)
+
+returns-3 : tie.Need-returns-3 Inv-loop μ-loop
+returns-3 c =
+    let l = c .before .before .before .before .before .before .before .before .before .before .before .before .before .before .before .before .before .before .before .before .before in
+    let a = squared (l .before) in
+    let p = started a .pre in
+    let i = l .loop .inv .1 in
+    starting-then _ _ _ _ _ (p .0) _ _ (p .1) _ (a .before .before .before .before .before .adding-bases .ensures) _ _ _ (a .add-squares .ensures) (l .before .if1 .left) _ _ _ _
+    (running-last _ _ _ _ _ _ _ _ _ _ i (c .before .before .before .before .before .before .before .before .before .before .before .before .before .before .before .before .before .before .before .if2 .taken) _ _ _ _ _ _ (c .before .before .before .before .before .before .before .before .before .before .before .before .before .round .ensures _ (sym (i .adding))) (c .before .before .before .before .if3 .left) _ (c .before .before .total2 .ensures) (c .before .if4 .taken) (eqb-true _ _ (c .if5 .taken)))
 
 loop-less : tie.Need-loop-less Inv-loop μ-loop
 loop-less c = search needs
 
 loop-again : tie.Need-loop-again Inv-loop μ-loop
 loop-again c =
-    let l = c .before .before .before .before .before .before .before .before .before .before .before .before .before .before .before in
-    let s = started l in
-    let b = c .before .before .before .before .before .before .before .before .before .before .before .before .before .before .loop-test .taken in
-    (omega arith, between-more (s .args .support .rule) (s .args .support .most) (s .args .keys .now) (s .args .sizes .now) (s .args .exponents .now) (s .args .counts .now) _ _ _ _ _ _ _ _ _ (l .loop .inv .1) (omega (arith, l .before .before .smaller .ensures)) _ _ _ _ (c .before .before .before .before .before .before .before .before .before .round .ensures) (sym (c .before .is-last .ensures) ∙ c .if1 .left))
+    let l = c .before .before .before .before .before .before .before .before .before .before .before .before .before .before .before .before .before .before .before .before in
+    let i = l .loop .inv .1 in (
+      c .before .before .before .before .before .before .before .before .before .before .before .before .round .kept .1 .1 .1 .0 ∙ l .loop .inv .0,
+      (running-more _ _ _ _ _ _ _ _ _ _ i (c .before .before .before .before .before .before .before .before .before .before .before .before .before .before .before .before .before .before .if2 .taken) _ _ _ _ _ _ (c .before .before .before .before .before .before .before .before .before .before .before .before .round .ensures _ (sym (i .adding))) (c .before .before .before .if3 .left) _ (c .before .total2 .ensures) (⊎-elim (λ w e f. eqb-false _ _ (w .1 .left) f) (λ w e f. w .left e) (c .if4 .came))),
+    )
 
-same-length-3 : tie.Need-same-length-3 Inv-loop μ-loop
-same-length-3 c = c .before .before .loop .inv .1 .long
+same-length-11 : tie.Need-same-length-11 Inv-loop μ-loop
+same-length-11 c = let l = c .before .before in l .loop .inv .1 .asks .ready .long ∙ sym (started (squared (l .before)) .pre .1 .single .long)
 
-same-length-4 : tie.Need-same-length-4 Inv-loop μ-loop
-same-length-4 c = let l = c .before .before in l .loop .inv .1 .asks .extending .joining .index .long ∙ sym (started l .pre .0 .asks .extending .joining .index .long)
+same-length-12 : tie.Need-same-length-12 Inv-loop μ-loop
+same-length-12 c = let l = c .before .before in l .loop .inv .0
 
-returns-2 : tie.Need-returns-2 Inv-loop μ-loop
-returns-2 c =
+same-length-13 : tie.Need-same-length-13 Inv-loop μ-loop
+same-length-13 c = let l = c .before .before in l .loop .inv .1 .stored .grown .long ∙ squared (l .before) .add-squares .ensures .grown .long
+
+same-length-14 : tie.Need-same-length-14 Inv-loop μ-loop
+same-length-14 c = let l = c .before .before in l .loop .inv .1 .asks .ready .at 0 (omega arith) .basis .index .long ∙ sym (started (squared (l .before)) .pre .0 .held .index .long)
+
+returns-4 : tie.Need-returns-4 Inv-loop μ-loop
+returns-4 c =
     let l = c .before .before in
-    let s = started l in
-    let b = l .loop .inv .1 in
-    let most = s .args .support .most in
-    let apart : (eqb (l .loop .rounds) most ≡ false) → l .loop .rounds ≢ most = λ e. eqb-false _ most e in
-    record {
-      done = λ e. between-out (s .args .support .rule) most (s .args .keys .now) (s .args .sizes .now) (s .args .exponents .now) (s .args .counts .now) _ _ _ _ _ _ _ _ _ b (omega (arith, eqb-true _ most e));
-      left = λ _. b;
-      made = λ e. omega (arith, c .before .loop-test .left, l .loop .inv .0, l .before .before .smaller .ensures, apart e);
-      more = λ e. omega (arith, c .before .loop-test .left, l .loop .inv .0, l .before .before .smaller .ensures, apart e);
-    }
+    let a = squared (l .before) in
+    let p = started a .pre in
+    let i = l .loop .inv .1 in
+    starting-then _ _ _ _ _ (p .0) _ _ (p .1) _ (a .before .before .before .before .before .adding-bases .ensures) _ _ _ (a .add-squares .ensures) (l .before .if1 .left) _ _ _ _
+    (running-out _ _ _ _ _ _ _ _ _ _ i (c .if2 .left) (p .0 .some))
 
 pub run-spec : {M : Type 1} → statement M
 run-spec =
@@ -107,20 +147,30 @@ run-spec =
     (tie.spec
     Inv-loop
     μ-loop
-    smaller-requires
-    loop-holds
-    slice-aggregate-round
-    slice-aggregate-round-2
-    round-requires
-    add-rounds
-    slice-aggregate-is-last
-    slice-aggregate-is-last-2
-    is-last-requires
+    adding-bases-requires
+    total-requires
+    add-squares-requires
     same-length
     same-length-2
     returns
-    loop-less
-    loop-again
+    loop-holds
+    round-requires
+    add-rounds
     same-length-3
     same-length-4
-    returns-2)
+    same-length-5
+    same-length-6
+    returns-2
+    total-requires-2
+    same-length-7
+    same-length-8
+    same-length-9
+    same-length-10
+    returns-3
+    loop-less
+    loop-again
+    same-length-11
+    same-length-12
+    same-length-13
+    same-length-14
+    returns-4)

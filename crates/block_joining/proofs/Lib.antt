@@ -1,0 +1,12 @@
+pub mod Growing
+pub mod Grew
+pub mod Merged
+pub mod Places
+pub mod Told
+pub mod Pairs
+pub mod Going
+pub mod Walking
+pub mod Latest
+pub mod InRows
+pub mod Adding
+pub mod Splicing

@@ -1,0 +1,87 @@
+-- `block_joining::note_slots` meets its contract: the slots of the exponents before i are written.
+use borrow.Author.Needs.{needs}
+use native.Mathlib.Omega.{arith}
+use mathlib.Core.Path.{_∙_}
+use Prim.Native.Nat.{ℕ, _-_, _%_, _≤_}
+use lib.ListN.{length, getD}
+use Rattle.key_set.specs.Table.{divisor}
+use Rattle.block_joining.proofs.Pairs.{Written, written-start, written-next}
+use Rattle.block_joining.proofs.note_slots.Statement.{statement}
+use Rattle.block_joining.proofs.note_slots.Tie as tie
+
+abbrev Inv-loop : tie.InvT-loop
+Inv-loop pairs₀ exponents i₀ pairs i = (i ≤ length exponents) × Written 6144 (λ (j : ℕ). getD exponents j 0 % divisor) pairs₀ i pairs
+
+abbrev μ-loop : tie.MeasureT-loop
+μ-loop pairs₀ exponents i₀ pairs i = length exponents - i
+
+abbrev at-start : tie.At-loop Inv-loop μ-loop → tie.Start Inv-loop μ-loop
+at-start l = l .before .before .before
+
+loop-holds : tie.Need-loop-holds Inv-loop μ-loop
+loop-holds c = (omega arith, written-start _ _ _)
+
+mul-slot : tie.Need-mul-slot Inv-loop μ-loop
+mul-slot c = search needs
+
+shared-slice-read-slot : tie.Need-shared-slice-read-slot Inv-loop μ-loop
+shared-slice-read-slot c = search needs
+
+slot-requires : tie.Need-slot-requires Inv-loop μ-loop
+slot-requires c κs = search needs
+
+cast-pairs : tie.Need-cast-pairs Inv-loop μ-loop
+cast-pairs c = omega (arith, c .slot .ensures)
+
+add-pairs : tie.Need-add-pairs Inv-loop μ-loop
+add-pairs c = let l = c .before .before .before in omega (arith, at-start l .pre .1, c .before .before .loop-test .taken)
+
+mul-pairs : tie.Need-mul-pairs Inv-loop μ-loop
+mul-pairs c = let l = c .before .before .before in omega (arith, at-start l .pre .1, c .before .before .loop-test .taken)
+
+slice-write-pairs : tie.Need-slice-write-pairs Inv-loop μ-loop
+slice-write-pairs c =
+    let l = c .before .before .before in
+    omega (arith, at-start l .pre .1, c .before .before .loop-test .taken, l .loop .inv .1 .long, at-start l .pre .0 .long)
+
+add-i : tie.Need-add-i Inv-loop μ-loop
+add-i c = search needs
+
+loop-less : tie.Need-loop-less Inv-loop μ-loop
+loop-less c = search needs
+
+loop-again : tie.Need-loop-again Inv-loop μ-loop
+loop-again c =
+    let l = c .before .before .before in
+    let h = c .before .before .loop-test .taken in
+    let p = at-start l .pre in
+    (omega (arith, h), written-next _ _ _ _ _ (l .loop .inv .1) (omega (arith, p .1, h, p .0 .long)) _ (c .slot .ensures))
+
+same-length : tie.Need-same-length Inv-loop μ-loop
+same-length c = c .before .loop .inv .1 .long
+
+returns : tie.Need-returns Inv-loop μ-loop
+returns c =
+    let l = c .before in
+    let w = l .loop .inv .1 in
+    (record { long = w .long ∙ at-start l .pre .0 .long; at = λ j h. w .at j (omega (arith, h, c .loop-test .left)) }, λ q h. w .before q h ∙ at-start l .pre .0 .zero q)
+
+pub note-slots-spec : {M : Type 1} → statement M
+note-slots-spec =
+    tie.close
+    (tie.spec
+    Inv-loop
+    μ-loop
+    loop-holds
+    mul-slot
+    shared-slice-read-slot
+    slot-requires
+    cast-pairs
+    add-pairs
+    mul-pairs
+    slice-write-pairs
+    add-i
+    loop-less
+    loop-again
+    same-length
+    returns)

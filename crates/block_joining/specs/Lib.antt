@@ -1,0 +1,4 @@
+pub mod Limits
+pub mod Pairs
+pub mod Adding
+pub mod Standing

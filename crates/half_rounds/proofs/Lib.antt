@@ -1,4 +1,0 @@
-pub mod Growth
-pub mod Sums
-pub mod Loops
-pub mod Ruled

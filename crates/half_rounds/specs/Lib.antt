@@ -1,4 +1,0 @@
-pub mod Limits
-pub mod Filled
-pub mod Sums
-pub mod Ruled

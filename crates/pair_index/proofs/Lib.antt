@@ -1,4 +1,0 @@
-pub mod Joins
-pub mod Index
-pub mod Walk
-pub mod Fresh

@@ -1,0 +1,14 @@
+pub mod Crossing
+pub mod Added
+pub mod Walks
+pub mod Lists
+pub mod Merging
+pub mod Between
+pub mod Sums
+pub mod Bits
+pub mod Ending
+pub mod Joins
+pub mod Fresh
+pub mod Rows
+pub mod Walk
+pub mod Fits

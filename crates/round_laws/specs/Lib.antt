@@ -1,0 +1,4 @@
+pub mod Added
+pub mod Lists
+pub mod Joins
+pub mod Fits
