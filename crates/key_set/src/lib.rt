@@ -116,6 +116,7 @@ pub fn put_at(table: &mut [u64], index: &mut [u16], len: usize, key: u64, at: us
     }
 }
 
+// The same for any key.
 pub fn put(table: &mut [u64], index: &mut [u16], len: usize, key: u64) -> usize
     requires { ⌜ Holds (now table) len × Indexed (now index) (now table) len ⌝ }
     ensures { λ r. ⌜
