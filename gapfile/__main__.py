@@ -1,6 +1,6 @@
 """`python3 -m gapfile`."""
 import sys
 
-from .command import main
+from .start import start
 
-sys.exit(main())
+sys.exit(start())

@@ -2,7 +2,6 @@
 from __future__ import annotations
 
 from itertools import combinations_with_replacement
-from typing import Iterable
 
 from .blocks import by_basis, compared_keys
 from .commands import Monomial, ONE, add
@@ -10,10 +9,9 @@ from .decimals import counted
 from .polynomials import degree
 from .problem import LimitError, encode_problem
 from .programs import Blocks, blocks_call
-from .reading import KEYS, LIMITS, Problem, Refusal
+from .reading import KEYS, Problem, Refusal
 
 Pruned = set[tuple[int, int]]        # pairs of a basis and an index
-ROWS_OF_A_PIVOT = 3                  # the fewest with which a pivot of basis 0 is rounded well
 
 
 def monomials(variables: int, upto: int) -> list[Monomial]:
@@ -29,20 +27,6 @@ def least_degree(problem: Problem) -> int:
     """The least even degree of a certificate."""
     highest = max([degree(problem.objective)] + [degree(c.terms) for c in problem.conditions])
     return max(2, highest + highest % 2)
-
-
-def by_degree(problem: Problem, total: int) -> None:
-    """Gives the problem its bases: those of which no product goes above the total degree. Raises LimitError."""
-    if total < least_degree(problem):
-        raise LimitError(f"degree {total} is below {least_degree(problem)}, the degree of the polynomials")
-    problem.bases = [monomials(problem.variables, total // 2)]
-    for condition in problem.conditions:
-        problem.bases.append(monomials(problem.variables, (total - degree(condition.terms)) // 2))
-    problem.bases[0] = drop(problem)
-    for j, basis in enumerate(problem.bases):
-        if len(basis) > LIMITS["basis"]:
-            raise LimitError(f"basis {j} of degree {total // 2} has {len(basis)} monomials, more than "
-                             f"{LIMITS['basis']}; take fewer variables or a lower degree")
 
 
 def drop(problem: Problem) -> list[Monomial]:
@@ -101,18 +85,8 @@ def find_blocks(problem: Problem) -> Blocks:
     return found
 
 
-def rows_needed(sizes: Iterable[int]) -> int:
-    """The fewest rows of basis 0 for blocks of these sizes: three for a pivot with later ones, two for a last one."""
-    return sum(ROWS_OF_A_PIVOT * (size - 1) + 2 for size in sizes)
-
-
-def check_limits(problem: Problem, found: Blocks) -> str:
-    """The sentence on sizes; raises LimitError where the rows are estimated not to suffice."""
-    sizes = [len(ix) for ix in by_basis(problem, found)[0]]
-    rows = rows_needed(sizes)
-    if rows > LIMITS["rows"]:
-        raise LimitError(f"basis 0 alone needs about {rows} rows of {LIMITS['rows']} (blocks of "
-                         f"{', '.join(map(str, sorted(sizes, reverse=True)))}); take fewer variables or a lower degree")
-    return (f"basis 0 has {counted(sum(sizes), 'monomial')} in {counted(len(sizes), 'block')}, the largest of "
-            f"{max(sizes, default=0)}; {compared_keys(problem, found)} of {KEYS:,} keys; "
-            f"at least {rows} of {LIMITS['rows']} rows")
+def sizes(problem: Problem, found: Blocks) -> str:
+    """The sentence on sizes."""
+    parts = [len(ix) for ix in by_basis(problem, found)[0]]
+    return (f"basis 0 has {counted(sum(parts), 'monomial')} in {counted(len(parts), 'block')}, the largest of "
+            f"{max(parts, default=0)}; {compared_keys(problem, found)} of {KEYS:,} keys")

@@ -1,24 +1,34 @@
-"""The command line: arguments, files and exit statuses.
+"""The command line: arguments, what is asked of whom, and exit statuses (statuses.py has them).
 
-0 accepted or done, 1 refused, 2 usage, file or a model beyond a limit, 3 no certificate found.
+A command does its work, writes its files, and only then prints; so a reader who closes the pipe loses nothing.
 """
 from __future__ import annotations
 
 import argparse
 import json
+import os
 import sys
+import traceback
 from fractions import Fraction
 from pathlib import Path
-from typing import Any, Optional, Sequence
+from typing import Callable, Optional, Sequence
 
-from . import blocks, exact, picture, programs
+from . import VERSION, blocks, picture, programs
 from .commands import Kind, kind_of
 from .decimals import decimal, digits_for, fraction, is_exact
 from .explain import explain, explain_empty
-from .making import DONE, REFUSED, USAGE, add_commands
-from .progress import Progress, Say
-from .reading import Problem, Refusal, Refused, read_problem
-from .text import DEFAULT_NAMES, NAME, TextError, decode, encode, refusal_of
+from .figures import filed_figures, quoted_lines, stream_lines
+from .inputs import PATHS, beside, names_of, read, streams_of
+from .making import add_commands, figures_data
+from .manifest import NAME_OF_FILE, read_manifest
+from .outcome import Outcome
+from .progress import PATIENCE, Progress, Say, complain
+from .reading import Problem, Refusal, read_problem
+from .statuses import DISAGREE, DONE, REFUSED, STATUSES, UsageError, status_of
+from .text import DEFAULT_NAMES, TextError, decode, encode, refusal_of
+from .theorem.command import add_theorem
+from .verifying import second_opinion, verify
+from .writing import MODEL, write_file
 
 EXAMPLES = {
     "decode": "gapfile decode examples/ex5_5/problem.bin examples/ex5_5/low.bin",
@@ -28,58 +38,13 @@ EXAMPLES = {
     "blocks": "gapfile blocks examples/ex5_5/problem.bin --svg blocks.svg",
     "solve": "gapfile solve examples/two_decks.gap -o two_decks",
     "file": "gapfile file examples/two_decks.gap -o two_decks",
+    "verify": "gapfile verify two_decks",
+    "theorem": "gapfile theorem two_decks --check",
 }
-PATHS = "a folder, three files, or a problem and one certificate"
-STATUSES = ("Exit status: 0 accepted or done, 1 refused, 2 usage, file or a model beyond a limit, "
-            "3 no certificate found.")
 
 
-class UsageError(Exception):
-    """A wrong argument or a file that cannot be read."""
-
-
-def read(path: str) -> bytes:
-    try:
-        return Path(path).read_bytes()
-    except OSError as error:
-        raise UsageError(f"{path}: {error.strerror}") from None
-
-
-def names_of(text: Optional[str]) -> Optional[list[str]]:
-    if text is None:
-        return None
-    names = text.replace(",", " ").split()
-    if not all(NAME.fullmatch(n) for n in names) or len(set(names)) != len(names) or not 1 <= len(names) <= 8:
-        raise UsageError("--names takes 1 to 8 different names, with commas between them")
-    return names
-
-
-def streams_of(paths: Sequence[str]) -> tuple[bytes, bytes, Optional[bytes]]:
-    """Problem, first and second certificate from a folder, from three files, or from a problem and one certificate."""
-    if len(paths) == 1:
-        if not Path(paths[0]).is_dir():
-            raise UsageError(f"{paths[0]} is no folder; give {PATHS}")
-        paths = [str(Path(paths[0]) / name) for name in ("problem.bin", "low.bin", "high.bin")]
-    if len(paths) not in (2, 3):
-        raise UsageError(f"give {PATHS}")
-    found = [read(path) for path in paths]
-    return found[0], found[1], found[2] if len(found) == 3 else None
-
-
-def manifest_in(paths: Sequence[str]) -> dict[str, Any]:
-    """The manifest of a folder that `solve` or `file` wrote; empty where there is none."""
-    file = Path(paths[0]) / "manifest.json"
-    if len(paths) != 1 or not file.exists():
-        return {}
-    try:
-        found = json.loads(file.read_text(encoding="utf-8"))
-        return found if isinstance(found, dict) else {}
-    except ValueError:
-        return {}
-
-
-def run_decode(arguments: argparse.Namespace, say: Say) -> int:
-    status, names = DONE, names_of(arguments.names)
+def run_decode(arguments: argparse.Namespace, say: Say) -> Outcome:
+    out, names = Outcome(DONE), names_of(arguments.names)
     problem: Optional[Problem] = None
     for path in ([arguments.problem] if arguments.problem else []) + arguments.files:
         say(f"reading {path}")
@@ -97,20 +62,22 @@ def run_decode(arguments: argparse.Namespace, say: Say) -> int:
                 raise UsageError(said)
             continue
         if len(arguments.files) > 1:
-            print(f"# {path}")
-        sys.stdout.write(decoded.text())
+            out.lines.append(f"# {path}")
+        out.lines += decoded.text().splitlines()
         if refusal:
-            status = REFUSED
-            print(said, file=sys.stderr)
-    return status
+            out.status = REFUSED
+            out.errors.append(said)
+    return out
 
 
-def run_encode(arguments: argparse.Namespace, say: Say) -> int:
+def run_encode(arguments: argparse.Namespace, say: Say) -> Outcome:
     if arguments.output and len(arguments.files) != 1:
         raise UsageError("-o goes with one file")
-    status = DONE
+    out = Outcome(DONE)
     for path in arguments.files:
         say(f"reading {path}")
+        if path == "-" and not arguments.output:
+            raise UsageError("-o names the file for what standard input says")
         target = Path(arguments.output) if arguments.output else Path(path).with_suffix(".bin")
         if target == Path(path):
             raise UsageError(f"{path} would be written over; name another file with -o")
@@ -118,29 +85,28 @@ def run_encode(arguments: argparse.Namespace, say: Say) -> int:
             stream, numbers = encode(read(path).decode("utf-8", "replace"))
         except TextError as error:
             raise UsageError(f"{path}: {error}") from None
-        target.write_bytes(stream)
+        write_file(target, stream)
         refusal = refusal_of(stream, kind_of(stream))
         if refusal:
-            status = REFUSED
+            out.status = REFUSED
             line, _ = decode(stream, kind=kind_of(stream)).line_at(refusal.place)
             where = f"line {numbers[line - 1]}" if refusal.place < len(stream) and line <= len(numbers) else "the end"
-            print(f"{path}: {target} is written, and it will be refused: {where}: refusal {refusal.number}: "
-                  f"{refusal.why}", file=sys.stderr)
-    return status
+            out.errors.append(f"{path}: {target} is written, and it will be refused: {where}: refusal "
+                              f"{refusal.number}: {refusal.why}")
+    return out
 
 
-def bound_lines(verdict: programs.Verdict, factor: int = 1) -> list[str]:
-    """The bounds and the gap, divided by a factor, reduced and in decimals, rounded outward."""
-    gap = None if verdict.gap is None else verdict.gap / factor
+def bound_lines(verdict: programs.Verdict) -> list[str]:
+    """The stream's bounds and gap, reduced and in decimals, rounded outward."""
+    gap = verdict.gap
     digits = digits_for(gap or Fraction(0))
     lines = []
     for word, value, up in (("lower", verdict.lower, False), ("upper", verdict.upper, True), ("gap", gap, True)):
         if value is not None:
-            value = value if word == "gap" else value / factor
             note = "" if is_exact(value, digits) else f" (rounded {'up' if up else 'down'})"
             lines.append(f"{word:<6} {fraction(value)} = {decimal(value, up, digits)}{note}")
     if verdict.empty:
-        lines.append("gap    empty: the bounds cross, so no rational point meets all the conditions")
+        lines.append("gap    empty: the bounds cross, so no point meets all the conditions")
     return lines
 
 
@@ -150,89 +116,109 @@ def ask(problem: bytes, low: bytes, high: Optional[bytes], say: Say) -> programs
     return programs.check_one(problem, low) if high is None else programs.gapcheck(problem, low, high)
 
 
-def run_check(arguments: argparse.Namespace, say: Say) -> int:
+def run_check(arguments: argparse.Namespace, say: Say) -> Outcome:
     problem, low, high = streams_of(arguments.paths)
     verdict = ask(problem, low, high, say)
-    lines = list(verdict.lines)
+    out = Outcome(DONE if verdict.accepted else REFUSED, list(verdict.lines),
+                  data={"accepted": verdict.accepted, "stream": {"lines": verdict.lines}})
     if verdict.accepted:
-        lines += bound_lines(verdict)
-        factor = manifest_in(arguments.paths).get("factor", 1)
-        if isinstance(factor, int) and factor > 1:
-            lines += [f"divided by the factor {factor} that the manifest records:", *bound_lines(verdict, factor)]
+        figures = high and filed_figures([problem, low, high], verdict, *(beside(arguments.paths, name)
+                                                                           for name in (NAME_OF_FILE, MODEL)))
+        if figures:
+            out.lines, out.data = quoted_lines(figures) + stream_lines(figures), figures_data(figures)
+        else:
+            out.lines += bound_lines(verdict)
+            if beside(arguments.paths, NAME_OF_FILE) is not None:
+                out.lines.append(f"there is no {MODEL}, with which the manifest could be checked: the figures are the "
+                                 "stream's")
     if arguments.second:
-        lines.append(second_opinion(problem, low, high, verdict, say))
-    print("\n".join(lines))
-    return DONE if verdict.accepted else REFUSED
+        say("asking a second implementation")
+        agrees, said = second_opinion(problem, low, high, verdict)
+        out.lines.append(said)
+        out.data["second"] = {"agrees": agrees, "said": said}
+        out.status = out.status if agrees else DISAGREE
+    return out
 
 
-def second_opinion(problem: bytes, low: bytes, high: Optional[bytes], verdict: programs.Verdict, say: Say) -> str:
-    """What a second implementation says; which one is said too."""
-    reference = programs.reference()
-    if reference:
-        who, command = "the reference", [str(reference), "replay"]
-        say(f"asking {who}")
-        lines = programs.check_one(problem, low, command).lines if high is None \
-            else programs.check_pair(problem, low, high, command)
-    else:
-        who = "this tool's plain check (the reference is not built)"
-        say(f"asking {who}")
-        lines = exact.check_lines(problem, low) if high is None else exact.pair(problem, low, high)
-    return f"second: {who} " + ("agrees" if lines == verdict.lines else "DISAGREES: " + "; ".join(lines))
-
-
-def run_explain(arguments: argparse.Namespace, say: Say) -> int:
+def run_explain(arguments: argparse.Namespace, say: Say) -> Outcome:
     problem, low, high = streams_of(arguments.paths)
     verdict = ask(problem, low, high, say)
-    recorded = [v["in the stream"] for v in manifest_in(arguments.paths).get("variables", [])]
-    names = names_of(arguments.names) or recorded or DEFAULT_NAMES
+    names = names_of(arguments.names) or recorded_names(arguments.paths) or DEFAULT_NAMES
     say("looking for the reason")
     if verdict.refusal:
-        print("\n".join(explain(verdict.refusal, problem, low, high or b"", names)))
-        return REFUSED
-    lines = ["accepted: nothing to explain"]
-    if verdict.empty:
-        lines = explain_empty(verdict, problem, [low, high or b""], names)
-    print("\n".join(verdict.lines + lines))
-    return DONE
+        lines = explain(verdict.refusal, problem, low, high or b"", names, beside(arguments.paths, "SUMS"))
+    elif verdict.empty:
+        lines = verdict.lines + explain_empty(verdict, problem, [low, high or b""], names)
+    else:
+        lines = verdict.lines + ["accepted: nothing to explain"]
+    return Outcome(DONE if verdict.accepted else REFUSED, lines,
+                   data={"accepted": verdict.accepted, "stream": {"lines": verdict.lines}, "explained": lines})
 
 
-def run_blocks(arguments: argparse.Namespace, say: Say) -> int:
+def recorded_names(paths: Sequence[str]) -> Optional[list[str]]:
+    """The names of the stream's variables, where the folder has a manifest."""
+    found = beside(paths, NAME_OF_FILE)
+    return [v.inner for v in read_manifest(found).variables] if found is not None else None
+
+
+def run_verify(arguments: argparse.Namespace, say: Say) -> Outcome:
+    checks = verify(Path(arguments.folder), say)
+    return Outcome(checks.status, checks.lines, data={"holds": checks.status == DONE, "checks": checks.lines})
+
+
+def run_blocks(arguments: argparse.Namespace, say: Say) -> Outcome:
     stream = read(arguments.problem)
     say("asking the checker for the blocks")
     found = programs.blocks_call(stream)
     names = names_of(arguments.names) or DEFAULT_NAMES
     if isinstance(found, Refusal):
         say("looking for the reason")
-        print("\n".join(explain(found, stream, b"", b"", names)))
-        return REFUSED
+        return Outcome(REFUSED, explain(found, stream, b"", b"", names))
     problem = read_problem(stream)
     if len(names) < problem.variables:
         raise UsageError(f"{arguments.problem} has {problem.variables} variables, --names has {len(names)}")
     text = blocks.as_text(problem, found, names)
-    for path, form in ((arguments.json, blocks.as_json(problem, found, names)),
+    for path, form in ((arguments.json_file, blocks.as_json(problem, found, names)),
                        (arguments.svg, picture.as_svg(problem, found, names))):
         if path == "-":
             text = form
         elif path:
-            Path(path).write_text(form, encoding="utf-8")
-    sys.stdout.write(text)
-    return DONE
+            write_file(Path(path), form.encode())
+    return Outcome(DONE, text.splitlines())
 
 
 def parser() -> argparse.ArgumentParser:
     top = argparse.ArgumentParser(prog="gapfile", description="From a polynomial to a filed figure.", epilog=STATUSES)
+    top.add_argument("--version", action="version", version=f"gapfile {VERSION}")
     commands = top.add_subparsers(dest="command", required=True, metavar="COMMAND")
 
     def command(name: str, said: str) -> argparse.ArgumentParser:
-        return commands.add_parser(name, help=said, description=said[0].upper() + said[1:] + ".",
+        made = commands.add_parser(name, help=said, description=said[0].upper() + said[1:] + ".",
                                    formatter_class=argparse.RawDescriptionHelpFormatter,
                                    epilog=f"example: {EXAMPLES[name]}\n\n{STATUSES}")
+        made.add_argument("-q", "--quiet", action="store_true", help="print nothing but errors")
+        made.add_argument("-v", "--verbose", action="store_true", help="say every step at once, and at a fault of "
+                                                                       "gapfile where it happened")
+        if name in ("check", "explain", "file", "verify", "theorem"):
+            made.add_argument("--json", action="store_true", help="print JSON in the place of lines")
+        return made
 
+    _add_stream_commands(command)
+    add_commands(command)
+    made = command("verify", "compute everything in a filed folder again, and compare every figure")
+    made.add_argument("folder", metavar="DIR", help="a folder that `file` wrote")
+    made.set_defaults(run=run_verify)
+    add_theorem(command)
+    return top
+
+
+def _add_stream_commands(command: Callable[[str, str], argparse.ArgumentParser]) -> None:
+    """Adds the commands on streams."""
     def names(made: argparse.ArgumentParser) -> None:
         made.add_argument("--names", help="names for the variables, with commas between them")
 
     made = command("decode", "print the text form of streams, one line a command")
-    made.add_argument("files", nargs="+", metavar="FILE", help="a problem or a certificate")
+    made.add_argument("files", nargs="+", metavar="FILE", help="a problem or a certificate; - reads standard input")
     made.add_argument("--problem", metavar="FILE", help="the problem of the certificates, so that entries say their "
                                                         "monomials; a problem among the files before them does too")
     names(made)
@@ -252,25 +238,40 @@ def parser() -> argparse.ArgumentParser:
     made = command("blocks", "show the blocks of a problem, as the checker finds them")
     made.add_argument("problem", metavar="PROBLEM")
     names(made)
-    made.add_argument("--json", metavar="FILE", help="write them as JSON too; - prints it in the text's place")
+    made.add_argument("--json", metavar="FILE", dest="json_file", help="write them as JSON too; - prints it in the "
+                                                                       "text's place")
     made.add_argument("--svg", metavar="FILE", help="write a picture too; - prints it in the text's place")
     made.set_defaults(run=run_blocks)
-    add_commands(command)
-    return top
 
 
 def main(arguments: Optional[Sequence[str]] = None) -> int:
     options = parser().parse_args(arguments)
     try:
-        with Progress() as say:
-            status: int = options.run(options, say)
+        with Progress(None if options.quiet else 0.0 if options.verbose else PATIENCE) as say:
+            outcome: Outcome = options.run(options, say)
+        return tell(outcome, options)
+    except (Exception, KeyboardInterrupt) as error:
+        if options.verbose:
+            complain(traceback.format_exc().rstrip())
+        status, line = status_of(error)
+        complain(f"gapfile: {line}")
         return status
-    except (UsageError, programs.ProgramError) as error:
-        print(f"gapfile: {error}", file=sys.stderr)
+
+
+def tell(outcome: Outcome, options: argparse.Namespace) -> int:
+    """Prints what a command has to say. Its work is done: a reader who closes the pipe does not change its status."""
+    for line in outcome.errors:
+        complain(line)
+    if options.quiet or not sys.stdout:
+        return outcome.status
+    text = "\n".join(outcome.lines)
+    if getattr(options, "json", False):
+        text = json.dumps({"gapfile": VERSION, "command": options.command, "status": outcome.status, **outcome.data},
+                          indent=2, ensure_ascii=False)
+    try:
+        print(text, flush=True)
     except BrokenPipeError:
-        return DONE
+        os.dup2(os.open(os.devnull, os.O_WRONLY), sys.stdout.fileno())       # so that nothing is tried again at exit
     except OSError as error:
-        print(f"gapfile: {error.filename}: {error.strerror}", file=sys.stderr)
-    except Refused as refused:
-        print(f"gapfile: gapcheck reads what this tool refuses: {refused}: {refused.refusal.why}", file=sys.stderr)
-    return USAGE
+        raise UsageError(f"standard output: {error.strerror}; what was to be written is written") from None
+    return outcome.status

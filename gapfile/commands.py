@@ -47,6 +47,10 @@ class Layout:
         return self.widths.index("E") if "E" in self.widths else None
 
 
+class WidthError(ValueError):
+    """A number that does not fit the width of its operand."""
+
+
 class Command(NamedTuple):
     """A whole command at its place in a stream: its numbers in their order, its monomial, its note."""
     place: int
@@ -76,6 +80,12 @@ CERTIFICATE = {layout.byte: layout for layout in (
     Layout(0x15, "wide", ("u8", "i32")),
     Layout(0x40, "note", ("note",)),
 )}
+OPERANDS = {
+    "variables": ("number of variables",), "objective": ("coefficient",), "term": ("coefficient",), "basis": ("basis",),
+    "rule": ("rule",), "order": ("order",),
+    "bound": ("side", "D", "p", "q"), "row": ("basis", "weight"), "signed": ("basis", "weight"),
+    "entry": ("index", "factor"), "wide": ("index", "factor"),
+}
 TABLE = {Kind.PROBLEM: PROBLEM, Kind.CERTIFICATE: CERTIFICATE}
 BOTH = {**PROBLEM, **CERTIFICATE}       # no byte is a command of both
 
@@ -103,9 +113,17 @@ def read_command(stream: bytes, place: int, layout: Layout) -> Command:
 
 
 def write_command(layout: Layout, numbers: tuple[int, ...] = (), monomial: Monomial = ONE, note: bytes = b"") -> bytes:
-    """The bytes of a command whose operands fit their widths."""
+    """The bytes of a command. This is the one place where widths are checked: raises WidthError, with the operand's
+    name."""
     if layout.widths == ("note",):
+        if len(note) != 8:
+            raise WidthError(f"expected 8 bytes, found {len(note)}")
         return bytes([layout.byte]) + note
+    for width, number, operand in zip(layout.numbers, numbers, OPERANDS.get(layout.word, ())):
+        if not fits(width, number):
+            raise WidthError(f"the {operand} {number} does not fit {width}")
+    if layout.exponents is not None and not all(0 <= x < 256 for x in monomial):
+        raise WidthError(f"an exponent of {monomial} is above 255")
     at = layout.exponents
     values = numbers if at is None else numbers[:at] + monomial + numbers[at:]
     return bytes([layout.byte]) + layout.form.pack(*values)

@@ -3,7 +3,7 @@ from __future__ import annotations
 
 from fractions import Fraction
 
-DIGITS = 6
+DIGITS, MOST_DIGITS = 6, 9
 
 
 def decimal(value: Fraction, up: bool, digits: int = DIGITS) -> str:
@@ -20,12 +20,15 @@ def is_exact(value: Fraction, digits: int = DIGITS) -> bool:
     return Fraction(value * 10 ** digits).denominator == 1
 
 
-def digits_for(gap: Fraction) -> int:
-    """How many digits the figures need: six, and more where the gap is small, so that it keeps four of them."""
+def digits_for(gap: Fraction, *values: Fraction) -> int:
+    """How many digits the figures need: six; more where the gap is small, so that it keeps four of them; and up to nine
+    where the values have more."""
     digits = DIGITS
     while 0 < gap * 10 ** (digits - 3) < 1:
         digits += 1
-    return digits
+    needed = max((len(str(value.denominator - 1)) for value in values if value.denominator > 1), default=0)
+    exact = next((d for d in range(DIGITS, MOST_DIGITS) if all(is_exact(value, d) for value in values)), MOST_DIGITS)
+    return max(digits, min(needed, exact)) if values else digits
 
 
 def fraction(value: Fraction) -> str:

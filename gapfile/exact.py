@@ -6,7 +6,7 @@ from __future__ import annotations
 
 from dataclasses import dataclass
 
-from .commands import Monomial, ONE, add, key, monomial_of_key
+from .commands import Monomial, ONE, key, monomial_of_key
 from .reading import KEYS, Certificate, Problem, Refusal, Refused, read_certificate, read_problem
 
 

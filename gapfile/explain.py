@@ -2,14 +2,18 @@
 empty gap means."""
 from __future__ import annotations
 
+import hashlib
+from fractions import Fraction
 from typing import Optional
 
-from .commands import TABLE, Kind, Monomial, key, monomial_of_key, monomial_text, polynomial_text
+from .commands import (ONE, TABLE, Kind, Monomial, fits, key, kind_of, monomial_of_key, monomial_text,
+                       polynomial_text)
 from .decimals import counted, fraction
-from .exact import closure, differences, products
+from .exact import closure, differences, left_side, products, right_side
 from .programs import Verdict, blocks_call
 from .reading import KEYS, Certificate, Problem, Refusal, read_certificate, read_problem
 from .text import DEFAULT_NAMES, Decoded, decode, refusal_of
+from .writing import STREAMS as FILES
 
 RULES = {
     1: "a lent table is too short",
@@ -24,29 +28,84 @@ RULES = {
     10: "the first certificate is no lower bound, or the second no upper one",
 }
 STREAMS = ("the problem", "the first certificate", "the second certificate")
+ADVICE = {
+    1: "what to do: lend tables of the lengths that include/zamiachisel.h names; the streams were not looked at",
+    2: "what to do: copy the file again from where it was made, its end is not what it was; `gapfile decode FILE` "
+       "shows it up to here",
+    3: "what to do: see with `gapfile decode FILE` what stands before it; a byte changed there, or the command is one "
+       "that this place does not have",
+    4: "what to do: correct this operand in the text that `gapfile decode FILE` prints, and `gapfile encode` it; or "
+       "make the certificate for this very problem",
+    5: "what to do: join the two terms, or leave the second one out, in the text that `gapfile decode FILE` prints; "
+       "indices of a row rise",
+    6: "what to do: leave some out; for a model of your own take fewer terms, variables or conditions, or a lower "
+       "degree",
+    7: "what to do: take smaller bases, first where most come from nowhere else",
+    8: "what to do: split the row by blocks; `gapfile blocks` shows them all",
+    9: "what to do: see with `gapfile decode --problem PROBLEM FILE` which rows reach these monomials; a certificate "
+       "that `gapfile file` makes of the model anew has none",
+    10: "what to do: the first must say `lower` and the second `upper`: exchange the files, or find the missing one",
+}
+OTHER = 0.5                      # where more of the monomials differ, the certificate is likely one of another problem
 
 
-def explain(refusal: Refusal, problem_stream: bytes, low: bytes, high: bytes,
-            names: Optional[list[str]] = None) -> list[str]:
-    """Lines on a refusal that the checker gave for these bytes."""
+def explain(refusal: Refusal, problem_stream: bytes, low: bytes, high: bytes, names: Optional[list[str]] = None,
+            sums: Optional[bytes] = None) -> list[str]:
+    """Lines on a refusal that the checker gave for these bytes; the last one says what to do."""
     names = names or DEFAULT_NAMES
-    stream = (problem_stream, low, high)[refusal.stream]
+    streams = (problem_stream, low, high)
     lines = [refusal.line(), f"{RULES.get(refusal.number, 'unknown refusal')}, in {STREAMS[refusal.stream]}"]
+    lines += _seen(refusal, streams, names) + exchanged(streams) + changed(streams, sums)
+    return lines + [ADVICE.get(refusal.number, "what to do: ask for the gapfile of this gapcheck")]
+
+
+def _seen(refusal: Refusal, streams: tuple[bytes, bytes, bytes], names: list[str]) -> list[str]:
+    """What can be seen at the place of a refusal."""
+    problem_stream, stream = streams[0], streams[refusal.stream]
+    if refusal.number == 1:
+        return []
     if refusal.number <= 6:
-        return lines + _place(refusal, stream, problem_stream, names)
+        return _place(refusal, stream, problem_stream, names)
     problem = read_problem(problem_stream)
     if refusal.number == 7:
-        return lines + count_by_basis(problem)
+        return count_by_basis(problem)
     decoded = decode(stream, names, problem, Kind.CERTIFICATE)
     if refusal.number == 10:
-        return lines + [_line(decoded, 0), "the first must say `lower` and the second `upper`: exchange the files, "
-                                           "or find the missing one"]
+        return [_line(decoded, 0)]
     certificate = read_certificate(stream, problem, refusal.stream)
     if refusal.number == 8:
-        return lines + _row(refusal, problem, problem_stream, certificate, decoded, names)
+        return _row(refusal, problem, problem_stream, certificate, decoded, names)
     first = monomial_text(monomial_of_key(refusal.key), names)
-    return lines + [_line(decoded, 0), f"the smallest key that differs is {refusal.key}, that of {first}",
-                    *identity(problem, certificate, names)]
+    return [_line(decoded, 0), f"the smallest key that differs is {refusal.key}, that of {first}",
+            *identity(problem, certificate, names)]
+
+
+def exchanged(streams: tuple[bytes, bytes, bytes]) -> list[str]:
+    """Whether the files stand in each other's places, by their first bytes."""
+    kinds = [kind_of(stream) if stream else None for stream in streams]
+    if kinds[0] is Kind.CERTIFICATE:
+        where = [name for name, kind in zip(STREAMS[1:], kinds[1:]) if kind is Kind.PROBLEM]
+        return [f"the problem begins as a certificate does{', and ' + where[0] + ' as a problem' if where else ''}: "
+                "the files are exchanged"]
+    for name, kind in zip(STREAMS[1:], kinds[1:]):
+        if kind is Kind.PROBLEM:
+            return [f"{name} begins as a problem does: the files are exchanged"]
+    if streams[1] and streams[1] == streams[2]:
+        return ["both certificates are the same file"]
+    if [stream[:2] for stream in streams[1:]] == [b"\x10\x01", b"\x10\x00"]:
+        return ["the first certificate states an upper bound and the second a lower one: the files are exchanged"]
+    return []
+
+
+def changed(streams: tuple[bytes, bytes, bytes], sums: Optional[bytes]) -> list[str]:
+    """Which of the files are not those that SUMS beside them lists."""
+    if sums is None:
+        return []
+    listed = sums.decode("utf-8", "replace").split()
+    wrong = [name for name, stream in zip(FILES, streams) if hashlib.sha256(stream).hexdigest() not in listed]
+    if not wrong:
+        return ["all three files are those that SUMS lists"]
+    return [f"{name} is not the file that SUMS lists: it was changed, or is of another filing" for name in wrong]
 
 
 def _line(decoded: Decoded, place: int) -> str:
@@ -63,7 +122,7 @@ def explain_empty(verdict: Verdict, problem_stream: bytes, streams: list[bytes],
     problem = read_problem(problem_stream)
     rows = [row for number, stream in enumerate(streams, 1) for row in read_certificate(stream, problem, number).rows]
     low, high = fraction(verdict.lower), fraction(verdict.upper)
-    lines = [f"accepted, and the bounds cross: at least {low} and at most {high}, so no rational point meets all the "
+    lines = [f"accepted, and the bounds cross: at least {low} and at most {high}, so no point meets all the "
              "conditions", "those with rows contradict each other:"]
     for j in sorted({row.basis for row in rows if row.basis > 0}):
         condition = problem.conditions[j - 1]
@@ -103,7 +162,7 @@ def count_by_basis(problem: Problem) -> list[str]:
     for name, found in sets.items():
         others = set().union(*(s for n, s in sets.items() if n != name))
         lines.append(f"  {name}: {len(found)}, of them {len(found - others)} from nowhere else")
-    return lines + ["take smaller bases, first where most come from nowhere else"]
+    return lines
 
 
 def _row(refusal: Refusal, problem: Problem, problem_stream: bytes, certificate: Certificate, decoded: Decoded,
@@ -124,7 +183,7 @@ def _row(refusal: Refusal, problem: Problem, problem_stream: bytes, certificate:
     for number in sorted({numbers[i] for i in row.entries}):
         members = [monomial_text(b, names) for b, n in zip(basis, numbers) if n == number]
         lines.append(f"block {number} of basis {row.basis}: {'  '.join(members)}")
-    return lines + ["split the row by blocks; `gapfile blocks` shows them all"]
+    return lines
 
 
 def identity(problem: Problem, certificate: Certificate, names: list[str]) -> list[str]:
@@ -142,4 +201,21 @@ def identity(problem: Problem, certificate: Certificate, names: list[str]) -> li
         said = "  ".join(f"{word} {number:>{width}}" for word, number, width in columns)
         units = (wrong[e][1] - wrong[e][0]) / unit
         lines.append(f"  {text:<{wide[0]}}  {said}  ({units:.3g} in the objective's units)")
+    if order == [ONE]:
+        return lines + [proved_instead(problem, certificate, wrong[ONE][1])]
+    if len(order) > 2 and len(order) > OTHER * len({*left_side(problem, certificate),
+                                                    *right_side(problem, certificate)}):
+        lines.append("most monomials differ: this is likely a certificate of another problem")
     return lines
+
+
+def proved_instead(problem: Problem, certificate: Certificate, right: int) -> str:
+    """The bound that the rows prove, where only the constant differs: the left side has it in its constant alone."""
+    word, sign = ("upper", 1) if certificate.side else ("lower", -1)
+    bound = problem.objective.get(ONE, 0) + sign * Fraction(right, certificate.scale * certificate.q)
+    p = bound * certificate.q
+    if p.denominator == 1 and fits("i32", int(p)):
+        how = f"with `{word} {p}/{certificate.q} scale {certificate.scale}` as its first line it is accepted"
+    else:
+        how = "no p and q of its first line say that with this D"
+    return f"only the constant differs: these rows prove the {word} bound {fraction(bound)}; {how}"

@@ -3,7 +3,6 @@ back, in the model's."""
 from __future__ import annotations
 
 import re
-from dataclasses import dataclass
 from fractions import Fraction
 from html import escape
 from typing import Mapping
@@ -11,21 +10,11 @@ from typing import Mapping
 from .commands import Monomial, monomial_text
 from .decimals import decimal, fraction, is_exact
 from .polynomials import Polynomial, constant, ordered, plus, substitute, variable, whole
-from .problem import range_of
+from .ranges import range_of
 from .reading import Condition
+from .restating import Scaled
 
-
-@dataclass(frozen=True)
-class Scaled:
-    """A variable of the model: name = middle + half x (the stream's variable)."""
-    name: str
-    inner: str
-    middle: Fraction
-    half: Fraction
-
-    @property
-    def same(self) -> bool:
-        return self.name == self.inner and not self.middle and self.half == 1
+RAISED = str.maketrans("0123456789", "⁰¹²³⁴⁵⁶⁷⁸⁹")
 
 
 def minus(text: str) -> str:
@@ -58,9 +47,9 @@ def formula(terms: Mapping[Monomial, Fraction | int], names: list[str], room: in
 
 
 def _html(text: str) -> str:
-    """A term: names in italics, raised exponents, dots for products."""
+    """A term: names in italics, raised exponents, dots for products; a model may have all of these letters."""
     text = re.sub(r"[A-Za-z_]\w*", lambda m: f"<i>{m.group()}</i>", escape(text))
-    return re.sub(r"\^(\d+)", r"<sup>\1</sup>", text).replace("*", "·")
+    return re.sub(r"\^(\d+)", lambda m: m[1].translate(RAISED), text).replace("*", "·")
 
 
 def affine(v: Scaled) -> str:
@@ -82,10 +71,12 @@ def region(conditions: list[Condition], variables: list[Scaled], room: int) -> s
     ranges: dict[tuple[Fraction, Fraction], list[str]] = {}
     others = []
     for condition in conditions:
-        i = range_of(condition)
-        if i is not None:
+        found = range_of(condition)
+        if found:
+            i, low, high = found
             v = variables[i]
-            ranges.setdefault((v.middle - v.half, v.middle + v.half), []).append(f"<i>{escape(v.name)}</i>")
+            ends = v.middle + v.half * low, v.middle + v.half * high
+            ranges.setdefault(ends, []).append(f"<i>{escape(v.name)}</i>")
         else:
             others.append(Condition(condition.equality, whole(in_the_model(condition.terms, variables))[0]))
     parts = [f"{minus(number(low))} ≤ {', '.join(names)} ≤ {minus(number(high))}"
@@ -98,10 +89,9 @@ def standing(variables: list[Scaled], room: int) -> str:
     return _as_far([affine(v) for v in variables if not v.same], room)
 
 
-def point_html(variables: list[Scaled], point: list[Fraction], room: int) -> str:
-    """A point of the problem in the model's variables, exactly, as far as there is room."""
-    return _as_far([f"<i>{escape(v.name)}</i> = {minus(fraction(v.middle + v.half * x))}"
-                    for v, x in zip(variables, point)], room)
+def point_html(names: list[str], point: list[Fraction], room: int) -> str:
+    """A point of the model, exactly, as far as there is room."""
+    return _as_far([f"<i>{escape(name)}</i> = {minus(number(x))}" for name, x in zip(names, point)], room)
 
 
 def _as_far(parts: list[str], room: int) -> str:

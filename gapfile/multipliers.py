@@ -82,13 +82,13 @@ def _weight(d: float, cap: int, unit: int) -> int:
 
 
 def equality_rows(problem: Problem, j: int, blocks: list[list[int]], wanted: dict[Monomial, float],
-                  limits: Limits) -> list[tuple[int, Factors]]:
-    """Rows with weights of both signs whose sum is close to the wanted multiplier, off by at most 2 in a coefficient.
+                  limits: Limits, tolerance: float) -> list[tuple[int, Factors]]:
+    """Rows with weights of both signs whose sum is close to the wanted multiplier, off by at most the tolerance.
 
     w (t b + L)^2 - w (-t b + L)^2 = 4 w t b L: one pair of rows gives any L times b, in steps of 4 w t.
     """
     basis, rows = problem.bases[j], []
-    todo = {s: v for s, v in wanted.items() if abs(v) >= 2}
+    todo = {s: v for s, v in wanted.items() if abs(v) >= max(2, tolerance)}
     while todo:
         best: tuple[int, dict[Monomial, int]] | None = None
         for part in blocks:
@@ -100,7 +100,7 @@ def equality_rows(problem: Problem, j: int, blocks: list[list[int]], wanted: dic
             raise RoundingError(f"the multiplier of equality {j} is not in the span of its basis")
         k, cover = best
         rest = {s: todo.pop(s) for s in cover}
-        for weight, factor in _stages(max(abs(v) for v in rest.values()), limits):
+        for weight, factor in _stages(max(abs(v) for v in rest.values()), limits, tolerance):
             step, line = 4 * weight * factor, dict[int, int]()
             for s, i in cover.items():
                 v = round(rest[s] / step)
@@ -121,7 +121,7 @@ def largest_multiplier(limits: Limits) -> float:
     return 4.0 * SIGNED_WEIGHT * LARGEST_STEP * (limits.factor - LARGEST_STEP - 1000)
 
 
-def _stages(largest: float, limits: Limits) -> list[tuple[int, int]]:
+def _stages(largest: float, limits: Limits, tolerance: float) -> list[tuple[int, int]]:
     """Weights and factors of the pairs of rows, coarse to fine; the last has step 4."""
     top, out = limits.factor - LARGEST_STEP - 1000, []
     while True:
@@ -131,6 +131,6 @@ def _stages(largest: float, limits: Limits) -> list[tuple[int, int]]:
         if weight > SIGNED_WEIGHT:
             raise RoundingError("the weight of an equality is beyond 16 bits")
         out.append((weight, factor))
-        if weight * factor == 1:
+        if weight * factor == 1 or 2.0 * weight * factor <= tolerance:
             return out
         largest = 2.0 * weight * factor

@@ -4,6 +4,7 @@ from __future__ import annotations
 
 from dataclasses import dataclass
 from html import escape
+from typing import Optional
 
 from .blocks import by_basis
 from .commands import monomial_text
@@ -15,6 +16,7 @@ COLOURS = ("#1f5a86", "#b0601a", "#2f7547", "#7d4672", "#806112", "#4857a0", "#9
 ALONE = "#8d939c"                # a block of one monomial
 FAINT = ' fill-opacity=".5"'     # off the diagonal
 CELL, LETTER, TITLE, SPACE, EDGE = 12, 5.9, 18, 16, 4
+LONGEST = 48                     # letters of a title
 RAISED = str.maketrans("0123456789", "⁰¹²³⁴⁵⁶⁷⁸⁹")
 STYLE = ("text{font:10px 'DejaVu Sans',Helvetica,Arial,sans-serif;fill:#222}.t{font-weight:bold;font-size:11.5px}"
          ".g{fill:#f4f5f7;stroke:#9aa0a8;stroke-width:.6}")
@@ -50,13 +52,15 @@ def label(text: str) -> str:
     return out.replace("*", "·")
 
 
-def matrices(problem: Problem, found: Blocks, names: list[str]) -> list[Matrix]:
-    """The bases that are not empty."""
+def matrices(problem: Problem, found: Blocks, names: list[str], titles: Optional[list[str]] = None) -> list[Matrix]:
+    """The bases that are not empty, with their titles."""
     out = []
+    titles = titles or [f"basis {j}" for j in range(len(problem.bases))]
     for j, blocks in enumerate(by_basis(problem, found)):
         if blocks:
             labels = [label(monomial_text(problem.bases[j][i], names)) for ix in blocks for i in ix]
-            out.append(Matrix(f"basis {j}: {counted(len(blocks), 'block')}", [len(ix) for ix in blocks], labels))
+            title = titles[j] if len(titles[j]) <= LONGEST else titles[j][:LONGEST - 1] + "…"
+            out.append(Matrix(f"{title}: {counted(len(blocks), 'block')}", [len(ix) for ix in blocks], labels))
     return out
 
 
@@ -73,9 +77,10 @@ def placed(drawn: list[Matrix], width: float) -> tuple[list[tuple[float, float]]
     return places, used, y + row
 
 
-def as_svg(problem: Problem, found: Blocks, names: list[str], aspect: float = 1.6) -> str:
+def as_svg(problem: Problem, found: Blocks, names: list[str], aspect: float = 1.6,
+           titles: Optional[list[str]] = None) -> str:
     """The whole picture; its rows are broken so that it fills a frame of this aspect (width over height) best."""
-    drawn = matrices(problem, found, names)
+    drawn = matrices(problem, found, names, titles)
     ends = range(len(drawn) + 1)
     widths = [sum(matrix.width for matrix in drawn[a:b]) for b in ends for a in range(b)]
     ways = [placed(drawn, width) for width in sorted(set(widths))] or [([], 60.0, 20.0)]

@@ -2,7 +2,7 @@
 from __future__ import annotations
 
 from fractions import Fraction
-from math import gcd, lcm
+from math import gcd, lcm, prod
 from typing import Mapping
 
 from .commands import Monomial, ONE, add
@@ -19,11 +19,16 @@ def constant(value: Fraction) -> Polynomial:
     return {ONE: value} if value else {}
 
 
+def increase(a: Polynomial, b: Polynomial, factor: Fraction = Fraction(1)) -> None:
+    """Adds factor x b to a, in place; coefficients that become 0 stay."""
+    for e, c in b.items():
+        a[e] = a.get(e, Fraction(0)) + factor * c
+
+
 def plus(a: Polynomial, b: Polynomial, factor: Fraction = Fraction(1)) -> Polynomial:
     """a + factor x b."""
     out = dict(a)
-    for e, c in b.items():
-        out[e] = out.get(e, Fraction(0)) + factor * c
+    increase(out, b, factor)
     return {e: c for e, c in out.items() if c}
 
 
@@ -58,8 +63,13 @@ def substitute(a: Polynomial, values: list[Polynomial]) -> Polynomial:
                 if (i, exponent) not in powers:
                     powers[i, exponent] = power(values[i], exponent)
                 term = times(term, powers[i, exponent])
-        out = plus(out, term)
-    return out
+        increase(out, term)
+    return {e: c for e, c in out.items() if c}
+
+
+def substitution_work(a: Mapping[Monomial, object]) -> int:
+    """How many terms come up where every variable gets a polynomial of two terms."""
+    return sum(prod(exponent + 1 for exponent in e) for e in a)
 
 
 def evaluate(a: Mapping[Monomial, Fraction | int], point: list[Fraction]) -> Fraction:

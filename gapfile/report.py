@@ -2,6 +2,9 @@
 from __future__ import annotations
 
 import json
+import os
+import platform
+import time
 from typing import Any, Optional
 
 from . import VERSION
@@ -9,6 +12,7 @@ from .decimals import counted, decimal, digits_for, fraction
 from .model import Model
 from .points import Attained
 from .problem import stream_names
+from .programs import BUILT, build, commit, kit
 from .solver import STATUS
 from .solving import WORDS, Side, Solved, far, far_off, higher
 
@@ -26,6 +30,7 @@ def report_lines(solved: Solved, model: Model) -> list[str]:
     factor = solved.posed.factor
     blocks, rounds = counted(solved.blocks.count, "block"), counted(solved.blocks.rounds, "round")
     lines = [f"degree {solved.degree}; {blocks}, {rounds}; {solved.sizes}"]
+    lines += solved.posed.widened
     if factor != 1:
         lines.append(f"the objective was multiplied by {factor} to whole numbers; the figures below are divided by it")
     digits = max(digits_for((solved.sides[1].bound - solved.sides[0].bound) / factor), 9)
@@ -64,12 +69,28 @@ def _lost(side: Side, factor: int) -> float:
     return abs(float(side.bound) - side.relaxation) / factor
 
 
-def manifest(solved: Solved, model: Model, solver: str) -> str:
+def made_with(solver: str) -> dict[str, str]:
+    """When and with what a filing is made: date, versions, and which gapcheck is asked, with its hash."""
+    checker = build("gapcheck")
+    made = {"date": today(), "gapfile": VERSION, "Python": platform.python_version(), "solver": solver,
+            "gapcheck": checker.shown, "found": checker.found, "SHA-256": checker.digest,
+            "published": "a published one" if checker.published else "none of the published ones"}
+    if checker.found == BUILT:
+        made.update({word: said for word, said in (("commit", commit()), ("kit", kit())) if said})
+    return made
+
+
+def today() -> str:
+    """The date of a filing; builds that are to be the same again say theirs in SOURCE_DATE_EPOCH."""
+    epoch = os.environ.get("SOURCE_DATE_EPOCH", "")
+    return time.strftime("%Y-%m-%d", time.gmtime(int(epoch)) if epoch.isdecimal() else time.localtime())
+
+
+def manifest(solved: Solved, model: Model, made: dict[str, str]) -> bytes:
     """What is needed to read the figures in the model's units, and how they were found, as JSON."""
     posed = solved.posed
     inner = stream_names(model.names, posed.middle, posed.half)
     data: dict[str, Any] = {
-        "gapfile": VERSION,
         "title": model.title,
         "factor": posed.factor,
         "meaning": "the model's polynomial is the objective of problem.bin divided by the factor",
@@ -77,13 +98,14 @@ def manifest(solved: Solved, model: Model, solver: str) -> str:
                        "middle": fraction(m), "half": fraction(h)}
                       for name, x, m, h in zip(model.names, inner, posed.middle, posed.half)],
         "conditions": posed.origins,
+        "widened": posed.widened,
         "degree": solved.degree,
         "blocks": solved.blocks.count,
         "rounds": solved.blocks.rounds,
-        "solver": solver,
+        "made": made,
         "sides": [_side(side, posed.factor) for side in solved.sides],
     }
-    return json.dumps(data, indent=2, ensure_ascii=False) + "\n"
+    return (json.dumps(data, indent=2, ensure_ascii=False) + "\n").encode()
 
 
 def _side(side: Side, factor: int) -> dict[str, Any]:

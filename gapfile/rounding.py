@@ -5,16 +5,16 @@ exactly by the Gram matrix of basis 0, which is then written as squares of whole
 """
 from __future__ import annotations
 
-import random
 from dataclasses import dataclass
 from fractions import Fraction
 from math import floor
 
-from .commands import CERTIFICATE, Monomial, ONE, add, fits, write_command
+from .commands import CERTIFICATE, Monomial, ONE, WidthError, add, fits, write_command
 from .multipliers import equality_rows, inequality_rows, largest_multiplier
+from .peeling import Peeling
 from .reading import LIMITS, Problem
 from .sdp import Program, Solution
-from .squares import LARGEST_WEIGHT, Factors, Limits, Matrix, RoundingError, rows_of
+from .squares import LARGEST_WEIGHT, Factors, Limits, Matrix, RoundingError
 
 SignedRow = tuple[int, int, Factors]         # basis, weight, factors
 
@@ -29,11 +29,13 @@ class Rounded:
     rows: list[SignedRow]
 
 
-def denominator_for(bound: float) -> int:
-    """q: as fine as p of 32 bits allows, round in decimals."""
-    for q in (50000, 25000, 10000, 5000, 1000, 500, 100, 50, 10, 5):
-        if abs(bound) * q < (1 << 31) - 2 * q:
+def denominator_for(bound: float, finest: float = 50000.0) -> int:
+    """q: as fine as p of 32 bits and the given limit allow, round in decimals."""
+    for q in (50000, 25000, 10000, 5000, 1000, 500, 100, 50, 10, 5, 2):
+        if q <= finest and abs(bound) * q < (1 << 31) - 2 * q:
             return q
+    if abs(bound) >= (1 << 31) - 2:
+        raise RoundingError(f"the bound {bound:.9g} of the whole-number objective is beyond 32 bits")
     return 1
 
 
@@ -41,15 +43,15 @@ def scale_for(solution: Solution, q: int, limits: Limits) -> int:
     """D: even, so that coefficients are, and as large as factors and weights allow for the largest diagonal and for the
     largest coefficient of an equality's multiplier."""
     largest = max((row[a] for gram in solution.grams for a, row in enumerate(gram)), default=1.0)
-    room = 0.6 * LARGEST_WEIGHT * float(limits.factor) ** 2 / (q * max(largest, 1e-9))
+    weight = 1 if limits.factor > 1 << 16 else LARGEST_WEIGHT        # weights coarsen a row; short factors need them
+    room = 0.6 * weight * float(limits.factor) ** 2 / (q * max(largest, 1e-9))
     free = max((abs(v) for v in solution.free.values()), default=0.0)
     room = min(room, 0.9 * largest_multiplier(limits) / (q * max(free, 1e-9)))
     return max(2, min(65534, 2 * int(room / 2)))
 
 
-def bound_of(program: Program, solution: Solution) -> Fraction:
+def bound_of(program: Program, solution: Solution, q: int) -> Fraction:
     """The bound that a solution is rounded to, in the problem's units."""
-    q = denominator_for(solution.bound)
     return Fraction(program.sign * floor(solution.bound * q), q)
 
 
@@ -60,19 +62,24 @@ def wide_entries(rounded: Rounded) -> int:
 
 @dataclass(frozen=True)
 class Effort:
-    """How rows are spent: so many for a pivot of basis 0, and so many at most for a pivot of a multiplier."""
+    """How rows are spent: so many for a pivot of basis 0 that must be exact, for another one, and so many at most for a
+    pivot of a multiplier."""
     pivot_rows: int
+    loose_rows: int
     multiplier_rows: int
 
 
-EFFORTS = tuple(Effort(a, b) for a, b in ((6, 3), (5, 3), (5, 2), (4, 3), (4, 2), (4, 1), (3, 2), (3, 1)))
+EFFORTS = tuple(Effort(*rows) for rows in ((6, 4, 3), (5, 3, 3), (5, 3, 2), (4, 3, 2), (4, 2, 2), (4, 2, 1), (3, 2, 2),
+                                           (3, 2, 1), (3, 1, 1)))
 
 
 def round_solution(program: Program, blocks: list[list[list[int]]], solution: Solution, slack: float, wide: bool,
                    effort: Effort) -> Rounded:
     """The certificate for the solver's bound, a little less. Raises RoundingError."""
-    problem, limits, chance = program.problem, Limits.of(wide), random.Random(1)
-    bound, q = bound_of(program, solution), denominator_for(solution.bound)
+    problem, limits = program.problem, Limits.of(wide)
+    # short factors have room for D x q only where q is no finer than the slack needs
+    q = denominator_for(solution.bound, 50000.0 if wide else 4 / slack)
+    bound = bound_of(program, solution, q)
     scale = scale_for(solution, q, limits)
     unit, p = scale * q, int(program.sign * bound * q)
     target: dict[Monomial, int] = {e: unit * program.sign * c for e, c in problem.objective.items()}
@@ -81,19 +88,27 @@ def round_solution(program: Program, blocks: list[list[list[int]]], solution: So
     for (j, ix), gram in zip(program.blocks, solution.grams):
         if j:
             scaled = [[unit * x for x in row] for row in gram]
-            even = any(x % 2 for t in problem.multiplier(j) for x in t)
-            for weight, row in inequality_rows(scaled, 0.1 * slack * unit, limits, even,
+            # even weights: a sparse basis 0 may lack the monomial whose square would meet an odd coefficient
+            for weight, row in inequality_rows(scaled, 0.1 * slack * unit / _size(problem, j), limits, True,
                                                effort.multiplier_rows):
                 _take(problem, target, rows, j, weight, {ix[a]: v for a, v in row.items()})
-    for j, parts in enumerate(blocks):
+    for j, pieces in enumerate(blocks):
         if problem.is_equality(j):
             wanted = {s: unit * v for (k, s), v in solution.free.items() if k == j}
-            for weight, row in equality_rows(problem, j, parts, wanted, limits):
+            tolerance = 0.1 * slack * unit / _size(problem, j)
+            for weight, row in equality_rows(problem, j, pieces, wanted, limits, tolerance):
                 _take(problem, target, rows, j, weight, row)
-    for order, matrix in _whole_grams(program, solution, target, unit):
-        made = rows_of(matrix, order, effort.pivot_rows, limits, chance, LIMITS["rows"] - len(rows))
-        rows += [(0, weight, row) for weight, row in made]
+    parts = [ix for j, ix in program.blocks if j == 0]
+    matrix = {at: v for _, part in _whole_grams(program, solution, target, unit) for at, v in part.items()}
+    peeling = Peeling(problem.bases[0], parts, matrix, limits, effort.pivot_rows, effort.loose_rows)
+    made = peeling.peel(LIMITS["rows"] - len(rows))
+    rows += [(0, weight, row) for weight, row in made]
     return Rounded(0 if program.sign == 1 else 1, scale, program.sign * p, q, rows)
+
+
+def _size(problem: Problem, j: int) -> int:
+    """The largest coefficient of a condition."""
+    return max(abs(c) for c in problem.multiplier(j).values())
 
 
 def _take(problem: Problem, target: dict[Monomial, int], rows: list[SignedRow], j: int, weight: int,
@@ -150,7 +165,14 @@ def _meet(places: list[tuple[Matrix, tuple[int, int]]], value: int) -> None:
 
 
 def encode_certificate(problem: Problem, rounded: Rounded) -> bytes:
-    """The stream; 15 only for the factors that 16 bits do not hold."""
+    """The stream; 15 only for the factors that 16 bits do not hold. Raises RoundingError where one does not fit."""
+    try:
+        return _encoded(problem, rounded)
+    except WidthError as error:
+        raise RoundingError(str(error)) from None
+
+
+def _encoded(problem: Problem, rounded: Rounded) -> bytes:
     out = bytearray(write_command(CERTIFICATE[0x10], (rounded.side, rounded.scale, rounded.p, rounded.q)))
     for j, weight, row in rounded.rows:
         out += write_command(CERTIFICATE[0x14 if problem.is_equality(j) else 0x11], (j, weight))

@@ -46,11 +46,6 @@ class Program:
     pivots: list[tuple[Monomial, FreeVariable]] = field(default_factory=list)
     combined: dict[Monomial, dict[Monomial, Fraction]] = field(default_factory=dict)
 
-    def carried(self) -> set[Monomial]:
-        """The monomials that basis 0 reaches."""
-        basis = self.problem.bases[0]
-        return {add(basis[a], basis[b]) for j, ix in self.blocks if j == 0 for a in ix for b in ix}
-
 
 def pose_program(problem: Problem, blocks: list[list[list[int]]], side: int) -> Program:
     """The program for one side (0 lower, 1 upper)."""
@@ -117,9 +112,11 @@ def _subtract(row: dict[Name, Fraction], other: dict[Name, Fraction], factor: Fr
             row.pop(x, None)
 
 
-def solve(program: Program, solver: Solver, slack: float = 0.0, fixed: Optional[float] = None) -> Solution:
-    """The best bound with so much slack on the diagonal of basis 0, or any certificate of a fixed bound; all in the
-    units of the problem, upper bounds with their sign turned."""
+def solve(program: Program, solver: Solver, slack: float = 0.0, fixed: Optional[float] = None,
+          thrift: bool = False) -> Solution:
+    """The best bound with so much slack on the diagonal of basis 0, or a certificate of a fixed bound, any one or
+    (thrift) one with small multipliers, which have few rows; in the problem's units, upper bounds with their sign
+    turned."""
     pivots = {m for m, _ in program.pivots}
     names = [m for m in sorted(program.raw, key=key) if m not in pivots and m != ONE]
     target = _targets(program, slack)
@@ -136,7 +133,7 @@ def solve(program: Program, solver: Solver, slack: float = 0.0, fixed: Optional[
     if fixed is not None:
         equations.append(constant)
         sides.append(target[ONE] - fixed / scale)
-        cost = {}
+        cost = {(k, a, a): -1.0 for k, (j, ix) in enumerate(program.blocks) if j and thrift for a in range(len(ix))}
     sizes = [len(ix) for _, ix in program.blocks]
     if equations:
         answer = solver.solve(sizes, cost, equations, sides)

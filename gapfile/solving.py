@@ -1,106 +1,137 @@
-"""From a model to three streams: bases, blocks, the solver, rounding, attained points, and what was lost."""
+"""From a model to three streams: the ways to pose it, relaxations, rounding, and the best of what was found."""
 from __future__ import annotations
 
-from dataclasses import dataclass, field, replace
+from dataclasses import dataclass
 from fractions import Fraction
+from math import log10
 from typing import Optional
 
-from . import basis
-from .blocks import by_basis
-from .decimals import counted
+from .budget import TOGETHER, Budget, Metered
+from .certifying import Certifier, Side, Solved
 from .model import Model
-from .points import Attained, attain
-from .problem import LimitError, Posed, encode_problem, pose
-from .programs import Blocks, check_one
+from .points import Reached
+from .problem import LimitError, Posed, omissions, poses
 from .progress import Say
-from .rounding import EFFORTS, Rounded, bound_of, encode_certificate, round_solution, wide_entries
-from .sdp import Program, Solution, Unreachable, pose_program, solve
-from .solver import STATUS, USABLE, Solver
-from .squares import RoundingError, TooManyRows
+from .relaxing import CLOSE, WORDS, Ladder, NoCertificate, Relaxed, best_bounds, higher, width
+from .restating import Mismatch, faithful, scaled
+from .solver import Solver
+from .unbounded import unbounded
 
-Parts = list[list[list[int]]]    # for each basis its blocks, as lists of indices
-WORDS = ("lower", "upper")
-SLACKS = tuple(m * 10.0 ** -k for k in range(10, 1, -1) for m in (1, 3))      # of the objective's largest coefficient
-LARGEST_DEGREE = 16
+__all__ = ["FAR", "NoCertificate", "Options", "Side", "Solved", "WORDS", "far", "far_off", "higher", "solve_model"]
 FAR = Fraction(1, 1000)          # from here on a bound is called far from the attained value
-ANY_BOUND = 2                    # csdp's status where the program is unbounded
-CROSSING = 1.0                   # what is then proved: at least this, and at most its negative
+TRIED_WITHOUT = 3                # of the ways to leave conditions out, the best so many are solved
+ROUNDED_WELL = 1e-6              # what is filed this close to an attained value needs no further try
+TRIED_AGAIN = 3                  # so many relaxations are rounded at most, where the first ones lose much
 
 
-class NoCertificate(Exception):
-    """No certificate was found; the sentence says why, and `higher` whether a higher degree may help."""
-
-    def __init__(self, why: str, higher: bool = True) -> None:
-        super().__init__(why)
-        self.higher = higher
-
-
-@dataclass
-class Side:
-    """One certificate: its bytes, and what was lost on the way, in the problem's units."""
-    side: int
-    certificate: bytes
-    bound: Fraction
-    relaxation: float
-    status: int
-    slack: float
-    rows: int
-    wide: int
-    attained: Optional[Attained]
-
-    @property
-    def off(self) -> Fraction:
-        """How far the bound is from the attained value."""
-        assert self.attained
-        return abs(self.bound - self.attained.value)
+@dataclass(frozen=True)
+class Options:
+    """What the user agreed to: factors of 16 bits only, a region that is made larger where the limits ask for it, and
+    how long it may take."""
+    narrow: bool = False
+    widen: bool = False
+    seconds: Optional[float] = None
 
 
-@dataclass
-class Solved:
-    """A problem with both certificates."""
-    posed: Posed
-    degree: int
-    problem: bytes
-    blocks: Blocks
-    sizes: str
-    sides: list[Side] = field(default_factory=list)
+class Unfaithful(AssertionError):
+    """A problem that does not say what its model says. This is a fault of gapfile: nothing may be filed."""
 
 
-def solve_model(model: Model, solver: Solver, narrow: bool, say: Say) -> Solved:
-    """Both certificates of a model: at its degree, or at the least one and, where that gives none or is far from what
-    is attained, at the next. Raises LimitError, NoCertificate or NoSolver."""
-    posed = pose(model)
-    total = model.degree or basis.least_degree(posed.problem)
-    try:
-        first = _at_degree(posed, total, solver, narrow, say)
-    except NoCertificate as error:
-        if not error.higher:
-            raise
-        if model.degree:
-            raise NoCertificate(f"{error}; {higher(posed, total + 2)}") from None
-        say(f"{error}; trying degree {total + 2}")
-        return _next(error, posed, total + 2, solver, narrow, say)
-    if model.degree or not far(first):
-        return first
-    say(f"degree {total} is far from what is attained; trying degree {total + 2}")
-    try:
-        second = _at_degree(posed, total + 2, solver, narrow, say)
-    except (NoCertificate, LimitError) as error:
-        say(str(error))
-        return first
-    return min(first, second, key=lambda found: found.sides[1].bound - found.sides[0].bound)
+def solve_model(model: Model, solver: Solver, options: Options, say: Say) -> Solved:
+    """Both certificates of a model: posed in the first way that is not lossy, or in the best one. Raises LimitError,
+    NoCertificate or NoSolver."""
+    return _Solving(model, solver, options, say).solved()
 
 
-def _next(before: NoCertificate, posed: Posed, total: int, solver: Solver, narrow: bool, say: Say) -> Solved:
-    """At the degree after one that gave no certificate; the sentence where this gives none either says what to try."""
-    try:
-        return _at_degree(posed, total, solver, narrow, say)
-    except LimitError as error:
-        raise NoCertificate(f"{before}; degree {total} is too large: {error}", False) from None
-    except NoCertificate as error:
-        if not error.higher:
-            raise
-        raise NoCertificate(f"{error}; {higher(posed, total + 2)}") from None
+class _Solving:
+    """One model, and what is shared by the ways to pose it: the budget, and the points that are attained."""
+
+    def __init__(self, model: Model, solver: Solver, options: Options, say: Say) -> None:
+        self.model, self.options, self.say = model, options, say
+        self.budget = Budget(options.seconds)
+        self.solver = Metered(solver, self.budget)
+        self.ways = self._ways()
+
+    def _ways(self) -> list[Posed]:
+        """The ways to pose the model, in the order in which they are tried."""
+        widen, narrow = self.options.widen or self.model.widen, self.options.narrow
+        choices = omissions(self.model, widen)
+        first = poses(self.model, widen, choices[0], narrow)
+        self.reached = Reached(first[0])
+        if len(choices) == 1:
+            return first
+        made = [ways[0] for choice in choices for ways in [poses(self.model, widen, choice, narrow)]]
+        self.say(f"{len(choices)} ways to leave conditions out; looking for the one that costs least")
+        ranked = sorted(made, key=lambda posed: width(posed, self.solver, self.reached, self.say))
+        return ranked[:TRIED_WITHOUT]
+
+    def solved(self) -> Solved:
+        found: list[Solved] = []
+        failure: Optional[Exception] = None
+        for posed in self.ways:
+            try:
+                found.append(self._one_way(posed))
+            except (NoCertificate, LimitError) as error:
+                failure = failure or error
+            if found and not found[-1].lossy(self.reached) or self.budget.over(TOGETHER):
+                break
+        if not found:
+            assert failure
+            if isinstance(failure, NoCertificate):
+                self._if_unbounded()
+            raise failure
+        best = min(found, key=lambda solved: solved.distance(self.reached))
+        for side in best.sides:
+            side.attained = self.reached.on(best.posed, side.side) if side.attained else None
+        self._faithful(best.posed)
+        return best
+
+    def _faithful(self, posed: Posed) -> None:
+        """Raises Unfaithful where the problem does not say what the model says."""
+        try:
+            faithful(self.model, scaled(self.model.names, posed.middle, posed.half), posed.factor, posed.problem)
+        except Mismatch as error:
+            raise Unfaithful(str(error)) from error
+
+    def _one_way(self, posed: Posed) -> Solved:
+        """Both certificates of a problem. Of the relaxations the smallest of the best is rounded, and the next where
+        that fails or loses much. Raises LimitError, NoCertificate or NoSolver."""
+        relaxed = Ladder(posed, self.solver, self.budget, self.reached, self.say).climb(self.model.degree)
+        certifier = Certifier(self.solver, self.options.narrow, self.budget, self.say)
+        failure: Optional[NoCertificate] = None
+        found: list[Solved] = []
+        for r in in_order(relaxed, self.reached):
+            if found and not self._worth(r, found):
+                continue
+            try:
+                found.append(certifier.certify(r, self.reached))
+            except NoCertificate as error:
+                failure = failure or error
+                self.say(f"{error}; trying other bases")
+            if self.budget.over(TOGETHER):
+                break
+        if not found:
+            assert failure
+            raise failure
+        return min(found, key=lambda solved: solved.distance(self.reached))
+
+    def _worth(self, relaxed: Relaxed, found: list[Solved]) -> bool:
+        """Whether another relaxation may give certificates that are clearly closer to what is attained."""
+        best = min(solved.distance(self.reached) for solved in found)
+        possible = max(relaxed.gap(self.reached, side) for side in (0, 1))
+        return len(found) < TRIED_AGAIN and best > ROUNDED_WELL and possible < best / 10
+
+    def _if_unbounded(self) -> None:
+        """Raises NoCertificate with the direction where the polynomial has no bound on the region."""
+        for side in (0, 1):
+            if said := unbounded(self.model, side):
+                raise NoCertificate(f"the polynomial has no {WORDS[side]} bound on the region: {said}", False)
+
+
+def in_order(relaxed: list[Relaxed], reached: Reached) -> list[Relaxed]:
+    """Those that are about as good as the best first, and of these the ones with few rows."""
+    best = best_bounds(relaxed, reached)
+    return sorted(relaxed, key=lambda r: (int(2 * log10(max(r.loss(best, reached), CLOSE))), r.rows))
 
 
 def far_off(side: Side, factor: int) -> bool:
@@ -111,125 +142,3 @@ def far_off(side: Side, factor: int) -> bool:
 def far(solved: Solved) -> bool:
     """Whether one of the bounds is."""
     return any(far_off(side, solved.posed.factor) for side in solved.sides)
-
-
-def higher(posed: Posed, total: int) -> str:
-    """The advice to take a higher degree, where the checker's limits leave room for it."""
-    problem = replace(posed.problem)
-    try:
-        if total > LARGEST_DEGREE:
-            raise LimitError(f"a basis of degree 8 reaches {LARGEST_DEGREE}")
-        basis.by_degree(problem, total)
-        basis.check_limits(problem, basis.find_blocks(problem))
-    except LimitError as error:
-        return f"degree {total} is too large: {error}"
-    return f"try degree {total}"
-
-
-def _at_degree(posed: Posed, total: int, solver: Solver, narrow: bool, say: Say) -> Solved:
-    """Both certificates at one degree. Raises LimitError, NoCertificate or NoSolver."""
-    problem = replace(posed.problem)
-    posed = replace(posed, problem=problem)
-    basis.by_degree(problem, total)
-    found = basis.find_blocks(problem)
-    sizes = basis.check_limits(problem, found)
-    say(f"degree {total}: {sizes}")
-    solved = Solved(posed, total, encode_problem(problem), found, sizes)
-    parts = by_basis(problem, found)
-    for side in (0, 1):
-        solved.sides.append(_one_side(solved, parts, side, solver, narrow, say))
-    low, high = solved.sides
-    if ANY_BOUND in (low.status, high.status) and low.bound <= high.bound:
-        raise NoCertificate(f"{STATUS[ANY_BOUND]}, and no proof of that of degree {total} was found", False)
-    return solved
-
-
-def _one_side(solved: Solved, parts: Parts, side: int, solver: Solver, narrow: bool, say: Say) -> Side:
-    """The certificate of one side, and how far it is from the relaxation and from an attained value."""
-    problem, word = solved.posed.problem, WORDS[side]
-    none = f"no {word} certificate of degree {solved.degree}"
-    try:
-        program = pose_program(problem, parts, side)
-    except Unreachable:
-        raise NoCertificate(f"{none}: the objective has a monomial that no product of the bases has; give every "
-                            "variable a range", bool(problem.conditions)) from None
-    say(f"{word}: asking the solver for the best bound")
-    best = solve(program, solver)
-    fixed = CROSSING if best.status == ANY_BOUND else None
-    if best.status not in USABLE and fixed is None:
-        raise NoCertificate(f"{none}: {STATUS[best.status]}")
-    then = "proving that" if fixed else f"{program.sign * best.bound:.9g}; searching for a point that attains it"
-    say(f"{word}: {STATUS[best.status]}; {then}")
-    attained = None if fixed else attain(problem, side, best.moments)
-    try:
-        found = _least_slack(solved.problem, program, parts, solver, narrow, say, fixed)
-    except RoundingError as error:
-        if fixed:
-            raise NoCertificate(f"{STATUS[ANY_BOUND]}, and no proof of that of degree {solved.degree} could be rounded "
-                                f"({error})", False) from None
-        more = "; without --narrow there is more room" if narrow else ""
-        raise NoCertificate(f"{none} could be rounded ({error}){more}") from None
-    rounded = found.rounded
-    say(f"{word}: rounded to {rounded.p}/{rounded.q} with {counted(len(rounded.rows), 'row')}")
-    relaxation = program.sign * (fixed or best.bound)
-    return Side(side, found.stream, Fraction(rounded.p, rounded.q), relaxation, best.status, found.slack,
-                len(rounded.rows), wide_entries(rounded), attained)
-
-
-@dataclass(frozen=True)
-class Found:
-    """A certificate that the checker accepts, and the slack with which it was found."""
-    slack: float
-    rounded: Rounded
-    stream: bytes
-
-
-def _least_slack(stream: bytes, program: Program, parts: Parts, solver: Solver, narrow: bool, say: Say,
-                 fixed: Optional[float]) -> Found:
-    """The certificate with the least slack that can be rounded and that the checker accepts. Raises RoundingError.
-
-    One with wide factors is kept only if it gains: at a larger slack with the same bound narrow ones may do. A fixed
-    bound loses nothing by slack, so the largest that works is taken.
-    """
-    found: Optional[Found] = None
-    why = ""
-    for slack in SLACKS if fixed is None else SLACKS[::-2]:
-        absolute = slack * float(program.scale)
-        say(f"{WORDS[program.sign < 0]}: solving and rounding with a slack of {slack:.0e}")
-        solution = solve(program, solver, absolute, fixed)
-        usable = solution.status in USABLE
-        if found and not (usable and bound_of(program, solution) == Fraction(found.rounded.p, found.rounded.q)):
-            break
-        widths = (False,) if narrow or found else (False, True)
-        for wide in widths if usable else ():
-            try:
-                rounded = _rounded(program, parts, solution, absolute, wide)
-            except RoundingError as error:
-                why = str(error)
-                continue
-            certificate = encode_certificate(program.problem, rounded)
-            if check_one(stream, certificate).accepted:
-                found = Found(slack, rounded, certificate)
-                break
-            why = "the checker refuses what was rounded"
-        why = why if usable else STATUS[solution.status]
-        if found and not wide_entries(found.rounded):
-            break
-    if found is None:
-        raise RoundingError(why)
-    return found
-
-
-def _rounded(program: Program, parts: Parts, solution: Solution, slack: float, wide: bool) -> Rounded:
-    """With as many rows as there is room for; after two failures that more rows do not cure, more slack is needed."""
-    failures: list[RoundingError] = []
-    for effort in EFFORTS:
-        try:
-            return round_solution(program, parts, solution, slack, wide, effort)
-        except TooManyRows as error:
-            failures = failures or [error]
-        except RoundingError as error:
-            failures = [f for f in failures if not isinstance(f, TooManyRows)] + [error]
-            if len(failures) == 2:
-                break
-    raise failures[0]

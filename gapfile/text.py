@@ -10,7 +10,7 @@ from dataclasses import dataclass
 from functools import lru_cache
 from typing import Optional
 
-from .commands import (BOTH, CERTIFICATE, ONE, TABLE, Kind, Layout, Monomial, fits, kind_of, monomial_text,
+from .commands import (BOTH, CERTIFICATE, ONE, TABLE, Kind, Layout, Monomial, kind_of, monomial_text,
                        read_command, write_command)
 from .reading import Problem, Refusal, Refused, read_certificate, read_problem
 
@@ -188,13 +188,6 @@ FORMS = {
     "signed": "signed BASIS weight NUMBER", "entry": "entry INDEX FACTOR", "wide": "wide INDEX FACTOR",
     "note": "note with 8 bytes in hexadecimal", "bytes": "bytes in hexadecimal",
 }
-OPERANDS = {
-    "objective": ("coefficient",), "term": ("coefficient",), "basis": ("basis",),
-    "rule": ("rule",), "order": ("order",),
-    "bound": ("side", "D", "p", "q"), "row": ("basis", "weight"), "signed": ("basis", "weight"),
-    "entry": ("index", "factor"), "wide": ("index", "factor"),
-}
-
 
 @lru_cache(maxsize=1 << 16)
 def _line(line: str, names: tuple[str, ...]) -> tuple[bytes, tuple[str, ...]]:
@@ -235,16 +228,12 @@ def _names(words: list[str]) -> tuple[str, ...]:
 
 
 def _written(layout: Layout, words: list[str], monomial: Monomial = ONE) -> bytes:
-    numbers = tuple(_whole(word) for word in words)
-    for width, number, operand in zip(layout.numbers, numbers, OPERANDS.get(layout.word, ())):
-        if not fits(width, number):
-            raise ValueError(f"the {operand} {number} does not fit {width}")
-    return write_command(layout, numbers, monomial)
+    return write_command(layout, tuple(_whole(word) for word in words), monomial)
 
 
 def _whole(word: str) -> int:
-    if not re.fullmatch(r"-?[0-9]+", word):
-        raise ValueError(f"expected a whole number, not `{word}`")
+    if not re.fullmatch(r"-?[0-9]{1,20}", word):
+        raise ValueError(f"expected a whole number, not `{word[:40]}`")
     return int(word)
 
 
@@ -266,8 +255,8 @@ def _monomial(word: str, names: tuple[str, ...]) -> Monomial:
         name, _, power = factor.partition("^")
         if name not in names:
             raise ValueError(f"expected a monomial of {', '.join(names)}, not `{word}`")
-        if "^" in factor and not power.isdigit():
-            raise ValueError(f"expected an exponent after ^ in `{word}`")
+        if "^" in factor and not re.fullmatch("[0-9]{1,4}", power):
+            raise ValueError(f"expected an exponent after ^ in `{word[:80]}`")
         exponents[names.index(name)] += int(power or 1)
     if max(exponents) > 255:
         raise ValueError(f"an exponent of `{word}` is above 255")

@@ -8,7 +8,9 @@ import tempfile
 import unittest
 from pathlib import Path
 from typing import Iterator, Optional
+from unittest import mock
 
+from gapfile import command
 from gapfile.command import main
 
 ROOT = Path(__file__).resolve().parents[2]
@@ -25,9 +27,10 @@ needs_vectors = unittest.skipUnless(SHARED, "there is no folder ../shared with v
 
 
 def run(*arguments: object) -> tuple[int, str, str]:
-    """The status of the command line, and what it writes."""
+    """The status of the command line, and what it writes; without the steps, which a slow machine shows."""
     out, err = io.StringIO(), io.StringIO()
-    with contextlib.redirect_stdout(out), contextlib.redirect_stderr(err):
+    with contextlib.redirect_stdout(out), contextlib.redirect_stderr(err), \
+            mock.patch.object(command, "PATIENCE", 3600.0):
         try:
             status = main([str(a) for a in arguments])
         except SystemExit as ended:

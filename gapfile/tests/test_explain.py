@@ -1,7 +1,9 @@
 """What a refusal means: single changes with the differences worked out by hand, places, rows over two blocks, the
 limit."""
+import hashlib
 import unittest
 
+from gapfile.explain import ADVICE, RULES
 from gapfile.tests.support import CASE_F, EXAMPLES, case_f, folder_of, needs_programs, run
 from gapfile.text import encode
 
@@ -22,7 +24,10 @@ class Explain(unittest.TestCase):
         with folder_of(problem, low, high) as folder:
             status, out, _ = run("explain", folder, *options)
         self.assertEqual(status, 1)
-        return out.splitlines()
+        lines = out.splitlines()
+        number = int(lines[0].split()[1])
+        self.assertEqual(lines[-1], ADVICE[number])              # the last line always says what to do
+        return lines[:-1]
 
     def test_nothing(self) -> None:
         status, out, _ = run("explain", CASE_F)
@@ -33,7 +38,7 @@ class Explain(unittest.TestCase):
         status, out, _ = run("explain", EXAMPLES / "contradictory", "--names", "a,b")
         self.assertEqual(status, 0)
         self.assertEqual(out.splitlines()[4:], [
-            "accepted, and the bounds cross: at least 2 and at most -2, so no rational point meets all the conditions",
+            "accepted, and the bounds cross: at least 2 and at most -2, so no point meets all the conditions",
             "those with rows contradict each other:", "  condition 1: 1 - a^2 - b^2 >= 0",
             "  condition 2: a + b - 2 >= 0"])
 
@@ -90,6 +95,8 @@ class Explain(unittest.TestCase):
         self.assertEqual(out[0], "refused 9 2 0 0")
         self.assertIn("1 monomial differs; the left is D x (p - q x objective)", out[4])
         self.assertEqual(out[5].split()[:7], "1 left 4 right 2 difference -2".split())
+        self.assertEqual(out[6:], ["only the constant differs: these rows prove the upper bound 1; with `upper 1/1 "
+                                   "scale 2` as its first line it is accepted"])
 
     def test_equality_and_wide_factor(self) -> None:
         """x = 0 as an equality, basis 1: 1. -70000^2 x stands for x + 0: the difference is -70000^2 - 1 at x."""
@@ -121,8 +128,55 @@ class Explain(unittest.TestCase):
     def test_sides(self) -> None:
         problem, low, high = case_f()
         out = self.explained(problem, high, low)
-        self.assertEqual((out[0], out[2]), ("refused 10 1 0 0", "line 1, byte 0: upper 1/1 scale 2"))
-        self.assertIn("exchange the files", out[3])
+        self.assertEqual(out, ["refused 10 1 0 0", f"{RULES[10]}, in the first certificate",
+                               "line 1, byte 0: upper 1/1 scale 2",
+                               "the first certificate states an upper bound and the "
+                               "second a lower one: the files are exchanged"])
+        self.assertEqual(self.explained(problem, low, low)[-1], "both certificates are the same file")
+
+    def test_every_number_has_advice(self) -> None:
+        self.assertEqual(set(ADVICE), set(RULES))
+        for number, said in ADVICE.items():
+            self.assertTrue(said.startswith("what to do: "), number)
+        self.assertIn("`gapfile decode", ADVICE[9])
+
+    def test_exchanged_files(self) -> None:
+        problem, low, high = case_f()
+        self.assertIn("the problem begins as a certificate does, and the first certificate as a problem: the files are "
+                      "exchanged", self.explained(low, problem, high))
+        self.assertIn("the first certificate begins as a problem does: the files are exchanged",
+                      self.explained(problem, problem, high))
+        self.assertIn("the problem begins as a certificate does: the files are exchanged",
+                      self.explained(low, low, high))
+
+    def test_a_certificate_of_another_problem(self) -> None:
+        problem = (EXAMPLES / "two_decks/problem.bin").read_bytes()
+        low, high = [encode(f"{word} 0/1 scale 1\ndone")[0] for word in ("lower", "upper")]
+        out = self.explained(problem, low, high)
+        self.assertEqual(out[-1], "most monomials differ: this is likely a certificate of another problem")
+
+    def test_sums_beside(self) -> None:
+        """Where SUMS lists another file, that is said."""
+        problem, low, high = case_f()
+        sums = "".join(f"{hashlib.sha256(stream).hexdigest()}  {name}\n" for name, stream in
+                       (("problem.bin", problem), ("low.bin", low), ("high.bin", high)))
+        with folder_of(problem, low[:20] + b"\x03\x00" + low[22:], high) as folder:
+            (folder / "SUMS").write_text(sums)
+            lines = run("explain", folder)[1].splitlines()
+        self.assertEqual(lines[-2], "low.bin is not the file that SUMS lists: it was changed, or is of another filing")
+
+    def test_the_bound_that_the_rows_prove(self) -> None:
+        """Any p in case F's lower certificate: the rows prove -1, and with that p it is accepted."""
+        problem, low, high = case_f()
+        for p in (-7, -2, 0, 1, 300):
+            changed = low[:4] + p.to_bytes(4, "little", signed=True) + low[8:]
+            out = self.explained(problem, changed, high)
+            self.assertEqual(out[-1], "only the constant differs: these rows prove the lower bound -1; with `lower "
+                                      "-1/1 scale 2` as its first line it is accepted")
+        odd = encode("lower 0/1 scale 2\nrow 0 weight 1\nentry 0 1\nentry 1 1\nrow 1 weight 1\nentry 0 1\n"
+                     "row 0 weight 1\nentry 0 1\ndone")[0]
+        self.assertEqual(self.explained(problem, odd, high)[-1], "only the constant differs: these rows prove the "
+                         "lower bound -3/2; no p and q of its first line say that with this D")
 
     def test_a_note(self) -> None:
         """The strict check reads no note: the line is shown, and why."""
@@ -139,8 +193,7 @@ class Explain(unittest.TestCase):
         self.assertEqual(self.explained(problem, low, b"")[2:], [
             "line 2, byte 10: row 0 weight 1", "line 3: entry 1, factor 1, x1  block 1",
             "line 4: entry 2, factor 1, x2  block 2   <- the first entry outside the row's first block",
-            "block 1 of basis 0: x1", "block 2 of basis 0: x2",
-            "split the row by blocks; `gapfile blocks` shows them all"])
+            "block 1 of basis 0: x1", "block 2 of basis 0: x2"])
 
     def test_too_many_keys(self) -> None:
         """Case H has exactly 2,048: 64 blocks of one, so 64 doubled subsets times 32 terms. With x1 as objective 1 and
@@ -148,7 +201,7 @@ class Explain(unittest.TestCase):
         out = self.explained(case_h("objective 1 x1"), b"", b"")
         self.assertEqual(out[0], "refused 7 0 0 0")
         self.assertRegex(out[2], r"^\d+ monomials, \d+ too many; by basis:$")
-        counts = dict(line.strip().split(": ", 1) for line in out[3:-1])
+        counts = dict(line.strip().split(": ", 1) for line in out[3:])
         self.assertEqual(list(counts), ["objective", "basis 0", "basis 1"])
         self.assertEqual(counts["objective"], "1, of them 0 from nowhere else")
         self.assertEqual(counts["basis 0"], "0, of them 0 from nowhere else")

@@ -11,23 +11,25 @@ from collections import Counter
 from dataclasses import replace
 from fractions import Fraction
 from pathlib import Path
-from unittest import mock
 
-from gapfile import sheet as sheet_module
+from gapfile import selfcheck
 from gapfile.commands import Monomial, ONE
-from gapfile.formulas import Scaled, formula, in_the_model, joined, letters, point_html, region, standing
-from gapfile.picture import as_svg
+from gapfile.figures import Figures, Reached
+from gapfile.formulas import formula, in_the_model, joined, letters, point_html, region, standing
+from gapfile.model import Model
 from gapfile.polynomials import evaluate
-from gapfile.problem import range_of
-from gapfile.programs import Blocks, Verdict
+from gapfile.programs import Verdict
+from gapfile.ranges import range_of
 from gapfile.reading import Certificate, Condition, Problem, Row
-from gapfile.sheet import Sheet, page
+from gapfile.restating import Restated, Scaled
+from gapfile.selfcheck import checking
+from gapfile.sheet import page
 from gapfile.tests.support import EXAMPLES, RECORDED, needs_programs, run
 
 BROWSER = shutil.which("chromium") or shutil.which("chromium-browser") or shutil.which("google-chrome")
 FILES = ("problem.bin", "low.bin", "high.bin", "model.gap", "manifest.json", "problem.txt", "verdict.txt", "blocks.svg",
-         "gapcheck")
-ACCENT, SQUARE, PAPER = (0x1f, 0x4f, 0x7a), (0x1f, 0x5a, 0x86), (255, 255, 255)
+         "figure.v")
+ACCENT, PAPER = (0x1f, 0x4f, 0x7a), (255, 255, 255)
 
 
 def monomial(*exponents: int) -> Monomial:
@@ -40,7 +42,7 @@ class Formulas(unittest.TestCase):
     def test_formula(self) -> None:
         terms: dict[Monomial, Fraction | int] = {ONE: 3, monomial(1): -1, monomial(2, 1): Fraction(1, 3),
                                                  monomial(0, 10): Fraction(-1, 4)}
-        whole = "3 − <i>a</i> + 1/3·<i>a</i><sup>2</sup>·<i>b</i> − 0.25·<i>b</i><sup>10</sup>"
+        whole = "3 − <i>a</i> + 1/3·<i>a</i>²·<i>b</i> − 0.25·<i>b</i>¹⁰"
         self.assertEqual(formula(terms, ["a", "b"], 99), whole)
         self.assertEqual(formula(terms, ["a", "b"], 10), "3 − <i>a</i> … 2 more terms")
         self.assertEqual(formula(terms, ["a", "b"], 1), " … 4 terms")
@@ -62,25 +64,26 @@ class Formulas(unittest.TestCase):
         others = [Condition(True, {ONE: 1, monomial(1): -1, monomial(0, 1): -2})]
         self.assertEqual(region(box + others, self.variables, 99),
                          "0 ≤ <i>a</i> ≤ 40; &ensp;−0.5 ≤ <i>b</i> ≤ 0.5; &ensp;40 − <i>a</i> − 80·<i>b</i> = 0")
-        self.assertEqual(joined([], box[:1], ["u1", "u2"], 99), "1 − <i>u1</i><sup>2</sup> ≥ 0")
+        self.assertEqual(joined([], box[:1], ["u1", "u2"], 99), "1 − <i>u1</i>² ≥ 0")
         self.assertEqual(region([], self.variables, 99), "no condition: all points")
 
     def test_what_is_a_range(self) -> None:
-        self.assertEqual(range_of(Condition(False, {ONE: 1, monomial(0, 2): -1})), 1)
+        self.assertEqual(range_of(Condition(False, {ONE: 1, monomial(0, 2): -1})), (1, -1, 1))
+        self.assertEqual(range_of(Condition(False, {monomial(1): 3, monomial(2): -2})), (0, 0, Fraction(3, 2)))
         self.assertIsNone(range_of(Condition(True, {ONE: 1, monomial(0, 2): -1})))
         for terms in ({ONE: 2, monomial(2): -1}, {ONE: 1, monomial(2): -2}, {ONE: 1, monomial(1, 1): -1},
-                      {ONE: 1, monomial(2): 1}, {ONE: 1}):
+                      {ONE: 1, monomial(2): 1}, {ONE: 1}, {ONE: 1, monomial(1): 1}, {ONE: 1, monomial(4): -1}):
             self.assertIsNone(range_of(Condition(False, terms)), terms)
 
     def test_variables_and_points(self) -> None:
         self.assertEqual(standing(self.variables, 99), "<i>a</i> = 20 + 20·<i>u1</i>, &ensp;<i>b</i> = 0.5·<i>u2</i>")
         self.assertEqual(standing(self.variables, 20), "<i>a</i> = 20 + 20·<i>u1</i> … 1 more, in manifest.json")
-        self.assertEqual(point_html(self.variables, [Fraction(-1), Fraction(-1, 3)], 99),
-                         "<i>a</i> = 0, &ensp;<i>b</i> = −1/6")
+        self.assertEqual(point_html(["a", "b"], [Fraction(1, 2), Fraction(-1, 6)], 99),
+                         "<i>a</i> = 0.5, &ensp;<i>b</i> = −1/6")
         self.assertEqual(letters("<i>a</i> = 0"), 5)
 
 
-def fullest(chance: random.Random, variables: list[Scaled], factor: int) -> Sheet:
+def fullest(chance: random.Random, variables: list[Scaled], factor: int) -> Figures:
     """A sheet with all that the checker's limits allow, and more letters than a line holds everywhere."""
     def some(count: int, degree: int) -> list[Monomial]:
         found: dict[Monomial, None] = {}
@@ -94,19 +97,21 @@ def fullest(chance: random.Random, variables: list[Scaled], factor: int) -> Shee
     problem = Problem(8, {e: chance.randrange(-2 ** 31, 2 ** 31) for e in some(256, 6)},
                       [Condition(k % 3 == 0, {e: chance.randrange(1, 2 ** 15) for e in some(32, 5)}) for k in range(8)],
                       [some(64, 4) for _ in range(9)])
-    blocks = Blocks(27, 200, 1, [[min(i, chance.randrange(3)) for i in range(64)] for _ in range(9)])
     rows = [Row(0, 1, 0)] * 128
     low, high = Certificate(0, 65535, -2 ** 31, 65521, rows), Certificate(1, 65535, 2 ** 31 - 1, 65519, rows)
     lower, upper = Fraction(low.p, low.q), Fraction(high.p, high.q)
     gap = f"{high.p * low.q - low.p * high.q}/{low.q * high.q}"
     lines = [f"lower {low.p}/{low.q}", f"upper {high.p}/{high.q}", f"gap {gap}", "rounds 576"]
     points = [[Fraction(chance.randrange(-10 ** 14, 10 ** 14), 10 ** 14 + 7) for _ in range(8)] for _ in range(2)]
-    title = "A bid with many decks, on many footings, at many positions, and a title far too long for a line " * 3
-    return Sheet(title, problem, (low, high), Verdict(lines, None, lower, upper, False, 576), factor, variables,
-                 [*points], ["-1.23456789e-05"] * 2, as_svg(problem, blocks, [v.inner for v in variables], 3.0),
-                 "27 blocks, 200 rounds, joining rule 2, 2,048 of 2,048 keys, 256 sign symmetries",
-                 [(name, "f" * 64) for name in FILES],
-                 [("gapfile", "1.0"), ("Python", "3.11.7"), ("the solver:", "recorded answers of csdp")])
+    long = "A bid with many decks, on many footings, at many positions, and words far too long for a line " * 3
+    model = Model(dict.fromkeys(("title", "number", "by", "unit", "date"), long),
+                  written=["bound " + "position_of_the_deck_number_1*" * 90, *["where " + "a*b + " * 40] * 30])
+    restated = Restated(problem, [], [long] * 4, [long] * 4)
+    made = dict.fromkeys(("date", "gapfile", "Python", "solver", "gapcheck", "found", "published", "commit", "kit"),
+                         long[:120])
+    return Figures(model, problem, (low, high), Verdict(lines, None, lower, upper, False, 576), factor, variables,
+                   restated, [Reached(point, Fraction(chance.randrange(-10 ** 14, 10 ** 14), 10 ** 14 + 7))
+                              for point in points], ["-1.23456789e-05"] * 2, {**made, "SHA-256": "f" * 64})
 
 
 def pixels(png: bytes) -> list[list[tuple[int, ...]]]:
@@ -164,7 +169,6 @@ class Browser(unittest.TestCase):
         seen = Counter(colour for row in rows for colour in row)
         self.assertGreater(seen[PAPER], 500000)                       # the paper
         self.assertGreater(seen[ACCENT], 800)                         # the frame of the figure
-        self.assertGreater(seen[SQUARE], 18 * 100)                    # the diagonals, 6 + 3 + 3 + 3 + 3 squares
         dark = [sum(sum(colour) < 300 for colour in row) for row in rows]
         self.assertGreater(sum(count > 0 for count in dark), 400)     # lines of text from the top to the bottom
         self.assertTrue(any(dark[60:110]) and any(dark[900:1080]))
@@ -176,9 +180,11 @@ class Browser(unittest.TestCase):
         plain = [Scaled(name, f"u{k + 1}", Fraction(0), Fraction(2)) for k, name in enumerate(names)]
         odd = [replace(v, middle=Fraction(chance.randrange(-10 ** 9, 10 ** 9), 10 ** 6 + k),
                        half=Fraction(123456789, 999983)) for k, v in enumerate(plain)]
-        with mock.patch.object(sheet_module, "allowed", lambda *_: True):
-            for variables, factor in ((plain, 3), (odd, 999999937)):
-                self.assertEqual(self.pages(page(fullest(chance, variables, factor))), 1)
+        sums = [(name, "f" * 64) for name in FILES]
+        for variables, factor in ((plain, 3), (odd, 999999937)):
+            text = page(fullest(chance, variables, factor), sums)
+            self.assertEqual(self.pages(text), 1)
+            self.assertEqual(self.pages(checking(text, [b"\1"] * 3, selfcheck.built())), 1)   # with all that can differ
 
 
 if __name__ == "__main__":

@@ -1,10 +1,14 @@
-"""Whole matrices as squares, and multipliers as rows."""
+"""Basis 0 as whole rows, and multipliers as rows."""
 import random
 import unittest
+from itertools import product
 
+from gapfile.basis import monomials
+from gapfile.commands import Monomial, add
 from gapfile.multipliers import equality_rows, inequality_rows
+from gapfile.peeling import Peeling
 from gapfile.reading import Condition, Problem
-from gapfile.squares import Limits, RoundingError, pivot_of, rows_of, single, subtract
+from gapfile.squares import Factors, Limits, Matrix, RoundingError, TooManyRows, single
 
 
 def monomial(*exponents: int) -> tuple[int, ...]:
@@ -12,19 +16,6 @@ def monomial(*exponents: int) -> tuple[int, ...]:
 
 
 class Squares(unittest.TestCase):
-    def test_pivots(self) -> None:
-        chance = random.Random(5)
-        for wide in (False, True):
-            limits = Limits.of(wide)
-            for d in (1, 2, 17, 1000, 123456789, 3 * 10 ** 11):
-                for count in (3, 4, 5, 6):
-                    pivot = pivot_of(d, count, limits, d, chance)
-                    self.assertEqual(pivot.value, d)
-                    self.assertEqual(pivot.rows[-1], (1, 1))
-                    for h in (0, 1, -d, d // 3, -(d // 7)):
-                        met = pivot.meet(h)
-                        self.assertEqual(sum(w * l * v for (w, l), v in zip(pivot.rows, met)), h)
-
     def test_single(self) -> None:
         for unit in (1, 2):
             for value in (0, 1, 65535, 65536, 10 ** 9 + 7, 2 ** 40 + 12345):
@@ -32,23 +23,55 @@ class Squares(unittest.TestCase):
                 self.assertEqual(sum(w * l * l for w, l in rows), value // unit * unit)
                 self.assertTrue(all(w % unit == 0 and 0 < w <= 65535 and l <= 32767 for w, l in rows))
 
-    def test_matrices(self) -> None:
+
+class Peeled(unittest.TestCase):
+    """Rows of basis 0: their weighted squares are the polynomial of the matrix, exactly."""
+
+    def test_polynomials(self) -> None:
+        """All monomials of two variables up to degree 2: some products are made by several pairs, some by one."""
         chance = random.Random(7)
-        for size, top in ((1, 10 ** 9), (4, 10 ** 10), (9, 10 ** 11)):
-            matrix = {(i, i): top + chance.randrange(top) for i in range(size)}
-            for i in range(size):
-                for j in range(i + 1, size):
-                    matrix[i, j] = chance.randrange(-top // (2 * size), top // (2 * size))
-            rows = rows_of(matrix, list(range(size)), 4, Limits.of(False), random.Random(1))
-            left = dict(matrix)
-            for weight, row in rows:
-                self.assertTrue(0 < weight <= 65535 and all(0 < abs(v) <= 32767 for v in row.values()))
-                subtract(left, weight, row)
-            self.assertFalse(any(left.values()))
+        basis = monomials(2, 2)
+        for wide in (False, True):
+            for top in (10 ** 7, 10 ** 10, 10 ** 11):
+                matrix = {(i, i): 2 * (top + chance.randrange(top)) for i in range(6)}
+                for i in range(6):
+                    for j in range(i + 1, 6):
+                        matrix[i, j] = chance.randrange(-top // 12, top // 12)
+                rows = Peeling(basis, [list(range(6))], matrix, Limits.of(wide), 4, 2).peel(128)
+                most = 2 ** 31 if wide else 2 ** 15
+                self.assertTrue(all(0 < w <= 65535 and all(0 < abs(v) < most for v in row.values()) for w, row in rows))
+                self.assertEqual(polynomial(basis, rows), polynomial_of(basis, matrix))
 
     def test_no_room(self) -> None:
         with self.assertRaises(RoundingError):
-            rows_of({(0, 0): 100, (0, 1): 200, (1, 1): 100}, [0, 1], 4, Limits.of(False), random.Random(1))
+            matrix = {(0, 0): 100, (0, 1): 200, (1, 1): 100}
+            Peeling(monomials(1, 1), [[0, 1]], matrix, Limits.of(False), 4, 2).peel(128)
+
+    def test_too_many_rows(self) -> None:
+        """The limit is named, who took how much of it, and what is left."""
+        with self.assertRaises(TooManyRows) as caught:
+            Peeling(monomials(1, 1), [[0, 1]], {(0, 0): 100, (0, 1): 20, (1, 1): 100}, Limits.of(False), 4, 2).peel(2)
+        self.assertEqual(str(caught.exception),
+                         "128 rows are allowed, the conditions took 126, basis 0 needs more than 2")
+
+
+def polynomial(basis: list[Monomial], rows: list[tuple[int, Factors]]) -> dict[Monomial, int]:
+    """The weighted squares of rows, multiplied out."""
+    out: dict[Monomial, int] = {}
+    for weight, row in rows:
+        for (i, a), (j, b) in product(row.items(), row.items()):
+            s = add(basis[i], basis[j])
+            out[s] = out.get(s, 0) + weight * a * b
+    return {s: c for s, c in out.items() if c}
+
+
+def polynomial_of(basis: list[Monomial], matrix: Matrix) -> dict[Monomial, int]:
+    """The polynomial of a Gram matrix, given by its upper triangle."""
+    out: dict[Monomial, int] = {}
+    for (i, j), c in matrix.items():
+        s = add(basis[i], basis[j])
+        out[s] = out.get(s, 0) + (c if i == j else 2 * c)
+    return {s: c for s, c in out.items() if c}
 
 
 class Multipliers(unittest.TestCase):
@@ -71,7 +94,7 @@ class Multipliers(unittest.TestCase):
         problem = Problem(1, {}, [Condition(True, {monomial(1): 1})], [[], [monomial(), monomial(1)]])
         wanted = {monomial(): -3.1e11, monomial(1): 5.5e9, monomial(2): 1234.0}
         for wide in (False, True):
-            rows = equality_rows(problem, 1, [[0, 1]], wanted, Limits.of(wide))
+            rows = equality_rows(problem, 1, [[0, 1]], wanted, Limits.of(wide), 2.0)
             self.assertEqual({w > 0 for w, _ in rows}, {True, False})
             got = dict.fromkeys(wanted, 0)
             for weight, row in rows:

@@ -2,8 +2,11 @@
 import unittest
 from typing import Iterable
 
-from gapfile.commands import Kind, kind_of
-from gapfile.reading import Refusal, Refused, read_certificate, read_problem
+from gapfile.commands import BOTH, ONE, Kind, WidthError, kind_of, read_command, write_command
+from gapfile.problem import LimitError, encode_problem
+from gapfile.reading import Condition, Problem, Refusal, Refused, read_certificate, read_problem
+from gapfile.rounding import Rounded, encode_certificate
+from gapfile.squares import RoundingError
 from gapfile.text import TextError, decode, encode
 from gapfile.tests.support import CASE_F, EXAMPLES, corpus, folders, needs_vectors, stored_runs, vectors
 
@@ -182,6 +185,42 @@ class WrongText(unittest.TestCase):
                 ("note 00", "line 1: expected 8 bytes, found 1"),
                 ("bytes 0", "line 1: expected bytes in hexadecimal")):
             self.assertTrue(self.wrong(text).startswith(message), self.wrong(text))
+
+
+class Widths(unittest.TestCase):
+    """All widths are checked where a command is written, whatever it is written for."""
+
+    def test_every_operand(self) -> None:
+        """The least and the largest number of each operand is written and read again; the next ones are refused."""
+        for layout in BOTH.values():
+            for at, width in enumerate(layout.numbers):
+                bits = int(width[1:])
+                ends = (-1 << bits - 1, (1 << bits - 1) - 1) if width[0] == "i" else (0, (1 << bits) - 1)
+                for end, beyond in zip(ends, (ends[0] - 1, ends[1] + 1)):
+                    numbers = [1] * len(layout.numbers)
+                    numbers[at] = end
+                    stream = write_command(layout, tuple(numbers))
+                    self.assertEqual(read_command(stream, 0, layout).numbers, tuple(numbers))
+                    numbers[at] = beyond
+                    with self.assertRaises(WidthError) as caught:
+                        write_command(layout, tuple(numbers))
+                    self.assertIn(f"{beyond} does not fit {width}", str(caught.exception))
+        for monomial in ((256,) + (0,) * 7, (-1,) + (0,) * 7):
+            with self.assertRaises(WidthError):
+                write_command(BOTH[0x05], (0,), monomial)
+        with self.assertRaises(WidthError):
+            write_command(BOTH[0x40], note=bytes(7))
+
+    def test_problems_and_certificates(self) -> None:
+        """A number that does not fit is a limit of the model, or a rounding that failed."""
+        with self.assertRaises(LimitError):
+            encode_problem(Problem(1, {ONE: 1 << 31}))
+        with self.assertRaises(LimitError):
+            encode_problem(Problem(1, {ONE: 1}, [Condition(False, {ONE: 1 << 15})]))
+        for made in (Rounded(0, 2, 1 << 31, 1, []), Rounded(0, 1 << 16, 1, 1, []), Rounded(0, 2, 1, 0x10000, []),
+                     Rounded(0, 2, 1, 1, [(0, 1 << 16, {0: 1})]), Rounded(0, 2, 1, 1, [(0, 1, {0: 1 << 31})])):
+            with self.assertRaises(RoundingError):
+                encode_certificate(Problem(1), made)
 
 
 class Kinds(unittest.TestCase):

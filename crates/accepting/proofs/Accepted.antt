@@ -15,8 +15,8 @@ use Rattle.format.specs.CertificateRules.{Certificate, readCertificate, Row}
 use Rattle.format.proofs.CertificateLimits.{Sound, read-sound}
 use Rattle.format.proofs.All.{all-map}
 use Rattle.accepting.specs.Identity.{Identity, KeepsBlocks}
-use Rattle.accepting.specs.Judgement.{splitPlace, differenceKey, refused, accepted, byIdentity, byBlocks, judgeRead, judgeOutcome, judge, Accepted, Differs}
-use Rattle.accepting.proofs.Blocks.{split-none, split-kept}
+use Rattle.accepting.specs.Judgement.{splitPlace, differenceKey, refused, accepted, byIdentity, byBlocks, judgeRead, judgeOutcome, judge, Accepted, Splits, Differs}
+use Rattle.accepting.proofs.Blocks.{split-none, split-kept, split-some}
 use Rattle.accepting.proofs.Difference.{identity-none, none-identity, difference-smallest}
 use Rattle.accepting.specs.Bounds.{BoundedBelow, BoundedAbove}
 use Rattle.accepting.proofs.Bounds.{RowWeighted, Weighted, identity-below, identity-above}
@@ -85,6 +85,14 @@ module _ (p : Problem) where
     pub judge-split : (place : ℕ) → splitPlace p (c .rows) ≡ some place → judge p s ≡ refused 8 place 0
     unfolding judge judgeRead
     judge-split place e = rw (read, e)
+
+    -- it is given where some row is not in one block
+    pub judge-splits : (KeepsBlocks p (c .rows) → ⊥) → Splits p s c
+    judge-splits fails = go (splitPlace p (c .rows)) refl
+      where
+        go : (o : Option ℕ) → splitPlace p (c .rows) ≡ o → Splits p s c
+        go none e = absurd (fails (split-none p (c .rows) e))
+        go (some place) e = record { place = place; refusal = judge-split place e; split = split-some p (c .rows) place e }
 
     -- 9: given where every row is in one block and the identity is false, with the smallest key that differs
     pub judge-differs : Limits p → KeepsBlocks p (c .rows) → (Identity p c → ⊥) → Differs p s c

@@ -1,7 +1,7 @@
 -- What becomes of one certificate: refusals 2 to 6 of its stream, 8, 9, or it is accepted.
 use mathlib.Core.Path.{_≡_}
 use mathlib.Core.Bool.{Bool, false, cond}
-use mathlib.Core.List.{List, [], _∷_}
+use mathlib.Core.List.{List, [], _∷_, _++_}
 use mathlib.Core.Option.{Option, none, some}
 use Prim.Native.Nat.{ℕ, _<_}
 use lib.Dec.{eqb}
@@ -11,6 +11,7 @@ use Rattle.format.specs.Commands as Stream
 use Rattle.polynomial.specs.Terms.{Term}
 use Rattle.polynomial.specs.Algebra.{coefficient}
 use Rattle.format.specs.ProblemRules.{Problem}
+use Rattle.format.specs.All.{All}
 use Rattle.joining_rule.specs.Joining.{basesOf, closing}
 use Rattle.format.specs.CertificateRules.{Entry, Row, Certificate, readCertificate}
 use Rattle.accepting.specs.Identity.{squares, claim, blockOf, Identity, KeepsBlocks}
@@ -37,6 +38,23 @@ splitBy b (r ∷ rs) = orElse (rowSplit (b (r .basis)) (r .entries)) (splitBy b 
 
 abbrev pub splitPlace : Problem → List Row → Option ℕ
 splitPlace p rs = splitBy (blockOf p) rs
+
+-- what that finds, in plain terms: the rows before one keep to their blocks; in it the entries before one are in the
+-- block of the row's first entry, and that one, whose place it is, is not
+pub record SplitAt (p : Problem) (rs : List Row) (at : ℕ) : Type 0 where
+  pub before : List Row
+  pub row : Row
+  pub after : List Row
+  pub rows : rs ≡ before ++ (row ∷ after)
+  pub kept : KeepsBlocks p before
+  pub first : Entry
+  pub inside : List Entry
+  pub outside : Entry
+  pub rest : List Entry
+  pub entries : row .entries ≡ first ∷ (inside ++ (outside ∷ rest))
+  pub same : All (λ (e : Entry). blockOf p (row .basis) (e .index) ≡ blockOf p (row .basis) (first .index)) inside
+  pub differs : blockOf p (row .basis) (outside .index) ≡ blockOf p (row .basis) (first .index) → ⊥
+  pub place : at ≡ outside .place
 
 -- ---- refusal 9: "identity false", and the smallest key that differs
 abbrev pub sameNumber : ℤ → ℤ → Bool
@@ -92,6 +110,12 @@ pub record Accepted (p : Problem) (s : List ℕ) (c : Certificate) : Type 0 wher
   pub read : readCertificate p s ≡ Stream.given c
   pub blocks : KeepsBlocks p (c .rows)
   pub identity : Identity p c
+
+-- refusal 8 at the place of the first entry outside its row's first block
+pub record Splits (p : Problem) (s : List ℕ) (c : Certificate) : Type 0 where
+  pub place : ℕ
+  pub refusal : judge p s ≡ refused 8 place 0
+  pub split : SplitAt p (c .rows) place
 
 -- refusal 9 at a key, which is the smallest that differs
 pub record Differs (p : Problem) (s : List ℕ) (c : Certificate) : Type 0 where

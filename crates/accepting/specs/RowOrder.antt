@@ -1,11 +1,8 @@
 -- The order of a certificate's rows: rows that are the same but for their order, and but for the offsets of their
--- entries, which a stream with another order has elsewhere.
+-- entries, which a stream with another order (format's `OtherOrder`) has elsewhere.
 use mathlib.Core.Path.{_≡_}
 use mathlib.Core.List.{List, [], _∷_}
-use Prim.Native.Nat.{ℕ}
-use Rattle.format.specs.Commands.{given}
-use Rattle.format.specs.ProblemRules.{Problem}
-use Rattle.format.specs.CertificateRules.{Entry, Row, Certificate, readCertificate}
+use Rattle.format.specs.CertificateRules.{Entry, Row}
 
 -- entries without their offsets
 abbrev pub unplaced : List Entry → List Entry
@@ -25,12 +22,3 @@ pub data Reordered : List Row → List Row → Type 0 where
   same : {r r′ : Row} {rs rs′ : List Row} → SameRow r r′ → Reordered rs rs′ → Reordered (r ∷ rs) (r′ ∷ rs′)
   exchanged : {r r′ : Row} {rs : List Row} → Reordered (r ∷ r′ ∷ rs) (r′ ∷ r ∷ rs)
   then : {rs rs′ rs″ : List Row} → Reordered rs rs′ → Reordered rs′ rs″ → Reordered rs rs″
-
--- two streams that read, with the same header, and with the same rows but for their order
-pub record OtherOrder (p : Problem) (s t : List ℕ) : Type 0 where
-  pub first : Certificate
-  pub second : Certificate
-  pub first-read : readCertificate p s ≡ given first
-  pub second-read : readCertificate p t ≡ given second
-  pub header : first .header ≡ second .header
-  pub rows : Reordered (first .rows) (second .rows)

@@ -9,6 +9,10 @@ ghost use Rattle.calls.specs.Promises.{RuleUsed};
 ghost use Rattle.calls.specs.Pair.{pairVerdict};
 ghost use Rattle.calls.specs.AddedBounds.{sameRegionRead, refusedSum, acceptedSum, ofSecond, sumSecond, sumVerdict};
 ghost use Rattle.calls.specs.AddedBounds.{streams, SumNumbered, SumExactly, FifteenExactly, PairRefusals, HoldsBetween};
+ghost use Rattle.calls.specs.AddedBounds.{SumKept};
+ghost use Rattle.calls.specs.Rules.{UnderOne, AtLarger};
+ghost use Rattle.calls.specs.Zeros.{SumZeros};
+ghost use Rattle.calls.specs.RowOrder.{SumAnyOrder};
 use calls::PairVerdict;
 use calls::Refusal;
 use calls::RulesUsed;
@@ -146,6 +150,22 @@ pub fn sum(
         ⌜ HoldsBetween a b r ⌝ }
     ensures first_rule { λ r. ⌜ RuleUsed (now (problem1 .entry)) (r .refusal .number) (r .rules .first) ⌝ }
     ensures second_rule { λ r. ⌜ RuleUsed (now (problem2 .entry)) (r .refusal .number) (r .rules .second) ⌝ }
+    ensures zeros { λ r. ⌜ SumZeros r ⌝ }
+    ensures under_one { λ r.
+        let lent = tables (now (keys .entry)) (now (high .entry)) (now (low .entry)) in
+        let a = streams (now (problem1 .entry)) (now (low1 .entry)) (now (high1 .entry)) in
+        let b = streams (now (problem2 .entry)) (now (low2 .entry)) (now (high2 .entry)) in
+        ⌜ SumKept UnderOne (tablesShort lent) a b r ⌝ }
+    ensures at_larger { λ r.
+        let lent = tables (now (keys .entry)) (now (high .entry)) (now (low .entry)) in
+        let a = streams (now (problem1 .entry)) (now (low1 .entry)) (now (high1 .entry)) in
+        let b = streams (now (problem2 .entry)) (now (low2 .entry)) (now (high2 .entry)) in
+        ⌜ SumKept AtLarger (tablesShort lent) a b r ⌝ }
+    ensures rows { λ r.
+        let lent = tables (now (keys .entry)) (now (high .entry)) (now (low .entry)) in
+        let a = streams (now (problem1 .entry)) (now (low1 .entry)) (now (high1 .entry)) in
+        let b = streams (now (problem2 .entry)) (now (low2 .entry)) (now (high2 .entry)) in
+        ⌜ SumAnyOrder (tablesShort lent) a b r ⌝ }
 {
     let v = checker::pair(problem1, low1, high1, keys, high, low);
     let f = v.refusal;

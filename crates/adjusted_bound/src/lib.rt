@@ -15,7 +15,10 @@ ghost use Rattle.calls.specs.Adjusted.{changeCount, changesOf, mostChanges, cha
 ghost use Rattle.calls.specs.Adjusted.{changesRefusal, squareKey, unit, hasBox, boxedTo, absoluteSum};
 ghost use Rattle.calls.specs.SameTerms.{sameTerm};
 ghost use Rattle.calls.specs.Adjusted.{movedBound, refusedAdjusted, adjustedOf, adjustedRead, adjustedVerdict};
-ghost use Rattle.calls.specs.Adjusted.{AdjustedNumber, AdjustedExactly, HoldsChanged, InOrder};
+ghost use Rattle.calls.specs.Adjusted.{AdjustedNumber, AdjustedExactly, HoldsChanged, InOrder, AdjustedKept};
+ghost use Rattle.calls.specs.Rules.{UnderOne, AtLarger};
+ghost use Rattle.calls.specs.Zeros.{AdjustedZeros};
+ghost use Rattle.calls.specs.RowOrder.{AdjustedAnyOrder};
 ghost use Rattle.adjusted_bound.specs.Boxes.{boxIn};
 use calls::AdjustedVerdict;
 use calls::CheckVerdict;
@@ -286,6 +289,19 @@ pub fn moved_bound(
         let lent = tables (now (keys .entry)) (now (high .entry)) (now (low .entry)) in
         let s = now (problem .entry) in
         ⌜ InOrder (tablesShort lent) s (now (certificate .entry)) (now (changes .entry)) (r .refusal) ⌝ }
+    ensures zeros { λ r. ⌜ AdjustedZeros r ⌝ }
+    ensures under_one { λ r.
+        let lent = tables (now (keys .entry)) (now (high .entry)) (now (low .entry)) in
+        let s = now (problem .entry) in
+        ⌜ AdjustedKept UnderOne (tablesShort lent) s (now (certificate .entry)) (now (changes .entry)) r ⌝ }
+    ensures at_larger { λ r.
+        let lent = tables (now (keys .entry)) (now (high .entry)) (now (low .entry)) in
+        let s = now (problem .entry) in
+        ⌜ AdjustedKept AtLarger (tablesShort lent) s (now (certificate .entry)) (now (changes .entry)) r ⌝ }
+    ensures rows { λ r.
+        let lent = tables (now (keys .entry)) (now (high .entry)) (now (low .entry)) in
+        let s = now (problem .entry) in
+        ⌜ AdjustedAnyOrder (tablesShort lent) s (now (certificate .entry)) (now (changes .entry)) r ⌝ }
 {
     let v = checker::check(problem, certificate, keys, high, low);
     let f = v.refusal;

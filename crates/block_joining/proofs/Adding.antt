@@ -7,22 +7,21 @@ use mathlib.Core.List.{List}
 use Prim.Native.Nat.{ℕ, _+_, _≤_, _<_}
 use native.Mathlib.Omega.{arith}
 use lib.ListN.{length, getD}
-use lib.Seq.{getD-drop, length-take-le, getD-take}
 use Rattle.joining_rule.specs.Sets.{In}
 use Rattle.joining_rule.specs.Extend.{addTerms}
 use Rattle.joining_rule.proofs.Elements.{in-here, in-there}
 use Rattle.joining_rule.proofs.Extending.{Extends, add-extends}
-use Rattle.key_set.specs.Table.{keysIn, Stored}
+use Rattle.key_set.specs.Table.{keysIn, Indexed, Stored}
 use Rattle.key_set.proofs.Keys.{keys-rising, stored-none}
 use Rattle.round_laws.specs.Added.{addList, addLists}
-use Rattle.round_laws.specs.Lists.{listFrom, Ends, followOf, labelsOf}
+use Rattle.round_laws.specs.Lists.{listFrom}
 use Rattle.round_laws.proofs.Sums.{done-added, done-grows, done-nothing}
 use Rattle.round_laws.proofs.Walks.{list-next, next-ends, list-less}
 use Rattle.round_laws.proofs.Merging.{list-turn, lists-turn}
 use Rattle.block_joining.specs.Pairs.{pairAt, sumAt, toldAt, Slots, ToldSum, Marked}
 use Rattle.block_joining.specs.Adding.{plain, DoneTold, WithIndex, AddingAsks, AddedAll}
-use Rattle.block_joining.specs.Standing.{BlockBytes, OwnBlock}
-use Rattle.block_joining.proofs.Growing.{Growing, growing-start, growing-step, growing-stop, growing-end}
+use Rattle.block_joining.specs.Standing.{IndexList}
+use Rattle.block_joining.proofs.Growing.{Growing, growing-start, growing-step, growing-stop, growing-anew, growing-end}
 
 module _ (T B : List ℕ) where
   told-grows : (S S′ pairs : List ℕ) → ((x : ℕ) → In x S → In x S′) → DoneTold T B S pairs → DoneTold T B S′ pairs
@@ -94,6 +93,10 @@ module _ (T B : List ℕ) where
         done = h .done;
       }
 
+      -- the index of the support made anew
+      pub adding-anew : (idx′ : List ℕ) → Indexed idx′ t n → Adding t₀ pairs₀ n₀ goal f n t idx′ pairs
+      adding-anew idx′ x = record { growing = growing-anew t₀ n₀ goal f n t idx (h .growing) idx′ x; long = h .long; index = h .index; done = h .done; met = h .met }
+
       pub adding-end : f (keysIn n t) ≡ keysIn n t → AddedAll T B goal n₀ t₀ pairs₀ n t idx pairs
       adding-end e =
           let g : goal ≡ keysIn n t = sym (h .growing .todo) ∙ e in
@@ -121,37 +124,20 @@ module _ (T B : List ℕ) where
               met = λ p q w. h .met p q (g .met p q w);
             }
 
--- ---- the rest of a block's list, from the index i on; `bytes` has it from byte 64 on
-pub record Rest (bytes : List ℕ) (n i : ℕ) : Type 0 where
-  pub ends : Ends (followOf bytes) i
-  pub low : (x : ℕ) → In x (listFrom (followOf bytes) i) → x < n
+-- ---- the list of a block, from the index i on
+module _ (n : ℕ) (follow : List ℕ) (i : ℕ) (r : IndexList n follow i) (h : i < 64) where
+  pub rest-low : i < n
+  rest-low = r .low i (rw (list-next follow i (r .ends) h) (in-here i i _ refl))
 
-module _ (bytes : List ℕ) (n : ℕ) where
-  pub rest-start : (a : ℕ) → BlockBytes n bytes → OwnBlock n bytes a → Rest bytes n a
-  rest-start a b o =
-      let size : length (labelsOf n bytes) ≡ n = length-take-le n bytes (omega (arith, b .long, b .few)) in
-      let l = b .lists .at a (omega (arith, size, o .inside)) (getD-take n bytes a 0 (o .inside) ∙ o .own) in
-      record { ends = l .ends; low = λ x m. omega (arith, size, l .inside x m .0) }
+  pub rest-next : IndexList n follow (getD follow i 0)
+  rest-next = record { ends = next-ends follow i (r .ends) h; low = λ x w. r .low x (rw (list-next follow i (r .ends) h) (in-there x i _ w)) }
 
-  module _ (i : ℕ) (r : Rest bytes n i) (h : i < 64) where
-    pub rest-low : i < n
-    rest-low = r .low i (rw (list-next (followOf bytes) i (r .ends) h) (in-here i i _ refl))
+  pub rest-less : length (listFrom follow (getD follow i 0)) < length (listFrom follow i)
+  rest-less = list-less follow i (r .ends) h
 
-    -- the byte that the loop reads
-    following : getD bytes (64 + i) 0 ≡ getD (followOf bytes) i 0
-    following = sym (getD-drop 64 bytes i 0)
+  module _ (T B S : List ℕ) where
+    pub row-turn : (k : ℕ) → addList T B k (listFrom follow i) S ≡ addList T B k (listFrom follow (getD follow i 0)) (addTerms T (getD B i 0 + getD B k 0) S)
+    row-turn k = list-turn T B follow k i S (r .ends) h
 
-    pub rest-next : Rest bytes n (getD bytes (64 + i) 0)
-    rest-next =
-        rw following
-        (record { ends = next-ends (followOf bytes) i (r .ends) h; low = λ x w. r .low x (rw (list-next (followOf bytes) i (r .ends) h) (in-there x i _ w)) })
-
-    pub rest-less : length (listFrom (followOf bytes) (getD bytes (64 + i) 0)) < length (listFrom (followOf bytes) i)
-    rest-less = rw following (list-less (followOf bytes) i (r .ends) h)
-
-    module _ (T B S : List ℕ) where
-      pub row-turn : (k : ℕ) → addList T B k (listFrom (followOf bytes) i) S ≡ addList T B k (listFrom (followOf bytes) (getD bytes (64 + i) 0)) (addTerms T (getD B i 0 + getD B k 0) S)
-      row-turn k = rw following (list-turn T B (followOf bytes) k i S (r .ends) h)
-
-      pub cross-turn : (is : List ℕ) → addLists T B is (listFrom (followOf bytes) i) S ≡ addLists T B is (listFrom (followOf bytes) (getD bytes (64 + i) 0)) (addList T B i is S)
-      cross-turn is = rw following (lists-turn T B (followOf bytes) is i S (r .ends) h)
+    pub cross-turn : (is : List ℕ) → addLists T B is (listFrom follow i) S ≡ addLists T B is (listFrom follow (getD follow i 0)) (addList T B i is S)
+    cross-turn is = lists-turn T B follow is i S (r .ends) h

@@ -6,19 +6,26 @@ use lib.ListN.{length, take}
 use lib.Seq.{take-take}
 use Rattle.key_set.proofs.Keys.{keys-first}
 use Rattle.round_laws.specs.Joins.{Has, Among, Parts}
-use Rattle.block_joining.specs.Standing.{Standing, labelled, lookedAt, Ready, Grew}
+use Rattle.block_joining.specs.Standing.{Standing, lookedAt, Ready, Grew}
 use Rattle.block_joining.proofs.Grew.{grew-same, grew-more, grew-then}
 
 -- the arrays are as long as before
 pub record SameSizes (s s′ : Standing) : Type 0 where
-  pub blocks : length (s′ .blocks) ≡ length (s .blocks)
+  pub labels : length (s′ .labels) ≡ length (s .labels)
+  pub follow : length (s′ .follow) ≡ length (s .follow)
   pub pairs : length (s′ .pairs) ≡ length (s .pairs)
   pub table : length (s′ .table) ≡ length (s .table)
   pub index : length (s′ .index) ≡ length (s .index)
 
 pub sizes-then : (s s′ s″ : Standing) → SameSizes s s′ → SameSizes s′ s″ → SameSizes s s″
 sizes-then s s′ s″ a b =
-    record { blocks = b .blocks ∙ a .blocks; pairs = b .pairs ∙ a .pairs; table = b .table ∙ a .table; index = b .index ∙ a .index }
+    record {
+      labels = b .labels ∙ a .labels;
+      follow = b .follow ∙ a .follow;
+      pairs = b .pairs ∙ a .pairs;
+      table = b .table ∙ a .table;
+      index = b .index ∙ a .index;
+    }
 
 -- s is at the loop's beginning, s′ before a turn
 pub record Going (T B : List ℕ) (P : ℕ → ℕ → Type 0) (s s′ : Standing) : Type 0 where
@@ -27,16 +34,16 @@ pub record Going (T B : List ℕ) (P : ℕ → ℕ → Type 0) (s s′ : Standin
   pub sizes : SameSizes s s′
 
 module _ (T B : List ℕ) (P : ℕ → ℕ → Type 0) (s : Standing) where
-  pub going-start : Ready T B s → Has P (length B) (labelled B s) → Going T B P s s
+  pub going-start : Ready T B s → Has P (length B) (s .labels) → Going T B P s s
   going-start r h =
-      record { grew = grew-same T B P s r h; fits = r .basis .support .few; sizes = record { blocks = refl; pairs = refl; table = refl; index = refl } }
+      record { grew = grew-same T B P s r h; fits = r .basis .support .few; sizes = record { labels = refl; follow = refl; pairs = refl; table = refl; index = refl } }
 
   module _ (s′ : Standing) (g : Going T B P s s′) where
     pub going-ready : Ready T B s′
     going-ready = g .grew .fits (g .fits) .ready
 
     -- a turn that joins nothing
-    pub going-on : (R : ℕ → ℕ → Type 0) → Among P R (length B) → (Has P (length B) (labelled B s′) → Has R (length B) (labelled B s′)) → Going T B R s s′
+    pub going-on : (R : ℕ → ℕ → Type 0) → Among P R (length B) → (Has P (length B) (s′ .labels) → Has R (length B) (s′ .labels)) → Going T B R s s′
     going-on R p h = record { grew = grew-more T B P R s s′ (g .grew) p (λ _. h); fits = g .fits; sizes = g .sizes }
 
     -- a turn that joins by the pairs Q, and is not given up

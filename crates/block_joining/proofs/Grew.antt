@@ -6,44 +6,40 @@ use mathlib.Core.List.{List}
 use Prim.Native.Nat.{ℕ, _≤_, _<_}
 use native.Mathlib.Omega.{arith}
 use lib.ListN.{length}
-use lib.Seq.{length-take-le}
 use Rattle.joining_rule.proofs.Only.{rising-shorter}
 use Rattle.joining_rule.proofs.Lowest.{some-block}
 use Rattle.key_set.proofs.Keys.{keys-rising, stored-none}
 use Rattle.round_laws.specs.Joins.{Together, Has, Among, Parts}
 use Rattle.round_laws.proofs.Joins.{joins-same, joins-then}
 use Rattle.round_laws.proofs.Ending.{one-has}
-use Rattle.block_joining.specs.Standing.{Standing, labelled, support, Ready, Grew}
+use Rattle.block_joining.specs.Standing.{Standing, support, Ready, Grew}
 use Rattle.block_joining.proofs.Growing.{grown-length, stored-then}
 
 module _ (T B : List ℕ) where
   abbrev n : ℕ
   n = length B
 
-  pub labels-long : (s : Standing) → Ready T B s → length (labelled B s) ≡ n
-  labels-long s r = length-take-le n (s .blocks) (omega (arith, r .blocks .long, r .blocks .few))
-
   -- where one block is left, or none, all pairs are in one
-  pub has-few : (P : ℕ → ℕ → Type 0) (s : Standing) → Ready T B s → s .reach .blocks < 2 → Has P n (labelled B s)
+  pub has-few : (P : ℕ → ℕ → Type 0) (s : Standing) → Ready T B s → s .reach .blocks < 2 → Has P n (s .labels)
   has-few P s r h = record {
     at = λ x y hx hy p.
-        let e = labels-long s r in
-        let z = some-block (labelled B s) (r .blocks .numbered) (omega arith) in
-        one-has P (labelled B s) (r .blocks .numbered) (omega (arith, r .count)) .at x y (omega arith) (omega arith) p;
+        let e = r .blocks .size in
+        let z = some-block (s .labels) (r .blocks .numbered) (omega arith) in
+        one-has P (s .labels) (r .blocks .numbered) (omega (arith, r .count)) .at x y (omega arith) (omega arith) p;
   }
 
-  pub grew-same : (P : ℕ → ℕ → Type 0) (s : Standing) → Ready T B s → Has P n (labelled B s) → Grew T B P s s
+  pub grew-same : (P : ℕ → ℕ → Type 0) (s : Standing) → Ready T B s → Has P n (s .labels) → Grew T B P s s
   grew-same P s r h = record {
     set = support s;
     stored = stored-none (r .basis .support) (r .basis .index);
     within = record { rising = λ w. w; keeps = λ x m. m; only = λ M p l x m. inl m };
     same = record { since = refl; until = refl; bits = refl; adds = refl };
-    fits = λ _. record { joins = joins-same n P (labelled B s) (r .blocks .numbered) h; ready = r };
+    fits = λ _. record { joins = joins-same n P (s .labels) (r .blocks .numbered) h; ready = r };
   }
 
   module _ (P R : ℕ → ℕ → Type 0) (s s′ : Standing) (g : Grew T B P s s′) where
     -- blocks that have L and R have P, and those that are left have R
-    pub grew-to : ((M : List ℕ) → Has (Together (labelled B s)) n M → Has R n M → Has P n M) → (s′ .reach .len ≤ 2048 → Has P n (labelled B s′) → Has R n (labelled B s′)) → Grew T B R s s′
+    pub grew-to : ((M : List ℕ) → Has (Together (s .labels)) n M → Has R n M → Has P n M) → (s′ .reach .len ≤ 2048 → Has P n (s′ .labels) → Has R n (s′ .labels)) → Grew T B R s s′
     grew-to f h = record {
       set = g .set;
       stored = g .stored;
@@ -55,7 +51,7 @@ module _ (T B : List ℕ) where
     }
 
     -- more pairs that are in one block afterwards
-    pub grew-more : Among P R n → (s′ .reach .len ≤ 2048 → Has P n (labelled B s′) → Has R n (labelled B s′)) → Grew T B R s s′
+    pub grew-more : Among P R n → (s′ .reach .len ≤ 2048 → Has P n (s′ .labels) → Has R n (s′ .labels)) → Grew T B R s s′
     grew-more p h = grew-to (λ M l r. record { at = λ x y hx hy q. r .at x y hx hy (p x y hx hy q) }) h
 
     -- the same pairs, told in another way
@@ -109,7 +105,7 @@ module _ (T B : List ℕ) where
       };
       fits = λ d.
           record {
-            joins = joins-then n P Q R (labelled B s) (labelled B s′) (labelled B s″) (g .fits b .joins) (h .fits d .joins) (c .split) (c .left) (c .right);
+            joins = joins-then n P Q R (s .labels) (s′ .labels) (s″ .labels) (g .fits b .joins) (h .fits d .joins) (c .split) (c .left) (c .right);
             ready = h .fits d .ready;
           };
     }

@@ -1,7 +1,7 @@
 -- Laws of the support's growth in its table: two growths one after the other, and a loop that grows it.
 use mathlib.Core.Path.{_≡_, refl, sym, ap, _∙_}
 use mathlib.Core.List.{List}
-use Prim.Native.Nat.{ℕ, _+_, _≤_, _<_}
+use Prim.Native.Nat.{ℕ, _+_, _%_, _≤_, _<_}
 use native.Mathlib.Omega.{arith}
 use native.Mathlib.Numerals.{add-one}
 use lib.ListN.{length, getD, take, drop, drop-of-length-le}
@@ -50,6 +50,10 @@ module _ (t₀ : List ℕ) where
           first = λ _. h .first;
         }
 
+    -- the index made anew
+    pub growing-anew : (idx′ : List ℕ) → Indexed idx′ t n → Growing t₀ n₀ goal f n t idx′
+    growing-anew idx′ x = record { holds = h .holds; index = x; long = h .long; rest = h .rest; more = h .more; first = h .first; todo = h .todo }
+
     -- a turn that adds nothing
     pub growing-skip : (f′ : List ℕ → List ℕ) → f (keysIn n t) ≡ f′ (keysIn n t) → Growing t₀ n₀ goal f′ n t idx
     growing-skip f′ e = record { holds = h .holds; index = h .index; long = h .long; rest = h .rest; more = h .more; first = h .first; todo = sym e ∙ h .todo }
@@ -76,6 +80,10 @@ module _ (t₀ : List ℕ) where
             index = λ z. absurd (omega arith);
             first = λ z. absurd (omega arith);
           }
+
+-- a remainder, where the divisor is known
+pub by-divisor : (r k d e : ℕ) → d ≡ e → r ≡ k % e → r ≡ k % d
+by-divisor r k d e u v = v ∙ ap (λ (n : ℕ). k % n) (sym u)
 
 -- ---- the loops' parts
 module _ (T : List ℕ) (s : ℕ) (S : List ℕ) where

@@ -13,7 +13,7 @@ use Rattle.joining_rule.specs.Join.{linked}
 use Rattle.round_laws.specs.Joins.{Two, Through, LinkedIn}
 use Rattle.round_laws.proofs.Rows.{linked-through, not-through, rows-none, rows-more, rows-then, rows-hit, rows-same, rows-not, rows-end}
 use Rattle.block_joining.specs.Pairs.{sumAt}
-use Rattle.block_joining.specs.Standing.{Standing, labelled, lookedAt, Ready, Grew}
+use Rattle.block_joining.specs.Standing.{Standing, lookedAt, Ready, Grew}
 use Rattle.block_joining.proofs.Grew.{grew-more, grew-as, grew-last}
 use Rattle.block_joining.proofs.Going.{SameSizes, Going, going-start, going-on, going-then, going-looked}
 use Rattle.block_joining.proofs.Merged.{two-same}
@@ -21,7 +21,7 @@ use Rattle.block_joining.proofs.Merged.{two-same}
 -- what the look at a pair tells
 abbrev Look : List ℕ → List ℕ → Standing → ℕ → Bool
 Look T B s p =
-    cond (eqb (getD (s .blocks) (p / 64) 0) (getD (s .blocks) (p % 64) 0)) false (linked (lookedAt s) T (sumAt B p))
+    cond (eqb (getD (s .labels) (p / 64) 0) (getD (s .labels) (p % 64) 0)) false (linked (lookedAt s) T (sumAt B p))
 
 opened : (b d : Bool) → cond b false d ≡ true → d ≡ true
 opened true d e = never e
@@ -53,7 +53,7 @@ module _ (T B : List ℕ) (a : Standing) where
       row-start = record {
         after = omega arith;
         upto = omega arith;
-        going = going-start T B (Rows (64 * i) (64 * i + (i + 1))) a r (rows-none T B S (64 * i) (64 * i + (i + 1)) (labelled B a) (λ x y o h l u. omega (arith, few)));
+        going = going-start T B (Rows (64 * i) (64 * i + (i + 1))) a r (rows-none T B S (64 * i) (64 * i + (i + 1)) (a .labels) (λ x y o h l u. omega (arith, few)));
       }
 
       module _ (a′ : Standing) (k : ℕ) (w : InRow i a′ k) where
@@ -80,7 +80,7 @@ module _ (T B : List ℕ) (a : Standing) where
           linked-now = rw (going-looked T B _ a a′ (w .going) r, at-i, at-k)
 
           through : Look T B a′ p ≡ true → Through T B S i k
-          through e = linked-through T B S i k (sym linked-now ∙ opened (eqb (getD (a′ .blocks) (p / 64) 0) (getD (a′ .blocks) (p % 64) 0)) (linked (lookedAt a′) T (sumAt B p)) e)
+          through e = linked-through T B S i k (sym linked-now ∙ opened (eqb (getD (a′ .labels) (p / 64) 0) (getD (a′ .labels) (p % 64) 0)) (linked (lookedAt a′) T (sumAt B p)) e)
 
           -- a pair that is in one block, or not linked
           pub row-skip : Look T B a′ p ≡ false → InRow i a′ (k + 1)
@@ -92,10 +92,10 @@ module _ (T B : List ℕ) (a : Standing) where
                 (λ j.
                 ⊎-elim
                 (λ q.
-                let z = two-same T B a′ (w .going .grew .fits (w .going .fits) .ready) i k hi hk (sym (ap (λ (x : ℕ). getD (a′ .blocks) x 0) at-i) ∙ eqb-true (getD (a′ .blocks) (p / 64) 0) (getD (a′ .blocks) (p % 64) 0) q ∙ ap (λ (x : ℕ). getD (a′ .blocks) x 0) at-k) in
-                rows-same T B S (64 * i) few i k (w .after) hk (omega arith) (labelled B a′) (z .at i k hi hk (record { first = refl; second = refl })) j)
-                (λ q. rows-not T B S (64 * i) few i k (w .after) hk (omega arith) (labelled B a′) (not-through T B S i k (sym linked-now ∙ q)) j)
-                (closed (eqb (getD (a′ .blocks) (p / 64) 0) (getD (a′ .blocks) (p % 64) 0)) (linked (lookedAt a′) T (sumAt B p)) e)));
+                let z = two-same T B a′ (w .going .grew .fits (w .going .fits) .ready) i k hi hk (sym (ap (λ (x : ℕ). getD (a′ .labels) x 0) at-i) ∙ eqb-true (getD (a′ .labels) (p / 64) 0) (getD (a′ .labels) (p % 64) 0) q ∙ ap (λ (x : ℕ). getD (a′ .labels) x 0) at-k) in
+                rows-same T B S (64 * i) few i k (w .after) hk (omega arith) (a′ .labels) (z .at i k hi hk (record { first = refl; second = refl })) j)
+                (λ q. rows-not T B S (64 * i) few i k (w .after) hk (omega arith) (a′ .labels) (not-through T B S i k (sym linked-now ∙ q)) j)
+                (closed (eqb (getD (a′ .labels) (p / 64) 0) (getD (a′ .labels) (p % 64) 0)) (linked (lookedAt a′) T (sumAt B p)) e)));
           }
 
           -- one that is linked
@@ -126,7 +126,7 @@ module _ (T B : List ℕ) (a : Standing) where
   module _ (r : Ready T B a) where
     pub all-start : ToRow a 0
     all-start =
-        record { upto = omega arith; going = going-start T B (Rows 0 (64 * 0)) a r (rows-none T B S 0 (64 * 0) (labelled B a) (λ x y o h l u. omega arith)) }
+        record { upto = omega arith; going = going-start T B (Rows 0 (64 * 0)) a r (rows-none T B S 0 (64 * 0) (a .labels) (λ x y o h l u. omega arith)) }
 
     module _ (a′ : Standing) (i : ℕ) (w : ToRow a′ i) where
       module _ (hi : i < length B) (a″ : Standing) (g : Grew T B (LinkedIn T B (lookedAt a′) (64 * i) (64 * (i + 1))) a′ a″) where
@@ -149,4 +149,4 @@ module _ (T B : List ℕ) (a : Standing) where
       all-end b =
           let e : i ≡ length B = omega (arith, w .upto) in
           grew-more T B (Rows 0 (64 * i)) (Through T B S) a a′ (w .going .grew) (λ x y _ _ v. v .through)
-          (λ _ j. rows-end T B S (labelled B a′) (r .blocks .few) (rw e at j))
+          (λ _ j. rows-end T B S (a′ .labels) (r .blocks .few) (rw e at j))

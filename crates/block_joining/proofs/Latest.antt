@@ -10,7 +10,7 @@ use Rattle.round_laws.specs.Joins.{WithSum, Through, SomeOf, Recent}
 use Rattle.round_laws.specs.Fits.{Fitting}
 use Rattle.round_laws.proofs.Fresh.{some-start, some-turn, some-before, through-some, some-through}
 use Rattle.round_laws.proofs.Fits.{sums-through, through-sums}
-use Rattle.block_joining.specs.Standing.{Standing, labelled, lookedAt, latest, Ready, Grew}
+use Rattle.block_joining.specs.Standing.{Standing, lookedAt, latest, Ready, Grew}
 use Rattle.block_joining.proofs.Grew.{grew-more, grew-as, grew-over, grew-then}
 use Rattle.block_joining.proofs.Going.{SameSizes, Going, going-start, going-then}
 
@@ -37,7 +37,7 @@ module _ (T B : List ℕ) (a : Standing) where
     pub members-start : ToMember a since
     members-start =
         let z : since - since ≡ 0 = omega arith in
-        record { from = omega arith; upto = r .since; going = rw z (going-start T B (SomeOf By (take 0 F)) a r (some-start By (length B) F (labelled B a))) }
+        record { from = omega arith; upto = r .since; going = rw z (going-start T B (SomeOf By (take 0 F)) a r (some-start By (length B) F (a .labels))) }
 
     low : until ≤ length (a .table)
     low = omega (arith, r .until, r .basis .support .few, r .basis .support .room)
@@ -74,7 +74,7 @@ module _ (T B : List ℕ) (a : Standing) where
           turn : Grew T B (By (getD F i 0)) a′ a″
           turn =
               rw member
-              (grew-more T B (SomeOf (WithSum B) sums) (By (getD (a′ .table) m 0)) a′ a″ g (sums-through T B _ sums f) (λ _ j. through-sums T B _ sums f (labelled B a″) j))
+              (grew-more T B (SomeOf (WithSum B) sums) (By (getD (a′ .table) m 0)) a′ a″ g (sums-through T B _ sums f) (λ _ j. through-sums T B _ sums f (a″ .labels) j))
 
           pub members-turn : SameSizes a′ a″ → a″ .reach .len ≤ 2048 → ToMember a″ (m + 1)
           members-turn z c =
@@ -99,7 +99,7 @@ module _ (T B : List ℕ) (a : Standing) where
           grew-as T B (SomeOf By F) (Through T B F) a a′ g (some-through (length B) T B F) (through-some (length B) T B F)
 
   -- all else that is linked was in one block before
-  pub members-all : Recent (lookedAt a) T B (labelled B a) F → (a′ : Standing) → Grew T B (Through T B F) a a′ → Grew T B (Through T B (lookedAt a)) a a′
+  pub members-all : Recent (lookedAt a) T B (a .labels) F → (a′ : Standing) → Grew T B (Through T B F) a a′ → Grew T B (Through T B (lookedAt a)) a a′
   members-all c a′ g =
       grew-more T B (Through T B F) (Through T B (lookedAt a)) a a′ g
       (λ x y _ _ p. record { t = p .t; exponent = p .exponent; hits = c .members _ (p .hits) })

@@ -9,4 +9,3 @@ pub mod Walking
 pub mod Latest
 pub mod InRows
 pub mod Adding
-pub mod Splicing

@@ -14,7 +14,7 @@ use Rattle.round_laws.specs.Added.{Done}
 use Rattle.round_laws.proofs.Sums.{met-done}
 use Rattle.block_joining.specs.Pairs.{pairAt, sumAt, sumDivisor, toldAt, meets, AllPairs, Slots}
 use Rattle.block_joining.specs.Adding.{plain, DoneTold}
-use Rattle.block_joining.specs.Standing.{Standing, standing, labelled, support, Ready, MetTold, Grew}
+use Rattle.block_joining.specs.Standing.{Standing, standing, support, Ready, MetTold, Grew}
 use Rattle.block_joining.proofs.Places.{pair-order, meets-pair}
 
 module _ (B : List ℕ) (few : length B ≤ 64) (p : ℕ) (e : pairAt B p ≡ true) where
@@ -54,7 +54,7 @@ module _ (B : List ℕ) (few : length B ≤ 64) (p : ℕ) (e : pairAt B p ≡ tr
 -- ---- all pairs with a sum are in one block: this is told of it
 module _ (T B : List ℕ) (s p : ℕ) (large : plain < length B) (e : pairAt B p ≡ true) (f : sumAt B p ≡ s) (a a′ : Standing) (g : Grew T B (WithSum B s) a a′) where
   abbrev noted : Standing
-  noted = standing (a′ .blocks) (set (a′ .pairs) (toldAt p) 2) (a′ .table) (a′ .index) (a′ .reach)
+  noted = standing (a′ .labels) (a′ .follow) (set (a′ .pairs) (toldAt p) 2) (a′ .table) (a′ .index) (a′ .reach)
 
   module _ (b : a′ .reach .len ≤ 2048) where
     r : Ready T B a′
@@ -63,11 +63,11 @@ module _ (T B : List ℕ) (s p : ℕ) (large : plain < length B) (e : pairAt B p
     few : length B ≤ 64
     few = r .blocks .few
 
-    met : MetTold B (labelled B a′) (noted .pairs)
+    met : MetTold B (a′ .labels) (noted .pairs)
     met = record {
       at = λ q h m.
           ⊎-elim
-          (λ w. subst (λ (u : ℕ). Has (WithSum B u) (length B) (labelled B a′)) (sym (ap (sumAt B) w ∙ f)) (g .fits b .joins .joins))
+          (λ w. subst (λ (u : ℕ). Has (WithSum B u) (length B) (a′ .labels)) (sym (ap (sumAt B) w ∙ f)) (g .fits b .joins .joins))
           (λ d. r .met large .at q h (rw (told-other B few p e (a′ .pairs) 2 q h d) at m))
           (same-or-not q p);
     }
@@ -80,7 +80,7 @@ module _ (T B : List ℕ) (s p : ℕ) (large : plain < length B) (e : pairAt B p
               ⊎-elim
               (λ w.
               subst (λ (u : ℕ). Done T (support a′) u) (sym (ap (sumAt B) w ∙ f))
-              (met-done T B (labelled B a′) (support a′) s (p / 64) (p % 64) (r .full t) (g .fits b .joins .joins) (omega (arith, o .0, o .1)) (o .1) f))
+              (met-done T B (a′ .labels) (support a′) s (p / 64) (p % 64) (r .full t) (g .fits b .joins .joins) (omega (arith, o .0, o .1)) (o .1) f))
               (λ d. r .done t large .at q h (rw (told-other B few p e (a′ .pairs) 2 q h d) at m))
               (same-or-not q p);
         }
@@ -103,5 +103,5 @@ module _ (T B : List ℕ) (s p : ℕ) (large : plain < length B) (e : pairAt B p
   told =
       record { set = g .set; stored = g .stored; within = g .within; same = g .same; fits = λ b. record { joins = g .fits b .joins; ready = ready b } }
 
-  pub met-grew : (at : ℕ) → at ≡ toldAt p → Grew T B (WithSum B s) a (standing (a′ .blocks) (set (a′ .pairs) at 2) (a′ .table) (a′ .index) (a′ .reach))
+  pub met-grew : (at : ℕ) → at ≡ toldAt p → Grew T B (WithSum B s) a (standing (a′ .labels) (a′ .follow) (set (a′ .pairs) at 2) (a′ .table) (a′ .index) (a′ .reach))
   met-grew at h = rw h told

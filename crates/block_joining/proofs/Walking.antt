@@ -11,7 +11,7 @@ use Rattle.round_laws.specs.Joins.{Two, WithSum, SumFrom}
 use Rattle.round_laws.proofs.Walk.{sums-has, walk-start, walk-more, walk-hit, walk-miss, walk-end}
 use Rattle.block_joining.specs.Pairs.{pairAt, sumAt, sumDivisor, meets, AllPairs, FindsSum}
 use Rattle.block_joining.specs.Adding.{plain}
-use Rattle.block_joining.specs.Standing.{Standing, labelled, Ready, Grew}
+use Rattle.block_joining.specs.Standing.{Standing, Ready, Grew}
 use Rattle.block_joining.proofs.Grew.{grew-same, grew-more, grew-last}
 use Rattle.block_joining.proofs.Places.{pair-order, meets-pair, pair-meets, place-pair, place-sum}
 use Rattle.block_joining.proofs.Going.{SameSizes, Going, going-start, going-ready, going-on, going-then}
@@ -29,7 +29,7 @@ module _ (T B : List ℕ) (s : ℕ) where
   pub sum-none : (a : Standing) (p : ℕ) → Ready T B a → 4095 < p → FindsSum B s p → Grew T B (WithSum B s) a a
   sum-none a p r b f =
       grew-same T B (WithSum B s) a r
-      (sums-has B s (labelled B a)
+      (sums-has B s (a .labels)
       (λ x y o h e.
       let few = r .blocks .few in
       absurd (omega (arith, f .last (64 * x + y) (place-pair B few x y o h) (place-sum B few x y o h ∙ e) .1))))
@@ -41,7 +41,7 @@ module _ (T B : List ℕ) (s : ℕ) where
     pub walking-start : (p : ℕ) → p < 4096 → FindsSum B s p → Walking a a (p + 1)
     walking-start p b f = record {
       going = going-start T B (SumFrom B s (p + 1)) a r
-          (walk-start B s (p + 1) (labelled B a)
+          (walk-start B s (p + 1) (a .labels)
           (λ x y o h e. omega (arith, f .last (64 * x + y) (place-pair B few x y o h) (place-sum B few x y o h ∙ e) .0)));
       here = record {
         upto = let o = pair-order B p (f .pair b) in omega (arith, o .0, o .1);
@@ -103,7 +103,7 @@ module _ (T B : List ℕ) (s : ℕ) where
 
     pub walking-end : (a′ : Standing) (v : ℕ) → v ≤ 0 → Walking a a′ v → Grew T B (WithSum B s) a a′
     walking-end a′ v b w =
-        grew-more T B _ (WithSum B s) a a′ (w .going .grew) (λ x y _ _ p. record { sum = p .sum }) (λ _ j. walk-end B s v (labelled B a′) b j)
+        grew-more T B _ (WithSum B s) a a′ (w .going .grew) (λ x y _ _ p. record { sum = p .sum }) (λ _ j. walk-end B s v (a′ .labels) b j)
 
 -- the sum, told in another way
 pub sum-as : (T B : List ℕ) (s u : ℕ) (a a′ : Standing) → s ≡ u → Grew T B (WithSum B s) a a′ → Grew T B (WithSum B u) a a′

@@ -14,7 +14,7 @@ use Rattle.block_joining.specs.Pairs.{pairAt, sumAt, toldAt, AllPairs, S
 
 -- up to so many monomials a basis has no index of its pairs
 abbrev pub plain : ℕ
-plain = 24
+plain = 16
 
 -- of a sum of which it is told, every t + s is in S
 pub record DoneTold (T B S pairs : List ℕ) : Type 0 where

@@ -8,7 +8,7 @@ use Prim.Native.Nat.{ℕ, _+_, _*_, _/_, _%_, _≤_, _<_}
 use lib.Dec.{ltb, eqb}
 use lib.ListN.{length, getD}
 use Rattle.round_laws.specs.Fits.{SumBits}
-use Rattle.key_set.specs.Table.{divisor}
+use Rattle.key_set.specs.Table.{first}
 use Rattle.hash_chain.specs.Chain.{Chain}
 
 -- whether a place belongs to a pair, and its sum
@@ -44,10 +44,10 @@ pub record PairIndex (B : List ℕ) (m : ℕ) (pairs : List ℕ) : Type 0 where
 abbrev pub AllPairs : List ℕ → List ℕ → Type 0
 AllPairs B pairs = PairIndex B (64 * length B) pairs
 
--- the slots of the exponents stand from 6,144 on
+-- the slots of the exponents, by the divisor that an index has as a rule, stand from 6,144 on
 pub record Slots (T pairs : List ℕ) : Type 0 where
   pub long : length pairs ≡ 6240
-  pub at : (i : ℕ) → i < length T → getD pairs (6144 + i) 0 ≡ getD T i 0 % divisor
+  pub at : (i : ℕ) → i < length T → getD pairs (6144 + i) 0 ≡ getD T i 0 % first
 
 -- it holds nothing
 pub record NoPairs (pairs : List ℕ) : Type 0 where

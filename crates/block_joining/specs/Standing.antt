@@ -5,35 +5,33 @@ use mathlib.Core.Bool.{true}
 use mathlib.Core.List.{List}
 use Prim.Native.Nat.{ℕ, _-_, _*_, _≤_, _<_}
 use lib.ListN.{length, getD, take, drop}
-use Rattle.joining_rule.specs.Sets.{different}
+use Rattle.joining_rule.specs.Sets.{In, different}
 use Rattle.joining_rule.proofs.Numbered.{Numbered}
 use Rattle.joining_rule.proofs.FullSets.{Full}
 use Rattle.key_set.specs.Table.{keysIn, Stored}
 use Rattle.round_laws.specs.Joins.{Has, Joins, WithSum, Recent}
 use Rattle.round_laws.specs.Added.{Within}
-use Rattle.round_laws.specs.Lists.{Lists, labelsOf, followOf}
+use Rattle.round_laws.specs.Lists.{Lists, listFrom, Ends}
 use Rattle.round_laws.specs.Fits.{SumBits}
 use Rattle.block_joining.specs.Limits.{ForBasis}
 use Rattle.block_joining.specs.Pairs.{pairAt, sumAt, toldAt}
 use Rattle.block_joining.specs.Adding.{plain, DoneTold, WithIndex}
 use Rattle.block_joining.specs.declared.Reach.{Reach}
 
--- the four arrays that change, and how far the joining is
+-- the five arrays that change, and how far the joining is
 pub record Standing : Type 0 where
-  pub blocks : List ℕ
+  pub labels : List ℕ
+  pub follow : List ℕ
   pub pairs : List ℕ
   pub table : List ℕ
   pub index : List ℕ
   pub reach : Reach
 
-abbrev pub standing : List ℕ → List ℕ → List ℕ → List ℕ → Reach → Standing
-standing blocks pairs table index reach =
-    record { blocks = blocks; pairs = pairs; table = table; index = index; reach = reach }
+abbrev pub standing : List ℕ → List ℕ → List ℕ → List ℕ → List ℕ → Reach → Standing
+standing labels follow pairs table index reach =
+    record { labels = labels; follow = follow; pairs = pairs; table = table; index = index; reach = reach }
 
--- the block numbers of a basis, and the support: all of it, and what the joining looks at
-abbrev pub labelled : List ℕ → Standing → List ℕ
-labelled B s = labelsOf (length B) (s .blocks)
-
+-- the support: all of it, and what the joining looks at
 abbrev pub support : Standing → List ℕ
 support s = keysIn (s .reach .len) (s .table)
 
@@ -45,16 +43,17 @@ abbrev pub latest : List ℕ → ℕ → ℕ → List ℕ
 latest t a b = take (b - a) (drop a t)
 
 -- the blocks are lists in the order of Lists.antt of round_laws
-pub record BlockBytes (n : ℕ) (bytes : List ℕ) : Type 0 where
-  pub long : length bytes ≡ 128
+pub record BlockLists (n : ℕ) (L follow : List ℕ) : Type 0 where
+  pub size : length L ≡ n
+  pub long : length follow ≡ 64
   pub few : n ≤ 64
-  pub numbered : Numbered (labelsOf n bytes)
-  pub lists : Lists (followOf bytes) (labelsOf n bytes)
+  pub numbered : Numbered L
+  pub lists : Lists follow L
 
--- a is the number of a block
-pub record OwnBlock (n : ℕ) (bytes : List ℕ) (a : ℕ) : Type 0 where
-  pub inside : a < n
-  pub own : getD bytes a 0 ≡ a
+-- the list from the index i on ends, and all its indices are below n
+pub record IndexList (n : ℕ) (follow : List ℕ) (i : ℕ) : Type 0 where
+  pub ends : Ends follow i
+  pub low : (x : ℕ) → In x (listFrom follow i) → x < n
 
 -- of a sum of which it is told, all pairs are in one block
 pub record MetTold (B L pairs : List ℕ) : Type 0 where
@@ -63,14 +62,14 @@ pub record MetTold (B L pairs : List ℕ) : Type 0 where
 -- all is in order
 pub record Ready (T B : List ℕ) (s : Standing) : Type 0 where
   pub basis : ForBasis (s .table) (s .index) (s .reach .len) T B
-  pub blocks : BlockBytes (length B) (s .blocks)
-  pub count : s .reach .blocks ≡ different (labelled B s)
+  pub blocks : BlockLists (length B) (s .labels) (s .follow)
+  pub count : s .reach .blocks ≡ different (s .labels)
   pub since : s .reach .since ≤ s .reach .until
   pub until : s .reach .until ≤ s .reach .len
-  pub full : s .reach .adds ≡ true → Full T B (labelled B s) (support s)
+  pub full : s .reach .adds ≡ true → Full T B (s .labels) (support s)
   pub index : WithIndex T B (s .pairs)
   pub done : s .reach .adds ≡ true → plain < length B → DoneTold T B (support s) (s .pairs)
-  pub met : plain < length B → MetTold B (labelled B s) (s .pairs)
+  pub met : plain < length B → MetTold B (s .labels) (s .pairs)
   pub bits : plain < length B → SumBits B (64 * length B) (s .reach .bits)
 
 -- what does not change
@@ -82,18 +81,18 @@ pub record SameReach (r r′ : Reach) : Type 0 where
 
 -- where the support is not too large: the blocks of every two indices in P were made one, and no others
 pub record JoinedBy (T B : List ℕ) (P : ℕ → ℕ → Type 0) (s s′ : Standing) : Type 0 where
-  pub joins : Joins P (length B) (labelled B s) (labelled B s′)
+  pub joins : Joins P (length B) (s .labels) (s′ .labels)
   pub ready : Ready T B s′
 
 -- what a joining by the pairs P leaves: the support has become `set`, of products of pairs that come into one block
 pub record Grew (T B : List ℕ) (P : ℕ → ℕ → Type 0) (s s′ : Standing) : Type 0 where
   pub set : List ℕ
   pub stored : Stored (s .reach .len) set (s .table) (s′ .reach .len) (s′ .table) (s′ .index)
-  pub within : Within (s .reach .adds) P T B (labelled B s) (support s) set
+  pub within : Within (s .reach .adds) P T B (s .labels) (support s) set
   pub same : SameReach (s .reach) (s′ .reach)
   pub fits : s′ .reach .len ≤ 2048 → JoinedBy T B P s s′
 
 -- what a joining by the members that came last asks: all else that is linked is joined already
 pub record JoiningAsks (T B : List ℕ) (s : Standing) : Type 0 where
   pub ready : Ready T B s
-  pub recent : Recent (lookedAt s) T B (labelled B s) (latest (s .table) (s .reach .since) (s .reach .until))
+  pub recent : Recent (lookedAt s) T B (s .labels) (latest (s .table) (s .reach .since) (s .reach .until))

@@ -1,15 +1,16 @@
 // The joining of one basis: `basis` has the keys of its monomials, `exponents` those of its multiplier. Byte i of
-// `blocks` is the block number of index i, and byte 64 + i the index that follows it in its block, or 255: a block's
-// list begins with its number. The first numbers of `table` are the support, with `index`. Two blocks that are made one
-// add their cross products to the support at once, behind the members that the joining looks at, so that it always has
-// the products of every pair in one block.
+// `labels` is the block number of index i, and byte i of `follow` the index that follows it in its block, or 255: a
+// block's list begins with its number. The first numbers of `table` are the support, with `index`. Two blocks that are
+// made one add their cross products to the support at once, behind the members that the joining looks at, so that it
+// always has the products of every pair in one block.
 //
 // A basis above PLAIN monomials joins by the members that came last, through `pairs`, the index of its pairs i < k by
 // their sums; a smaller one by its pairs, and needs no index. Place s % 2039 of `pairs` has one more than the place
 // 64i + k of the last pair whose sum has that remainder, or 0, and place LINKS + 64i + k has the same for the pairs
 // before it. Place LINKS + 64k + i has, for the last pair with its sum s, 1 when every t + s is in the support, and 2
 // when all pairs with that sum are in one block. Behind stand the slots of the exponents and the remainders of the
-// basis: those of a sum are found by adding.
+// basis: those of a sum are found by adding. Loops that put many products in end with `key_set::shorten`, so that no
+// search in the support is long.
 
 ghost use mathlib.Core.Path.{_≡_};
 ghost use mathlib.Core.Logic.{_⊎_};
@@ -24,15 +25,15 @@ ghost use Rattle.joining_rule.specs.Extend.{addTerms, addRow, extend};
 ghost use Rattle.key_set.specs.Table.{keysIn, Stored};
 ghost use Rattle.round_laws.specs.Joins.{Two, WithSum, Through, SomeOf, LinkedIn};
 ghost use Rattle.round_laws.specs.Added.{addList, addLists};
-ghost use Rattle.round_laws.specs.Lists.{Lists, listFrom, labelsOf, followOf, TwoBlocks};
+ghost use Rattle.round_laws.specs.Lists.{Lists, listFrom, TwoBlocks};
 ghost use Rattle.round_laws.specs.Fits.{SumBits, Fitting};
 ghost use Rattle.block_joining.specs.Limits.{SmallBasis, OneBasis, ForSums, ForBasis};
 ghost use Rattle.block_joining.specs.Pairs.{sumAt, sumDivisor, toldAt, Remainders, PairIndex, AllPairs, Slots, NoPairs, FindsSum, DoneBefore, Beside, PairsMade};
 ghost use Rattle.block_joining.specs.Adding.{plain, AddingAsks, AddedAll, addSquares};
-ghost use Rattle.block_joining.specs.Standing.{standing, latest, BlockBytes, OwnBlock, Ready, Grew, JoiningAsks};
+ghost use Rattle.block_joining.specs.Standing.{standing, latest, IndexList, Ready, Grew, JoiningAsks};
 
 // Up to so many monomials a basis joins by its pairs: that is faster than making their index.
-pub const PLAIN: usize = 24;
+pub const PLAIN: usize = 16;
 
 const LINKS: usize = 2048;
 
@@ -107,7 +108,8 @@ pub fn add_terms(
     n
 }
 
-// The same for the sum of two indices, where the slots of the exponents are known.
+// The same for the sum of two indices, where the slots of the exponents are known: by the divisor that the index has as
+// a rule.
 fn add_slotted(
     table: &mut [u64],
     index: &mut [u16],
@@ -126,11 +128,14 @@ fn add_slotted(
         (now (table .exit)) (now (index .exit))
         ⌝ }
 {
-    let h = key_set::slot(s);
+    if key_set::divisor(index) < key_set::FIRST {
+        return add_terms(table, index, len, exponents, s);
+    }
+    let h = key_set::first_slot(s);
     let mut n = len;
     let mut i = 0;
     while i < exponents.len() {
-        let at = key_set::slot_of_sum(h, pairs[SLOTS + i] as usize);
+        let at = key_set::slot_of_sum(key_set::FIRST, h, pairs[SLOTS + i] as usize);
         n = key_set::put_at(table, index, n, exponents[i] + s, at);
         if 2048 < n {
             return n;
@@ -257,7 +262,7 @@ fn add_pair(
 
 // Those of an index with each index of a block.
 fn add_row(
-    blocks: &[u8],
+    follow: &[u8],
     basis: &[u64],
     exponents: &[u64],
     pairs: &mut [u16],
@@ -268,13 +273,13 @@ fn add_row(
 ) -> usize
     requires { ⌜
         AddingAsks (now exponents) (now basis) (now pairs) (now table) (now index) len
-        × BlockBytes (length (now basis)) (now blocks)
-        × OwnBlock (length (now basis)) (now blocks) (c .a)
+        × (length (now follow) ≡ 64)
+        × IndexList (length (now basis)) (now follow) (c .a)
         × (c .b < length (now basis))
         ⌝ }
     ensures { λ r. ⌜
         AddedAll (now (exponents .entry)) (now (basis .entry))
-        (addList (now (exponents .entry)) (now (basis .entry)) (c .b) (listFrom (followOf (now (blocks .entry))) (c .a))
+        (addList (now (exponents .entry)) (now (basis .entry)) (c .b) (listFrom (now (follow .entry)) (c .a))
         (keysIn len (now (table .entry))))
         len (now (table .entry)) (now (pairs .entry)) r (now (table .exit)) (now (index .exit)) (now (pairs .exit))
         ⌝ }
@@ -287,14 +292,15 @@ fn add_row(
         if 2048 < n {
             return n;
         }
-        i = blocks[64 + i] as usize;
+        i = follow[i] as usize;
     }
+    key_set::shorten(table, index, n);
     n
 }
 
 // Those of each index of the block b with each index of the block a.
 fn add_cross(
-    blocks: &[u8],
+    follow: &[u8],
     basis: &[u64],
     exponents: &[u64],
     pairs: &mut [u16],
@@ -305,14 +311,14 @@ fn add_cross(
 ) -> usize
     requires { ⌜
         AddingAsks (now exponents) (now basis) (now pairs) (now table) (now index) len
-        × BlockBytes (length (now basis)) (now blocks)
-        × OwnBlock (length (now basis)) (now blocks) (m .a)
-        × OwnBlock (length (now basis)) (now blocks) (m .b)
+        × (length (now follow) ≡ 64)
+        × IndexList (length (now basis)) (now follow) (m .a)
+        × IndexList (length (now basis)) (now follow) (m .b)
         ⌝ }
     ensures { λ r. ⌜
         AddedAll (now (exponents .entry)) (now (basis .entry))
-        (addLists (now (exponents .entry)) (now (basis .entry)) (listFrom (followOf (now (blocks .entry))) (m .a))
-        (listFrom (followOf (now (blocks .entry))) (m .b)) (keysIn len (now (table .entry))))
+        (addLists (now (exponents .entry)) (now (basis .entry)) (listFrom (now (follow .entry)) (m .a))
+        (listFrom (now (follow .entry)) (m .b)) (keysIn len (now (table .entry))))
         len (now (table .entry)) (now (pairs .entry)) r (now (table .exit)) (now (index .exit)) (now (pairs .exit))
         ⌝ }
 {
@@ -320,38 +326,39 @@ fn add_cross(
     let mut k = m.b;
     while k < 64 {
         let c = Cross { a: m.a, b: k };
-        n = add_row(blocks, basis, exponents, pairs, table, index, n, c);
+        n = add_row(follow, basis, exponents, pairs, table, index, n, c);
         if 2048 < n {
             return n;
         }
-        k = blocks[64 + k as usize];
+        k = follow[k as usize];
     }
     n
 }
 
 // The block b put behind the first index of the block a.
-fn splice(blocks: &mut [u8], size: usize, m: Cross)
-    requires { ⌜ TwoBlocks size (m .a) (m .b) (now blocks) ⌝ }
+fn splice(labels: &mut [u8], follow: &mut [u8], m: Cross)
+    requires { ⌜ TwoBlocks (m .a) (m .b) (now labels) (now follow) ⌝ }
     ensures { λ _. ⌜
-        (labelsOf size (now (blocks .exit)) ≡ merged (m .a) (m .b) (labelsOf size (now (blocks .entry))))
-        × Lists (followOf (now (blocks .exit))) (labelsOf size (now (blocks .exit)))
+        (now (labels .exit) ≡ merged (m .a) (m .b) (now (labels .entry)))
+        × Lists (now (follow .exit)) (now (labels .exit))
         ⌝ }
 {
     let a = m.a as usize;
     let mut last = m.b as usize;
     let mut k = last;
-    while k < size {
-        blocks[k] = m.a;
+    while k < labels.len() {
+        labels[k] = m.a;
         last = k;
-        k = blocks[64 + k] as usize;
+        k = follow[k] as usize;
     }
-    blocks[64 + last] = blocks[64 + a];
-    blocks[64 + a] = m.b;
+    follow[last] = follow[a];
+    follow[a] = m.b;
 }
 
 // Two blocks made one, with their products put in where the basis adds.
 fn merge(
-    blocks: &mut [u8],
+    labels: &mut [u8],
+    follow: &mut [u8],
     basis: &[u64],
     exponents: &[u64],
     pairs: &mut [u16],
@@ -361,20 +368,20 @@ fn merge(
     m: Cross,
 ) -> Reach
     requires { ⌜
-        Ready (now exponents) (now basis) (standing (now blocks) (now pairs) (now table) (now index) r)
-        × TwoBlocks (length (now basis)) (m .a) (m .b) (now blocks)
+        Ready (now exponents) (now basis) (standing (now labels) (now follow) (now pairs) (now table) (now index) r)
+        × TwoBlocks (m .a) (m .b) (now labels) (now follow)
         ⌝ }
     ensures { λ r′. ⌜
         Grew (now (exponents .entry)) (now (basis .entry)) (Two (m .a) (m .b))
-        (standing (now (blocks .entry)) (now (pairs .entry)) (now (table .entry)) (now (index .entry)) r)
-        (standing (now (blocks .exit)) (now (pairs .exit)) (now (table .exit)) (now (index .exit)) r′)
+        (standing (now (labels .entry)) (now (follow .entry)) (now (pairs .entry)) (now (table .entry)) (now (index .entry)) r)
+        (standing (now (labels .exit)) (now (follow .exit)) (now (pairs .exit)) (now (table .exit)) (now (index .exit)) r′)
         ⌝ }
 {
     let mut n = r.len;
     if r.adds {
-        n = add_cross(blocks, basis, exponents, pairs, table, index, n, m);
+        n = add_cross(follow, basis, exponents, pairs, table, index, n, m);
     }
-    splice(blocks, basis.len(), m);
+    splice(labels, follow, m);
     Reach {
         since: r.since,
         until: r.until,
@@ -387,7 +394,8 @@ fn merge(
 
 // The blocks of two indices made one.
 fn join_two(
-    blocks: &mut [u8],
+    labels: &mut [u8],
+    follow: &mut [u8],
     basis: &[u64],
     exponents: &[u64],
     pairs: &mut [u16],
@@ -397,18 +405,18 @@ fn join_two(
     p: usize,
 ) -> Reach
     requires { ⌜
-        Ready (now exponents) (now basis) (standing (now blocks) (now pairs) (now table) (now index) r)
+        Ready (now exponents) (now basis) (standing (now labels) (now follow) (now pairs) (now table) (now index) r)
         × (p / 64 < length (now basis))
         × (p % 64 < length (now basis))
         ⌝ }
     ensures { λ r′. ⌜
         Grew (now (exponents .entry)) (now (basis .entry)) (Two (p / 64) (p % 64))
-        (standing (now (blocks .entry)) (now (pairs .entry)) (now (table .entry)) (now (index .entry)) r)
-        (standing (now (blocks .exit)) (now (pairs .exit)) (now (table .exit)) (now (index .exit)) r′)
+        (standing (now (labels .entry)) (now (follow .entry)) (now (pairs .entry)) (now (table .entry)) (now (index .entry)) r)
+        (standing (now (labels .exit)) (now (follow .exit)) (now (pairs .exit)) (now (table .exit)) (now (index .exit)) r′)
         ⌝ }
 {
-    let a = blocks[p / 64];
-    let b = blocks[p % 64];
+    let a = labels[p / 64];
+    let b = labels[p % 64];
     if a == b {
         return r;
     }
@@ -417,7 +425,7 @@ fn join_two(
     } else {
         Cross { a: b, b: a }
     };
-    merge(blocks, basis, exponents, pairs, table, index, r, m)
+    merge(labels, follow, basis, exponents, pairs, table, index, r, m)
 }
 
 // Whether nothing is left to join, or the support has too many keys.
@@ -431,7 +439,8 @@ fn is_over(r: Reach) -> bool
 
 // The blocks of every two indices with the sum of the last such pair, at a place, made one.
 fn join_chain(
-    blocks: &mut [u8],
+    labels: &mut [u8],
+    follow: &mut [u8],
     basis: &[u64],
     exponents: &[u64],
     pairs: &mut [u16],
@@ -441,7 +450,7 @@ fn join_chain(
     first: usize,
 ) -> Reach
     requires { ⌜
-        Ready (now exponents) (now basis) (standing (now blocks) (now pairs) (now table) (now index) start)
+        Ready (now exponents) (now basis) (standing (now labels) (now follow) (now pairs) (now table) (now index) start)
         × (plain < length (now basis))
         × FindsSum (now basis) (sumAt (now basis) first) first
         × (first < 4096)
@@ -449,8 +458,8 @@ fn join_chain(
     ensures { λ r. ⌜
         Grew (now (exponents .entry)) (now (basis .entry))
         (WithSum (now (basis .entry)) (sumAt (now (basis .entry)) first))
-        (standing (now (blocks .entry)) (now (pairs .entry)) (now (table .entry)) (now (index .entry)) start)
-        (standing (now (blocks .exit)) (now (pairs .exit)) (now (table .exit)) (now (index .exit)) r)
+        (standing (now (labels .entry)) (now (follow .entry)) (now (pairs .entry)) (now (table .entry)) (now (index .entry)) start)
+        (standing (now (labels .exit)) (now (follow .exit)) (now (pairs .exit)) (now (table .exit)) (now (index .exit)) r)
         ⌝ }
 {
     let s = sum_at(basis, first);
@@ -459,7 +468,7 @@ fn join_chain(
     while 0 < v {
         let p = v - 1;
         if sum_at(basis, p) == s {
-            r = join_two(blocks, basis, exponents, pairs, table, index, r, p);
+            r = join_two(labels, follow, basis, exponents, pairs, table, index, r, p);
             if 2048 < r.len {
                 return r;
             }
@@ -471,7 +480,8 @@ fn join_chain(
 
 // The blocks of every two indices with the sum s made one, once.
 fn join_sum(
-    blocks: &mut [u8],
+    labels: &mut [u8],
+    follow: &mut [u8],
     basis: &[u64],
     exponents: &[u64],
     pairs: &mut [u16],
@@ -481,13 +491,13 @@ fn join_sum(
     s: u64,
 ) -> Reach
     requires { ⌜
-        Ready (now exponents) (now basis) (standing (now blocks) (now pairs) (now table) (now index) start)
+        Ready (now exponents) (now basis) (standing (now labels) (now follow) (now pairs) (now table) (now index) start)
         × (plain < length (now basis))
         ⌝ }
     ensures { λ r. ⌜
         Grew (now (exponents .entry)) (now (basis .entry)) (WithSum (now (basis .entry)) s)
-        (standing (now (blocks .entry)) (now (pairs .entry)) (now (table .entry)) (now (index .entry)) start)
-        (standing (now (blocks .exit)) (now (pairs .exit)) (now (table .exit)) (now (index .exit)) r)
+        (standing (now (labels .entry)) (now (follow .entry)) (now (pairs .entry)) (now (table .entry)) (now (index .entry)) start)
+        (standing (now (labels .exit)) (now (follow .exit)) (now (pairs .exit)) (now (table .exit)) (now (index .exit)) r)
         ⌝ }
 {
     let p = find_sum(basis, pairs, s, remainder(s));
@@ -498,7 +508,17 @@ fn join_sum(
     if 1 < pairs[at] {
         return start;
     }
-    let r = join_chain(blocks, basis, exponents, pairs, table, index, start, p);
+    let r = join_chain(
+        labels,
+        follow,
+        basis,
+        exponents,
+        pairs,
+        table,
+        index,
+        start,
+        p,
+    );
     pairs[at] = 2;
     r
 }
@@ -529,7 +549,8 @@ fn note_fits(fits: &mut [u64; 32], exponents: &[u64], bits: u64, x: u64) -> usiz
 
 // The blocks of every two indices with one of these sums made one.
 fn join_sums(
-    blocks: &mut [u8],
+    labels: &mut [u8],
+    follow: &mut [u8],
     basis: &[u64],
     exponents: &[u64],
     pairs: &mut [u16],
@@ -539,19 +560,29 @@ fn join_sums(
     sums: &[u64],
 ) -> Reach
     requires { ⌜
-        Ready (now exponents) (now basis) (standing (now blocks) (now pairs) (now table) (now index) start)
+        Ready (now exponents) (now basis) (standing (now labels) (now follow) (now pairs) (now table) (now index) start)
         × (plain < length (now basis))
         ⌝ }
     ensures { λ r. ⌜
         Grew (now (exponents .entry)) (now (basis .entry)) (SomeOf (WithSum (now (basis .entry))) (now (sums .entry)))
-        (standing (now (blocks .entry)) (now (pairs .entry)) (now (table .entry)) (now (index .entry)) start)
-        (standing (now (blocks .exit)) (now (pairs .exit)) (now (table .exit)) (now (index .exit)) r)
+        (standing (now (labels .entry)) (now (follow .entry)) (now (pairs .entry)) (now (table .entry)) (now (index .entry)) start)
+        (standing (now (labels .exit)) (now (follow .exit)) (now (pairs .exit)) (now (table .exit)) (now (index .exit)) r)
         ⌝ }
 {
     let mut r = start;
     let mut i = 0;
     while i < sums.len() {
-        r = join_sum(blocks, basis, exponents, pairs, table, index, r, sums[i]);
+        r = join_sum(
+            labels,
+            follow,
+            basis,
+            exponents,
+            pairs,
+            table,
+            index,
+            r,
+            sums[i],
+        );
         if is_over(r) {
             return r;
         }
@@ -562,7 +593,8 @@ fn join_sums(
 
 // The joining by the members that came last.
 fn join_members(
-    blocks: &mut [u8],
+    labels: &mut [u8],
+    follow: &mut [u8],
     basis: &[u64],
     exponents: &[u64],
     pairs: &mut [u16],
@@ -571,15 +603,15 @@ fn join_members(
     start: Reach,
 ) -> Reach
     requires { ⌜
-        Ready (now exponents) (now basis) (standing (now blocks) (now pairs) (now table) (now index) start)
+        Ready (now exponents) (now basis) (standing (now labels) (now follow) (now pairs) (now table) (now index) start)
         × (plain < length (now basis))
         ⌝ }
     ensures { λ r. ⌜
         Grew (now (exponents .entry)) (now (basis .entry))
         (Through (now (exponents .entry)) (now (basis .entry))
         (latest (now (table .entry)) (start .since) (start .until)))
-        (standing (now (blocks .entry)) (now (pairs .entry)) (now (table .entry)) (now (index .entry)) start)
-        (standing (now (blocks .exit)) (now (pairs .exit)) (now (table .exit)) (now (index .exit)) r)
+        (standing (now (labels .entry)) (now (follow .entry)) (now (pairs .entry)) (now (table .entry)) (now (index .entry)) start)
+        (standing (now (labels .exit)) (now (follow .exit)) (now (pairs .exit)) (now (table .exit)) (now (index .exit)) r)
         ⌝ }
 {
     let mut fits = [0u64; 32];
@@ -587,7 +619,17 @@ fn join_members(
     let mut m = start.since;
     while m < start.until {
         let n = note_fits(&mut fits, exponents, start.bits, table[m]);
-        r = join_sums(blocks, basis, exponents, pairs, table, index, r, &fits[..n]);
+        r = join_sums(
+            labels,
+            follow,
+            basis,
+            exponents,
+            pairs,
+            table,
+            index,
+            r,
+            &fits[..n],
+        );
         if is_over(r) {
             return r;
         }
@@ -598,7 +640,7 @@ fn join_members(
 
 // Whether the pair at a place is to be joined: it is linked, and in two blocks.
 fn is_open(
-    blocks: &[u8],
+    labels: &[u8],
     basis: &[u64],
     exponents: &[u64],
     table: &[u64],
@@ -610,17 +652,17 @@ fn is_open(
     requires { ⌜
         ForBasis (now table) (now index) len (now exponents) (now basis)
         × (until ≤ len)
-        × (length (now blocks) ≡ 128)
+        × (length (now labels) ≡ length (now basis))
         × (p / 64 < length (now basis))
         × (p % 64 < length (now basis))
         ⌝ }
     ensures { λ r. ⌜
         r
-        ≡ cond (eqb (getD (now (blocks .entry)) (p / 64) 0) (getD (now (blocks .entry)) (p % 64) 0)) false
+        ≡ cond (eqb (getD (now (labels .entry)) (p / 64) 0) (getD (now (labels .entry)) (p % 64) 0)) false
         (linked (keysIn until (now (table .entry))) (now (exponents .entry)) (sumAt (now (basis .entry)) p))
         ⌝ }
 {
-    if blocks[p / 64] == blocks[p % 64] {
+    if labels[p / 64] == labels[p % 64] {
         return false;
     }
     is_linked(table, index, until, len, exponents, sum_at(basis, p))
@@ -628,7 +670,8 @@ fn is_open(
 
 // Index i with each index after it.
 fn join_row(
-    blocks: &mut [u8],
+    labels: &mut [u8],
+    follow: &mut [u8],
     basis: &[u64],
     exponents: &[u64],
     pairs: &mut [u16],
@@ -638,23 +681,23 @@ fn join_row(
     i: usize,
 ) -> Reach
     requires { ⌜
-        Ready (now exponents) (now basis) (standing (now blocks) (now pairs) (now table) (now index) start)
+        Ready (now exponents) (now basis) (standing (now labels) (now follow) (now pairs) (now table) (now index) start)
         × (i < length (now basis))
         ⌝ }
     ensures { λ r. ⌜
         Grew (now (exponents .entry)) (now (basis .entry))
         (LinkedIn (now (exponents .entry)) (now (basis .entry)) (keysIn (start .until) (now (table .entry))) (64 * i)
         (64 * (i + 1)))
-        (standing (now (blocks .entry)) (now (pairs .entry)) (now (table .entry)) (now (index .entry)) start)
-        (standing (now (blocks .exit)) (now (pairs .exit)) (now (table .exit)) (now (index .exit)) r)
+        (standing (now (labels .entry)) (now (follow .entry)) (now (pairs .entry)) (now (table .entry)) (now (index .entry)) start)
+        (standing (now (labels .exit)) (now (follow .exit)) (now (pairs .exit)) (now (table .exit)) (now (index .exit)) r)
         ⌝ }
 {
     let mut r = start;
     let mut k = i + 1;
     while k < basis.len() {
         let p = 64 * i + k;
-        if is_open(blocks, basis, exponents, table, index, r.until, r.len, p) {
-            r = join_two(blocks, basis, exponents, pairs, table, index, r, p);
+        if is_open(labels, basis, exponents, table, index, r.until, r.len, p) {
+            r = join_two(labels, follow, basis, exponents, pairs, table, index, r, p);
             if 2048 < r.len {
                 return r;
             }
@@ -666,7 +709,8 @@ fn join_row(
 
 // The joining by the pairs of the basis.
 fn join_rows(
-    blocks: &mut [u8],
+    labels: &mut [u8],
+    follow: &mut [u8],
     basis: &[u64],
     exponents: &[u64],
     pairs: &mut [u16],
@@ -675,19 +719,19 @@ fn join_rows(
     start: Reach,
 ) -> Reach
     requires { ⌜
-        Ready (now exponents) (now basis) (standing (now blocks) (now pairs) (now table) (now index) start)
+        Ready (now exponents) (now basis) (standing (now labels) (now follow) (now pairs) (now table) (now index) start)
         ⌝ }
     ensures { λ r. ⌜
         Grew (now (exponents .entry)) (now (basis .entry))
         (Through (now (exponents .entry)) (now (basis .entry)) (keysIn (start .until) (now (table .entry))))
-        (standing (now (blocks .entry)) (now (pairs .entry)) (now (table .entry)) (now (index .entry)) start)
-        (standing (now (blocks .exit)) (now (pairs .exit)) (now (table .exit)) (now (index .exit)) r)
+        (standing (now (labels .entry)) (now (follow .entry)) (now (pairs .entry)) (now (table .entry)) (now (index .entry)) start)
+        (standing (now (labels .exit)) (now (follow .exit)) (now (pairs .exit)) (now (table .exit)) (now (index .exit)) r)
         ⌝ }
 {
     let mut r = start;
     let mut i = 0;
     while i < basis.len() {
-        r = join_row(blocks, basis, exponents, pairs, table, index, r, i);
+        r = join_row(labels, follow, basis, exponents, pairs, table, index, r, i);
         if is_over(r) {
             return r;
         }
@@ -698,7 +742,8 @@ fn join_rows(
 
 // The joining of a basis. One block joins nothing.
 pub fn join(
-    blocks: &mut [u8],
+    labels: &mut [u8],
+    follow: &mut [u8],
     basis: &[u64],
     exponents: &[u64],
     pairs: &mut [u16],
@@ -707,22 +752,22 @@ pub fn join(
     r: Reach,
 ) -> Reach
     requires { ⌜
-        JoiningAsks (now exponents) (now basis) (standing (now blocks) (now pairs) (now table) (now index) r)
+        JoiningAsks (now exponents) (now basis) (standing (now labels) (now follow) (now pairs) (now table) (now index) r)
         ⌝ }
     ensures { λ r′. ⌜
         Grew (now (exponents .entry)) (now (basis .entry))
         (Through (now (exponents .entry)) (now (basis .entry)) (keysIn (r .until) (now (table .entry))))
-        (standing (now (blocks .entry)) (now (pairs .entry)) (now (table .entry)) (now (index .entry)) r)
-        (standing (now (blocks .exit)) (now (pairs .exit)) (now (table .exit)) (now (index .exit)) r′)
+        (standing (now (labels .entry)) (now (follow .entry)) (now (pairs .entry)) (now (table .entry)) (now (index .entry)) r)
+        (standing (now (labels .exit)) (now (follow .exit)) (now (pairs .exit)) (now (table .exit)) (now (index .exit)) r′)
         ⌝ }
 {
     if r.blocks < 2 {
         return r;
     }
     if basis.len() <= PLAIN {
-        return join_rows(blocks, basis, exponents, pairs, table, index, r);
+        return join_rows(labels, follow, basis, exponents, pairs, table, index, r);
     }
-    join_members(blocks, basis, exponents, pairs, table, index, r)
+    join_members(labels, follow, basis, exponents, pairs, table, index, r)
 }
 
 // A pair put into the index of those before it; its sum.
@@ -798,7 +843,7 @@ fn note_slots(pairs: &mut [u16], exponents: &[u64])
 {
     let mut i = 0;
     while i < exponents.len() {
-        pairs[SLOTS + i] = key_set::slot(exponents[i]) as u16;
+        pairs[SLOTS + i] = key_set::first_slot(exponents[i]) as u16;
         i += 1;
     }
 }
@@ -851,6 +896,7 @@ pub fn add_squares(
         }
         i += 1;
     }
+    key_set::shorten(table, index, n);
     n
 }
 
@@ -886,6 +932,7 @@ fn add_own(
         }
         k += 1;
     }
+    key_set::shorten(table, index, n);
     n
 }
 

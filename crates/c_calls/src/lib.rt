@@ -1,6 +1,7 @@
 // The calls for programs in other languages, as C functions: each lent slice is a pointer and a length. What each
 // leaves behind it is what the call leaves; of the verdict the number of the refusal comes back.
 ghost use mathlib.Core.Path.{_≡_};
+ghost use Prim.Native.Nat.{_<_};
 ghost use lib.ListN.{length};
 ghost use Rattle.calls.specs.Tables.{tables, tablesShort, TablesLeft};
 ghost use Rattle.calls.specs.Blocks.{blocksShort, blocksVerdict, bytesLeft};
@@ -9,7 +10,9 @@ ghost use Rattle.calls.specs.Pair.{pairVerdict};
 ghost use Rattle.calls.specs.Superseding.{supersedingVerdict, streamOf, refusalIn};
 ghost use Rattle.calls.specs.Symmetries.{symmetriesShort, symmetriesVerdict, masksLeft};
 ghost use Rattle.calls.specs.Report.{threeRuns, checkedRecords, reportVerdict, outputLeft, isShort};
-ghost use Rattle.calls.specs.BidTool.{toolNumber, toolBytes, OneRecord, AnyOrder};
+ghost use Rattle.calls.specs.BidTool.{toolNumber, toolBytes, OneRecord, AnyOrder, ToolZeros, ToolKept};
+ghost use Rattle.calls.specs.Rules.{UnderOne, AtLarger};
+ghost use Rattle.calls.specs.Zeros.{ZeroFraction, RefusalZeros};
 ghost use Rattle.calls.specs.AddedBounds.{streams, sumVerdict};
 ghost use Rattle.calls.specs.Fractions.{fraction};
 ghost use Rattle.calls.specs.Adjusted.{adjustedVerdict};
@@ -137,6 +140,10 @@ pub extern "C" fn zamiachisel_sum(
         let lent = tables (now (keys .entry)) (now (high .entry)) (now (low .entry)) in
         let left = tables (now (keys .exit)) (now (high .exit)) (now (low .exit)) in
         ⌜ TablesLeft (tablesShort lent) lent left ⌝ }
+    ensures zeros { λ r.
+        let lower = fraction (now («lower_numerator» .exit)) (now («lower_denominator» .exit)) in
+        let upper = fraction (now («upper_numerator» .exit)) (now («upper_denominator» .exit)) in
+        ⌜ (0 < r → ZeroFraction lower × ZeroFraction upper) ⌝ }
 {
     let v = added_bounds::sum(
         problem1,
@@ -190,6 +197,9 @@ pub extern "C" fn zamiachisel_tighter(
         let lent = tables (now (keys .entry)) (now (high .entry)) (now (low .entry)) in
         let left = tables (now (keys .exit)) (now (high .exit)) (now (low .exit)) in
         ⌜ TablesLeft (tablesShort lent) lent left ⌝ }
+    ensures zeros { λ r.
+        let f = refusalIn (now (number .exit)) (now (stream .exit)) (now (place .exit)) (now (key .exit)) in
+        ⌜ RefusalZeros f × (0 < f .number → r ≡ 0) ⌝ }
 {
     let chosen = superseding::choose(
         problem,
@@ -283,6 +293,13 @@ pub extern "C" fn zamiachisel_record(problem: &[u8], low: &[u8], high: &[u8], ou
     ensures order { λ r.
         let runs = threeRuns (now (problem .entry)) (now (low .entry)) (now (high .entry)) in
         ⌜ AnyOrder (now (out .entry)) runs r ⌝ }
+    ensures zeros { λ _. ⌜ ToolZeros (now (out .entry)) (now (out .exit)) ⌝ }
+    ensures under_one { λ r.
+        let runs = threeRuns (now (problem .entry)) (now (low .entry)) (now (high .entry)) in
+        ⌜ ToolKept UnderOne (now (out .entry)) runs (now (out .exit)) r ⌝ }
+    ensures at_larger { λ r.
+        let runs = threeRuns (now (problem .entry)) (now (low .entry)) (now (high .entry)) in
+        ⌜ ToolKept AtLarger (now (out .entry)) runs (now (out .exit)) r ⌝ }
 {
     if out.len() < 32 {
         return 1;
@@ -323,6 +340,7 @@ pub extern "C" fn zamiachisel_moved_bound(
         let lent = tables (now (keys .entry)) (now (high .entry)) (now (low .entry)) in
         let left = tables (now (keys .exit)) (now (high .exit)) (now (low .exit)) in
         ⌜ TablesLeft (tablesShort lent) lent left ⌝ }
+    ensures zeros { λ r. ⌜ (0 < r → ZeroFraction (fraction (now (numerator .exit)) (now (denominator .exit)))) ⌝ }
 {
     let v = adjusted_bound::moved_bound(problem, certificate, changes, keys, high, low);
     let f = v.bound;
@@ -358,6 +376,7 @@ pub extern "C" fn zamiachisel_office(
         let lent = tables (now (keys .entry)) (now (high .entry)) (now (low .entry)) in
         let left = tables (now (keys .exit)) (now (high .exit)) (now (low .exit)) in
         ⌜ TablesLeft (tablesShort lent) lent left ⌝ }
+    ensures zeros { λ r. ⌜ (0 < r → now (notes .exit) ≡ 0) ⌝ }
 {
     let v = office_check::office(problem, certificate, buffer, keys, high, low);
     *notes = v.notes as u64;

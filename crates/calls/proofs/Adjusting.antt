@@ -18,19 +18,26 @@ use Rattle.accepting.proofs.Accepted.{accepted-below}
 use Rattle.calls.specs.declared.CheckVerdict.{CheckVerdict}
 use Rattle.calls.specs.declared.Refusal.{Refusal}
 use Rattle.calls.specs.declared.AdjustedVerdict.{AdjustedVerdict}
-use Rattle.calls.specs.Refusals.{problemRefusal}
+use Rattle.calls.specs.Refusals.{noRefusal, problemRefusal}
 use Rattle.calls.specs.Check.{boundOf, checkVerdict}
 use Rattle.calls.specs.Superseding.{isAccepted}
 use Rattle.calls.specs.Promises.{Reads, Within}
 use Rattle.calls.specs.Adjusted.{changesOf, changeRefusal, changesRefusal, boxedTo, movedBound, refusedAdjusted, foundBound}
 use Rattle.calls.specs.Adjusted.{adjustedBy, adjustedOf, adjustedRead, adjustedChecked, adjustedVerdict}
 use Rattle.calls.specs.Adjusted.{AdjustedNumber, HoldsChanged, ChangesFit, Box, EveryBox, Adjusts, Moved}
-use Rattle.calls.specs.Adjusted.{AdjustedExactly, InOrder}
+use Rattle.calls.specs.Adjusted.{AdjustedExactly, InOrder, AdjustedKept}
+use Rattle.calls.specs.Rules.{UnderOne, AtLarger}
+use Rattle.calls.specs.Zeros.{RefusalZeros, AdjustedZeros}
+use Rattle.calls.specs.RowOrder.{AdjustedAnyOrder}
+use Rattle.calls.proofs.AnyOrder.{adjusted-any-order}
+use Rattle.calls.proofs.Zeros.{none-zeros, problem-zeros, zero-fraction}
+use Rattle.calls.proofs.Rules.{AllLead, under-leads, larger-leads}
+use Rattle.calls.proofs.Stays.{AllSeven, AllStay, Decides, decides-kept}
 use Rattle.calls.proofs.Ends.{reads-at}
-use Rattle.calls.proofs.Checking.{Checked, check-found, check-clauses}
+use Rattle.calls.proofs.Checking.{Checked, check-found, check-clauses, check-opens, check-zeros}
 use Rattle.calls.proofs.Superseded.{accepted-states}
 use Rattle.calls.proofs.Boxes.{boxes-found, found-boxes}
-use Rattle.calls.proofs.Changes.{unrefused-fit, fit-unrefused, changes-number, cut-refused, many-refused, unfit-refused}
+use Rattle.calls.proofs.Changes.{unrefused-fit, fit-unrefused, changes-number, cut-refused, many-refused, unfit-refused, changes-zeros}
 use Rattle.calls.proofs.AdjustedBounds.{changed-below}
 
 -- ---- how an accepted certificate ends, by the check's verdict w on it
@@ -208,8 +215,106 @@ module _ (short : Bool) (s t changes : List ℕ) (v : AdjustedVerdict) (is : v �
     upper = upper-refused;
   }
 
-  -- all of them
+  -- ---- the zeros
+  unrefused : v .refusal .number ≡ 0 → v .refusal ≡ noRefusal
+  unrefused h =
+      let r = check-found short s t said refl (passed h) in
+      let p = r .problem in
+      go p (subst (Decided p said changes) (sym (by-problem (passed h) p (r .read))) (decided p said changes))
+    where
+      go : (p : Problem) → Decided p said changes v → v .refusal ≡ noRefusal
+      go p (unfit n e) = absurd (n (sym (number-is _ e) ∙ h))
+      go p (unboxed f b e) = absurd (omega (arith, number-is _ e))
+      go p (upper f b u e) = absurd (omega (arith, number-is _ e))
+      go p (moved f b l e) = refusal-is _ e
+
+  zeros : AdjustedZeros v
+  zeros = ⊎-elim accepted refused (same-or-not (said .refusal .number) 0)
+    where
+      with-refusal : (r : Refusal) → RefusalZeros r → AdjustedZeros (refusedAdjusted r)
+      with-refusal r z = record { refusal = z; bound = λ _. zero-fraction }
+
+      refused : (said .refusal .number ≡ 0 → ⊥) → AdjustedZeros v
+      refused n = rw (by-check n) (with-refusal _ (check-zeros short s t said refl .refusal))
+
+      at : (p : Problem) → Decided p said changes v → AdjustedZeros v
+      at p (unfit n e) = rw e (with-refusal _ (changes-zeros (p .variables) changes))
+      at p (unboxed f b e) = rw e (with-refusal _ (problem-zeros 16 0 (omega arith)))
+      at p (upper f b u e) = rw e (with-refusal _ (problem-zeros 17 0 (omega arith)))
+      at p (moved f b l e) = rw e (record { refusal = none-zeros; bound = λ h. absurd (omega arith) })
+
+      accepted : said .refusal .number ≡ 0 → AdjustedZeros v
+      accepted h =
+          let r = check-found short s t said refl h in
+          let p = r .problem in
+          at p (subst (Decided p said changes) (sym (by-problem h p (r .read))) (decided p said changes))
+
+-- ---- under rule 1, or at a larger order
+-- the call looks at the variables and conditions of the problem, and at the side and the bound of the check
+same-adjusted : (p q : Problem) (v w : CheckVerdict) (changes : List ℕ) → q .variables ≡ p .variables
+    → q .conditions ≡ p .conditions → w .side ≡ v .side → w .bound ≡ v .bound
+    → adjustedOf q w changes ≡ adjustedOf p v changes
+unfolding adjustedOf adjustedBy
+same-adjusted p q v w changes n c side bound = rw (n, c, side, bound)
+
+pub adjusted-decides : (short : Bool) (s t changes : List ℕ)
+    → Decides (problemRefusal 7 0) (λ w. w .refusal) (λ w u. w .bound ≡ u .bound) (λ u. adjustedVerdict short u t changes) short s
+adjusted-decides short s t changes = record { opens = opens; refuses = refuses; accepts = accepts }
+  where
+    of : List ℕ → AdjustedVerdict
+    of u = adjustedVerdict short u t changes
+
+    opens : of s .refusal .number ≡ 0 → Reads s (Within short s)
+    opens h = check-opens short s t _ refl (passed short s t changes _ refl h)
+
+    refuses : (u : List ℕ) → AllSeven short u → of s .refusal .number ≡ 0 → of u .refusal ≡ problemRefusal 7 0
+    refuses u a h =
+        let e = ap (λ (x : CheckVerdict). x .refusal) (a .check t) in
+        ap (λ (x : AdjustedVerdict). x .refusal)
+        (by-check short u t changes _ refl (λ z. omega (arith, ap (λ (r : Refusal). r .number) e)))
+        ∙ e
+
+    accepts : (u : List ℕ) → AllStay short s u → of s .refusal .number ≡ 0
+        → (of u .refusal ≡ noRefusal) × (of u .bound ≡ of s .bound)
+    accepts u a h =
+        let z = passed short s t changes _ refl h in
+        let k = a .check t z in
+        let e : of u ≡ of s =
+        by-problem short u t changes _ refl (ap (λ (r : Refusal). r .number) (k .0)) (a .other) (a .other-read)
+        ∙ same-adjusted (a .problem) (a .other) _ _ changes (a .variables) (a .conditions) (k .1 .0) (k .1 .1)
+        ∙ sym (by-problem short s t changes _ refl z (a .problem) (a .read)) in (
+          ap (λ (x : AdjustedVerdict). x .refusal) e ∙ unrefused short s t changes _ refl h,
+          ap (λ (x : AdjustedVerdict). x .bound) e,
+        )
+
+-- all of them
+module _ (short : Bool) (s t changes : List ℕ) (v : AdjustedVerdict) (is : v ≡ adjustedVerdict short s t changes) where
+  kept : (R : List ℕ → List ℕ → Type 0) → ((u : List ℕ) → R s u → AllLead s u) → AdjustedKept R short s t changes v
+  kept R leads = rw is (decides-kept (adjusted-decides short s t changes) R leads)
+
   pub adjusted-clauses : AdjustedNumber (v .refusal .number)
       × (AdjustedExactly short s t changes v
-      × (HoldsChanged s changes (v .refusal .number) (v .bound) × InOrder short s t changes (v .refusal)))
-  adjusted-clauses = (numbered, (exactly, (holds, in-order)))
+      × (HoldsChanged s changes (v .refusal .number) (v .bound)
+      × (InOrder short s t changes (v .refusal)
+      × (AdjustedZeros v
+      × (AdjustedKept UnderOne short s t changes v
+      × (AdjustedKept AtLarger short s t changes v × AdjustedAnyOrder short s t changes v))))))
+  adjusted-clauses = (
+    numbered short s t changes v is,
+    (
+      exactly short s t changes v is,
+      (
+        holds short s t changes v is,
+        (
+          in-order short s t changes v is,
+          (
+            zeros short s t changes v is,
+            (
+              kept UnderOne (under-leads s),
+              (kept AtLarger (larger-leads s), adjusted-any-order short s t changes v is),
+            ),
+          ),
+        ),
+      ),
+    ),
+  )

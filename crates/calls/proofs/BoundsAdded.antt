@@ -16,20 +16,27 @@ use Rattle.ordered_rings.proofs.Numbers.{Numbers}
 use Rattle.ordered_rings.proofs.AtLeastZero.{Nonneg, ≤-of-minus, minus-of-≤, nonneg-+, nonneg-multiple}
 use Rattle.ordered_rings.proofs.Integers.{integerRing, integerNumbers, integerOrder}
 use Rattle.polynomial.specs.Point.{Point}
-use Rattle.format.specs.Commands.{given}
+use Rattle.format.specs.Commands.{Outcome, refused, given}
 use Rattle.format.specs.ProblemRules.{Problem, readProblem}
 use Rattle.accepting.specs.Bounds.{Allowed, objectiveValue, objectiveScale, BoundedBelow, BoundedAbove}
 use Rattle.calls.specs.declared.Refusal.{Refusal}
 use Rattle.calls.specs.declared.PairVerdict.{PairVerdict}
 use Rattle.calls.specs.declared.SumVerdict.{SumVerdict}
-use Rattle.calls.specs.Refusals.{problemRefusal}
+use Rattle.calls.specs.Refusals.{noRefusal, problemRefusal}
 use Rattle.calls.specs.Promises.{Stated, PairExactly, HoldsBelow, HoldsAbove, RuleUsed}
 use Rattle.calls.specs.AddedBounds.{sumOf, sameRegion, sameRegionRead, refusedSum, acceptedSum, ofSecond}
-use Rattle.calls.specs.AddedBounds.{sumSecond, sumPairs, Streams, pairBy, sumVerdict, sumValue}
+use Rattle.calls.specs.AddedBounds.{sumSecond, sumPairs, Streams, streams, pairBy, sumVerdict, sumValue}
 use Rattle.calls.specs.AddedBounds.{SumNumbered, SameRegion, SumStated, BothPairs, SumExactly, RegionsDiffer}
-use Rattle.calls.specs.AddedBounds.{FifteenExactly, PairRefusals, SumBetween, HoldsBetween}
+use Rattle.calls.specs.AddedBounds.{FifteenExactly, PairRefusals, SumBetween, HoldsBetween, SameSums, SumKept}
+use Rattle.calls.specs.Rules.{UnderOne, AtLarger, SameBounds}
+use Rattle.calls.specs.Zeros.{RefusalZeros, PairZeros, SumZeros}
+use Rattle.calls.specs.RowOrder.{SumAnyOrder}
+use Rattle.calls.proofs.AnyOrder.{sum-any-order}
+use Rattle.calls.proofs.Zeros.{none-zeros, problem-zeros, zero-fraction}
+use Rattle.calls.proofs.Rules.{AllLead, under-leads, larger-leads}
+use Rattle.calls.proofs.Stays.{Decides, decides-kept}
 use Rattle.calls.proofs.Regions.{region-equal, region-same, region-allowed, region-back}
-use Rattle.calls.proofs.Pairing.{pair-clauses, pair-stream}
+use Rattle.calls.proofs.Pairing.{pair-clauses, pair-stream, pair-opens, pair-zeros}
 
 -- ---- two bounds at one point: from x/y ≤ v/c and x′/y′ ≤ w/c, (x y′ + x′ y)/(y y′) ≤ (v + w)/c, by cross products;
 -- and with the signs turned
@@ -87,6 +94,7 @@ record Kept (short : Bool) (a : Streams) (w : PairVerdict) : Type 0 where
   below : HoldsBelow (a .problem) (w .refusal .number) (w .lower)
   above : HoldsAbove (a .problem) (w .refusal .number) (w .upper)
   rule : RuleUsed (a .problem) (w .refusal .number) (w .rule)
+  zeros : PairZeros w
 
 kept : (short : Bool) (a : Streams) → Kept short a (pairBy short a)
 kept short a =
@@ -98,7 +106,26 @@ kept short a =
       below = k .1 .1 .1 .0;
       above = k .1 .1 .1 .1 .0;
       rule = k .1 .1 .1 .1 .1 .1 .1 .1 .1 .0;
+      zeros = pair-zeros short (a .problem) (a .low) (a .high) (pairBy short a) refl;
     }
+
+-- where the pair a is accepted, c is accepted with the same bounds
+record Alike (v w : PairVerdict) : Type 0 where
+  refusal : w .refusal .number ≡ 0
+  lower : w .lower ≡ v .lower
+  upper : w .upper ≡ v .upper
+
+abbrev PairsAlike : Bool → Streams → Streams → Type 0
+PairsAlike short a c = pairBy short a .refusal .number ≡ 0 → Alike (pairBy short a) (pairBy short c)
+
+itself : {v : PairVerdict} → v .refusal .number ≡ 0 → Alike v v
+itself z = record { refusal = z; lower = refl; upper = refl }
+
+alike : {v w : PairVerdict} → (v .refusal .number ≡ 0 → (w .refusal ≡ noRefusal) × SameBounds w v) → v .refusal .number ≡ 0
+    → Alike v w
+alike h z =
+    let k = h z in
+    record { refusal = ap (λ (u : Refusal). u .number) (k .0); lower = k .1 .0; upper = k .1 .1 .0 }
 
 -- ---- how the call ends
 module _ (same : Bool) (v w : PairVerdict) where
@@ -287,12 +314,155 @@ module _ (short : Bool) (a b : Streams) (r : SumVerdict) (is : r ≡ sumVerdict 
           rw e (rule-refused (problemRefusal 15 0) _ _ n refl, rule-refused (problemRefusal 15 0) _ _ n refl)
       go (accepted h k i e) = rw e (rw h at (kept short a .rule), rw k at (kept short b .rule))
 
-  -- all of them
+  -- ---- the zeros
+  zeros : SumZeros r
+  zeros = go ended
+    where
+      with-refusal : (u : Refusal) → RefusalZeros u → SumZeros (refusedSum u)
+      with-refusal u z = record {
+        refusal = z;
+        lower = λ _. zero-fraction;
+        upper = λ _. zero-fraction;
+        first-rule = λ _. refl;
+        second-rule = λ _. refl;
+      }
+
+      -- with another stream
+      of-second : (u : Refusal) → (u .number ≡ 0 → ⊥) → RefusalZeros u → RefusalZeros (ofSecond u)
+      of-second u n z = record { stream = λ e. absurd (n e); place = λ e. absurd (n e); key = z .key }
+
+      go : Ended same v w r → SumZeros r
+      go (first-refused h e) = rw e (with-refusal _ (kept short a .zeros .refusal))
+      go (second-refused h k e) = rw e (with-refusal _ (of-second (w .refusal) k (kept short b .zeros .refusal)))
+      go (differing h k i e) = rw e (with-refusal _ (problem-zeros 15 0 (omega arith)))
+      go (accepted h k i e) =
+          rw e (record {
+            refusal = none-zeros;
+            lower = λ h. absurd (omega arith);
+            upper = λ h. absurd (omega arith);
+            first-rule = λ h. absurd (omega arith);
+            second-rule = λ h. absurd (omega arith);
+          })
+
+-- ---- under rule 1, or at a larger order: the call looks at the bounds of both pairs, and at the region
+-- another problem over the same region, on either side
+region-left : (p q : Problem) (o : Outcome Problem) → q .variables ≡ p .variables → q .conditions ≡ p .conditions
+    → sameRegionRead (given q) o ≡ sameRegionRead (given p) o
+unfolding sameRegion
+region-left p q (refused n place) e f = refl
+region-left p q (given x) e f = rw (e, f)
+
+region-right : (p q : Problem) (o : Outcome Problem) → q .variables ≡ p .variables → q .conditions ≡ p .conditions
+    → sameRegionRead o (given q) ≡ sameRegionRead o (given p)
+unfolding sameRegion
+region-right p q (refused n place) e f = refl
+region-right p q (given x) e f = rw (e, f)
+
+module _ (short : Bool) (a b : Streams) where
+  -- two pairs with the bounds of an accepted call, over one region: the same sums
+  same-sums : (c d : Streams) → sumVerdict short a b .refusal .number ≡ 0
+      → PairsAlike short a c → PairsAlike short b d
+      → sameRegionRead (readProblem (c .problem)) (readProblem (d .problem))
+      ≡ sameRegionRead (readProblem (a .problem)) (readProblem (b .problem))
+      → (sumVerdict short c d .refusal ≡ noRefusal) × SameSums (sumVerdict short c d) (sumVerdict short a b)
+  same-sums c d h x y region = go (ended short c d _ refl)
+    where
+      k : (pairBy short a .refusal .number ≡ 0) × ((pairBy short b .refusal .number ≡ 0)
+          × ((sameRegionRead (readProblem (a .problem)) (readProblem (b .problem)) ≡ true)
+          × (sumVerdict short a b ≡ acceptedSum (pairBy short a) (pairBy short b))))
+      k = found short a b _ refl h
+
+      go : Ended (sameRegionRead (readProblem (c .problem)) (readProblem (d .problem))) (pairBy short c) (pairBy short d)
+          (sumVerdict short c d)
+          → (sumVerdict short c d .refusal ≡ noRefusal) × SameSums (sumVerdict short c d) (sumVerdict short a b)
+      go (first-refused n e) = absurd (n (x (k .0) .refusal))
+      go (second-refused m n e) = absurd (n (y (k .1 .0) .refusal))
+      go (differing m n i e) = never (sym i ∙ region ∙ k .1 .1 .0)
+      go (accepted m n i e) = (
+        ap (λ (u : SumVerdict). u .refusal) e,
+        (
+          ap (λ (u : SumVerdict). u .lower) e
+              ∙ ap₂ sumOf (x (k .0) .lower) (y (k .1 .0) .lower)
+              ∙ sym (ap (λ (u : SumVerdict). u .lower) (k .1 .1 .1)),
+          ap (λ (u : SumVerdict). u .upper) e
+              ∙ ap₂ sumOf (x (k .0) .upper) (y (k .1 .0) .upper)
+              ∙ sym (ap (λ (u : SumVerdict). u .upper) (k .1 .1 .1)),
+        ),
+      )
+
+  first-decides : Decides (problemRefusal 7 0) (λ w. w .refusal) SameSums
+      (λ t. sumVerdict short (streams t (a .low) (a .high)) b) short (a .problem)
+  first-decides = record {
+    opens = λ h. pair-opens short (a .problem) (a .low) (a .high) _ refl (found short a b _ refl h .0);
+    refuses = λ t s h.
+        let c = streams t (a .low) (a .high) in
+        let e = ap (λ (u : PairVerdict). u .refusal) (s .pair (a .low) (a .high)) in
+        pair-refusals short c b _ refl .first (λ z. omega (arith, ap (λ (u : Refusal). u .number) e)) .0 ∙ e;
+    accepts = λ t s h.
+        same-sums (streams t (a .low) (a .high)) b h (alike (s .pair (a .low) (a .high))) (λ z. itself z)
+        (ap (λ (o : Outcome Problem). sameRegionRead o (readProblem (b .problem))) (s .other-read)
+        ∙ region-left (s .problem) (s .other) (readProblem (b .problem)) (s .variables) (s .conditions)
+        ∙ sym (ap (λ (o : Outcome Problem). sameRegionRead o (readProblem (b .problem))) (s .read)));
+  }
+
+  second-decides : Decides (ofSecond (problemRefusal 7 0)) (λ w. w .refusal) SameSums
+      (λ t. sumVerdict short a (streams t (b .low) (b .high))) short (b .problem)
+  second-decides = record {
+    opens = λ h. pair-opens short (b .problem) (b .low) (b .high) _ refl (found short a b _ refl h .1 .0);
+    refuses = λ t s h.
+        let d = streams t (b .low) (b .high) in
+        let e = ap (λ (u : PairVerdict). u .refusal) (s .pair (b .low) (b .high)) in
+        pair-refusals short a d _ refl .second (found short a b _ refl h .0) (λ z. omega (arith, ap (λ (u : Refusal). u .number) e)) .0
+        ∙ ap ofSecond e;
+    accepts = λ t s h.
+        same-sums a (streams t (b .low) (b .high)) h (λ z. itself z) (alike (s .pair (b .low) (b .high)))
+        (ap (sameRegionRead (readProblem (a .problem))) (s .other-read)
+        ∙ region-right (s .problem) (s .other) (readProblem (a .problem)) (s .variables) (s .conditions)
+        ∙ sym (ap (sameRegionRead (readProblem (a .problem))) (s .read)));
+  }
+
+  kept-sums : (R : List ℕ → List ℕ → Type 0) → ((s t : List ℕ) → R s t → AllLead s t) → SumKept R short a b (sumVerdict short a b)
+  kept-sums R leads = record {
+    first = decides-kept first-decides R (leads (a .problem));
+    second = decides-kept second-decides R (leads (b .problem));
+  }
+
+-- all of them
+module _ (short : Bool) (a b : Streams) (r : SumVerdict) (is : r ≡ sumVerdict short a b) where
+  sums-kept : (R : List ℕ → List ℕ → Type 0) → ((s t : List ℕ) → R s t → AllLead s t) → SumKept R short a b r
+  sums-kept R leads = rw is (kept-sums short a b R leads)
+
   pub sum-clauses : SumNumbered (r .refusal .number)
       × (SumExactly short a b r
       × (FifteenExactly short a b (r .refusal)
       × (PairRefusals short a b (r .refusal)
       × (HoldsBetween a b r
       × (RuleUsed (a .problem) (r .refusal .number) (r .rules .first)
-      × RuleUsed (b .problem) (r .refusal .number) (r .rules .second))))))
-  sum-clauses = (numbered, (sum-exactly, (fifteen, (pair-refusals, (between, rules)))))
+      × (RuleUsed (b .problem) (r .refusal .number) (r .rules .second)
+      × (SumZeros r
+      × (SumKept UnderOne short a b r × (SumKept AtLarger short a b r × SumAnyOrder short a b r)))))))))
+  sum-clauses = (
+    numbered short a b r is,
+    (
+      sum-exactly short a b r is,
+      (
+        fifteen short a b r is,
+        (
+          pair-refusals short a b r is,
+          (
+            between short a b r is,
+            (
+              rules short a b r is .0,
+              (
+                rules short a b r is .1,
+                (
+                  zeros short a b r is,
+                  (sums-kept UnderOne under-leads, (sums-kept AtLarger larger-leads, sum-any-order short a b r is)),
+                ),
+              ),
+            ),
+          ),
+        ),
+      ),
+    ),
+  )

@@ -15,6 +15,8 @@ use Rattle.calls.specs.declared.Refusal.{Refusal}
 use Rattle.calls.specs.Refusals.{noRefusal}
 use Rattle.calls.specs.Adjusted.{changeSize, changeAt, changeCount, changesOf, mostChanges, changeRefusal}
 use Rattle.calls.specs.Adjusted.{changeFits, firstUnfit, unfitRefusal, changesRefusal, ChangesFit, FirstUnfit}
+use Rattle.calls.specs.Zeros.{RefusalZeros}
+use Rattle.calls.proofs.Zeros.{none-zeros, certificate-zeros}
 
 -- ---- the first that does not fit
 module _ (n : ℕ) (d : Term) where
@@ -95,6 +97,17 @@ module _ (n : ℕ) (s : List ℕ) where
       go false true o = omega arith
       go false false none = omega arith
       go false false (some i) = omega arith
+
+  pub changes-zeros : RefusalZeros (changesRefusal n s)
+  unfolding changesRefusal
+  changes-zeros = go (ltb 0 (length s % changeSize)) (ltb mostChanges (changeCount s)) first
+    where
+      go : (b d : Bool) (o : Option ℕ)
+          → RefusalZeros (cond b (changeRefusal 2 (changeCount s)) (cond d (changeRefusal 6 mostChanges) (unfitRefusal o)))
+      go true d o = certificate-zeros 2 2 (changeCount s) 0 (omega arith) (λ _. refl)
+      go false true o = certificate-zeros 2 6 mostChanges 0 (omega arith) (λ _. refl)
+      go false false none = none-zeros
+      go false false (some i) = certificate-zeros 2 4 i 0 (omega arith) (λ _. refl)
 
   pub cut-refused : 0 < length s % changeSize → changesRefusal n s ≡ changeRefusal 2 (changeCount s)
   unfolding changesRefusal

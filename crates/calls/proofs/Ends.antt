@@ -4,12 +4,13 @@ use mathlib.Core.Bool.{Bool, true, false, cond}
 use mathlib.Core.List.{List}
 use Prim.Native.Nat.{ℕ}
 use native.Mathlib.Omega.{arith}
+use borrow.Author.Tests.{ltb-true, lt-ltb}
 use Rattle.format.specs.Commands.{Outcome, refused, given}
 use Rattle.format.specs.ProblemRules.{Problem, readProblem}
-use Rattle.joining_rule.specs.Joining.{tooLarge}
+use Rattle.joining_rule.specs.Joining.{mostKeys, tooLarge}
 use Rattle.calls.specs.declared.Refusal.{Refusal}
 use Rattle.calls.specs.Refusals.{problemRefusal}
-use Rattle.calls.specs.Promises.{Reads, Within}
+use Rattle.calls.specs.Promises.{Reads, Within, AboveLimit, SevenExactly}
 use Rattle.calls.proofs.Judged.{Between, problem-number}
 
 -- a stream gives one problem
@@ -62,3 +63,38 @@ module _ {A : Type 0} (refuse : Refusal → A) (of : Problem → A) (read : Outc
             let z : number (refuse (problemRefusal n place)) ≡ 0 = rw (by-refusal n place) at h in
             absurd (omega (arith, by-number (problemRefusal n place), problem-number s n place e .least))
         go false f (given p) e h = by-size p f e (tooLarge p) refl (rw (by-problem p) at h)
+
+  -- refusal 7, where none is given once the problem is within its limits
+  module _ (refusal : A → Refusal) (by : (r : Refusal) → refusal (refuse r) ≡ r)
+      (other : (p : Problem) → refusal (of p) .number ≡ 7 → ⊥) where
+    abbrev Seven : Refusal → Type 0
+    Seven f = (f .stream ≡ 0) × ((f .place ≡ 0) × Reads s AboveLimit)
+
+    number-by : (n place : ℕ) → refusal (refuse (problemRefusal n place)) .number ≡ n
+    number-by n place = rw (by (problemRefusal n place))
+
+    seven-only : refusal verdict .number ≡ 7 → Seven (refusal verdict)
+    unfolding tooLarge
+    seven-only h = go short (readProblem s) refl h
+      where
+        by-size : (p : Problem) → readProblem s ≡ given p → (l : Bool) → tooLarge p ≡ l
+            → refusal (cond l (refuse (problemRefusal 7 0)) (of p)) .number ≡ 7
+            → Seven (refusal (cond l (refuse (problemRefusal 7 0)) (of p)))
+        by-size p e true q h = rw (by (problemRefusal 7 0)) (refl, (refl, record { problem = p; read = e; holds = ltb-true _ _ q }))
+        by-size p e false q h = absurd (other p h)
+
+        go : (b : Bool) (o : Outcome Problem) → readProblem s ≡ o
+            → refusal (cond b (refuse (problemRefusal 1 0)) (read o)) .number ≡ 7
+            → Seven (refusal (cond b (refuse (problemRefusal 1 0)) (read o)))
+        go true o e h = absurd (omega (arith, number-by 1 0))
+        go false (refused n place) e h =
+            let z : refusal (refuse (problemRefusal n place)) .number ≡ 7 = rw (by-refusal n place) at h in
+            absurd (omega (arith, number-by n place, problem-number s n place e .most))
+        go false (given p) e h = rw (by-problem p) (by-size p e (tooLarge p) refl (rw (by-problem p) at h))
+
+    pub seven-exactly : SevenExactly short s (refusal verdict)
+    unfolding tooLarge
+    seven-exactly = record {
+      only = seven-only;
+      always = λ p long read large. rw (too-large p long read (lt-ltb mostKeys _ large)) (number-by 7 0);
+    }

@@ -1,14 +1,20 @@
+pub mod Zeros
+pub mod Entries
 pub mod Judged
 pub mod Ends
 pub mod Rules
 pub mod Promised
 pub mod Checking
 pub mod Pairing
+pub mod Stays
+pub mod Pushing
 pub mod Untouched
 pub mod Windows
 pub mod WidestGap
 pub mod RingPairs
 pub mod Superseded
+pub mod SupersedingKept
+pub mod RingChecks
 pub mod Evenness
 pub mod EvenBlocks
 pub mod Doubling
@@ -22,6 +28,7 @@ pub mod Packed
 pub mod RecordFields
 pub mod Told
 pub mod Reports
+pub mod RingReports
 pub mod BidTools
 pub mod SameTerms
 pub mod Regions
@@ -33,3 +40,6 @@ pub mod Boxes
 pub mod Changes
 pub mod Adjusting
 pub mod Office
+pub mod OfficeZeros
+pub mod AnyOrder
+pub mod OfficeClauses

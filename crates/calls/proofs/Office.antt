@@ -217,16 +217,16 @@ module _ (t : List ℕ) (room : ℕ) (w : CheckVerdict) where
       go true = refl
       go false = refl
 
-data Told (t : List ℕ) (room : ℕ) (w : CheckVerdict) (v : OfficeVerdict) : Type 0 where
-  refusing : (w .refusal .number ≡ 0 → ⊥) → v ≡ record { check = verdictSent t w; notes = 0 } → Told t room w v
-  short-of : w .refusal .number ≡ 0 → room < noteText * noteCount t → v ≡ refusedNotes → Told t room w v
+pub data OfficeTold (t : List ℕ) (room : ℕ) (w : CheckVerdict) (v : OfficeVerdict) : Type 0 where
+  refusing : (w .refusal .number ≡ 0 → ⊥) → v ≡ record { check = verdictSent t w; notes = 0 } → OfficeTold t room w v
+  short-of : w .refusal .number ≡ 0 → room < noteText * noteCount t → v ≡ refusedNotes → OfficeTold t room w v
   accepting : w .refusal .number ≡ 0 → noteText * noteCount t ≤ room
-      → v ≡ record { check = verdictSent t w; notes = noteCount t } → Told t room w v
+      → v ≡ record { check = verdictSent t w; notes = noteCount t } → OfficeTold t room w v
 
-told : (t : List ℕ) (room : ℕ) (w : CheckVerdict) → Told t room w (officeOf t room w)
+pub told : (t : List ℕ) (room : ℕ) (w : CheckVerdict) → OfficeTold t room w (officeOf t room w)
 told t room w = ⊎-elim passed (λ h. refusing h (office-refused t room w h)) (same-or-not (w .refusal .number) 0)
   where
-    passed : w .refusal .number ≡ 0 → Told t room w (officeOf t room w)
+    passed : w .refusal .number ≡ 0 → OfficeTold t room w (officeOf t room w)
     passed h =
         ⊎-elim
         (λ b. short-of h b (office-short t room w h b))
@@ -238,7 +238,7 @@ module _ (short : Bool) (s t : List ℕ) (room : ℕ) (v : OfficeVerdict) (is : 
   abbrev w : CheckVerdict
   w = checkVerdict short s (withoutNotes t)
 
-  ended : Told t room w v
+  pub ended : OfficeTold t room w v
   unfolding officeVerdict
   ended = rw is (told t room w)
 
@@ -256,13 +256,13 @@ module _ (short : Bool) (s t : List ℕ) (room : ℕ) (v : OfficeVerdict) (is : 
   unfolding verdictSent
   numbered = go ended
     where
-      go : Told t room w v → OfficeNumbered (v .check .refusal .number)
+      go : OfficeTold t room w v → OfficeNumbered (v .check .refusal .number)
       go (refusing h e) = inl (omega (arith, number-is _ e, sent-number t (w .refusal), check-most))
       go (short-of h k e) = inr (number-is _ e)
       go (accepting h k e) = inl (omega (arith, number-is _ e, sent-number t (w .refusal), check-most))
 
   -- ---- where it is accepted, the verdict is the check's
-  accepted-same : w .refusal .number ≡ 0 → verdictSent t w ≡ w
+  pub accepted-same : w .refusal .number ≡ 0 → verdictSent t w ≡ w
   accepted-same h =
       let r = check-found short s (withoutNotes t) w refl h in
       let e = ap (λ (x : CheckVerdict). x .refusal .stream) (r .holds .verdict) in
@@ -278,7 +278,7 @@ module _ (short : Bool) (s t : List ℕ) (room : ℕ) (v : OfficeVerdict) (is : 
       silent : (c : CheckVerdict) → c .side ≤ 1 → (c .refusal .number ≡ 0 → ⊥) → HoldsBySide s c
       silent c b n = record { sides = b; lower = λ z p read h. absurd (n h); upper = λ z p read h. absurd (n h) }
 
-      go : Told t room w v → HoldsBySide s (v .check)
+      go : OfficeTold t room w v → HoldsBySide s (v .check)
       go (refusing h e) =
           rw (check-is _ e)
           (unfold verdictSent in silent _ (strict .sides) (λ z. h (sym (sent-number t (w .refusal)) ∙ z)))
@@ -286,10 +286,10 @@ module _ (short : Bool) (s t : List ℕ) (room : ℕ) (v : OfficeVerdict) (is : 
       go (accepting h k e) = rw (check-is _ e, accepted-same h) strict
 
   -- where the check refuses, its refusal is told
-  refusing-is : (w .refusal .number ≡ 0 → ⊥) → v .check ≡ verdictSent t w
+  pub refusing-is : (w .refusal .number ≡ 0 → ⊥) → v .check ≡ verdictSent t w
   refusing-is n = go ended
     where
-      go : Told t room w v → v .check ≡ verdictSent t w
+      go : OfficeTold t room w v → v .check ≡ verdictSent t w
       go (refusing h e) = check-is _ e
       go (short-of h k e) = absurd (n h)
       go (accepting h k e) = check-is _ e
@@ -349,7 +349,7 @@ module _ (short : Bool) (s t : List ℕ) (room : ℕ) (v : OfficeVerdict) (is : 
   thirteen : ThirteenExactly short s t room (v .check .refusal)
   thirteen = record { only = λ h. only h ended; always = λ h b. always h b ended }
     where
-      only : v .check .refusal .number ≡ 13 → Told t room w v
+      only : v .check .refusal .number ≡ 13 → OfficeTold t room w v
           → (v .check .refusal ≡ certificateRefusal 1 13 0 0) × ((w .refusal .number ≡ 0) × (room < noteText * noteCount t))
       only n (refusing h e) =
           absurd (unfold verdictSent in (omega (arith, number-is _ e, sent-number t (w .refusal), check-most)))
@@ -357,7 +357,7 @@ module _ (short : Bool) (s t : List ℕ) (room : ℕ) (v : OfficeVerdict) (is : 
       only n (accepting h k e) =
           absurd (unfold verdictSent in (omega (arith, number-is _ e, sent-number t (w .refusal), check-most)))
 
-      always : w .refusal .number ≡ 0 → room < noteText * noteCount t → Told t room w v → v .check .refusal .number ≡ 13
+      always : w .refusal .number ≡ 0 → room < noteText * noteCount t → OfficeTold t room w v → v .check .refusal .number ≡ 13
       always n b (refusing h e) = absurd (h n)
       always n b (short-of h k e) = number-is _ e
       always n b (accepting h k e) = absurd (omega arith)
@@ -419,11 +419,11 @@ module _ (short : Bool) (s t lent : List ℕ) where
   verdict = officeVerdict short s t (length lent)
 
   -- where it is not refused, all notes are told
-  notes-told : verdict .check .refusal .number ≡ 0 → verdict .notes ≡ noteCount t
+  pub notes-told : verdict .check .refusal .number ≡ 0 → verdict .notes ≡ noteCount t
   unfolding officeVerdict verdictSent
   notes-told z = go (told t (length lent) (checkVerdict short s (withoutNotes t)))
     where
-      go : Told t (length lent) (checkVerdict short s (withoutNotes t)) verdict → verdict .notes ≡ noteCount t
+      go : OfficeTold t (length lent) (checkVerdict short s (withoutNotes t)) verdict → verdict .notes ≡ noteCount t
       go (refusing h e) =
           let n = ap (λ (x : OfficeVerdict). x .check .refusal .number) e in
           absurd (h (sym (sent-number t (checkVerdict short s (withoutNotes t) .refusal)) ∙ sym n ∙ z))

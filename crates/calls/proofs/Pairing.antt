@@ -8,18 +8,19 @@ use native.Mathlib.Omega.{arith}
 use lib.Dec.{eqb}
 use lib.IntN.{ℤ, pos, negsuc}
 use lib.Signed.{ltZ}
-use borrow.Author.Tests.{eqb-true, eq-eqb, ltb-true}
+use borrow.Author.Tests.{eqb-true, eqb-false, eq-eqb, ne-eqb, ltb-true}
 use Rattle.counting.proofs.Cases.{clash}
 use Rattle.polynomial.specs.Point.{Point}
-use Rattle.format.specs.Commands.{Outcome, given}
+use Rattle.format.specs.Commands.{given}
 use Rattle.format.specs.ProblemRules.{Problem, readProblem}
 use Rattle.format.proofs.ProblemRule.{read-rule}
 use Rattle.format.proofs.ProblemLimits.{read-limits}
 use Rattle.format.specs.CertificateRules.{Certificate}
-use Rattle.joining_rule.specs.Joining.{closing}
+use Rattle.format.specs.declared.certificate.Header.{Header}
+use Rattle.joining_rule.specs.Joining.{closing, tooLarge}
 use Rattle.accepting.specs.Judgement.{Judgement, judge}
 use Rattle.accepting.specs.Judgement as J
-use Rattle.accepting.proofs.Accepted.{judge-accepted, accepted-judge, judge-differs, accepted-below, accepted-above}
+use Rattle.accepting.proofs.Accepted.{judge-accepted, accepted-judge, judge-splits, judge-differs, accepted-below, accepted-above}
 use Rattle.accepting.proofs.Bounds.{bounds-gap}
 use Rattle.accepting.proofs.Empty.{below-zero-empty}
 use Rattle.accepting.specs.Bounds.{Allowed, WithinGap}
@@ -27,14 +28,16 @@ use Rattle.accepting.proofs.Rules.{accepted-other}
 use Rattle.calls.specs.declared.PairVerdict.{PairVerdict}
 use Rattle.calls.specs.Fractions.{gapOf}
 use Rattle.calls.specs.Check.{boundOf}
-use Rattle.calls.specs.Refusals.{problemRefusal, certificateRefusal}
+use Rattle.calls.specs.Refusals.{noRefusal, problemRefusal, certificateRefusal}
 use Rattle.calls.specs.Pair.{refusedPair, acceptedPair, pairSides, pairSecond, pairFirst, pairOf, pairRead, pairVerdict}
-use Rattle.calls.specs.Promises.{NumberedTo, RoundsTaken, FewRounds, RuleUsed, Reads, DiffersAt, Within, BothHold, Stated, PairExactly, SecondDiffers, PairDiffers, HoldsBelow, HoldsAbove, HoldsGap, NoPoints}
-use Rattle.calls.specs.Rules.{UnderOne, AtLarger, UnlessSeven, PairKept, PairUnderOne, PairAtLarger}
+use Rattle.calls.specs.Promises.{NumberedTo, RoundsTaken, FewRounds, RuleUsed, Reads, DiffersAt, Within, BothHold, Stated, PairExactly, SevenExactly, SplitsAt, SecondSplits, PairSplits, WrongSides, TenExactly, SecondDiffers, PairDiffers, HoldsBelow, HoldsAbove, HoldsGap, NoPoints}
+use Rattle.calls.specs.Zeros.{PairZeros}
+use Rattle.calls.specs.Rules.{UnderOne, AtLarger, UnlessSeven, SameBounds, PairKept, PairUnderOne, PairAtLarger}
 use Rattle.calls.proofs.Promised.{promise-rounds, promise-few}
-use Rattle.calls.proofs.Judged.{Between, judge-number, judge-nine}
-use Rattle.calls.proofs.Ends.{reads-at, Ends, before, within, ends, opened, opens, too-large}
-use Rattle.calls.proofs.Rules.{AllLead, under-leads, larger-leads, Under, large, both, under}
+use Rattle.calls.proofs.Judged.{Between, judge-number, judge-key, judge-seven, judge-eight, judge-nine}
+use Rattle.calls.proofs.Zeros.{problem-zeros, certificate-zeros, pair-refused, pair-accepted}
+use Rattle.calls.proofs.Ends.{reads-at, Ends, before, within, ends, opened, opens, too-large, seven-exactly}
+use Rattle.calls.proofs.Rules.{AllLead, under-leads, larger-leads, BothWithin, Under, large, both, under}
 
 -- a gap below 0 is the distance of no two points
 no-point : (p : Problem) (z : ℤ) (y : ℕ) → ltZ z (pos 0) ≡ true → WithinGap p z y → (a : Point) → Allowed p a → ⊥
@@ -55,23 +58,42 @@ data Ended (s low high : List ℕ) (v : PairVerdict) : Type 0 where
       → v ≡ refusedPair (certificateRefusal 1 n place key) → Ended s low high v
   second-refused : (p : Problem) → readProblem s ≡ given p → (c : Certificate) → J.Accepted p low c → (n place key : ℕ) → judge p high ≡ J.refused n place key
       → v ≡ refusedPair (certificateRefusal 2 n place key) → Ended s low high v
-  wrong-side : (stream : ℕ) → stream ≤ 2 → v ≡ refusedPair (certificateRefusal stream 10 0 0) → Ended s low high v
+  wrong-side : (p : Problem) → readProblem s ≡ given p → (stream : ℕ) → WrongSides p low high stream → v ≡ refusedPair (certificateRefusal stream 10 0 0) → Ended s low high v
   accepted : Reads s (λ p. Paired p low high v) → Ended s low high v
+
+-- a problem that is too large meets 7, whatever the certificates
+pub pair-large : (short : Bool) (s low high : List ℕ) (p : Problem) → short ≡ false → readProblem s ≡ given p → tooLarge p ≡ true
+    → pairVerdict short s low high ≡ refusedPair (problemRefusal 7 0)
+unfolding pairVerdict pairOf
+pair-large short s low high p = too-large refusedPair (λ p. pairFirst p (judge p low) high) (λ o. pairRead o low high) (λ n place. refl) (λ p. refl) short s p
+
+-- a wrong side is that of stream 1 or 2
+wrong-most : {low high : List ℕ} (p : Problem) (i : ℕ) → WrongSides p low high i → i ≤ 2
+wrong-most p i w = go (w .wrong)
+  where
+    go : {X Y : Type 0} → ((i ≡ 1) × X) ⊎ ((i ≡ 2) × Y) → i ≤ 2
+    go (inl x) = omega arith
+    go (inr x) = omega arith
 
 module _ (short : Bool) (s low high : List ℕ) (v : PairVerdict) (is : v ≡ pairVerdict short s low high) where
   module _ (p : Problem) (r : readProblem s ≡ given p) where
-    sides : (c d : Certificate) → J.Accepted p low c → J.Accepted p high d → (x y : Bool) → eqb (c .header .side) 0 ≡ x → eqb (d .header .side) 1 ≡ y
-        → v ≡ cond x (cond y (acceptedPair (c .header) (d .header) (closing p .rounds) (p .rule)) (refusedPair (certificateRefusal 2 10 0 0))) (refusedPair (certificateRefusal 1 10 0 0)) → Ended s low high v
-    sides c d a b true true x y e =
-        let hold : BothHold p low high c d = record { first = a; second = b; lower = eqb-true _ _ x; upper = eqb-true _ _ y } in
-        accepted (record { problem = p; read = r; holds = record { first = c; second = d; hold = hold; verdict = e } })
-    sides c d a b true false x y e = wrong-side 2 (omega arith) e
-    sides c d a b false y x z e = wrong-side 1 (omega arith) e
+    module _ (c d : Certificate) (a : J.Accepted p low c) (b : J.Accepted p high d)
+        (e : v ≡ pairSides (c .header) (d .header) (closing p .rounds) (p .rule)) where
+      wrong-in : (i : ℕ) → ((i ≡ 1) × (c .header .side ≡ 0 → ⊥)) ⊎ ((i ≡ 2) × ((c .header .side ≡ 0) × (d .header .side ≡ 1 → ⊥)))
+          → v ≡ refusedPair (certificateRefusal i 10 0 0) → Ended s low high v
+      wrong-in i w f = wrong-side p r i (record { first = c; second = d; low-accepted = a; high-accepted = b; wrong = w }) f
+
+      sides : (x y : Bool) → eqb (c .header .side) 0 ≡ x → eqb (d .header .side) 1 ≡ y → Ended s low high v
+      unfolding pairSides
+      sides true true x y =
+          let hold : BothHold p low high c d = record { first = a; second = b; lower = eqb-true _ _ x; upper = eqb-true _ _ y } in
+          accepted (record { problem = p; read = r; holds = record { first = c; second = d; hold = hold; verdict = e ∙ rw (pairSides, x, y) } })
+      sides true false x y = wrong-in 2 (inr (refl, (eqb-true _ _ x, eqb-false _ _ y))) (e ∙ rw (pairSides, x, y))
+      sides false y x z = wrong-in 1 (inl (refl, eqb-false _ _ x)) (e ∙ rw (pairSides, x))
 
     second : (c : Certificate) → J.Accepted p low c → (k : Judgement) → judge p high ≡ k → v ≡ pairSecond p c k → Ended s low high v
-    unfolding pairSides
     second c a (J.refused n place key) g e = second-refused p r c a n place key g e
-    second c a (J.accepted d) g e = sides c d a (judge-accepted p (read-limits s p r) high d g) (eqb (c .header .side) 0) (eqb (d .header .side) 1) refl refl e
+    second c a (J.accepted d) g e = sides c d a (judge-accepted p (read-limits s p r) high d g) e (eqb (c .header .side) 0) (eqb (d .header .side) 1) refl refl
 
     first : (j : Judgement) → judge p low ≡ j → v ≡ pairFirst p j high → Ended s low high v
     first (J.refused n place key) f e = first-refused p r n place key f e
@@ -105,7 +127,7 @@ module _ (short : Bool) (s low high : List ℕ) (v : PairVerdict) (is : v ≡ pa
       go (unjudged n place b e) = omega (arith, number-is _ e, b .most)
       go (first-refused p r n place key f e) = omega (arith, number-is _ e, judge-number p low n place key f .most)
       go (second-refused p r c a n place key f e) = omega (arith, number-is _ e, judge-number p high n place key f .most)
-      go (wrong-side i b e) = omega (arith, number-is _ e)
+      go (wrong-side p r i b e) = omega (arith, number-is _ e)
       go (accepted r) = omega (arith, number-is _ (r .holds .verdict))
 
   -- "stream (0 problem, 1 first certificate, 2 second)"
@@ -116,7 +138,7 @@ module _ (short : Bool) (s low high : List ℕ) (v : PairVerdict) (is : v ≡ pa
       go (unjudged n place b e) = omega (arith, stream-is _ e)
       go (first-refused p r n place key f e) = omega (arith, stream-is _ e)
       go (second-refused p r c a n place key f e) = omega (arith, stream-is _ e)
-      go (wrong-side i b e) = omega (arith, stream-is _ e)
+      go (wrong-side p r i b e) = omega (arith, stream-is _ e, wrong-most p i b)
       go (accepted r) = omega (arith, stream-is _ (r .holds .verdict))
 
   -- ---- where nothing is refused
@@ -127,7 +149,7 @@ module _ (short : Bool) (s low high : List ℕ) (v : PairVerdict) (is : v ≡ pa
       go (unjudged n place b e) = absurd (omega (arith, number-is _ e, b .least))
       go (first-refused p r n place key f e) = absurd (omega (arith, number-is _ e, judge-number p low n place key f .least))
       go (second-refused p r c a n place key f e) = absurd (omega (arith, number-is _ e, judge-number p high n place key f .least))
-      go (wrong-side i b e) = absurd (omega (arith, number-is _ e))
+      go (wrong-side p r i b e) = absurd (omega (arith, number-is _ e))
       go (accepted r) = r
 
   found-at : (p : Problem) → readProblem s ≡ given p → v .refusal .number ≡ 0 → Paired p low high v
@@ -141,7 +163,7 @@ module _ (short : Bool) (s low high : List ℕ) (v : PairVerdict) (is : v ≡ pa
       opened refusedPair (λ p. pairFirst p (judge p low) high) (λ o. pairRead o low high) (λ n place. refl) (λ p. refl) short s p w
       ∙ rw (accepted-judge p low c (b .first), accepted-judge p high d (b .second), pairSides, eq-eqb (c .header .side) 0 (b .lower), eq-eqb (d .header .side) 1 (b .upper))
 
-  pair-exactly : PairExactly short s low high v
+  pub pair-exactly : PairExactly short s low high v
   pair-exactly = record {
     only = λ h.
         let r = pair-found h in
@@ -190,7 +212,7 @@ module _ (short : Bool) (s low high : List ℕ) (v : PairVerdict) (is : v ≡ pa
       go (unjudged n place b e) = let f = empty-is _ e in clash (cc)
       go (first-refused p r n place key g e) = let f = empty-is _ e in clash (cc)
       go (second-refused p r c a n place key g e) = let f = empty-is _ e in clash (cc)
-      go (wrong-side i b e) = let f = empty-is _ e in clash (cc)
+      go (wrong-side p r i b e) = let f = empty-is _ e in clash (cc)
       go (accepted r) = number-is _ (r .holds .verdict)
 
   empty : NoPoints s v
@@ -212,6 +234,84 @@ module _ (short : Bool) (s low high : List ℕ) (v : PairVerdict) (is : v ≡ pa
 
   pair-few : FewRounds s (v .refusal .number) (v .rounds)
   pair-few p read h = rw (found-at p read h .verdict) (promise-few s p read)
+
+  -- ---- refusal 7
+  pair-seven : SevenExactly short s (v .refusal)
+  unfolding pairVerdict pairOf pairSides
+  pair-seven =
+      rw is (seven-exactly refusedPair (λ p. pairFirst p (judge p low) high) (λ o. pairRead o low high) (λ n place. refl) (λ p. refl) short s (λ w. w .refusal) (λ r. refl) (λ p. first-other p (judge p low) refl))
+    where
+      sides-other : (t u : Header) (rounds rule : ℕ) (x y : Bool) → eqb (t .side) 0 ≡ x → eqb (u .side) 1 ≡ y
+          → pairSides t u rounds rule .refusal .number ≡ 7 → ⊥
+      sides-other t u rounds rule true true x y h = let z : _≡_ {A = ℕ} 0 7 = rw (pairSides, x, y) at h in omega arith
+      sides-other t u rounds rule true false x y h = let z : _≡_ {A = ℕ} 10 7 = rw (pairSides, x, y) at h in omega arith
+      sides-other t u rounds rule false y x w h = let z : _≡_ {A = ℕ} 10 7 = rw (pairSides, x) at h in omega arith
+
+      second-other : (p : Problem) (c : Certificate) (k : Judgement) → judge p high ≡ k → pairSecond p c k .refusal .number ≡ 7 → ⊥
+      second-other p c (J.refused n place key) f h = judge-seven p high n place key f h
+      second-other p c (J.accepted d) f h = sides-other (c .header) (d .header) (closing p .rounds) (p .rule) (eqb (c .header .side) 0) (eqb (d .header .side) 1) refl refl h
+
+      first-other : (p : Problem) (j : Judgement) → judge p low ≡ j → pairFirst p j high .refusal .number ≡ 7 → ⊥
+      first-other p (J.refused n place key) f h = judge-seven p low n place key f h
+      first-other p (J.accepted c) f h = second-other p c (judge p high) refl h
+
+  -- ---- refusal 8
+  pair-splits : PairSplits short s low high (v .refusal)
+  pair-splits = record {
+    only = λ h. go h ended;
+    first = λ p c w read fails.
+        let e = is-judged p w ∙ ap (λ (j : Judgement). pairFirst p j high) (judge-splits p low c read fails .refusal) in
+        (number-is _ e, stream-is _ e);
+    second = λ p c d w a read fails.
+        let e = is-judged p w ∙ ap (λ (j : Judgement). pairFirst p j high) (accepted-judge p low c a) ∙ ap (pairSecond p c) (judge-splits p high d read fails .refusal) in
+        (number-is _ e, stream-is _ e);
+  }
+    where
+      go : v .refusal .number ≡ 8 → Ended s low high v
+          → ((v .refusal .stream ≡ 1) × Reads s (λ p. SplitsAt p low (v .refusal .place))) ⊎ ((v .refusal .stream ≡ 2) × Reads s (λ p. SecondSplits p low high (v .refusal .place)))
+      go h (unjudged n place b e) = absurd (omega (arith, number-is _ e, b .most))
+      go h (first-refused p r n place key f e) =
+          let d = judge-eight p low n place key f (sym (number-is _ e) ∙ h) in
+          inl (stream-is _ e, record { problem = p; read = r; holds = rw e d })
+      go h (second-refused p r c a n place key f e) =
+          let d = judge-eight p high n place key f (sym (number-is _ e) ∙ h) in
+          inr (stream-is _ e, record { problem = p; read = r; holds = record { first = c; accepted = a; second = rw e d } })
+      go h (wrong-side p r i b e) = absurd (omega (arith, number-is _ e))
+      go h (accepted r) = absurd (omega (arith, number-is _ (r .holds .verdict)))
+
+  -- ---- refusal 10
+  module _ (p : Problem) (i : ℕ) (w : Within short s p) (b : WrongSides p low high i) where
+    judged-sides : v ≡ pairSides (b .first .header) (b .second .header) (closing p .rounds) (p .rule)
+    judged-sides =
+        is-judged p w
+        ∙ ap (λ (j : Judgement). pairFirst p j high) (accepted-judge p low (b .first) (b .low-accepted))
+        ∙ ap (pairSecond p (b .first)) (accepted-judge p high (b .second) (b .high-accepted))
+
+    wrong-ten : (v .refusal .number ≡ 10) × (v .refusal .stream ≡ i)
+    unfolding pairSides
+    wrong-ten = go (b .wrong)
+      where
+        go : ((i ≡ 1) × (b .first .header .side ≡ 0 → ⊥)) ⊎ ((i ≡ 2) × ((b .first .header .side ≡ 0) × (b .second .header .side ≡ 1 → ⊥)))
+            → (v .refusal .number ≡ 10) × (v .refusal .stream ≡ i)
+        go (inl x) =
+            let e : v ≡ refusedPair (certificateRefusal 1 10 0 0) = judged-sides ∙ rw (pairSides, ne-eqb (b .first .header .side) 0 (x .1)) in
+            (number-is _ e, stream-is _ e ∙ sym (x .0))
+        go (inr x) =
+            let e : v ≡ refusedPair (certificateRefusal 2 10 0 0) = judged-sides ∙ rw (pairSides, eq-eqb (b .first .header .side) 0 (x .1 .0), ne-eqb (b .second .header .side) 1 (x .1 .1)) in
+            (number-is _ e, stream-is _ e ∙ sym (x .0))
+
+  pair-ten : TenExactly short s low high (v .refusal)
+  pair-ten = record { only = λ h. go h ended; always = wrong-ten }
+    where
+      go : v .refusal .number ≡ 10 → Ended s low high v → (v .refusal .place ≡ 0) × Reads s (λ p. WrongSides p low high (v .refusal .stream))
+      go h (unjudged n place b e) = absurd (omega (arith, number-is _ e, b .most))
+      go h (first-refused p r n place key f e) = absurd (omega (arith, number-is _ e, judge-number p low n place key f .most))
+      go h (second-refused p r c a n place key f e) = absurd (omega (arith, number-is _ e, judge-number p high n place key f .most))
+      go h (wrong-side p r i b e) = (
+        ap (λ (x : PairVerdict). x .refusal .place) e,
+        record { problem = p; read = r; holds = rw (stream-is _ e) b },
+      )
+      go h (accepted r) = absurd (omega (arith, number-is _ (r .holds .verdict)))
 
   -- ---- refusal 9
   pair-differs : PairDiffers short s low high (v .refusal)
@@ -236,7 +336,7 @@ module _ (short : Bool) (s low high : List ℕ) (v : PairVerdict) (is : v ≡ pa
       go h (second-refused p r c a n place key f e) =
           let d = judge-nine p high n place key (read-limits s p r) f (sym (number-is _ e) ∙ h) in
           inr (stream-is _ e, record { problem = p; read = r; holds = record { first = c; accepted = a; second = rw e d } })
-      go h (wrong-side i b e) = absurd (omega (arith, number-is _ e))
+      go h (wrong-side p r i b e) = absurd (omega (arith, number-is _ e))
       go h (accepted r) = absurd (omega (arith, number-is _ (r .holds .verdict)))
 
   -- ---- the rule
@@ -253,53 +353,78 @@ module _ (short : Bool) (s low high : List ℕ) (v : PairVerdict) (is : v ≡ pa
           record { named = λ h. absurd (omega (arith, number-is _ e, judge-number p low n place key f .least)); refused = λ _. rule-is _ e }
       go (second-refused p r c a n place key f e) =
           record { named = λ h. absurd (omega (arith, number-is _ e, judge-number p high n place key f .least)); refused = λ _. rule-is _ e }
-      go (wrong-side i b e) = record { named = λ h. absurd (omega (arith, number-is _ e)); refused = λ _. rule-is _ e }
+      go (wrong-side p r i b e) = record { named = λ h. absurd (omega (arith, number-is _ e)); refused = λ _. rule-is _ e }
       go (accepted r) = record {
         named = λ _. rule-is _ (r .holds .verdict) ∙ read-rule s (r .problem) (r .read);
         refused = λ h. absurd (omega (arith, number-is _ (r .holds .verdict)));
       }
 
-  -- the same stream under rule 1, or at a larger order: R s s′, where s′ joins no less
-  pair-kept : (R : List ℕ → List ℕ → Type 0) → ((s′ : List ℕ) → R s s′ → AllLead s s′) → PairKept R short s low high v
-  unfolding pairVerdict pairOf
-  pair-kept R leads s′ u h = go (under short s s′ (leads s′ u) (opens refusedPair of reads (λ n place. refl) (λ p. refl) short s (λ w. w .refusal .number) (λ r. refl) (rw is at h)))
+  -- ---- the zeros
+  pub pair-zeros : PairZeros v
+  pair-zeros = go ended
     where
-      of : Problem → PairVerdict
-      of p = pairFirst p (judge p low) high
+      go : Ended s low high v → PairZeros v
+      go (unjudged n place b e) = rw e (pair-refused _ (problem-zeros n place (b .least)))
+      go (first-refused p r n place key f e) =
+          rw e (pair-refused _ (certificate-zeros 1 n place key (judge-number p low n place key f .least) (judge-key p low n place key f)))
+      go (second-refused p r c a n place key f e) =
+          rw e (pair-refused _ (certificate-zeros 2 n place key (judge-number p high n place key f .least) (judge-key p high n place key f)))
+      go (wrong-side p r i b e) = rw e (pair-refused _ (certificate-zeros i 10 0 0 (omega arith) (λ _. refl)))
+      go (accepted r) = let k = r .holds in rw (k .verdict) (pair-accepted (k .first .header) (k .second .header) (closing (r .problem) .rounds) (r .problem .rule))
 
-      reads : Outcome Problem → PairVerdict
-      reads o = pairRead o low high
+  -- ---- the same stream under rule 1, or at a larger order: s′, where no less is joined
+  -- where nothing is refused the problem is within its limits
+  pub pair-opens : v .refusal .number ≡ 0 → Reads s (Within short s)
+  unfolding pairVerdict pairOf
+  pair-opens h = opens refusedPair (λ p. pairFirst p (judge p low) high) (λ o. pairRead o low high) (λ n place. refl) (λ p. refl) short s (λ w. w .refusal .number) (λ r. refl) (rw is at h)
 
+  -- a verdict of no refusal has none of its fields
+  pub pair-unrefused : v .refusal .number ≡ 0 → v .refusal ≡ noRefusal
+  pair-unrefused h = ap (λ (x : PairVerdict). x .refusal) (pair-found h .holds .verdict)
+
+  -- where both problems are within their limits, what is accepted stays accepted
+  pub pair-stays : (s′ : List ℕ) → BothWithin short s s′ → v .refusal .number ≡ 0
+      → (pairVerdict short s′ low high .refusal ≡ noRefusal) × SameBounds (pairVerdict short s′ low high) v
+  pair-stays s′ b h =
+      let p = b .problem in
+      let q = b .other in
+      let k = found-at p (b .first .read) h in
+      let limits = read-limits s p (b .first .read) in
+      let hold : BothHold q low high (k .first) (k .second) =
+      record {
+        first = accepted-other p q (b .more) limits low (k .first) (k .hold .first);
+        second = accepted-other p q (b .more) limits high (k .second) (k .hold .second);
+        lower = k .hold .lower;
+        upper = k .hold .upper;
+      } in
+      let e = both-verdict s′ q (k .first) (k .second) (b .second) hold in (
+        ap (λ (x : PairVerdict). x .refusal) e,
+        (
+          ap (λ (x : PairVerdict). x .lower) e ∙ sym (ap (λ (x : PairVerdict). x .lower) (k .verdict)),
+          (
+            ap (λ (x : PairVerdict). x .upper) e ∙ sym (ap (λ (x : PairVerdict). x .upper) (k .verdict)),
+            (ap (λ (x : PairVerdict). x .gap) e ∙ sym (ap (λ (x : PairVerdict). x .gap) (k .verdict)), ap (λ (x : PairVerdict). x .empty) e ∙ sym (ap (λ (x : PairVerdict). x .empty) (k .verdict))),
+          ),
+        ),
+      )
+
+  -- so of every relation R of streams that lead to no less joined
+  pair-kept : (R : List ℕ → List ℕ → Type 0) → ((s′ : List ℕ) → R s s′ → AllLead s s′) → PairKept R short s low high v
+  pair-kept R leads s′ u h = go (under short s s′ (leads s′ u) (pair-opens h))
+    where
       w : PairVerdict
       w = pairVerdict short s′ low high
 
-      go : Under short s s′ → UnlessSeven (w .refusal) ((w .lower ≡ v .lower) × ((w .upper ≡ v .upper) × ((w .gap ≡ v .gap) × (w .empty ≡ v .empty))))
-      go (large q f e l) =
-          inl (ap (λ (x : PairVerdict). x .refusal) (too-large refusedPair of reads (λ n place. refl) (λ p. refl) short s′ q f e l))
-      go (both b) =
-          let p = b .problem in
-          let q = b .other in
-          let k = found-at p (b .first .read) h in
-          let limits = read-limits s p (b .first .read) in
-          let hold : BothHold q low high (k .first) (k .second) =
-          record {
-            first = accepted-other p q (b .more) limits low (k .first) (k .hold .first);
-            second = accepted-other p q (b .more) limits high (k .second) (k .hold .second);
-            lower = k .hold .lower;
-            upper = k .hold .upper;
-          } in
-          let e = both-verdict s′ q (k .first) (k .second) (b .second) hold in
-          inr (
-            ap (λ (x : PairVerdict). x .refusal) e,
-            (
-              ap (λ (x : PairVerdict). x .lower) e ∙ sym (ap (λ (x : PairVerdict). x .lower) (k .verdict)),
-              (
-                ap (λ (x : PairVerdict). x .upper) e ∙ sym (ap (λ (x : PairVerdict). x .upper) (k .verdict)),
-                (ap (λ (x : PairVerdict). x .gap) e ∙ sym (ap (λ (x : PairVerdict). x .gap) (k .verdict)), ap (λ (x : PairVerdict). x .empty) e ∙ sym (ap (λ (x : PairVerdict). x .empty) (k .verdict))),
-              ),
-            ),
-          )
+      go : Under short s s′ → UnlessSeven (w .refusal) (SameBounds w v)
+      go (large q f e l) = inl (ap (λ (x : PairVerdict). x .refusal) (pair-large short s′ low high q f e l))
+      go (both b) = inr (pair-stays s′ b h)
 
-  -- all of them
-  pub pair-clauses : NumberedTo 10 (v .refusal .number) × (PairExactly short s low high v × (PairDiffers short s low high (v .refusal) × (HoldsBelow s (v .refusal .number) (v .lower) × (HoldsAbove s (v .refusal .number) (v .upper) × (HoldsGap s (v .refusal .number) (v .empty) (v .gap) × (NoPoints s v × (RoundsTaken s (v .refusal .number) (v .rounds) × (FewRounds s (v .refusal .number) (v .rounds) × (RuleUsed s (v .refusal .number) (v .rule) × (PairUnderOne short s low high v × PairAtLarger short s low high v))))))))))
-  pair-clauses = (pair-numbered, (pair-exactly, (pair-differs, (below, (above, (gap, (empty, (pair-rounds, (pair-few, (pair-rule, (pair-kept UnderOne (under-leads s), pair-kept AtLarger (larger-leads s))))))))))))
+  -- all of them, and what more is promised
+  abbrev pub PairClauses : Type 0 → Type 0
+  PairClauses P = NumberedTo 10 (v .refusal .number) × (PairExactly short s low high v × (PairDiffers short s low high (v .refusal) × (HoldsBelow s (v .refusal .number) (v .lower) × (HoldsAbove s (v .refusal .number) (v .upper) × (HoldsGap s (v .refusal .number) (v .empty) (v .gap) × (NoPoints s v × (RoundsTaken s (v .refusal .number) (v .rounds) × (FewRounds s (v .refusal .number) (v .rounds) × (RuleUsed s (v .refusal .number) (v .rule) × (PairUnderOne short s low high v × (PairAtLarger short s low high v × (PairZeros v × (SevenExactly short s (v .refusal) × (PairSplits short s low high (v .refusal) × (TenExactly short s low high (v .refusal) × P)))))))))))))))
+
+  pub pair-clauses-and : {P : Type 0} → P → PairClauses P
+  pair-clauses-and more = (pair-numbered, (pair-exactly, (pair-differs, (below, (above, (gap, (empty, (pair-rounds, (pair-few, (pair-rule, (pair-kept UnderOne (under-leads s), (pair-kept AtLarger (larger-leads s), (pair-zeros, (pair-seven, (pair-splits, (pair-ten, more))))))))))))))))
+
+  pub pair-clauses : PairClauses (Unit {0})
+  pair-clauses = pair-clauses-and tt

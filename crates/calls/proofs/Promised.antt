@@ -5,9 +5,7 @@ use mathlib.Core.Logic.{inl, inr}
 use mathlib.Core.List.{List, [], _++_}
 use Prim.Native.Nat.{ℕ, suc, _+_, _-_, _*_, _≤_, _<_}
 use native.Mathlib.Omega.{arith}
-use lib.Dec.{ltb}
 use lib.ListN.{length, getD, drop, List·getD-append}
-use borrow.Author.Tests.{ltb-true, lt-ltb}
 use Rattle.counting.specs.Counting.{listed, sumTo}
 use Rattle.counting.proofs.Listed.{listed-same, listed-all}
 use Rattle.counting.proofs.Sums.{sumTo-same}
@@ -22,7 +20,7 @@ use Rattle.format.proofs.ProblemCounts.{count-members, count-named}
 use Rattle.format.proofs.ProblemRule.{read-rule, read-order}
 use Rattle.joining_rule.proofs.Rising.{Rising}
 use Rattle.joining_rule.specs.Sets.{different}
-use Rattle.joining_rule.specs.Rounds.{Bases, State, start, after, mostRounds, blocksIn, countedKeys}
+use Rattle.joining_rule.specs.Rounds.{Bases, State, start, after, mostRounds, blocksIn}
 use Rattle.joining_rule.proofs.Rounds.{monomials, nonempty}
 use Rattle.joining_rule.specs.Bytes.{blockByteCount, blockBytes, blockAt}
 use Rattle.joining_rule.specs.Meaning.{Pair, Closed, Least, Lowest, FullClosure, RoundsDone}
@@ -30,7 +28,7 @@ use Rattle.joining_rule.proofs.Bytes.{bytes-long, byte-at}
 use Rattle.joining_rule.proofs.Closing.{closing-shaped, closing-state}
 use Rattle.joining_rule.proofs.Bound.{few-rounds, order-done}
 use Rattle.joining_rule.proofs.Meaning.{labelOf, full-closed, closing-least, least-tests, closing-lowest}
-use Rattle.joining_rule.specs.Joining.{basesOf, startSet, closing, reachedSupport, mostKeys, tooLarge, blockTotal}
+use Rattle.joining_rule.specs.Joining.{basesOf, startSet, closing, reachedSupport, tooLarge, blockTotal}
 use Rattle.joining_rule.proofs.Start.{start-rising}
 use Rattle.joining_rule.proofs.Rules.{large-other}
 use Rattle.calls.specs.declared.Refusal.{Refusal}
@@ -38,9 +36,11 @@ use Rattle.calls.specs.declared.BlocksVerdict.{BlocksVerdict}
 use Rattle.calls.specs.Refusals.{noRefusal, problemRefusal}
 use Rattle.calls.specs.Blocks.{refusedBlocks, blocksOf, blocksRead, blocksVerdict, bytesOf, bytesLeft}
 use Rattle.calls.specs.Promises.{NumberedTo, BlocksClosed, BlocksLeast, BlocksLowest, BlocksAfter, BlocksCounted, RoundsTaken, FewRounds, SevenExactly, RuleUsed, Within}
+use Rattle.calls.specs.Zeros.{BlocksZeros}
 use Rattle.calls.specs.Rules.{UnderOne, AtLarger, UnlessSeven, BlocksInside, BlocksKept, BlocksUnderOne, BlocksAtLarger}
 use Rattle.calls.proofs.Judged.{problem-number}
-use Rattle.calls.proofs.Ends.{Ends, before, within, ends, opened, opens, too-large}
+use Rattle.calls.proofs.Zeros.{blocks-refused, blocks-accepted}
+use Rattle.calls.proofs.Ends.{Ends, before, within, ends, opened, opens, too-large, seven-exactly}
 use Rattle.calls.proofs.Rules.{AllLead, under-leads, larger-leads, BothWithin, Under, large, both, under, bytes-inside}
 
 -- ---- block numbers that agree at every index of a basis mean the same
@@ -173,23 +173,6 @@ module _ (short : Bool) (s out : List ℕ) (p : Problem) (read : readProblem s �
       go false true e h = never 6 h
       go false false e h = record { blocks = rw (read, blocksOf, e); rounds = rw (read, blocksOf, e); bytes = rw (read, bytesOf, e) }
 
-  seven-only : blocksVerdict short s .refusal .number ≡ 7 → mostKeys < length (countedKeys (basesOf p) (closing p .state))
-  unfolding blocksVerdict blocksOf tooLarge
-  seven-only h = go short (ltb mostKeys (length (countedKeys (basesOf p) (closing p .state)))) refl (rw read at h)
-    where
-      go : (b t : Bool) → ltb mostKeys (length (countedKeys (basesOf p) (closing p .state))) ≡ t → cond b (refusedBlocks 1 0) (cond t (refusedBlocks 7 0) (answer p)) .refusal .number ≡ 7 → mostKeys < length (countedKeys (basesOf p) (closing p .state))
-      go true t e h = absurd (omega arith)
-      go false true e h = ltb-true _ _ e
-      go false false e h = absurd (omega arith)
-
-  seven-always : (blocksVerdict short s .refusal .number ≡ 1 → ⊥) → mostKeys < length (countedKeys (basesOf p) (closing p .state)) → blocksVerdict short s .refusal .number ≡ 7
-  unfolding blocksVerdict blocksOf tooLarge
-  seven-always n h = rw read (go short (rw read at n))
-    where
-      go : (b : Bool) → (cond b (refusedBlocks 1 0) (blocksOf p) .refusal .number ≡ 1 → ⊥) → cond b (refusedBlocks 1 0) (blocksOf p) .refusal .number ≡ 7
-      go true n = absurd (n refl)
-      go false n = rw (blocksOf, tooLarge, lt-ltb mostKeys (length (countedKeys (basesOf p) (closing p .state))) h)
-
 -- ---- the same stream under rule 1, or at a larger order
 -- refusal 7 is given for a problem that is too large
 record Large (short : Bool) (s : List ℕ) : Type 0 where
@@ -280,8 +263,10 @@ module _ (short : Bool) (s out : List ℕ) where
   clause-few : FewRounds s number (blocksVerdict short s .rounds)
   clause-few p read h = rw (found short s out p read h .rounds) (promise-few s p read)
 
-  clause-seven : SevenExactly s number
-  clause-seven = record { only = λ p read. seven-only short s out p read; always = λ p read. seven-always short s out p read }
+  pub clause-seven : SevenExactly short s (blocksVerdict short s .refusal)
+  unfolding blocksVerdict blocksOf
+  clause-seven =
+      seven-exactly refuse answer blocksRead (λ n place. refl) (λ p. refl) short s (λ v. v .refusal) (λ r. refl) (λ p h. omega arith)
 
   clause-numbered : NumberedTo 7 number
   unfolding blocksVerdict blocksOf
@@ -299,7 +284,15 @@ module _ (short : Bool) (s out : List ℕ) where
       go (before n place b e) = rw e (record { named = λ h. absurd (omega (arith, b .least)); refused = λ _. refl })
       go (within p r e) = rw e (record { named = λ _. read-rule s p r; refused = λ h. absurd (omega arith) })
 
+  clause-zeros : BlocksZeros (blocksVerdict short s)
+  unfolding blocksVerdict blocksOf
+  clause-zeros = go (ends refuse answer blocksRead (λ n place. refl) (λ p. refl) short s)
+    where
+      go : {v : BlocksVerdict} → Ends refuse answer blocksRead (λ n place. refl) (λ p. refl) short s v → BlocksZeros v
+      go (before n place b e) = rw e (blocks-refused n place (b .least))
+      go (within p r e) = rw e (blocks-accepted (blockTotal p) (closing p .rounds) (p .rule))
+
   -- all of them, of a verdict and bytes that are the definitions'
   pub clauses : (v : BlocksVerdict) (bytes : List ℕ) → v ≡ blocksVerdict short s → bytes ≡ bytesLeft short s out
-      → NumberedTo 7 (v .refusal .number) × (BlocksClosed s (v .refusal .number) bytes × (BlocksLeast s (v .refusal .number) bytes × (BlocksLowest s (v .refusal .number) bytes × (BlocksCounted s (v .refusal .number) bytes (v .blocks) × (RoundsTaken s (v .refusal .number) (v .rounds) × (FewRounds s (v .refusal .number) (v .rounds) × (SevenExactly s (v .refusal .number) × (RuleUsed s (v .refusal .number) (v .rule) × (BlocksUnderOne short s out (v .refusal .number) bytes × (BlocksAfter s (v .refusal .number) bytes (v .rounds) × BlocksAtLarger short s out (v .refusal .number) bytes))))))))))
-  clauses v bytes e f = rw (e, f) (clause-numbered, (clause-closed, (clause-least, (clause-lowest, (clause-counted, (clause-rounds, (clause-few, (clause-seven, (clause-rule, (clause-under, (clause-after, clause-larger)))))))))))
+      → NumberedTo 7 (v .refusal .number) × (BlocksClosed s (v .refusal .number) bytes × (BlocksLeast s (v .refusal .number) bytes × (BlocksLowest s (v .refusal .number) bytes × (BlocksCounted s (v .refusal .number) bytes (v .blocks) × (RoundsTaken s (v .refusal .number) (v .rounds) × (FewRounds s (v .refusal .number) (v .rounds) × (SevenExactly short s (v .refusal) × (RuleUsed s (v .refusal .number) (v .rule) × (BlocksUnderOne short s out (v .refusal .number) bytes × (BlocksAfter s (v .refusal .number) bytes (v .rounds) × (BlocksAtLarger short s out (v .refusal .number) bytes × BlocksZeros v)))))))))))
+  clauses v bytes e f = rw (e, f) (clause-numbered, (clause-closed, (clause-least, (clause-lowest, (clause-counted, (clause-rounds, (clause-few, (clause-seven, (clause-rule, (clause-under, (clause-after, (clause-larger, clause-zeros))))))))))))

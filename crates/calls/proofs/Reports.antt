@@ -3,10 +3,10 @@ use native.Mathlib.Omega.{arith}
 use mathlib.Core.Path.{_≡_, refl, sym, ap, _∙_}
 use mathlib.Core.Bool.{Bool, true, false, cond, _||_}
 use mathlib.Core.List.{List, [], _∷_, _++_, append-nil, append-assoc, flatMap}
-use mathlib.Core.Logic.{_⊎_, inl, inr}
+use mathlib.Core.Logic.{_⊎_, inl, inr, ⊎-elim}
 use Prim.Native.Nat.{ℕ, zero, suc, _+_, _*_, _≤_, _<_}
 use lib.Dec.{ltb, eqb}
-use lib.ListN.{length, drop}
+use lib.ListN.{length, getD, drop}
 use lib.Seq.{drop-at}
 use borrow.Author.Tests.{ltb-true, ltb-false, eqb-true, eqb-false}
 use Rattle.counting.specs.Counting.{Bounded}
@@ -21,36 +21,44 @@ use Rattle.calls.specs.declared.Fraction.{Fraction}
 use Rattle.calls.specs.declared.Refusal.{Refusal}
 use Rattle.calls.specs.declared.PairVerdict.{PairVerdict}
 use Rattle.calls.specs.declared.ReportVerdict.{ReportVerdict}
-use Rattle.calls.specs.Refusals.{noRefusal}
+use Rattle.calls.specs.Refusals.{noRefusal, problemRefusal}
+use Rattle.calls.specs.Pair.{pairVerdict}
+use Rattle.calls.specs.Rules.{UnderOne, AtLarger}
+use Rattle.calls.specs.Zeros.{ReportZeros}
 use Rattle.calls.specs.Promises.{Stated, HoldsBelow, HoldsAbove}
 use Rattle.calls.specs.Report.{Runs, recordsOf, pairOn}
 use Rattle.calls.specs.Report.{fieldsOf, recordLength, withRoom, checkedRecords, entry, outputLeft, noneAccepted}
 use Rattle.calls.specs.Report.{withAccepted, withVerdict, resultOf, reportVerdict}
 use Rattle.calls.specs.Report.{ReportNumbered, noRuns, EachRecord, EachTold, OutputKept}
-use Rattle.calls.specs.Report.{WithinBounds}
+use Rattle.calls.specs.Report.{WithinBounds, recordBytes, withProblem, EachZeros, EachKept}
 use Rattle.calls.specs.Report.{OfAccepted, First, acceptedCount, Summary, Summarised}
 use Rattle.calls.proofs.FractionOrder.{one-way, not-itself, less-at-most, more-at-least}
 use Rattle.calls.proofs.FractionOrder.{bounded-below, bounded-above}
-use Rattle.calls.proofs.Pairing.{pair-clauses}
+use Rattle.calls.specs.RowOrder.{ReportAnyOrder}
+use Rattle.calls.proofs.AnyOrder.{report-any-order}
+use Rattle.calls.proofs.Zeros.{none-zeros, problem-zeros, zero-fraction}
+use Rattle.calls.proofs.Rules.{AllLead, under-leads, larger-leads}
+use Rattle.calls.proofs.Pairing.{pair-clauses, pair-unrefused}
+use Rattle.calls.proofs.Stays.{Stays, seven, stay, pair-all}
 use Rattle.calls.proofs.Pieces.{pieces-length, piece-at}
 use Rattle.calls.proofs.Records.{records-twelve}
-use Rattle.calls.proofs.Told.{each-told}
+use Rattle.calls.proofs.Told.{each-told, each-zeros}
 
 -- ---- an accepted pair: its bounds are stated by certificates, so their denominators are at least 1, and they hold
-abbrev Accepted : Runs → Type 0
+abbrev pub Accepted : Runs → Type 0
 Accepted r = pairOn r .refusal .number ≡ 0
 
 module _ (r : Runs) where
-  stated : Accepted r → Stated (r .problem) (r .low) (r .high) (pairOn r)
+  pub stated : Accepted r → Stated (r .problem) (r .low) (r .high) (pairOn r)
   unfolding pairOn
   stated a = pair-clauses false (r .problem) (r .low) (r .high) (pairOn r) refl .1 .0 .only a
 
-  lower-positive : Accepted r → 0 < pairOn r .lower .den
+  pub lower-positive : Accepted r → 0 < pairOn r .lower .den
   lower-positive a =
       let s = stated a in
       rw (s .lower) (omega (arith, read-sound (s .problem) (r .low) (s .first) (s .hold .first .read) .q))
 
-  upper-positive : Accepted r → 0 < pairOn r .upper .den
+  pub upper-positive : Accepted r → 0 < pairOn r .upper .den
   upper-positive a =
       let s = stated a in
       rw (s .upper) (omega (arith, read-sound (s .problem) (r .high) (s .second) (s .hold .second .read) .q))
@@ -76,7 +84,7 @@ smaller = record { own = not-itself; once = one-way; through = less-at-most }
 larger : Order (λ x y. isLess y x)
 larger = record { own = not-itself; once = λ x y. one-way y x; through = more-at-least }
 
-abbrev NoneAccepted : List Runs → Type 0
+abbrev pub NoneAccepted : List Runs → Type 0
 NoneAccepted l = OfAccepted (λ v. ⊥) l
 
 module _ (bound : PairVerdict → Fraction) (before : Fraction → Fraction → Bool) (o : Order before)
@@ -154,7 +162,7 @@ not-counted q n e = go (ltb 0 (pairOn q .refusal .number)) refl e
     go true t e = let h = ltb-true 0 (pairOn q .refusal .number) t in (λ a. absurd (omega arith), omega arith)
     go false t e = absurd (omega arith)
 
-none-counted : (l : List Runs) → acceptedCount l ≡ 0 → NoneAccepted l
+pub none-counted : (l : List Runs) → acceptedCount l ≡ 0 → NoneAccepted l
 unfolding All
 none-counted [] e = tt
 none-counted (q ∷ l) e = let h = not-counted q (acceptedCount l) e in (h .0, none-counted l (h .1))
@@ -269,6 +277,30 @@ checked short s out = go short (recordsOf s) refl
     go false (refused n place) e = stopped n place (inr (records-twelve 64 s 0 n place e))
     go false (given l) e = by-room l e (ltb (length out) (recordLength * length l)) refl
 
+-- ---- a record under rule 1, or at a larger order
+-- the bytes are told by the refusal and the bounds
+same-bytes : (w v : PairVerdict) → w .refusal ≡ v .refusal → w .lower ≡ v .lower → w .upper ≡ v .upper
+    → recordBytes w ≡ recordBytes v
+unfolding fieldsOf
+same-bytes w v e f g = rw (e, f, g)
+
+pub record-kept : (r : Runs) (t : List ℕ) → AllLead (r .problem) t → Accepted r
+    → (pairOn (withProblem t r) .refusal ≡ problemRefusal 7 0)
+    ⊎ ((pairOn (withProblem t r) .refusal ≡ noRefusal)
+    × (recordBytes (pairOn (withProblem t r)) ≡ recordBytes (pairOn r)))
+unfolding pairOn
+record-kept r t leads a = go (pair-all false (r .problem) t leads (r .low) (r .high) a)
+  where
+    go : Stays false (r .problem) t
+        → (pairVerdict false t (r .low) (r .high) .refusal ≡ problemRefusal 7 0)
+        ⊎ ((pairVerdict false t (r .low) (r .high) .refusal ≡ noRefusal)
+        × (recordBytes (pairVerdict false t (r .low) (r .high)) ≡ recordBytes (pairVerdict false (r .problem) (r .low) (r .high))))
+    go (seven k) = inl (ap (λ (v : PairVerdict). v .refusal) (k .pair (r .low) (r .high)))
+    go (stay k) =
+        let e = k .pair (r .low) (r .high) a in
+        let f = pair-unrefused false (r .problem) (r .low) (r .high) _ refl a in
+        inr (e .0, same-bytes _ _ (e .0 ∙ sym f) (e .1 .0) (e .1 .1 .0))
+
 -- ---- the clauses
 pub entry-length : (r : Runs) → length (entry r) ≡ recordLength
 unfolding fieldsOf flatMap
@@ -327,15 +359,76 @@ module _ (short : Bool) (s out : List ℕ) where
   unfolding reportVerdict
   clause-summary l r z = rw (is l r z) (summary l)
 
+  clause-zeros : ReportZeros (reportVerdict outcome)
+  unfolding reportVerdict
+  clause-zeros = go outcome (checked short s out)
+    where
+      go : (o : Outcome (List Runs)) → Checked s out o → ReportZeros (reportVerdict o)
+      go o (stopped n place e) = record {
+        refusal = problem-zeros n place (⊎-elim (λ z. omega arith) (λ z. omega arith) e);
+        accepted = λ _. refl;
+        lower = λ _. zero-fraction;
+        upper = λ _. zero-fraction;
+      }
+      go o (passed l e h) = without (resultOf noneAccepted l) (result-refusal noneAccepted l refl)
+        where
+          without : (v : ReportVerdict) → v .refusal ≡ noRefusal → ReportZeros v
+          without v z = record {
+            refusal = rw z none-zeros;
+            accepted = λ h. absurd (omega (arith, ap (λ (r : Refusal). r .number) z));
+            lower = λ h. absurd (omega (arith, ap (λ (r : Refusal). r .number) z));
+            upper = λ h. absurd (omega (arith, ap (λ (r : Refusal). r .number) z));
+          }
+
+  -- ---- under rule 1, or at a larger order
+  clause-kept-under : (R : List ℕ → List ℕ → Type 0) → ((p t : List ℕ) → R p t → AllLead p t)
+      → EachKept R s number (outputLeft outcome out)
+  clause-kept-under R leads l r z i h t u a =
+      ⊎-elim (λ e. inl e) (λ e. inr (e .1 ∙ sym (clause-each l r z i h)))
+      (record-kept (getD l i noRuns) t (leads _ t u) a)
+
   -- all of them, of a verdict and an output that are the definitions'
-  pub report-clauses : (v : ReportVerdict) (left : List ℕ) → v ≡ reportVerdict outcome → left ≡ outputLeft outcome out
-      → Bounded 255 s
-      → ReportNumbered (v .refusal .number)
+  abbrev pub ReportClauses : ReportVerdict → List ℕ → Type 0
+  ReportClauses v left =
+      ReportNumbered (v .refusal .number)
       × (EachRecord s (v .refusal .number) left
       × (EachTold s (v .refusal .number) left
-      × (OutputKept s (v .refusal .number) out left × (WithinBounds s v × Summarised s v))))
+      × (OutputKept s (v .refusal .number) out left
+      × (WithinBounds s v
+      × (Summarised s v
+      × (ReportZeros v
+      × (EachZeros s (v .refusal .number) left
+      × (EachKept UnderOne s (v .refusal .number) left
+      × (EachKept AtLarger s (v .refusal .number) left × ReportAnyOrder short s out v)))))))))
+
+  pub report-clauses : (v : ReportVerdict) (left : List ℕ) → v ≡ reportVerdict outcome → left ≡ outputLeft outcome out
+      → Bounded 255 s → ReportClauses v left
   report-clauses v left e f bytes =
       rw (e, f) (
         numbered s out outcome (checked short s out),
-        (clause-each, (each-told s bytes _ _ clause-each, (clause-kept, (clause-within, clause-summary)))),
+        (
+          clause-each,
+          (
+            each-told s bytes _ _ clause-each,
+            (
+              clause-kept,
+              (
+                clause-within,
+                (
+                  clause-summary,
+                  (
+                    clause-zeros,
+                    (
+                      each-zeros s _ _ (each-told s bytes _ _ clause-each),
+                      (
+                        clause-kept-under UnderOne under-leads,
+                        (clause-kept-under AtLarger larger-leads, report-any-order short s out (reportVerdict outcome) refl),
+                      ),
+                    ),
+                  ),
+                ),
+              ),
+            ),
+          ),
+        ),
       )

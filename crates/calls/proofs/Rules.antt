@@ -29,6 +29,7 @@ use Rattle.calls.specs.Rules.{UnderOne, exchanged, without, AtLarger, la
 pub record Leads (p : Problem) (t : List ℕ) : Type 0 where
   pub problem : Problem
   pub read : readProblem t ≡ given problem
+  pub variables : problem .variables ≡ p .variables
   pub more : JoinsMore p problem
 
 -- so of every problem that s gives
@@ -47,7 +48,12 @@ one-read (without n rest) p read = given-left-out n 2 rest refl p read
 
 pub under-leads : (s t : List ℕ) → UnderOne s t → AllLead s t
 under-leads s t u p read =
-    record { problem = withRule p 1; read = one-read u p read; more = more-rule p (read-rule s p read ∙ two-named u) }
+    record {
+      problem = withRule p 1;
+      read = one-read u p read;
+      variables = refl;
+      more = more-rule p (read-rule s p read ∙ two-named u);
+    }
 
 -- at a larger order
 pub larger-leads : (s t : List ℕ) → AtLarger s t → AllLead s t
@@ -57,11 +63,13 @@ larger-leads _ _ (larger b k k′ rest beginning h most) p read =
     record {
       problem = withOrder p k′;
       read = given-order-exchanged beginning k rest p read k′ (omega arith) most;
+      variables = refl;
       more = more-order p k′ (omega arith) (omega arith);
     }
 larger-leads _ _ (full b k rest beginning) p read = record {
   problem = withOrder p 0;
   read = given-order-left-out beginning k rest p read;
+  variables = refl;
   more = more-without p (read-limits _ p read .order);
 }
 
@@ -72,6 +80,7 @@ pub record BothWithin (short : Bool) (s t : List ℕ) : Type 0 where
   pub other : Problem
   pub first : Within short s problem
   pub second : Within short t other
+  pub variables : other .variables ≡ problem .variables
   pub more : JoinsMore problem other
 
 -- the problem on t is too large, or both are within their limits
@@ -94,7 +103,14 @@ under short s t leads r = go (tooLarge q) refl
     go : (l : Bool) → tooLarge q ≡ l → Under short s t
     go true e = large q (w .long) (k .read) e
     go false e =
-        both (record { problem = r .problem; other = q; first = w; second = record { long = w .long; read = k .read; few = e }; more = k .more })
+        both (record {
+          problem = r .problem;
+          other = q;
+          first = w;
+          second = record { long = w .long; read = k .read; few = e };
+          variables = k .variables;
+          more = k .more;
+        })
 
 -- ---- blocks inside others, told by the bytes
 -- of one basis, with 255 at places that are no index: those are no block's number, and the same places in both

@@ -2,6 +2,7 @@
 use mathlib.Core.Path.{_≡_, refl, sym, ap, _∙_}
 use mathlib.Core.Bool.{Bool, true, false, cond}
 use mathlib.Core.List.{List, [], _∷_}
+use mathlib.Core.Logic.{inl, inr}
 use Prim.Native.Nat.{ℕ, suc, _≤_, _<_}
 use native.Mathlib.Omega.{arith}
 use lib.Dec.{eqb}
@@ -26,27 +27,29 @@ use Rattle.calls.specs.declared.SupersedingVerdict.{SupersedingVerdict}
 use Rattle.calls.specs.Fractions.{isLess}
 use Rattle.calls.specs.Refusals.{noRefusal, certificateRefusal}
 use Rattle.calls.specs.Check.{boundOf, checkVerdict}
-use Rattle.calls.specs.Promises.{NumberedTo, Reads, Within}
+use Rattle.calls.specs.Promises.{Reads, Within}
 use Rattle.calls.specs.Superseding.{isTighter, comesBack, noneBack, tighterOf, isAccepted}
 use Rattle.calls.specs.Superseding.{supersedingOf, supersedingVerdict, partOf}
 use Rattle.calls.specs.Superseding.{ZeroExactly, HoldingPart, HoldsBack, BothAccepted, AsTight}
 use Rattle.calls.specs.Superseding.{Tightest, TighterBack}
 use Rattle.calls.specs.Superseding.{AloneBack, FirstRefusal, SidesDiffer, ElevenExactly}
+use Rattle.calls.specs.Superseding.{SupersedingNumbered, ChosenZeros, PartZeros}
+use Rattle.calls.proofs.Zeros.{none-zeros, certificate-zeros}
 use Rattle.calls.proofs.Ends.{reads-at}
-use Rattle.calls.proofs.Checking.{Checked, given-once, check-found, check-clauses}
+use Rattle.calls.proofs.Checking.{Checked, given-once, check-found, check-clauses, check-zeros}
 
 -- ---- how two verdicts of the check are decided on
-abbrev Passed : CheckVerdict → Type 0
+abbrev pub Passed : CheckVerdict → Type 0
 Passed a = a .refusal .number ≡ 0
 
 -- whether the second bound is tighter
-abbrev outdone : CheckVerdict → CheckVerdict → Bool
+abbrev pub outdone : CheckVerdict → CheckVerdict → Bool
 outdone a b = isTighter (a .side) (b .bound) (a .bound)
 
-abbrev elevenBack : SupersedingVerdict
+abbrev pub elevenBack : SupersedingVerdict
 elevenBack = noneBack (certificateRefusal 2 11 0 0)
 
-data Decided (a b : CheckVerdict) (v : SupersedingVerdict) : Type 0 where
+pub data Decided (a b : CheckVerdict) (v : SupersedingVerdict) : Type 0 where
   first-tighter : Passed a → Passed b → a .side ≡ b .side → outdone a b ≡ false → v ≡ comesBack Chosen.First
       → Decided a b v
   second-tighter : Passed a → Passed b → a .side ≡ b .side → outdone a b ≡ true → v ≡ comesBack Chosen.Second
@@ -129,6 +132,9 @@ module _ (short : Bool) (s t : List ℕ) where
             };
       }
 
+  pub unrefused : Passed said → said .refusal ≡ noRefusal
+  unrefused h = ap (λ (v : CheckVerdict). v .refusal) (found h .holds .verdict)
+
   long : Passed said → 0 < length t
   long h = let r = found h in nonempty (r .problem) t (r .holds .certificate) (r .holds .accepted .read)
 
@@ -145,18 +151,18 @@ not-itself (pos m) = le-ltb m m (omega arith)
 not-itself (negsuc m) = le-ltb m m (omega arith)
 
 module _ (side : ℕ) (f g : Fraction) where
-  as-tight-itself : AsTight side f f
+  pub as-tight-itself : AsTight side f f
   as-tight-itself =
       let h = not-itself (f .num *ℤ pos (f .den)) in
       record { lower = λ z. h; upper = λ z. h }
 
   -- where g is not tighter than f
-  kept : isTighter side g f ≡ false → AsTight side f g
+  pub kept : isTighter side g f ≡ false → AsTight side f g
   unfolding isTighter
   kept h = record { lower = λ z. rw z at h; upper = λ z. rw z at h }
 
   -- where it is
-  outdoes : isTighter side g f ≡ true → AsTight side g f
+  pub outdoes : isTighter side g f ≡ true → AsTight side g f
   unfolding isTighter
   outdoes h = record {
     lower = λ z. not-both (f .num *ℤ pos (g .den)) (g .num *ℤ pos (f .den)) (rw z at h);
@@ -183,31 +189,53 @@ module _ (short : Bool) (s first second : List ℕ) (v : SupersedingVerdict)
   abbrev part : List ℕ
   part = partOf (v .chosen) first second
 
-  ended : Decided a b v
+  pub ended : Decided a b v
   unfolding supersedingVerdict
   ended = rw is (decided a b)
 
-  number-is : (w : SupersedingVerdict) → v ≡ w → v .refusal .number ≡ w .refusal .number
+  pub number-is : (w : SupersedingVerdict) → v ≡ w → v .refusal .number ≡ w .refusal .number
   number-is w e = ap (λ (x : SupersedingVerdict). x .refusal .number) e
 
-  part-is : (w : SupersedingVerdict) → v ≡ w → part ≡ partOf (w .chosen) first second
+  pub part-is : (w : SupersedingVerdict) → v ≡ w → part ≡ partOf (w .chosen) first second
   part-is w e = ap (λ (x : SupersedingVerdict). partOf (x .chosen) first second) e
 
   check-most : (t : List ℕ) → checkVerdict short s t .refusal .number ≤ 9
   check-most t = check-clauses short s t _ refl .0
 
-  numbered : NumberedTo 11 (v .refusal .number)
+  pub numbered : SupersedingNumbered (v .refusal .number)
   numbered = go ended
     where
-      go : Decided a b v → v .refusal .number ≤ 11
-      go (first-tighter h k i f e) = omega (arith, number-is _ e)
-      go (second-tighter h k i f e) = omega (arith, number-is _ e)
-      go (sides-differ h k i e) = omega (arith, number-is _ e)
-      go (first-alone h k e) = omega (arith, number-is _ e)
-      go (second-alone h k e) = omega (arith, number-is _ e)
-      go (neither h k e) = omega (arith, number-is _ e, check-most first)
+      go : Decided a b v → SupersedingNumbered (v .refusal .number)
+      go (first-tighter h k i f e) = inl (omega (arith, number-is _ e))
+      go (second-tighter h k i f e) = inl (omega (arith, number-is _ e))
+      go (sides-differ h k i e) = inr (number-is _ e)
+      go (first-alone h k e) = inl (omega (arith, number-is _ e))
+      go (second-alone h k e) = inl (omega (arith, number-is _ e))
+      go (neither h k e) = inl (omega (arith, number-is _ e, check-most first))
 
-  zero-exactly : ZeroExactly part (v .refusal)
+  -- ---- the zeros
+  pub chosen-zeros : ChosenZeros (v .refusal) (v .chosen)
+  chosen-zeros = go ended
+    where
+      back : (c : Chosen) → ChosenZeros noRefusal c
+      back c = record { refusal = none-zeros; none = λ h. absurd (omega arith) }
+
+      go : Decided a b v → ChosenZeros (v .refusal) (v .chosen)
+      go (first-tighter h k i f e) = rw e (back Chosen.First)
+      go (second-tighter h k i f e) = rw e (back Chosen.Second)
+      go (sides-differ h k i e) =
+          rw e (record { refusal = certificate-zeros 2 11 0 0 (omega arith) (λ _. refl); none = λ h. refl })
+      go (first-alone h k e) = rw e (back Chosen.First)
+      go (second-alone h k e) = rw e (back Chosen.Second)
+      go (neither h k e) = rw e (record { refusal = check-zeros short s first a refl .refusal; none = λ h. refl })
+
+  pub part-zeros : PartZeros (v .refusal) part
+  part-zeros = record {
+    refusal = chosen-zeros .refusal;
+    empty = λ h. ap (λ (c : Chosen). partOf c first second) (chosen-zeros .none h);
+  }
+
+  pub zero-exactly : ZeroExactly part (v .refusal)
   zero-exactly = record { only = λ z. only z ended; always = λ l. always l ended }
     where
       only : v .refusal .number ≡ 0 → Decided a b v → 0 < length part
@@ -226,7 +254,7 @@ module _ (short : Bool) (s first second : List ℕ) (v : SupersedingVerdict)
       always l (second-alone h k e) = rw e refl
       always l (neither h k e) = absurd (omega (arith, ap length (part-is _ e)))
 
-  holds-back : HoldsBack s part
+  pub holds-back : HoldsBack s part
   holds-back l = go ended
     where
       go : Decided a b v → Reads s (λ p. HoldingPart p part)
@@ -290,7 +318,7 @@ module _ (short : Bool) (s first second : List ℕ) (v : SupersedingVerdict)
         go (second-alone h k e) = absurd (h (x .number))
         go (neither h k e) = absurd (h (x .number))
 
-  tighter-back : TighterBack short s first second part
+  pub tighter-back : TighterBack short s first second part
   tighter-back = record { tightest = tightest; equal = equal }
 
   -- ---- one of them accepted
@@ -325,11 +353,11 @@ module _ (short : Bool) (s first second : List ℕ) (v : SupersedingVerdict)
         go (second-alone h k e) = part-is _ e
         go (neither h k e) = absurd (k (accepted-states short s second p w d other .number))
 
-  alone-back : AloneBack short s first second part
+  pub alone-back : AloneBack short s first second part
   alone-back = record { one = λ p c w. alone-first p w c; other = λ p d w. alone-second p w d }
 
   -- ---- refusals
-  first-refusal : FirstRefusal short s first (v .refusal)
+  pub first-refusal : FirstRefusal short s first (v .refusal)
   first-refusal nonzero others = go ended
     where
       go : Decided a b v → v .refusal ≡ a .refusal
@@ -340,7 +368,7 @@ module _ (short : Bool) (s first second : List ℕ) (v : SupersedingVerdict)
       go (second-alone h k e) = absurd (nonzero (number-is _ e))
       go (neither h k e) = rw e refl
 
-  eleven : ElevenExactly short s first second (v .refusal)
+  pub eleven : ElevenExactly short s first second (v .refusal)
   eleven = record { only = λ h. only h ended; always = λ p w d. always p w d ended }
     where
       differ : Passed a → Passed b → (a .side ≡ b .side → ⊥) → Reads s (λ p. SidesDiffer p first second)
@@ -393,26 +421,3 @@ module _ (short : Bool) (s first second : List ℕ) (v : SupersedingVerdict)
       always p w d (first-alone h k e) = absurd (k (second-passed p w d))
       always p w d (second-alone h k e) = absurd (h (first-passed p w d))
       always p w d (neither h k e) = absurd (h (first-passed p w d))
-
-  -- all of them
-  superseding-clauses : NumberedTo 11 (v .refusal .number)
-      × (ZeroExactly part (v .refusal)
-      × (HoldsBack s part
-      × (TighterBack short s first second part
-      × (AloneBack short s first second part
-      × (FirstRefusal short s first (v .refusal) × ElevenExactly short s first second (v .refusal))))))
-  superseding-clauses = (numbered, (zero-exactly, (holds-back, (tighter-back, (alone-back, (first-refusal, eleven))))))
-
--- of what comes back and what the four numbers hold, where these are the definition's
-module _ (short : Bool) (s first second part : List ℕ) (f : Refusal) where
-  abbrev verdict : SupersedingVerdict
-  verdict = supersedingVerdict short s first second
-
-  pub left-clauses : part ≡ partOf (verdict .chosen) first second → f ≡ verdict .refusal
-      → NumberedTo 11 (f .number)
-      × (ZeroExactly part f
-      × (HoldsBack s part
-      × (TighterBack short s first second part
-      × (AloneBack short s first second part
-      × (FirstRefusal short s first f × ElevenExactly short s first second f)))))
-  left-clauses e g = rw (e, g) (superseding-clauses short s first second verdict refl)

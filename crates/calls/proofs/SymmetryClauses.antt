@@ -19,10 +19,13 @@ use Rattle.calls.specs.Refusals.{noRefusal}
 use Rattle.calls.specs.declared.BlocksVerdict.{BlocksVerdict}
 use Rattle.calls.specs.declared.SymmetriesVerdict.{SymmetriesVerdict}
 use Rattle.calls.specs.Blocks.{refusedBlocks, blocksOf, blocksRead, blocksVerdict, bytesOf, bytesLeft}
-use Rattle.calls.specs.Promises.{NumberedTo}
+use Rattle.calls.specs.Promises.{NumberedTo, SevenExactly}
+use Rattle.calls.specs.Zeros.{SymmetriesZeros}
 use Rattle.calls.specs.Symmetries.{meetsEvenly, meetsAll, exponentsOf, symmetriesOf, refusedSymmetries, symmetriesFor, symmetriesRead, symmetriesVerdict, maskBytes, masksFor, masksLeft}
 use Rattle.calls.specs.Symmetries.{RefusesAsBlocks, Symmetry, IsListed, ListsEach, EverySymmetry, InOneBlock, EvenInBlocks, PowerOfTwo, Group, SymmetryGroup}
-use Rattle.calls.proofs.Promised.{bytes-agree, clauses}
+use Rattle.calls.proofs.Judged.{problem-number}
+use Rattle.calls.proofs.Zeros.{symmetries-refused, symmetries-accepted}
+use Rattle.calls.proofs.Promised.{bytes-agree, clauses, clause-seven}
 use Rattle.calls.proofs.Doubling.{closed-power}
 use Rattle.calls.proofs.Evenness.{meets-xor}
 use Rattle.calls.proofs.EvenBlocks.{block-even}
@@ -143,6 +146,22 @@ module _ (short : Bool) (s out : List ℕ) where
   clause-numbered : NumberedTo 7 (symmetriesVerdict short s .refusal .number)
   clause-numbered = rw as-blocks (clauses short s out (blocksVerdict short s) _ refl refl .0)
 
+  as-seven : SevenExactly short s (symmetriesVerdict short s .refusal)
+  as-seven = rw as-blocks (clause-seven short s out)
+
+  clause-zeros : SymmetriesZeros (symmetriesVerdict short s)
+  unfolding symmetriesVerdict symmetriesFor
+  clause-zeros = go short (readProblem s) refl
+    where
+      by-size : (p : Problem) (t : Bool) → SymmetriesZeros (cond t (refusedSymmetries 7 0) (answer p))
+      by-size p true = symmetries-refused 7 0 (omega arith)
+      by-size p false = symmetries-accepted _
+
+      go : (b : Bool) (o : Outcome Problem) → readProblem s ≡ o → SymmetriesZeros (cond b (refusedSymmetries 1 0) (symmetriesRead o))
+      go true o e = symmetries-refused 1 0 (omega arith)
+      go false (refused n place) e = symmetries-refused n place (problem-number s n place e .least)
+      go false (given p) e = by-size p (tooLarge p)
+
   module _ (p : Problem) (read : readProblem s ≡ given p) (h : symmetriesVerdict short s .refusal .number ≡ 0) where
     found : Found short s out p
     unfolding symmetriesVerdict masksLeft symmetriesFor masksFor
@@ -185,5 +204,6 @@ module _ (short : Bool) (s out : List ℕ) where
       → NumberedTo 7 (v .refusal .number)
       × (RefusesAsBlocks short s v
       × (EverySymmetry s (v .refusal .number) (v .masks) bytes
-      × (EvenInBlocks s (v .refusal .number) (v .masks) bytes × SymmetryGroup s (v .refusal .number) (v .masks) bytes)))
-  symmetry-clauses v bytes e f = rw (e, f) (clause-numbered, (as-blocks, (clause-every, (clause-even, clause-group))))
+      × (EvenInBlocks s (v .refusal .number) (v .masks) bytes
+      × (SymmetryGroup s (v .refusal .number) (v .masks) bytes × (SymmetriesZeros v × SevenExactly short s (v .refusal))))))
+  symmetry-clauses v bytes e f = rw (e, f) (clause-numbered, (as-blocks, (clause-every, (clause-even, (clause-group, (clause-zeros, as-seven))))))

@@ -1,11 +1,11 @@
 -- What a pair's record tells, for any bytes: each field whole but the place and the key, of which it has the lowest 32
 -- bits. The bounds of an accepted pair are operands of its certificates, so they have the widths of a record's fields.
 use native.Mathlib.Omega.{arith}
-use mathlib.Core.Path.{_≡_, refl, subst}
+use mathlib.Core.Path.{_≡_, refl, sym, ap, _∙_, subst}
 use mathlib.Core.Bool.{Bool, true, false, cond}
 use mathlib.Core.List.{List, [], _++_, append-nil}
 use mathlib.Core.Logic.{_⊎_, inl, inr}
-use Prim.Native.Nat.{ℕ, suc, _+_, _-_, _^_, _≤_, _<_}
+use Prim.Native.Nat.{ℕ, suc, _+_, _-_, _%_, _^_, _≤_, _<_}
 use lib.Dec.{lit<, eqb}
 use lib.IntN.{pos, negsuc, _-ℤ_}
 use lib.ListN.{getD}
@@ -37,9 +37,10 @@ use Rattle.calls.specs.declared.Refusal.{Refusal}
 use Rattle.calls.specs.Pair.{refusedPair, acceptedPair, pairSides, pairSecond, pairFirst, pairOf, pairRead, pairVerdict}
 use Rattle.calls.specs.Refusals.{problemRefusal, certificateRefusal}
 use Rattle.calls.specs.Report.{Runs, lowStart, highStart, runsAt, recordsOf, pairOn, recordBytes}
-use Rattle.calls.specs.Report.{noRuns, EachRecord, Told, EachTold}
+use Rattle.calls.specs.Report.{noRuns, EachRecord, Told, EachTold, RecordZeros, EachZeros}
+use Rattle.calls.specs.Zeros.{PairZeros}
 use Rattle.calls.proofs.Records.{records-induction}
-use Rattle.calls.proofs.Pairing.{pair-clauses}
+use Rattle.calls.proofs.Pairing.{pair-clauses, pair-zeros}
 use Rattle.calls.proofs.RecordFields.{Small, up, down, record-told}
 
 -- ---- the bound that a certificate states
@@ -167,3 +168,25 @@ module _ (s : List ℕ) (bytes : Bounded 255 s) where
   each-told number left h l e z i k =
       rw (h l e z i k, ← append-nil (recordBytes (pairOn (getD l i noRuns))))
       (pair-told (getD l i noRuns) (all-within Bytes l i noRuns k (records-bytes l e)) [])
+
+-- ---- what a record tells has the zeros of its verdict
+told-zeros : (s : List ℕ) (v : PairVerdict) → Told s v → PairZeros v → RecordZeros s
+told-zeros s v t z = record {
+  p = λ h. t .p ∙ z .lower (refused h) .num;
+  q = λ h. t .q ∙ z .lower (refused h) .den;
+  P = λ h. t .P ∙ z .upper (refused h) .num;
+  Q = λ h. t .Q ∙ z .upper (refused h) .den;
+  stream = λ h. t .stream ∙ z .refusal .stream (sym (t .refusal) ∙ h);
+  place = λ h. t .place ∙ ap (λ (n : ℕ). n % 2 ^ 32) (z .refusal .place (sym (t .refusal) ∙ h));
+  key = λ h. t .key ∙ ap (λ (n : ℕ). n % 2 ^ 32) (z .refusal .key (λ e. h (t .refusal ∙ e)));
+}
+  where
+    refused : 0 < number 4 s 0 → 0 < v .refusal .number
+    refused h = rw (t .refusal) at h
+
+pub record-zeros : (r : Runs) (s : List ℕ) → Told s (pairOn r) → RecordZeros s
+unfolding pairOn
+record-zeros r s t = told-zeros s (pairOn r) t (pair-zeros false (r .problem) (r .low) (r .high) (pairOn r) refl)
+
+pub each-zeros : (s : List ℕ) (number : ℕ) (left : List ℕ) → EachTold s number left → EachZeros s number left
+each-zeros s number left h l e z i k = record-zeros (getD l i noRuns) _ (h l e z i k)

@@ -6,7 +6,7 @@ use native.Mathlib.Nat.{mul-zero, zero-mul}
 use mathlib.Core.Path.{_≡_, refl, sym, ap, _∙_}
 use mathlib.Core.Bool.{Bool, true, false, cond, _||_}
 use mathlib.Core.List.{List, [], _∷_}
-use Prim.Native.Nat.{ℕ, zero, suc, _+_, _*_, _^_, _≤_, _<_}
+use Prim.Native.Nat.{ℕ, zero, suc, _+_, _*_, _≤_, _<_}
 use lib.Dec.{eqb, leb}
 use lib.IntN.{ℤ, pos, negsuc, _*ℤ_}
 use lib.ListN.{length, getD, take, length-take}
@@ -20,7 +20,7 @@ use Rattle.calls.specs.declared.AgedGap.{AgedGap}
 use Rattle.calls.specs.declared.GapWindow.{GapWindow}
 use Rattle.calls.specs.declared.WindowVerdict.{WindowVerdict}
 use Rattle.calls.specs.declared.Pushed.{Pushed}
-use Rattle.calls.specs.Window.{isRefused, acceptedOf, aged, widestOf, refusedArrival, foundWidest, arrivalVerdict}
+use Rattle.calls.specs.Window.{numeratorLimit, denominatorLimit, isRefused, acceptedOf, aged, widestOf, refusedArrival, foundWidest, arrivalVerdict}
 use Rattle.calls.specs.Window.{pushVerdict, Widest, FindsWidest}
 use Rattle.calls.proofs.FractionOrder.{one-way, not-itself, less-at-most}
 use Rattle.calls.proofs.Windows.{verdict-is}
@@ -46,12 +46,12 @@ sized f (negsuc n) e t h = clash (cc)
 accepted-gap : (f : Fraction) → isRefused f ≡ false → Gap f
 unfolding isRefused
 accepted-gap f e =
-    let x = ltZ (f .num) (pos 0) || leZ (pos (2 ^ 48)) (f .num) in
-    let y = eqb (f .den) 0 || leb (2 ^ 32) (f .den) in
+    let x = ltZ (f .num) (pos 0) || leZ (pos numeratorLimit) (f .num) in
+    let y = eqb (f .den) 0 || leb denominatorLimit (f .den) in
     let p = or-left x y e in
     let q = or-right x y e in
-    let n = eqb-false (f .den) 0 (or-left (eqb (f .den) 0) (leb (2 ^ 32) (f .den)) q) in
-    sized f (f .num) refl (or-left (ltZ (f .num) (pos 0)) (leZ (pos (2 ^ 48)) (f .num)) p) (omega arith)
+    let n = eqb-false (f .den) 0 (or-left (eqb (f .den) 0) (leb denominatorLimit (f .den)) q) in
+    sized f (f .num) refl (or-left (ltZ (f .num) (pos 0)) (leZ (pos numeratorLimit) (f .num)) p) (omega arith)
 
 abbrev pub Gaps : List Fraction → Type 0
 Gaps l = (j : ℕ) → j < length l → Gap (getD l j none)

@@ -21,6 +21,7 @@ use Rattle.calls.specs.Refusals.{noRefusal, problemRefusal}
 use Rattle.calls.specs.Check.{boundOf}
 use Rattle.calls.specs.Pair.{pairVerdict}
 use Rattle.calls.specs.Promises.{Within, BothHold, Stated}
+use Rattle.calls.specs.Rules.{Kept, KeptUnless}
 use Rattle.calls.specs.declared.Fraction.{Fraction}
 use Rattle.calls.specs.declared.Refusal.{Refusal}
 use Rattle.calls.specs.declared.PairVerdict.{PairVerdict}
@@ -176,3 +177,14 @@ abbrev pub HoldsBetween : Streams → Streams → SumVerdict → Type 0
 HoldsBetween a b v =
     (p q : Problem) → readProblem (a .problem) ≡ given p → readProblem (b .problem) ≡ given q
     → v .refusal .number ≡ 0 → SumBetween p q (v .lower) (v .upper)
+
+-- ---- between two streams that differ in the joining rule, or in the sparse order (Rules.antt has the relations R)
+abbrev pub SameSums : SumVerdict → SumVerdict → Type 0
+SameSums w v = (w .lower ≡ v .lower) × (w .upper ≡ v .upper)
+
+-- "what is accepted under 2 is accepted under 1 unless refusal 7 applies there", with the same sums: for the stream of
+-- either problem. 7 of the second problem has stream 3
+pub record SumKept (R : List ℕ → List ℕ → Type 0) (short : Bool) (a b : Streams) (v : SumVerdict) : Type 0 where
+  pub first : Kept (λ w. w .refusal) SameSums (λ t. sumVerdict short (streams t (a .low) (a .high)) b) R (a .problem) v
+  pub second : KeptUnless (ofSecond (problemRefusal 7 0)) (λ w. w .refusal) SameSums
+      (λ t. sumVerdict short a (streams t (b .low) (b .high))) R (b .problem) v

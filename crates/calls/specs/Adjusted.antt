@@ -30,6 +30,7 @@ use Rattle.calls.specs.Refusals.{noRefusal, problemRefusal}
 use Rattle.calls.specs.Check.{boundOf, checkVerdict}
 use Rattle.calls.specs.Superseding.{isAccepted}
 use Rattle.calls.specs.Promises.{WhereAccepted, Reads, Within}
+use Rattle.calls.specs.Rules.{Kept}
 use Rattle.calls.specs.declared.Fraction.{Fraction}
 use Rattle.calls.specs.declared.Refusal.{Refusal}
 use Rattle.calls.specs.declared.CheckVerdict.{CheckVerdict}
@@ -219,3 +220,9 @@ pub record InOrder (short : Bool) (s t changes : List ℕ) (f : Refusal) : Type 
       → f ≡ problemRefusal 16 0
   pub upper : (p : Problem) (c : Certificate) → Within short s p → J.Accepted p t c
       → ChangesFit (p .variables) changes → EveryBox p → c .header .side ≡ 1 → f ≡ problemRefusal 17 0
+
+-- ---- between two streams that differ in the joining rule, or in the sparse order (Rules.antt has the relations R):
+-- "what is accepted under 2 is accepted under 1 unless refusal 7 applies there", with the same moved bound
+abbrev pub AdjustedKept : (List ℕ → List ℕ → Type 0) → Bool → List ℕ → List ℕ → List ℕ → AdjustedVerdict → Type 0
+AdjustedKept R short s certificate changes v =
+    Kept (λ w. w .refusal) (λ w u. w .bound ≡ u .bound) (λ t. adjustedVerdict short t certificate changes) R s v

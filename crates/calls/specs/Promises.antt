@@ -5,7 +5,8 @@ use mathlib.Core.Path.{_≡_}
 use mathlib.Core.Bool.{Bool, true, false}
 use mathlib.Core.List.{List, []}
 use mathlib.Core.Logic.{_⊎_}
-use Prim.Native.Nat.{ℕ, _+_, _≤_, _<_}
+use Prim.Native.Nat.{ℕ, _+_, _^_, _≤_, _<_}
+use lib.IntN.{pos}
 use lib.ListN.{length, getD}
 use Rattle.counting.specs.Counting.{listed, sumTo}
 use Rattle.format.specs.Commands.{given}
@@ -29,6 +30,8 @@ use Rattle.calls.specs.Check.{boundOf}
 use Rattle.calls.specs.declared.Refusal.{Refusal}
 use Rattle.calls.specs.declared.CheckVerdict.{CheckVerdict}
 use Rattle.calls.specs.declared.PairVerdict.{PairVerdict}
+use Rattle.calls.specs.declared.GapWindow.{GapWindow}
+use Rattle.calls.specs.Window.{pushVerdict}
 use Rattle.joining_rule.specs.Rounds.{start, after, countedKeys}
 
 -- ---- every call
@@ -93,14 +96,6 @@ RoundsTaken s number rounds =
 abbrev pub FewRounds : List ℕ → ℕ → ℕ → Type 0
 FewRounds s number rounds = WhereAccepted s number (λ p. rounds + basesNamed s ≤ memberCommands s + 2)
 
--- with tables that are long enough, refusal 7 is given exactly when "closed S with zero" is "above 2,048"; "The limit
--- of 2,048 counts the closed S with the zero exponent and all in-block products"; at an order it "counts the S reached"
-pub record SevenExactly (s : List ℕ) (number : ℕ) : Type 0 where
-  pub only : (p : Problem) → readProblem s ≡ given p → number ≡ 7
-      → mostKeys < length (countedKeys (basesOf p) (closing p .state))
-  pub always : (p : Problem) → readProblem s ≡ given p → (number ≡ 1 → ⊥)
-      → mostKeys < length (countedKeys (basesOf p) (closing p .state)) → number ≡ 7
-
 -- ---- bounds and gap
 -- "at every rational point where all constraints are at least 0, p/q ≤ value ≤ P/Q"; such a point "is from here on one
 -- where the inequalities are at least 0 and the equalities are 0"
@@ -139,15 +134,55 @@ pub record Within (short : Bool) (s : List ℕ) (p : Problem) : Type 0 where
   pub read : readProblem s ≡ given p
   pub few : tooLarge p ≡ false
 
+-- ---- refusal 7: "closed S with zero above 2,048"; "The limit of 2,048 counts the closed S with the zero exponent and
+-- all in-block products"; at an order it "counts the S reached"
+abbrev pub AboveLimit : Problem → Type 0
+AboveLimit p = mostKeys < length (countedKeys (basesOf p) (closing p .state))
+
+-- with tables that are long enough it is given exactly there, at "0, stream 0"
+pub record SevenExactly (short : Bool) (s : List ℕ) (f : Refusal) : Type 0 where
+  pub only : f .number ≡ 7 → (f .stream ≡ 0) × ((f .place ≡ 0) × Reads s AboveLimit)
+  pub always : (p : Problem) → short ≡ false → readProblem s ≡ given p → AboveLimit p → f .number ≡ 7
+
+-- ---- refusal 8: "a row in two blocks"
+-- at an offset of the stream stands an entry, "12 i(u8) .." or "15 i(u8) ..", with an index
+pub record EntryAt (t : List ℕ) (at index : ℕ) : Type 0 where
+  pub command : (getD t at 0 ≡ 0x12) ⊎ (getD t at 0 ≡ 0x15)
+  pub index-is : getD t (at + 1) 0 ≡ index
+
+-- the stream gives a certificate, and the place is that of the "first entry outside the row's first block", in the
+-- first such row
+pub record SplitsAt (p : Problem) (t : List ℕ) (place : ℕ) : Type 0 where
+  pub certificate : Certificate
+  pub read : readCertificate p t ≡ given certificate
+  pub split : J.SplitAt p (certificate .rows) place
+  pub entry : EntryAt t place (split .outside .index)
+
 -- ---- the check
--- for a problem within its limits and full-length work tables, "a certificate that reads by its layouts is accepted
--- exactly when its rows keep to those blocks and its weighted squares equal the polynomial identity, coefficient by
--- coefficient"
-pub record AcceptedExactly (short : Bool) (s t : List ℕ) (number : ℕ) : Type 0 where
-  pub only : (p : Problem) (c : Certificate) → readProblem s ≡ given p → readCertificate p t ≡ given c
-      → number ≡ 0 → KeepsBlocks p (c .rows) × Identity p c
+-- what an accepted check states: the streams give a problem and a certificate that is accepted, and side and bound are
+-- the certificate's
+pub record CheckStated (s t : List ℕ) (v : CheckVerdict) : Type 0 where
+  pub problem : Problem
+  pub read : readProblem s ≡ given problem
+  pub certificate : Certificate
+  pub accepted : J.Accepted problem t certificate
+  pub side : v .side ≡ certificate .header .side
+  pub p : v .bound .num ≡ certificate .header .p
+  pub q : v .bound .den ≡ certificate .header .q
+
+-- nothing else is accepted; and for a problem within its limits and full-length work tables, "a certificate that reads
+-- by its layouts is accepted exactly when its rows keep to those blocks and its weighted squares equal the polynomial
+-- identity, coefficient by coefficient"
+pub record AcceptedExactly (short : Bool) (s t : List ℕ) (v : CheckVerdict) : Type 0 where
+  pub only : v .refusal .number ≡ 0 → CheckStated s t v
   pub always : (p : Problem) (c : Certificate) → Within short s p → readCertificate p t ≡ given c
-      → KeepsBlocks p (c .rows) → Identity p c → number ≡ 0
+      → KeepsBlocks p (c .rows) → Identity p c → v .refusal .number ≡ 0
+
+-- refusal 8 is given exactly where a row does not keep to its block
+pub record CheckSplits (short : Bool) (s t : List ℕ) (f : Refusal) : Type 0 where
+  pub only : f .number ≡ 8 → (f .stream ≡ 1) × Reads s (λ p. SplitsAt p t (f .place))
+  pub always : (p : Problem) (c : Certificate) → Within short s p → readCertificate p t ≡ given c
+      → (KeepsBlocks p (c .rows) → ⊥) → f .number ≡ 8
 
 -- refusal 9 is given exactly where the identity is false, with the smallest key that differs
 pub record CheckDiffers (short : Bool) (s t : List ℕ) (f : Refusal) : Type 0 where
@@ -210,3 +245,49 @@ pub record PairDiffers (short : Bool) (s low high : List ℕ) (f : Refusal) : Ty
       → (f .number ≡ 9) × (f .stream ≡ 1)
   pub second : (p : Problem) (c d : Certificate) → Within short s p → J.Accepted p low c → IdentityFalse p high d
       → (f .number ≡ 9) × (f .stream ≡ 2)
+
+-- a row of the second certificate is in two blocks, after the first was accepted
+pub record SecondSplits (p : Problem) (low high : List ℕ) (place : ℕ) : Type 0 where
+  pub first : Certificate
+  pub accepted : J.Accepted p low first
+  pub second : SplitsAt p high place
+
+-- refusal 8 is given exactly where a row of the first certificate does not keep to its block, or where the first is
+-- accepted and a row of the second does not
+pub record PairSplits (short : Bool) (s low high : List ℕ) (f : Refusal) : Type 0 where
+  pub only : f .number ≡ 8
+      → ((f .stream ≡ 1) × Reads s (λ p. SplitsAt p low (f .place)))
+      ⊎ ((f .stream ≡ 2) × Reads s (λ p. SecondSplits p low high (f .place)))
+  pub first : (p : Problem) (c : Certificate) → Within short s p → readCertificate p low ≡ given c
+      → (KeepsBlocks p (c .rows) → ⊥) → (f .number ≡ 8) × (f .stream ≡ 1)
+  pub second : (p : Problem) (c d : Certificate) → Within short s p → J.Accepted p low c
+      → readCertificate p high ≡ given d → (KeepsBlocks p (d .rows) → ⊥) → (f .number ≡ 8) × (f .stream ≡ 2)
+
+-- ---- refusal 10: "in a pair, first side not 0 or second not 1", where both certificates are accepted; the stream is
+-- "the first wrong stream"
+pub record WrongSides (p : Problem) (low high : List ℕ) (stream : ℕ) : Type 0 where
+  pub first : Certificate
+  pub second : Certificate
+  pub low-accepted : J.Accepted p low first
+  pub high-accepted : J.Accepted p high second
+  pub wrong : ((stream ≡ 1) × (first .header .side ≡ 0 → ⊥))
+      ⊎ ((stream ≡ 2) × ((first .header .side ≡ 0) × (second .header .side ≡ 1 → ⊥)))
+
+-- it is given exactly there, at place 0
+pub record TenExactly (short : Bool) (s low high : List ℕ) (f : Refusal) : Type 0 where
+  pub only : f .number ≡ 10 → (f .place ≡ 0) × Reads s (λ p. WrongSides p low high (f .stream))
+  pub always : (p : Problem) (stream : ℕ) → Within short s p → WrongSides p low high stream
+      → (f .number ≡ 10) × (f .stream ≡ stream)
+
+-- ---- between requests 06 and 11: a gap that is reported without the mark never meets refusal 14. Its numerator is at
+-- least 0 and below 2^48, its denominator at least 1 and below 2^32; so a push to any state is not refused
+pub record Pushable (f : Fraction) : Type 0 where
+  pub size : ℕ
+  pub num : f .num ≡ pos size
+  pub small : size < 2 ^ 48
+  pub least : 1 ≤ f .den
+  pub most : f .den < 2 ^ 32
+  pub push : (w : GapWindow) → pushVerdict w f .refusal .number ≡ 0
+
+abbrev pub GapPushable : PairVerdict → Type 0
+GapPushable v = v .refusal .number ≡ 0 → v .empty ≡ false → Pushable (v .gap)

@@ -195,6 +195,22 @@ EachTold s number left =
     WhereReported s number
     (λ l. (i : ℕ) → i < length l → Told (take recordLength (drop (recordLength * i) left)) (pairOn (getD l i noRuns)))
 
+-- "on refusal p, q, P and Q are 0, otherwise stream, place and key are"; and "The key is 0 except at 9". s begins with
+-- the bytes of a record
+pub record RecordZeros (s : List ℕ) : Type 0 where
+  pub p : 0 < number 4 s 0 → signed 31 (number 4 s 4) ≡ pos 0
+  pub q : 0 < number 4 s 0 → number 4 s 8 ≡ 0
+  pub P : 0 < number 4 s 0 → signed 31 (number 4 s 12) ≡ pos 0
+  pub Q : 0 < number 4 s 0 → number 4 s 16 ≡ 0
+  pub stream : number 4 s 0 ≡ 0 → number 4 s 20 ≡ 0
+  pub place : number 4 s 0 ≡ 0 → number 4 s 24 ≡ 0
+  pub key : (number 4 s 0 ≡ 9 → ⊥) → number 4 s 28 ≡ 0
+
+abbrev pub EachZeros : List ℕ → ℕ → List ℕ → Type 0
+EachZeros s number left =
+    WhereReported s number
+    (λ l. (i : ℕ) → i < length l → RecordZeros (take recordLength (drop (recordLength * i) left)))
+
 -- "no output byte is written on any" of the call's refusals; "Output past the last record is untouched"
 pub record OutputKept (s : List ℕ) (number : ℕ) (lent left : List ℕ) : Type 0 where
   pub refused : 0 < number → left ≡ lent
@@ -236,3 +252,19 @@ pub record Summary (v : ReportVerdict) (l : List Runs) : Type 0 where
 
 abbrev pub Summarised : List ℕ → ReportVerdict → Type 0
 Summarised s v = WhereReported s (v .refusal .number) (Summary v)
+
+-- ---- between two problem streams that differ in the joining rule, or in the sparse order (Rules.antt has the
+-- relations R), record by record
+abbrev pub withProblem : List ℕ → Runs → Runs
+withProblem t r = threeRuns t (r .low) (r .high)
+
+-- "what is accepted under 2 is accepted under 1 unless refusal 7 applies there": a record that says no refusal, with t
+-- in the place of its problem, says refusal 7 of the problem, or has the same 32 bytes
+abbrev pub EachKept : (List ℕ → List ℕ → Type 0) → List ℕ → ℕ → List ℕ → Type 0
+EachKept R s number left =
+    WhereReported s number
+    (λ l. (i : ℕ) → i < length l → (t : List ℕ) → R (getD l i noRuns .problem) t
+    → let bytes = take recordLength (drop (recordLength * i) left) in
+    let other = withProblem t (getD l i noRuns) in
+    pairOn (getD l i noRuns) .refusal .number ≡ 0
+    → (pairOn other .refusal ≡ problemRefusal 7 0) ⊎ (recordBytes (pairOn other) ≡ bytes))

@@ -31,9 +31,13 @@ pub data AtLarger : List ℕ → List ℕ → Type 0 where
       → AtLarger (ordered b k rest) (ordered b k′ rest)
   full : (b : List ℕ) (k : ℕ) (rest : List ℕ) → Beginning b → AtLarger (ordered b k rest) (b ++ rest)
 
--- "unless refusal 7 applies there", "or meets refusal 7": the refusal is 7; or there is none, and P holds
+-- the refusal is g; or there is none, and P holds
+abbrev pub Unless : Refusal → Refusal → Type 0 → Type 0
+Unless g f P = (f ≡ g) ⊎ ((f ≡ noRefusal) × P)
+
+-- "unless refusal 7 applies there", "or meets refusal 7"
 abbrev pub UnlessSeven : Refusal → Type 0 → Type 0
-UnlessSeven f P = (f ≡ problemRefusal 7 0) ⊎ ((f ≡ noRefusal) × P)
+UnlessSeven f P = Unless (problemRefusal 7 0) f P
 
 -- ---- the blocks
 -- the blocks that the bytes a tell lie inside those that the bytes b tell: what has one number in a has one in b
@@ -55,12 +59,26 @@ BlocksUnderOne short s out number bytes = BlocksKept UnderOne short s out number
 abbrev pub BlocksAtLarger : Bool → List ℕ → List ℕ → ℕ → List ℕ → Type 0
 BlocksAtLarger short s out number bytes = BlocksKept AtLarger short s out number bytes
 
--- ---- the check: what is accepted with s is accepted with t, with the same side and bound
+-- ---- every call: what is accepted with s is accepted with t, unless a refusal g is given there. v is the call's
+-- verdict with s, and `of t` that with t in its place; `refusal` is a verdict's refusal, and `same w v` says what w
+-- returns as v does
+abbrev pub KeptUnless : {A : Type 0} → Refusal → (A → Refusal) → (A → A → Type 0) → (List ℕ → A)
+    → (List ℕ → List ℕ → Type 0) → List ℕ → A → Type 0
+KeptUnless g refusal same of R s v =
+    (t : List ℕ) → R s t → refusal v .number ≡ 0 → Unless g (refusal (of t)) (same (of t) v)
+
+-- 7 of stream 0
+abbrev pub Kept : {A : Type 0} → (A → Refusal) → (A → A → Type 0) → (List ℕ → A) → (List ℕ → List ℕ → Type 0)
+    → List ℕ → A → Type 0
+Kept refusal same of R s v = KeptUnless (problemRefusal 7 0) refusal same of R s v
+
+-- ---- the check: with the same side and bound
+abbrev pub SameBound : CheckVerdict → CheckVerdict → Type 0
+SameBound w v = (w .side ≡ v .side) × (w .bound ≡ v .bound)
+
 abbrev pub CheckKept : (List ℕ → List ℕ → Type 0) → Bool → List ℕ → List ℕ → CheckVerdict → Type 0
 CheckKept R short s certificate v =
-    (t : List ℕ) → R s t → v .refusal .number ≡ 0
-    → let w = checkVerdict short t certificate in
-    UnlessSeven (w .refusal) ((w .side ≡ v .side) × (w .bound ≡ v .bound))
+    Kept (λ w. w .refusal) SameBound (λ t. checkVerdict short t certificate) R s v
 
 abbrev pub CheckUnderOne : Bool → List ℕ → List ℕ → CheckVerdict → Type 0
 CheckUnderOne short s certificate v = CheckKept UnderOne short s certificate v
@@ -68,13 +86,13 @@ CheckUnderOne short s certificate v = CheckKept UnderOne short s certificate v
 abbrev pub CheckAtLarger : Bool → List ℕ → List ℕ → CheckVerdict → Type 0
 CheckAtLarger short s certificate v = CheckKept AtLarger short s certificate v
 
--- ---- the pair: the same, with both bounds and the gap, or its mark
+-- ---- the pair: with both bounds and the gap, or its mark
+abbrev pub SameBounds : PairVerdict → PairVerdict → Type 0
+SameBounds w v = (w .lower ≡ v .lower) × ((w .upper ≡ v .upper) × ((w .gap ≡ v .gap) × (w .empty ≡ v .empty)))
+
 abbrev pub PairKept : (List ℕ → List ℕ → Type 0) → Bool → List ℕ → List ℕ → List ℕ → PairVerdict → Type 0
 PairKept R short s low high v =
-    (t : List ℕ) → R s t → v .refusal .number ≡ 0
-    → let w = pairVerdict short t low high in
-    UnlessSeven (w .refusal)
-    ((w .lower ≡ v .lower) × ((w .upper ≡ v .upper) × ((w .gap ≡ v .gap) × (w .empty ≡ v .empty))))
+    Kept (λ w. w .refusal) SameBounds (λ t. pairVerdict short t low high) R s v
 
 abbrev pub PairUnderOne : Bool → List ℕ → List ℕ → List ℕ → PairVerdict → Type 0
 PairUnderOne short s low high v = PairKept UnderOne short s low high v

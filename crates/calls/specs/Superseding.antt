@@ -2,7 +2,8 @@
 -- and what the four lent numbers receive, for all inputs; then what the call promises.
 use mathlib.Core.Path.{_≡_}
 use mathlib.Core.Bool.{Bool, false, cond}
-use mathlib.Core.List.{List}
+use mathlib.Core.List.{List, []}
+use mathlib.Core.Logic.{_⊎_}
 use Prim.Native.Nat.{ℕ, _≤_, _<_}
 use lib.Dec.{eqb}
 use lib.ListN.{length, take}
@@ -11,9 +12,11 @@ use Rattle.format.specs.CertificateRules.{Certificate}
 use Rattle.accepting.specs.Judgement as J
 use Rattle.accepting.specs.Bounds.{BoundedBelow, BoundedAbove}
 use Rattle.calls.specs.Fractions.{isLess}
-use Rattle.calls.specs.Refusals.{noRefusal, certificateRefusal}
+use Rattle.calls.specs.Refusals.{noRefusal, problemRefusal, certificateRefusal}
 use Rattle.calls.specs.Check.{boundOf, checkVerdict}
 use Rattle.calls.specs.Promises.{Reads, Within}
+use Rattle.calls.specs.Rules.{SameBound}
+use Rattle.calls.specs.Zeros.{RefusalZeros}
 use Rattle.calls.specs.declared.Fraction.{Fraction}
 use Rattle.calls.specs.declared.Refusal.{Refusal}
 use Rattle.calls.specs.declared.CheckVerdict.{CheckVerdict}
@@ -73,10 +76,24 @@ refusalIn number stream place key = record { number = number; stream = stream; p
 
 -- ---- what the call promises. s is the problem stream, first and second are the certificates, part is what comes back,
 -- and f what the four numbers hold at exit; short is true where a work table is too short
+-- the number is 0, one of the check's 1 to 9, or 11: "the first one's refusal comes", and "11 when both are accepted
+-- and their sides differ". The pair's 10 is never given
+abbrev pub SupersedingNumbered : ℕ → Type 0
+SupersedingNumbered number = (number ≤ 9) ⊎ (number ≡ 11)
+
 -- "all four are 0 when a certificate comes back", and only then; an accepted certificate is not empty
 pub record ZeroExactly (part : List ℕ) (f : Refusal) : Type 0 where
   pub only : f .number ≡ 0 → 0 < length part
   pub always : 0 < length part → f ≡ noRefusal
+
+-- with a refusal nothing comes back: neither certificate is chosen, and the part is empty
+pub record ChosenZeros (f : Refusal) (chosen : Chosen) : Type 0 where
+  pub refusal : RefusalZeros f
+  pub none : 0 < f .number → chosen ≡ Chosen.Neither
+
+pub record PartZeros (f : Refusal) (part : List ℕ) : Type 0 where
+  pub refusal : RefusalZeros f
+  pub empty : 0 < f .number → part ≡ []
 
 -- a part that gives a certificate accepted for the problem, whose bound holds at every allowed point by its side:
 -- "side 0 lower, 1 upper"
@@ -140,3 +157,38 @@ pub record SidesDiffer (p : Problem) (first second : List ℕ) : Type 0 where
 pub record ElevenExactly (short : Bool) (s first second : List ℕ) (f : Refusal) : Type 0 where
   pub only : f .number ≡ 11 → (f ≡ certificateRefusal 2 11 0 0) × Reads s (λ p. SidesDiffer p first second)
   pub always : (p : Problem) → Within short s p → SidesDiffer p first second → f .number ≡ 11
+
+-- ---- between two streams that differ in the joining rule, or in the sparse order (Rules.antt has the relations R): s,
+-- and t in its place. Each certificate that is accepted with s is accepted with t, or 7 applies to the problem there;
+-- but the other one may be accepted with t alone, and then the two are compared there
+module _ (short : Bool) (t first second : List ℕ) where
+  abbrev pub decidedWith : SupersedingVerdict
+  decidedWith = supersedingVerdict short t first second
+
+  -- a is what the check says with s of what came back there: with t what comes back is accepted, of the same side, and
+  -- at least as tight
+  abbrev pub AsTightBack : CheckVerdict → Type 0
+  AsTightBack a =
+      let b = checkVerdict short t (partOf (decidedWith .chosen) first second) in
+      (b .refusal ≡ noRefusal) × ((b .side ≡ a .side) × AsTight (a .side) (b .bound) (a .bound))
+
+-- with t the check accepts the part that came back with s, with the same side and bound; and the call hands back what
+-- is as tight, unless the other certificate is accepted there with the other side, where it gives 11
+pub record BackKept (short : Bool) (s t first second part : List ℕ) : Type 0 where
+  pub accepted : checkVerdict short t part .refusal ≡ noRefusal
+  pub same : SameBound (checkVerdict short t part) (checkVerdict short s part)
+  pub back : (decidedWith short t first second .refusal ≡ certificateRefusal 2 11 0 0)
+      ⊎ ((decidedWith short t first second .refusal ≡ noRefusal)
+      × AsTightBack short t first second (checkVerdict short s part))
+
+pub record TighterWith (short : Bool) (s t first second part : List ℕ) (f : Refusal) : Type 0 where
+  pub one : f .number ≡ 0
+      → (decidedWith short t first second .refusal ≡ problemRefusal 7 0) ⊎ BackKept short s t first second part
+  -- where both are accepted with s, the same part comes back, or 11 as before
+  pub both : checkVerdict short s first .refusal .number ≡ 0 → checkVerdict short s second .refusal .number ≡ 0
+      → (decidedWith short t first second .refusal ≡ problemRefusal 7 0)
+      ⊎ ((decidedWith short t first second .refusal ≡ f)
+      × (partOf (decidedWith short t first second .chosen) first second ≡ part))
+
+abbrev pub TighterKept : (List ℕ → List ℕ → Type 0) → Bool → List ℕ → List ℕ → List ℕ → List ℕ → Refusal → Type 0
+TighterKept R short s first second part f = (t : List ℕ) → R s t → TighterWith short s t first second part f

@@ -19,9 +19,16 @@ use Rattle.calls.specs.declared.Pushed.{Pushed}
 
 -- ---- arrivals
 -- "14 exactly for a numerator below 0 or from 2^48, or a denominator of 0 or from 2^32"
+abbrev pub numeratorLimit : ℕ
+numeratorLimit = 2 ^ 48
+
+abbrev pub denominatorLimit : ℕ
+denominatorLimit = 2 ^ 32
+
 unfoldable pub isRefused : Fraction → Bool
 isRefused f =
-    (ltZ (f .num) (pos 0) || leZ (pos (2 ^ 48)) (f .num)) || (eqb (f .den) 0 || leb (2 ^ 32) (f .den))
+    (ltZ (f .num) (pos 0) || leZ (pos numeratorLimit) (f .num))
+    || (eqb (f .den) 0 || leb denominatorLimit (f .den))
 
 abbrev pub withArrival : Fraction → List Fraction → List Fraction
 withArrival a l = cond (isRefused a) l (a ∷ l)

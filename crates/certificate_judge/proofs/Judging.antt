@@ -9,10 +9,9 @@ use Rattle.format.specs.ProblemRules.{Problem}
 use Rattle.format.specs.CertificateRules.{Certificate, readCertificate}
 use Rattle.format.specs.declared.certificate.Header.{Header}
 use Rattle.joining_rule.proofs.Bytes.{bytes-long}
-use Rattle.accepting.specs.Judgement.{Judgement, judge, judgeRead, byBlocks, byIdentity, splitPlace, differenceKey}
-use Rattle.accepting.specs.Judgement as J
+use Rattle.accepting.specs.Judgement.{judge, judgeRead, byIdentity, splitPlace, differenceKey}
 use Rattle.calls.specs.Refusals.{certificateRefusal}
-use Rattle.row_blocks.specs.Places.{placeOf}
+use Rattle.row_blocks.specs.Places.{placeJudged, SplitTold}
 use Rattle.row_blocks.specs.declared.Place.{Place}
 use Rattle.row_blocks.specs.declared.Place.the-variants as Place
 use Rattle.certificate_reader.specs.Rows.{GivenRows}
@@ -36,29 +35,22 @@ module _ {p : Problem} {keys : List ℕ} {coefficients : _} {sizes labels table 
     joined-given = record { flat = j .flat; header-is = g .header-is; rows-are = g .rows-are; compared = j .compared }
 
 -- ---- the judgement
-abbrev fromPlace : Place → Judgement → Judgement
-fromPlace (Place.At at) j = J.refused 8 at 0
-fromPlace Place.Nowhere j = j
-
 module _ (P : Problem) (s : List ℕ) where
   pub judge-refused : (stream n at : ℕ) → readCertificate P s ≡ refused n at → Judged.Refused (certificateRefusal stream n at 0) ≡ judgedOf stream (judge P s)
   unfolding judge
   judge-refused stream n at e = rw e refl
 
   module _ (c : Certificate) (e : readCertificate P s ≡ given c) (stream : ℕ) where
-    by-blocks : (o : Option ℕ) (j : Judgement) → byBlocks o j ≡ fromPlace (placeOf o) j
-    by-blocks (some at) j = refl
-    by-blocks none j = refl
-
-    judged : judge P s ≡ fromPlace (placeOf (splitPlace P (c .rows))) (byIdentity c (differenceKey P c))
+    -- by what the answer to refusal 8 tells
+    judged : (r : Place) → SplitTold r (splitPlace P (c .rows)) → judge P s ≡ placeJudged r (byIdentity c (differenceKey P c))
     unfolding judge judgeRead
-    judged = rw e (by-blocks (splitPlace P (c .rows)) (byIdentity c (differenceKey P c)))
+    judged r f = rw e (sym (f .tells (byIdentity c (differenceKey P c))))
 
-    pub judge-split : (at : ℕ) → Place.At at ≡ placeOf (splitPlace P (c .rows)) → Judged.Refused (certificateRefusal stream 8 at 0) ≡ judgedOf stream (judge P s)
-    judge-split at f = rw (judged, sym f) refl
+    pub judge-split : (at : ℕ) → SplitTold (Place.At at) (splitPlace P (c .rows)) → Judged.Refused (certificateRefusal stream 8 at 0) ≡ judgedOf stream (judge P s)
+    judge-split at f = rw (judged (Place.At at) f) refl
 
-    pub judge-compared : (t : Header) (d : Difference) → Place.Nowhere ≡ placeOf (splitPlace P (c .rows)) → t ≡ c .header → d ≡ differenceOf (differenceKey P c) → judgedFrom stream t d ≡ judgedOf stream (judge P s)
-    judge-compared t d f g h = rw (judged, sym f, g, h) (go (differenceKey P c))
+    pub judge-compared : (t : Header) (d : Difference) → SplitTold Place.Nowhere (splitPlace P (c .rows)) → t ≡ c .header → d ≡ differenceOf (differenceKey P c) → judgedFrom stream t d ≡ judgedOf stream (judge P s)
+    judge-compared t d f g h = rw (judged Place.Nowhere f, g, h) (go (differenceKey P c))
       where
         go : (o : Option ℕ) → judgedFrom stream (c .header) (differenceOf o) ≡ judgedOf stream (byIdentity c o)
         go (some k) = refl

@@ -19,10 +19,13 @@ ghost use Rattle.calls.specs.Check.{refusedCheck, checkJudged, checkOf, checkRe
 ghost use Rattle.calls.specs.Pair.{refusedPair, pairSides, pairFirst, pairOf, pairRead, pairVerdict};
 ghost use Rattle.calls.specs.Promises.{NumberedTo, BlocksClosed, BlocksLeast, BlocksLowest, BlocksCounted, BlocksAfter};
 ghost use Rattle.calls.specs.Promises.{RoundsTaken, FewRounds, SevenExactly, RuleUsed};
-ghost use Rattle.calls.specs.Promises.{AcceptedExactly, CheckDiffers, HoldsBySide};
+ghost use Rattle.calls.specs.Promises.{AcceptedExactly, CheckSplits, CheckDiffers, HoldsBySide};
 ghost use Rattle.calls.specs.Promises.{PairExactly, PairDiffers, HoldsBelow, HoldsAbove, HoldsGap, NoPoints};
+ghost use Rattle.calls.specs.Promises.{PairSplits, TenExactly, GapPushable};
+ghost use Rattle.calls.specs.Zeros.{BlocksZeros, CheckZeros, TwoZeros, PairZeros};
 ghost use Rattle.calls.specs.Rules.{BlocksUnderOne, CheckUnderOne, PairUnderOne};
 ghost use Rattle.calls.specs.Rules.{BlocksAtLarger, CheckAtLarger, PairAtLarger};
+ghost use Rattle.calls.specs.RowOrder.{CheckAnyOrder, PairAnyOrder};
 ghost use Rattle.flat.specs.Flat.{FlatProblem};
 ghost use Rattle.fractions.specs.Ranges.{Bound};
 ghost use Rattle.certificate_judge.specs.Steps.{JoinedProblem, Judgeable, LongSums, SumsRest};
@@ -150,7 +153,9 @@ pub fn blocks(
         ⌝ }
     ensures rounds { λ r. ⌜ RoundsTaken (now (problem .entry)) (r .refusal .number) (r .rounds) ⌝ }
     ensures few_rounds { λ r. ⌜ FewRounds (now (problem .entry)) (r .refusal .number) (r .rounds) ⌝ }
-    ensures seven { λ r. ⌜ SevenExactly (now (problem .entry)) (r .refusal .number) ⌝ }
+    ensures seven { λ r.
+        let lent = tables (now (keys .entry)) (now (high .entry)) (now (low .entry)) in
+        ⌜ SevenExactly (blocksShort (now (out .entry)) lent) (now (problem .entry)) (r .refusal) ⌝ }
     ensures rule { λ r. ⌜ RuleUsed (now (problem .entry)) (r .refusal .number) (r .rule) ⌝ }
     ensures under_one { λ r.
         let lent = tables (now (keys .entry)) (now (high .entry)) (now (low .entry)) in
@@ -165,6 +170,7 @@ pub fn blocks(
         let before = now (out .entry) in
         ⌜ BlocksAtLarger (blocksShort before lent) (now (problem .entry)) before (r .refusal .number)
         (now (out .exit)) ⌝ }
+    ensures zeros { λ r. ⌜ BlocksZeros r ⌝ }
 {
     if out.len() < 576 {
         return refuse_blocks(1, 0);
@@ -301,7 +307,7 @@ pub fn check(
     ensures numbered { λ r. ⌜ NumberedTo 9 (r .refusal .number) ⌝ }
     ensures accepted { λ r.
         let lent = tables (now (keys .entry)) (now (high .entry)) (now (low .entry)) in
-        ⌜ AcceptedExactly (tablesShort lent) (now (problem .entry)) (now (certificate .entry)) (r .refusal .number) ⌝ }
+        ⌜ AcceptedExactly (tablesShort lent) (now (problem .entry)) (now (certificate .entry)) r ⌝ }
     ensures differs { λ r.
         let lent = tables (now (keys .entry)) (now (high .entry)) (now (low .entry)) in
         ⌜ CheckDiffers (tablesShort lent) (now (problem .entry)) (now (certificate .entry)) (r .refusal) ⌝ }
@@ -315,6 +321,16 @@ pub fn check(
     ensures at_larger { λ r.
         let lent = tables (now (keys .entry)) (now (high .entry)) (now (low .entry)) in
         ⌜ CheckAtLarger (tablesShort lent) (now (problem .entry)) (now (certificate .entry)) r ⌝ }
+    ensures zeros { λ r. ⌜ CheckZeros r ⌝ }
+    ensures seven { λ r.
+        let lent = tables (now (keys .entry)) (now (high .entry)) (now (low .entry)) in
+        ⌜ SevenExactly (tablesShort lent) (now (problem .entry)) (r .refusal) ⌝ }
+    ensures eight { λ r.
+        let lent = tables (now (keys .entry)) (now (high .entry)) (now (low .entry)) in
+        ⌜ CheckSplits (tablesShort lent) (now (problem .entry)) (now (certificate .entry)) (r .refusal) ⌝ }
+    ensures rows { λ r.
+        let lent = tables (now (keys .entry)) (now (high .entry)) (now (low .entry)) in
+        ⌜ CheckAnyOrder (tablesShort lent) (now (problem .entry)) (now (certificate .entry)) r ⌝ }
 {
     if work_tables::is_short(keys.len(), high.len(), low.len()) {
         return refuse_check(certificate_judge::problem_refusal(1, 0));
@@ -561,6 +577,22 @@ pub fn pair(
     ensures at_larger { λ r.
         let lent = tables (now (keys .entry)) (now (high .entry)) (now (low .entry)) in
         ⌜ PairAtLarger (tablesShort lent) (now (problem .entry)) (now (first .entry)) (now (second .entry)) r ⌝ }
+    ensures zeros { λ r. ⌜ PairZeros r ⌝ }
+    ensures seven { λ r.
+        let lent = tables (now (keys .entry)) (now (high .entry)) (now (low .entry)) in
+        ⌜ SevenExactly (tablesShort lent) (now (problem .entry)) (r .refusal) ⌝ }
+    ensures eight { λ r.
+        let lent = tables (now (keys .entry)) (now (high .entry)) (now (low .entry)) in
+        ⌜ PairSplits (tablesShort lent) (now (problem .entry)) (now (first .entry)) (now (second .entry))
+        (r .refusal) ⌝ }
+    ensures ten { λ r.
+        let lent = tables (now (keys .entry)) (now (high .entry)) (now (low .entry)) in
+        ⌜ TenExactly (tablesShort lent) (now (problem .entry)) (now (first .entry)) (now (second .entry))
+        (r .refusal) ⌝ }
+    ensures pushable { λ r. ⌜ GapPushable r ⌝ }
+    ensures rows { λ r.
+        let lent = tables (now (keys .entry)) (now (high .entry)) (now (low .entry)) in
+        ⌜ PairAnyOrder (tablesShort lent) (now (problem .entry)) (now (first .entry)) (now (second .entry)) r ⌝ }
 {
     if work_tables::is_short(keys.len(), high.len(), low.len()) {
         return refuse_pair(certificate_judge::problem_refusal(1, 0));
@@ -739,6 +771,7 @@ pub fn check_two(
         let lent = tables (now (keys .entry)) (now (high .entry)) (now (low .entry)) in
         let left = tables (now (keys .exit)) (now (high .exit)) (now (low .exit)) in
         ⌜ TablesLeft (tablesShort lent) lent left ⌝ }
+    ensures zeros { λ r. ⌜ TwoZeros r ⌝ }
 {
     if work_tables::is_short(keys.len(), high.len(), low.len()) {
         return refuse_two(certificate_judge::problem_refusal(1, 0));

@@ -97,8 +97,8 @@ module _ (rule most : ℕ) (keys sizes : List ℕ) (a : Arrays keys sizes) (S₀
 
   module _ (l : List ℕ) (e : l ≡ blockBytes (end .labels)) where
     -- the bytes give the blocks back
-    pub labels-held : labelsIn 64 sizes l ≡ end .labels
-    labels-held = ap (labelsIn 64 sizes) e ∙ labels-of sizes (arrays-sizes keys sizes a) g (basis-long keys sizes a) (end .labels) (closing-shaped rule most g S₀)
+    pub labels-held : labelsIn sizes l ≡ end .labels
+    labels-held = ap (labelsIn sizes) e ∙ labels-of sizes (arrays-sizes keys sizes a) g (basis-long keys sizes a) (end .labels) (closing-shaped rule most g S₀)
 
     -- and S has the products of the bases that add
     pub products-held : 0 < most → (len : ℕ) (t idx : List ℕ) → Holds t len → Indexed idx t len → keysIn len t ≡ end .support

@@ -30,35 +30,12 @@ pub fn answer_to(problem: &[u8], low: &[u8], high: &[u8]) -> Text
     text::pair_lines(v)
 }
 
-// Whether a file was read to its end, or the buffer is full. A read stops where the file ends and where it fails; one
-// more answers 0 at an end and less after a failure.
-fn is_whole(fd: i32, path: &[u8], n: usize, room: usize) -> bool {
-    if n < room {
-        let mut next = [0u8; 1];
-        if libc::read(fd, &mut next) < 0 {
-            messages::not_read(path);
-            return false;
-        }
-    } else if 65536 < libc::lseek(fd, 0, libc::SEEK_END) {
-        messages::longer(path);
-    }
-    true
-}
-
 // The bytes of a file, at the start of the buffer, and how many. A missing file is an empty stream, and so is one that
 // cannot be read; standard error says which.
 fn read_file(path: &[u8], bytes: &mut [u8]) -> usize
     ensures { λ n. ⌜ n ≤ length (now (bytes .exit)) ⌝ }
 {
-    let fd = os::open_read(path);
-    if fd < 0 {
-        messages::not_opened(path);
-        return 0;
-    }
-    let n = io::read_full(fd, bytes);
-    let whole = is_whole(fd, path, n, bytes.len());
-    libc::close(fd);
-    if whole { n } else { 0 }
+    file_reader::read_file(b"gapcheck", path, b"65,536", b"its stream is empty", bytes)
 }
 
 // The bytes of the file that argument i names, or of another where there is no such argument. With no argument at all

@@ -136,7 +136,7 @@ module _ (p : Problem) (s : List ℕ) (d : Certificate) (read : readCertificate 
 
     note-inside : walkEnd s < length s
     note-inside =
-        let b = eqb-true (getD s (walkEnd s) 0) 0x40 note in
+        let b = eqb-true (getD s (walkEnd s) 0) _ note in
         ⊎-elim (λ h. h) (λ h. absurd (omega (arith, List·getD-eq-default s 0 h))) (lt-or-le (walkEnd s) (length s))
 
     not-cut : ⊥

@@ -17,8 +17,15 @@ pub mod HeaderRange
 pub mod Walk
 pub mod Notes
 pub mod SameBytes
+pub mod Fold
+pub mod RowReading
+pub mod RowOrder
 pub mod Meets
+pub mod Cut
+pub mod RowCut
 pub mod Longest
 pub mod Places
 pub mod NotesRead
 pub mod CutNotes
+pub mod PutIn
+pub mod NotesAnywhere

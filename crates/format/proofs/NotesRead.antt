@@ -27,7 +27,7 @@ use Rattle.format.proofs.Notes.{Spaced, spaced-most, walking-found, end
 pub note-refused : (p : Problem) (c : Certificate) (s : List ℕ) (at : ℕ) → isNote (getD s at 0) ≡ true
     → certificateRefusalAt p c s at ≡ 3
 unfolding certificateRefusalAt firstRefusal certificateCommand
-note-refused p c s at h = rw (eqb-true (getD s at 0) 0x40 h)
+note-refused p c s at h = rw (eqb-true (getD s at 0) _ h)
 
 -- ---- the beginning of a stream that has notes, or a note that is cut
 -- where the walk does not end at once, the stream begins with a 10

@@ -12,3 +12,7 @@ pub mod ProblemOrder
 pub mod CertificateLayout
 pub mod CertificateRules
 pub mod Notes
+pub mod Cut
+pub mod Permuted
+pub mod RowOrder
+pub mod PutIn

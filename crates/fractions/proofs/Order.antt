@@ -1,6 +1,6 @@
 -- The order of two fractions a/c and b/d by the signs of their numerators.
 use native.Mathlib.Omega.{arith}
-use native.Mathlib.Nat.{mul-zero}
+use native.Mathlib.Nat.{mul-zero, mul-one, zero-mul}
 use mathlib.Core.Path.{_≡_, refl, sym, ap, _∙_}
 use mathlib.Core.Bool.{Bool, true, false}
 use Prim.Native.Nat.{ℕ, zero, suc, _*_, _≤_, _<_}
@@ -61,3 +61,8 @@ module _ (c d : ℕ) where
   neither-below (negsuc x) b s t = clash (cc)
   neither-below (pos x) (negsuc y) s t = clash (cc)
   neither-below (pos x) (pos y) s t = refl
+
+-- a/c is below 0/1 where a is below 0
+pub below-zero : (c : ℕ) (a : ℤ) → ltZ (a *ℤ pos 1) (pos 0 *ℤ pos c) ≡ ltZ a (pos 0)
+below-zero c (pos x) = rw (mul-one x, zero-mul c) refl
+below-zero c (negsuc x) = rw (mul-one (suc x)) refl

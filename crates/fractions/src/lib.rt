@@ -123,7 +123,7 @@ pub fn sum(first: Fraction, other: Fraction) -> Fraction
 pub fn is_negative(f: Fraction) -> bool
     ensures { λ r. ⌜ r ≡ isNegative f ⌝ }
 {
-    f.num < ZERO.num
+    less(f, ZERO)
 }
 
 // A gap as it is, or 0 over 0 where it is below 0.

@@ -10,17 +10,19 @@ use Rattle.calls.specs.declared.WindowVerdict.{WindowVerdict}
 use Rattle.calls.specs.declared.Pushed.{Pushed}
 use Rattle.calls.specs.Window.{isRefused, widestOf, refusedArrival, foundWidest, held, withNewest, windowAfter}
 use Rattle.calls.specs.Window.{pushVerdict, AfterArrivals, FindsWidest}
+use Rattle.calls.specs.Zeros.{WindowZeros}
+use Rattle.calls.proofs.Zeros.{window-zeros}
 use Rattle.calls.proofs.Windows.{held-newest, after-arrivals}
 use Rattle.calls.proofs.WidestGap.{finds-widest}
 
 abbrev pub Promised : GapWindow → Fraction → Pushed → Type 0
 Promised w a r =
     (r .verdict ≡ pushVerdict w a)
-    × ((r .window ≡ windowAfter w a) × (AfterArrivals w a r × FindsWidest w a r))
+    × ((r .window ≡ windowAfter w a) × (AfterArrivals w a r × (FindsWidest w a r × WindowZeros (r .verdict))))
 
 promised : (w : GapWindow) (a : Fraction) (r : Pushed) → r .verdict ≡ pushVerdict w a → r .window ≡ windowAfter w a
     → Promised w a r
-promised w a r v s = (v, (s, (after-arrivals w a r v s, finds-widest w a r v)))
+promised w a r v s = (v, (s, (after-arrivals w a r v s, (finds-widest w a r v, rw v (window-zeros w a)))))
 
 abbrev pub pushedTo : GapWindow → WindowVerdict → Pushed
 pushedTo w v = record { window = w; verdict = v }

@@ -4,6 +4,7 @@ ghost use mathlib.Core.List.{[]};
 ghost use Prim.Native.Nat.{min, _+_, _≤_};
 ghost use Rattle.calls.specs.Window.{isRefused, widestOf, held, emptyWindow, withNewest, windowAfter};
 ghost use Rattle.calls.specs.Window.{pushVerdict, StandsFor, AfterArrivals, FindsWidest};
+ghost use Rattle.calls.specs.Zeros.{WindowZeros};
 use calls::AgedGap;
 use calls::Fraction;
 use calls::GapWindow;
@@ -95,6 +96,7 @@ pub fn push(window: GapWindow, arrival: Fraction) -> Pushed
     ensures state { λ r. ⌜ r .window ≡ windowAfter window arrival ⌝ }
     ensures arrivals { λ r. ⌜ AfterArrivals window arrival r ⌝ }
     ensures widest { λ r. ⌜ FindsWidest window arrival r ⌝ }
+    ensures zeros { λ r. ⌜ WindowZeros (r .verdict) ⌝ }
 {
     if is_refused(arrival) {
         return Pushed {

@@ -3,7 +3,7 @@ use mathlib.Core.Path.{_≡_, refl, sym, ap, _∙_}
 use mathlib.Core.Bool.{Bool, true, false, cond}
 use mathlib.Core.List.{List}
 use mathlib.Core.Logic.{⊎-elim}
-use Prim.Native.Nat.{ℕ, _+_, _*_, _≤_, _<_}
+use Prim.Native.Nat.{ℕ, _+_, _*_, _%_, _≤_, _<_}
 use native.Mathlib.Nat.{eq-or-lt-of-le}
 use native.Mathlib.Omega.{arith}
 use borrow.Author.Tests.{eqb-true, eqb-false, eq-eqb, ne-eqb, ltb-true, ltb-false}
@@ -19,6 +19,7 @@ use Rattle.key_set.specs.declared.Found.{Found}
 use Rattle.key_set.specs.declared.Found.the-variants.{At, Nowhere}
 use Rattle.joining_rule.proofs.Elements.{member-at}
 use Rattle.key_set.proofs.Keys.{inside, keys-apart}
+use Rattle.key_set.proofs.Index.{rest-sum}
 use Rattle.wide_sums.specs.Sums.{valueOf, valueAt, Room, addedAt}
 use Rattle.wide_sums.specs.declared.Halves.{Halves}
 use Rattle.wide_sums.proofs.Tables.{added-at, added-near, room-at, room-less, room-after, near-none, near-more, near-then}
@@ -63,6 +64,11 @@ grown-none {hi = hi} {lo = lo} e =
     }
 
 -- ---- one number added at the place of a key
+-- the place of a product in the index, from those of its factors
+pub slot-of-product : (d e a b k t r : ℕ) → e ≡ d → a ≡ k % d → b ≡ t % d → r ≡ (a + b) % e → r ≡ (k + t) % d
+slot-of-product d e a b k t r u v w x =
+    x ∙ ap (λ (n : ℕ). (a + b) % n) u ∙ ap (λ (n : ℕ). (n + b) % d) v ∙ ap (λ (n : ℕ). (k % d + n) % d) w ∙ rest-sum d k t
+
 matched : (x : ℤ) (k j : ℕ) → (k ≡ j → ⊥) → x *ℤ match k j ≡ pos 0
 matched x k j f = rw (ne-eqb j k (λ e. f (sym e)), *ℤ-zero)
 
@@ -77,12 +83,16 @@ module _ {keys : List ℕ} {n : ℕ} (support : Holds keys n) (key : ℕ) (r : F
       let b : p < n = omega (arith, g .0, long) in
       record { there = λ _. sym (getD-take n keys p 0 b) ∙ g .1; none = λ l. absurd (omega arith) }
 
-  pub sought-nowhere : r ≡ Nowhere → Sought keys n key n
-  sought-nowhere e =
+  pub found-inside : (p : ℕ) → r ≡ At p → p < n
+  found-inside p e = let g = rw e at f in omega (arith, g .0, long)
+
+  pub sought-nowhere : (steps : ℕ) → r ≡ Nowhere steps → Sought keys n key n
+  sought-nowhere steps e =
       record {
         there = λ l. absurd (omega arith);
         none = λ _ q b w.
-            let m : member key (take n keys) ≡ false = rw e at f in
+            let g = rw e at f in
+            let m : member key (take n keys) ≡ false = g .0 in
             let t = member-at key (take n keys) q (omega (arith, long)) (getD-take n keys q 0 b ∙ w) in
             clash (cc);
       }

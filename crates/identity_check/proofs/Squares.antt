@@ -24,6 +24,11 @@ use Rattle.identity_check.proofs.Walks.{squares-are}
 use Rattle.identity_check.proofs.Carries.{reached-start, reached-same, reached-of, reached-divided}
 use Rattle.identity_check.proofs.Untouched.{near-untouched, shrunk-untouched, untouched-then}
 
+-- all that is added before a sum is tested or divided fits a half of 64 bits: 257 products of the claim and nine tables of
+-- 2,080 entries, each times 32 terms, at most 5 × 2^41 each, and a carry
+pub room-for-all : (257 + 9 * 2080 * 32) * (5 * 2 ^ 41) + 2 ^ 36 < 2 ^ 63
+room-for-all = omega arith
+
 -- after a division there is room again
 pub divided-ready : {table idx : List ℕ} {n c found r : ℕ} {hi₀ lo₀ hi₁ lo₁ : List ℤ} → Ready table idx n hi₀ lo₀ c
     → DividedSums table n n found hi₀ lo₀ hi₁ lo₁ r → (d : ℕ) → d ≤ 2 ^ 62 + 2 ^ 61 → Ready table idx n hi₁ lo₁ d

@@ -5,7 +5,7 @@ use mathlib.Core.List.{List}
 use Prim.Native.Nat.{ℕ, _*_, _%_, _^_, _≤_, _<_}
 use lib.IntN.{ℤ, pos, natAbs, negℤ, _+ℤ_, _*ℤ_}
 use lib.ListN.{length, getD}
-use Rattle.key_set.specs.Table.{divisor, Holds, Indexed}
+use Rattle.key_set.specs.Table.{Holds, Indexed}
 use Rattle.wide_sums.specs.Sums.{valueAt, HasRoom, Near}
 use Rattle.wide_sums.specs.declared.Halves.{Halves}
 use Rattle.counting.specs.Counting.{Bounded}
@@ -47,10 +47,10 @@ pub record Scaled (x : Halves) (c : ℤ) : Type 0 where
   pub high : natAbs (x .high *ℤ c) ≤ unit
   pub low : natAbs (x .low *ℤ c) ≤ unit
 
--- the places of exponents in the index of keys
-pub record Slots (exponents slots : List ℕ) : Type 0 where
+-- the places of exponents in an index of keys whose divisor is d
+pub record Slots (d : ℕ) (exponents slots : List ℕ) : Type 0 where
   pub few : length exponents ≤ 32
-  pub each : (t : ℕ) → t < length exponents → getD slots t 0 ≡ getD exponents t 0 % divisor
+  pub each : (t : ℕ) → t < length exponents → getD slots t 0 ≡ getD exponents t 0 % d
 
 -- a polynomial in two arrays, with coefficients of 16 bits, to be added x times and moved by a key
 pub record Addable (exponents : List ℕ) (coefficients : List ℤ) (key : ℕ) (x : ℤ) : Type 0 where

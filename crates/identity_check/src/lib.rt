@@ -17,7 +17,7 @@ ghost use lib.ListN.{length, getD};
 ghost use Rattle.polynomial.specs.Algebra.{sum, match, coefficient};
 ghost use Rattle.format.specs.ProblemLimits.{mostBases};
 ghost use Rattle.accepting.specs.Identity.{squares, claimOf};
-ghost use Rattle.key_set.specs.Table.{divisor, Holds};
+ghost use Rattle.key_set.specs.Table.{divisorIn, Holds, Divided};
 ghost use Rattle.key_set.specs.Table as Support;
 ghost use Rattle.wide_sums.specs.Sums.{step, valueOf, HasRoom};
 ghost use Rattle.flat.specs.TermArrays.{termsIn};
@@ -34,19 +34,6 @@ ghost use Rattle.identity_check.specs.Walk.{Alone, Summed};
 ghost use Rattle.identity_check.specs.Compare.{Zeroed, Smaller, Smallest, Nonzero, DividedSums};
 ghost use Rattle.identity_check.specs.Compare.{Carried, Answered};
 
-// The place of a key among the first n; n where it has none. `at` is its place in the index.
-fn place_of(table: &[u64], n: usize, index: &[u16; 6144], key: u64, at: usize) -> usize
-    requires { ⌜
-        (Holds (now table) n × Support.Indexed (now index) (now table) n) × (at ≡ key % divisor)
-        ⌝ }
-    ensures { λ r. ⌜ Sought (now (table .entry)) n key r ⌝ }
-{
-    match key_set::find_at(table, index, n, key, at) {
-        key_set::Found::At(p) => p,
-        key_set::Found::Nowhere => n,
-    }
-}
-
 // Adds c times a number, in its halves, at the place of a key, where it has one.
 fn add_term(
     table: &[u64],
@@ -59,26 +46,30 @@ fn add_term(
     x: wide_sums::Halves,
     c: i32,
 )
-    requires { ⌜ Ready (now table) (now index) n (now hi) (now lo) unit × Scaled x c × (at ≡ key % divisor) ⌝ }
+    requires { ⌜
+        Ready (now table) (now index) n (now hi) (now lo) unit
+        × Scaled x c
+        × (at ≡ key % divisorIn (now index))
+        ⌝ }
     ensures { λ _. ⌜
         SumsGrown (now (table .entry)) n (now (hi .entry)) (now (lo .entry))
         (λ k. valueOf (x .high) (x .low) *ℤ c *ℤ match k key) unit (now (hi .exit)) (now (lo .exit))
         ⌝ }
 {
-    let p = place_of(table, n, index, key, at);
-    if p < n {
-        wide_sums::add(hi, lo, p, x, c as i64);
+    match key_set::find_at(table, index, n, key, at) {
+        key_set::Found::At(p) => wide_sums::add(hi, lo, p, x, c as i64),
+        key_set::Found::Nowhere(_) => {}
     }
 }
 
 // The places of exponents in the index of keys. With them the place of a sum is found without a division.
-fn note_slots(slots: &mut [usize; 32], exponents: &[u64])
-    requires { ⌜ (length (now exponents) ≤ 32) × (length (now slots) ≡ 32) ⌝ }
-    ensures { λ _. ⌜ Slots (now (exponents .entry)) (now (slots .exit)) ⌝ }
+fn note_slots(slots: &mut [usize; 32], exponents: &[u64], index: &[u16; 6144])
+    requires { ⌜ (length (now exponents) ≤ 32) × (length (now slots) ≡ 32) × Divided (now index) ⌝ }
+    ensures { λ _. ⌜ Slots (divisorIn (now (index .entry))) (now (exponents .entry)) (now (slots .exit)) ⌝ }
 {
     let mut t = 0;
     while t < exponents.len() {
-        slots[t] = key_set::slot(exponents[t]);
+        slots[t] = key_set::slot(index, exponents[t]);
         t += 1;
     }
 }
@@ -97,7 +88,10 @@ fn add_terms(
     x: i64,
 )
     requires { ⌜ Ready (now table) (now index) n (now hi) (now lo) (length (now exponents) * unit) ⌝ }
-    requires { ⌜ Addable (now exponents) (now coefficients) key x × Slots (now exponents) (now slots) ⌝ }
+    requires { ⌜
+        Addable (now exponents) (now coefficients) key x
+        × Slots (divisorIn (now index)) (now exponents) (now slots)
+        ⌝ }
     ensures { λ _. ⌜
         SumsGrown (now (table .entry)) n (now (hi .entry)) (now (lo .entry))
         (λ k. x *ℤ sum (λ t. match k (key + t))
@@ -106,7 +100,8 @@ fn add_terms(
         ⌝ }
 {
     let h = wide_sums::cut(x);
-    let slot = key_set::slot(key);
+    let d = key_set::divisor(index);
+    let slot = key_set::slot(index, key);
     let mut t = 0;
     while t < exponents.len() {
         add_term(
@@ -116,7 +111,7 @@ fn add_terms(
             hi,
             lo,
             key + exponents[t],
-            key_set::slot_of_sum(slot, slots[t]),
+            key_set::slot_of_sum(d, slot, slots[t]),
             h,
             coefficients[t],
         );
@@ -140,7 +135,7 @@ fn add_number(
         (now (hi .exit)) (now (lo .exit))
         ⌝ }
 {
-    let at = key_set::slot(key);
+    let at = key_set::slot(index, key);
     add_term(table, n, index, hi, lo, key, at, wide_sums::cut(y), 1);
 }
 
@@ -246,7 +241,10 @@ fn add_entry(
     x: usize,
     a: i64,
 )
-    requires { ⌜ Ready (now table) (now index) n (now hi) (now lo) entryUnit × Slots (now exponents) (now slots) ⌝ }
+    requires { ⌜
+        Ready (now table) (now index) n (now hi) (now lo) entryUnit
+        × Slots (divisorIn (now index)) (now exponents) (now slots)
+        ⌝ }
     requires { ⌜ Spreadable (now basis) (now exponents) (now coefficients) × Entered foldedMost (now basis) x a ⌝ }
     ensures { λ _. ⌜
         SumsGrown (now (table .entry)) n (now (hi .entry)) (now (lo .entry))
@@ -300,7 +298,7 @@ fn spread(
         ⌝ }
 {
     let mut slots = [0usize; 32];
-    note_slots(&mut slots, exponents);
+    note_slots(&mut slots, exponents, index);
     let size = basis.len();
     let last = 64 * size;
     let mut x = 0;

@@ -101,8 +101,11 @@ module _ (k n : ℕ) (t : List ℕ) (r : Found) (f : Finds k (take n t) r) where
   pub found-at : (p : ℕ) → r ≡ At p → true ≡ member k (keysIn n t)
   found-at p e = let g = rw e at f in sym (keys-member n t k ∙ member-at k (take n t) p (g .0) (g .1))
 
-  pub found-nowhere : r ≡ Nowhere → false ≡ member k (keysIn n t)
-  found-nowhere e = sym (keys-member n t k ∙ (rw e at f))
+  pub found-nowhere : (steps : ℕ) → r ≡ Nowhere steps → false ≡ member k (keysIn n t)
+  found-nowhere steps e = let g = rw e at f in sym (keys-member n t k ∙ g .0)
+
+  pub found-few : Holds t n → (steps : ℕ) → r ≡ Nowhere steps → steps ≤ 2048
+  found-few h steps e = let g = rw e at f in omega (arith, g .1, h .few, length-take-le n t (inside h))
 
 -- ---- and what it tells of the first keys: a key has one place
 module _ {t : List ℕ} {n : ℕ} (h : Holds t n) (m : ℕ) (b : m ≤ n) (k : ℕ) where
@@ -125,10 +128,10 @@ module _ {t : List ℕ} {n : ℕ} (h : Holds t n) (m : ℕ) (b : m ≤ n) (k : �
       (λ u. le-ltb p m u ∙ not-first (λ q c g. keys-apart h q p (omega arith) (omega (arith, f .0)) (g ∙ sym e)))
       (lt-or-le p m)
 
-  pub before-nowhere : Finds k (take n t) Nowhere → false ≡ member k (keysIn m t)
-  before-nowhere f =
+  pub before-nowhere : (steps : ℕ) → Finds k (take n t) (Nowhere steps) → false ≡ member k (keysIn m t)
+  before-nowhere steps f =
       let l = length-take-le n t (inside h) in
-      not-first (λ q c g. let w = member-at k (take n t) q (omega arith) (getD-take n t q 0 (omega arith) ∙ g) in clash (cc))
+      not-first (λ q c g. let w = member-at k (take n t) q (omega arith) (getD-take n t q 0 (omega arith) ∙ g) in let z = f .0 in clash (cc))
 
 -- ---- a key put in
 module _ {t : List ℕ} {n : ℕ} (h : Holds t n) where

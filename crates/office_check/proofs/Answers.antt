@@ -6,15 +6,20 @@ use Prim.Native.Nat.{ℕ, _*_, _≤_, _<_}
 use native.Mathlib.Omega.{arith}
 use lib.ListN.{length, take, drop}
 use borrow.Author.Tests.{eq-eqb, ne-eqb}
-use Rattle.format.specs.Notes.{noteText, noteOffsets, bodyEnd, outside, withoutNotes, noteTexts, RemovesNotes, NotesInOrder}
-use Rattle.format.proofs.Notes.{end-inside, removes-notes, notes-in-order}
+use Rattle.format.specs.Notes.{noteText, noteOffsets, bodyEnd, outside, withoutNotes, noteTexts}
+use Rattle.format.proofs.Notes.{end-inside, removes-notes}
 use Rattle.calls.specs.declared.CheckVerdict.{CheckVerdict}
 use Rattle.calls.specs.declared.OfficeVerdict.{OfficeVerdict}
 use Rattle.calls.specs.Check.{checkVerdict}
-use Rattle.calls.specs.Promises.{HoldsBySide}
+use Rattle.calls.specs.Promises.{HoldsBySide, CheckDiffers, SevenExactly, RoundsTaken, FewRounds, RuleUsed}
+use Rattle.calls.specs.Zeros.{OfficeZeros}
+use Rattle.calls.specs.Rules.{UnderOne, AtLarger}
 use Rattle.calls.specs.Superseding.{isAccepted}
 use Rattle.calls.specs.Office.{verdictSent, noteCount, refusedNotes, officeOf, officeVerdict, bufferLeft}
 use Rattle.calls.specs.Office.{OfficeNumbered, StrictBeside, SameForOthers, CutNote, ThirteenExactly, Untouched}
+use Rattle.calls.specs.Office.{NotesPassed, PlacesSent, NotesCopied, OfficeExactly, OfficeSplits, OfficeKept}
+use Rattle.calls.specs.RowOrder.{OfficeAnyOrder}
+use Rattle.calls.proofs.OfficeClauses.{office-further}
 use Rattle.calls.proofs.Office.{sent-within, sent-number, office-refused, office-short, office-accepted, office-none, office-clauses, buffer-none, untouched}
 use Rattle.office_check.specs.Steps.{Sendable, bufferTold}
 
@@ -91,12 +96,28 @@ module _ (short : Bool) (s t buffer : List ℕ) where
   -- the clauses from the equations
   pub clauses : (r : OfficeVerdict) (left : List ℕ) → r ≡ verdict → left ≡ bufferLeft short s t buffer
       → Untouched r buffer left
-      × (RemovesNotes t
-      × (NotesInOrder t
       × (OfficeNumbered (r .check .refusal .number)
       × (StrictBeside short s t r
       × (SameForOthers short s t (length buffer) r
       × (HoldsBySide s (r .check)
-      × (CutNote short s t (r .check .refusal) × ThirteenExactly short s t (length buffer) (r .check .refusal))))))))
+      × (CutNote short s t (r .check .refusal)
+      × (ThirteenExactly short s t (length buffer) (r .check .refusal)
+      × (NotesPassed short s t buffer r left
+      × (PlacesSent short s t (r .check .refusal)
+      × (NotesCopied t r left
+      × (OfficeExactly short s t (length buffer) r
+      × (OfficeSplits short s t (r .check .refusal)
+      × (CheckDiffers short s (withoutNotes t) (r .check .refusal)
+      × (SevenExactly short s (r .check .refusal)
+      × (RoundsTaken s (r .check .refusal .number) (r .check .rounds)
+      × (FewRounds s (r .check .refusal .number) (r .check .rounds)
+      × (RuleUsed s (r .check .refusal .number) (r .check .rule)
+      × (OfficeZeros r
+      × (OfficeKept UnderOne short s t (length buffer) r
+      × (OfficeKept AtLarger short s t (length buffer) r × OfficeAnyOrder short s t (length buffer) r)))))))))))))))))))
   clauses r left e h =
-      (rw (e, h) (untouched short s t buffer), (removes-notes t, (notes-in-order t, office-clauses short s t (length buffer) r e)))
+      let c = office-clauses short s t (length buffer) r e in
+      let f = office-further short s t buffer r left e h in (
+        rw (e, h) (untouched short s t buffer),
+        (c .0, (c .1 .0, (c .1 .1 .0, (c .1 .1 .1 .0, (c .1 .1 .1 .1 .0, (c .1 .1 .1 .1 .1, f)))))),
+      )

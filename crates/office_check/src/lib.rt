@@ -7,13 +7,17 @@ ghost use Prim.Native.Nat.{ℕ, _*_, _≤_};
 ghost use lib.ListN.{length, take, drop};
 ghost use lib.Seq.{slice};
 ghost use Rattle.format.specs.Notes.{noteText, officeSize, walkStart, stepAt, noteOffsets, walkEnd, bodyEnd};
-ghost use Rattle.format.specs.Notes.{withoutNotes, placeSent, noteTexts, RemovesNotes, NotesInOrder};
+ghost use Rattle.format.specs.Notes.{withoutNotes, placeSent, noteTexts};
 ghost use Rattle.format.proofs.Walk.{Walking};
 ghost use Rattle.calls.specs.Tables.{tables, tablesShort, TablesLeft};
 ghost use Rattle.calls.specs.Check.{checkVerdict};
-ghost use Rattle.calls.specs.Promises.{HoldsBySide};
+ghost use Rattle.calls.specs.Promises.{HoldsBySide, CheckDiffers, SevenExactly, RoundsTaken, FewRounds, RuleUsed};
+ghost use Rattle.calls.specs.Zeros.{OfficeZeros};
+ghost use Rattle.calls.specs.Rules.{UnderOne, AtLarger};
 ghost use Rattle.calls.specs.Office.{verdictSent, noteCount, refusedNotes, officeOf, officeVerdict, bufferLeft};
 ghost use Rattle.calls.specs.Office.{OfficeNumbered, StrictBeside, SameForOthers, CutNote, ThirteenExactly, Untouched};
+ghost use Rattle.calls.specs.Office.{NotesPassed, PlacesSent, NotesCopied, OfficeExactly, OfficeSplits, OfficeKept};
+ghost use Rattle.calls.specs.RowOrder.{OfficeAnyOrder};
 ghost use Rattle.office_check.specs.Steps.{noteHere, Reached, Least, Filled, Sendable, bufferTold};
 use calls::CheckVerdict;
 use calls::Fraction;
@@ -315,8 +319,6 @@ pub fn office(
         let left = tables (now (keys .exit)) (now (high .exit)) (now (low .exit)) in
         ⌜ TablesLeft (tablesShort lent) lent left ⌝ }
     ensures untouched { λ r. ⌜ Untouched r (now (buffer .entry)) (now (buffer .exit)) ⌝ }
-    ensures removes { λ _. ⌜ RemovesNotes (now (certificate .entry)) ⌝ }
-    ensures notes { λ _. ⌜ NotesInOrder (now (certificate .entry)) ⌝ }
     ensures numbered { λ r. ⌜ OfficeNumbered (r .check .refusal .number) ⌝ }
     ensures strict { λ r.
         let lent = tables (now (keys .entry)) (now (high .entry)) (now (low .entry)) in
@@ -334,6 +336,48 @@ pub fn office(
         let t = now (certificate .entry) in
         let room = length (now (buffer .entry)) in
         ⌜ ThirteenExactly (tablesShort lent) (now (problem .entry)) t room (r .check .refusal) ⌝ }
+    ensures passed { λ r.
+        let lent = tables (now (keys .entry)) (now (high .entry)) (now (low .entry)) in
+        let t = now (certificate .entry) in
+        let before = now (buffer .entry) in
+        ⌜ NotesPassed (tablesShort lent) (now (problem .entry)) t before r (now (buffer .exit)) ⌝ }
+    ensures places { λ r.
+        let lent = tables (now (keys .entry)) (now (high .entry)) (now (low .entry)) in
+        ⌜ PlacesSent (tablesShort lent) (now (problem .entry)) (now (certificate .entry)) (r .check .refusal) ⌝ }
+    ensures copied { λ r. ⌜ NotesCopied (now (certificate .entry)) r (now (buffer .exit)) ⌝ }
+    ensures accepted { λ r.
+        let lent = tables (now (keys .entry)) (now (high .entry)) (now (low .entry)) in
+        let t = now (certificate .entry) in
+        ⌜ OfficeExactly (tablesShort lent) (now (problem .entry)) t (length (now (buffer .entry))) r ⌝ }
+    ensures eight { λ r.
+        let lent = tables (now (keys .entry)) (now (high .entry)) (now (low .entry)) in
+        ⌜ OfficeSplits (tablesShort lent) (now (problem .entry)) (now (certificate .entry)) (r .check .refusal) ⌝ }
+    ensures differs { λ r.
+        let lent = tables (now (keys .entry)) (now (high .entry)) (now (low .entry)) in
+        let t = now (certificate .entry) in
+        ⌜ CheckDiffers (tablesShort lent) (now (problem .entry)) (withoutNotes t) (r .check .refusal) ⌝ }
+    ensures seven { λ r.
+        let lent = tables (now (keys .entry)) (now (high .entry)) (now (low .entry)) in
+        ⌜ SevenExactly (tablesShort lent) (now (problem .entry)) (r .check .refusal) ⌝ }
+    ensures rounds { λ r. ⌜ RoundsTaken (now (problem .entry)) (r .check .refusal .number) (r .check .rounds) ⌝ }
+    ensures few_rounds { λ r. ⌜ FewRounds (now (problem .entry)) (r .check .refusal .number) (r .check .rounds) ⌝ }
+    ensures rule { λ r. ⌜ RuleUsed (now (problem .entry)) (r .check .refusal .number) (r .check .rule) ⌝ }
+    ensures zeros { λ r. ⌜ OfficeZeros r ⌝ }
+    ensures under_one { λ r.
+        let lent = tables (now (keys .entry)) (now (high .entry)) (now (low .entry)) in
+        let t = now (certificate .entry) in
+        let room = length (now (buffer .entry)) in
+        ⌜ OfficeKept UnderOne (tablesShort lent) (now (problem .entry)) t room r ⌝ }
+    ensures at_larger { λ r.
+        let lent = tables (now (keys .entry)) (now (high .entry)) (now (low .entry)) in
+        let t = now (certificate .entry) in
+        let room = length (now (buffer .entry)) in
+        ⌜ OfficeKept AtLarger (tablesShort lent) (now (problem .entry)) t room r ⌝ }
+    ensures rows { λ r.
+        let lent = tables (now (keys .entry)) (now (high .entry)) (now (low .entry)) in
+        let t = now (certificate .entry) in
+        let room = length (now (buffer .entry)) in
+        ⌜ OfficeAnyOrder (tablesShort lent) (now (problem .entry)) t room r ⌝ }
 {
     let w = walk(certificate);
     let notes = w.notes;

@@ -1,25 +1,24 @@
 -- What is at least 0 in an ordered ring: sums, squares and whole numbers; a positive whole factor may be taken away; and
--- a ≤ b exactly where b − a is at least 0.
+-- a ≤ b exactly where b − a is at least 0. That a total order has squares and factors so is in Total.antt.
 use mathlib.Core.Path.{_≡_, sym, ap, _∙_}
-use mathlib.Core.Logic.{_⊎_, ⊎-elim, inl, inr}
 use Prim.Native.Nat.{ℕ, zero, suc, _≤_ as _≤ℕ_}
 use native.Mathlib.Numerals.{add-one}
 use native.Mathlib.Omega.{arith}
 use lib.IntN.{ℤ, pos, negsuc}
 use lib.Signed.{_≤ℤ_}
-use Rattle.ordered_rings.specs.Rings.{Ring, Order}
-use Rattle.ordered_rings.proofs.Laws.{zero-+, minus-minus, minus-*, *-minus, sorted}
+use Rattle.ordered_rings.specs.Rings.{Ring, Order, multiple}
+use Rattle.ordered_rings.proofs.Laws.{zero-+}
 use Rattle.ordered_rings.proofs.Numbers.{Numbers, whole-zero}
 
 module _ {A : Type 0} (R : Ring A) (O : Order R) where
   open Ring R using (𝟘, 𝟙, _+_, -_, _*_, +-assoc, +-comm, +-zero, +-minus, *-one)
-  open Order O using (_≤_, ≤-trans, ≤-total, ≤-+, ≤-*)
+  open Order O using (_≤_, ≤-refl, ≤-trans, ≤-+, ≤-square)
 
   abbrev pub Nonneg : A → Type 0
   Nonneg a = 𝟘 ≤ a
 
   pub nonneg-zero : Nonneg 𝟘
-  nonneg-zero = ⊎-elim (λ h. h) (λ h. h) (≤-total 𝟘 𝟘)
+  nonneg-zero = ≤-refl 𝟘
 
   pub nonneg-+ : {a b : A} → Nonneg a → Nonneg b → Nonneg (a + b)
   nonneg-+ {a} {b} h k = ≤-trans 𝟘 b (a + b) k (rw (zero-+ R b) at (≤-+ 𝟘 a b h))
@@ -31,13 +30,9 @@ module _ {A : Type 0} (R : Ring A) (O : Order R) where
   pub minus-of-≤ : (a b : A) → a ≤ b → Nonneg (b + - a)
   minus-of-≤ a b h = rw +-minus at (≤-+ a b (- a) h)
 
-  -- ---- squares: a number or its negative is at least 0, and both have the same square
-  either : (a : A) → Nonneg a ⊎ Nonneg (- a)
-  either a = ⊎-elim inl (λ h. inr (rw (zero-+ R (- a)) at (minus-of-≤ a 𝟘 h))) (≤-total 𝟘 a)
-
+  -- ---- squares
   pub nonneg-square : (a : A) → Nonneg (a * a)
-  nonneg-square a =
-      ⊎-elim (λ h. ≤-* a a h h) (λ h. rw (minus-* R, *-minus R, minus-minus R) at (≤-* (- a) (- a) h h)) (either a)
+  nonneg-square = ≤-square
 
   pub nonneg-one : Nonneg 𝟙
   nonneg-one = rw *-one at (nonneg-square 𝟙)
@@ -45,7 +40,7 @@ module _ {A : Type 0} (R : Ring A) (O : Order R) where
 -- ---- whole numbers
 module _ {A : Type 0} (N : Numbers A) (O : Order (N .ring)) where
   open Numbers N using (ring, whole, whole-one, whole-+)
-  open Ring ring using (𝟙, _+_, -_, _*_, +-zero, +-minus, *-one)
+  open Ring ring using (𝟙, _+_, _*_)
 
   whole-suc : (n : ℕ) → whole (pos (suc n)) ≡ whole (pos n) + 𝟙
   whole-suc n =
@@ -59,12 +54,12 @@ module _ {A : Type 0} (N : Numbers A) (O : Order (N .ring)) where
   nonneg-whole (pos n) h = nonneg-multiple n
   nonneg-whole (negsuc n) h = absurd (h .le)
 
-  -- a positive factor is taken away: where a is not at least 0, − a is, and a = (n + 1) × a + n × − a
+  whole-multiple : (n : ℕ) → whole (pos n) ≡ multiple ring n
+  unfolding multiple
+  whole-multiple zero = whole-zero N
+  whole-multiple (suc n) = whole-suc n ∙ ap (λ x. x + 𝟙) (whole-multiple n)
+
+  -- a positive factor is taken away
   pub nonneg-cancel : (n : ℕ) (a : A) → 1 ≤ℕ n → Nonneg ring O (whole (pos n) * a) → Nonneg ring O a
   nonneg-cancel zero a e h = absurd (omega arith)
-  nonneg-cancel (suc n) a e h =
-      ⊎-elim (λ k. k) (λ k. rw same at (nonneg-+ ring O h (O .≤-* (whole (pos n)) (- a) (nonneg-multiple n) k)))
-      (either ring O a)
-    where
-      same : whole (pos (suc n)) * a + whole (pos n) * - a ≡ a
-      same = rw (whole-suc n) (simp (sorted, ring, +-minus, +-zero, *-one))
+  nonneg-cancel (suc n) a e h = O .≤-cancel n a (rw (whole-multiple (suc n)) at h)

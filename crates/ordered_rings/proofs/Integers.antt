@@ -8,8 +8,9 @@ use native.Mathlib.Omega.{arith}
 use lib.IntN.{ℤ, pos, negsuc, negℤ, _+ℤ_, _*ℤ_, pow, one, +ℤ-assoc, +ℤ-comm, +ℤ-idr, +ℤ-invr, *ℤ-comm, *ℤ-one}
 use lib.Signed.{_≤ℤ_}
 use Rattle.integers.proofs.Ring.{view, diffs, ⊖-le, ⊖-le⁻¹, *ℤ-assoc, *ℤ-+ℤ, nonneg-*}
-use Rattle.ordered_rings.specs.Rings.{Ring, Order, OrderedRing, multiple, whole, power}
+use Rattle.ordered_rings.specs.Rings.{Ring, Order, TotalOrder, OrderedRing, multiple, whole, power}
 use Rattle.ordered_rings.proofs.Numbers.{Numbers}
+use Rattle.ordered_rings.proofs.Total.{total}
 
 pub times-one : (a : ℤ) → a *ℤ pos 1 ≡ a
 unfolding one
@@ -51,14 +52,17 @@ le-sum a b c h =
     let x = ⊖-le⁻¹ _ _ _ _ (rw (view a .eq, view b .eq) at h) in
     rw (view a .eq, view b .eq, view c .eq) (simp diffs (⊖-le _ _ _ _ (omega arith)))
 
-abbrev pub integerOrder : Order integerRing
-integerOrder = record {
+abbrev pub integerTotal : TotalOrder integerRing
+integerTotal = record {
   _≤_ = _≤ℤ_;
   ≤-trans = le-trans;
   ≤-total = le-total;
   ≤-+ = le-sum;
   ≤-* = λ a b. nonneg-* {a = a} {b = b};
 }
+
+abbrev pub integerOrder : Order integerRing
+integerOrder = total integerRing integerTotal
 
 abbrev pub integers : OrderedRing ℤ
 integers = record { ring = integerRing; order = integerOrder }

@@ -27,8 +27,27 @@ pub record Ring (A : Type 0) : Type 0 where
 module _ {A : Type 0} (R : Ring A) where
   open Ring R using (𝟘, 𝟙, _+_, -_, _*_)
 
-  -- a total order that sums and products keep. That a ≤ b and b ≤ a make a and b equal is not needed
+  -- multiples of 1
+  unfoldable pub multiple : ℕ → A
+  multiple zero = 𝟘
+  multiple (suc n) = multiple n + 𝟙
+
+  -- what the bounds ask of an order: sums and products keep it, squares are at least 0, and a whole factor from 1 on may
+  -- be taken away. It need not be total, nor make a and b equal where a ≤ b and b ≤ a; so functions of time, ordered by
+  -- their values, are covered too
   pub record Order : Type 1 where
+    infix 50 _≤_
+    pub _≤_ : A → A → Type 0
+    pub ≤-refl : (a : A) → a ≤ a
+    pub ≤-trans : (a b c : A) → a ≤ b → b ≤ c → a ≤ c
+    pub ≤-+ : (a b c : A) → a ≤ b → a + c ≤ b + c
+    pub ≤-* : (a b : A) → 𝟘 ≤ a → 𝟘 ≤ b → 𝟘 ≤ a * b
+    pub ≤-square : (a : A) → 𝟘 ≤ a * a
+    pub ≤-cancel : (n : ℕ) (a : A) → 𝟘 ≤ multiple (suc n) * a → 𝟘 ≤ a
+
+  -- a total order that sums and products keep, as that of the rational and of the real numbers: it is such an order
+  -- (proofs/Total.antt)
+  pub record TotalOrder : Type 1 where
     infix 50 _≤_
     pub _≤_ : A → A → Type 0
     pub ≤-trans : (a b c : A) → a ≤ b → b ≤ c → a ≤ c
@@ -37,10 +56,6 @@ module _ {A : Type 0} (R : Ring A) where
     pub ≤-* : (a b : A) → 𝟘 ≤ a → 𝟘 ≤ b → 𝟘 ≤ a * b
 
   -- the whole numbers in the ring: multiples of 1, and their negatives
-  unfoldable pub multiple : ℕ → A
-  multiple zero = 𝟘
-  multiple (suc n) = multiple n + 𝟙
-
   unfoldable pub whole : ℤ → A
   whole (pos n) = multiple n
   whole (negsuc n) = - multiple (suc n)

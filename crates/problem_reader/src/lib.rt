@@ -90,14 +90,15 @@ pub fn is_within(n: usize, key: u64) -> bool
 pub fn is_among(keys: &[u64], key: u64) -> bool
     ensures { λ r. ⌜ r ≡ among key (now (keys .entry)) ⌝ }
 {
+    let mut found = false;
     let mut i = 0;
     while i < keys.len() {
         if keys[i] == key {
-            return true;
+            found = true;
         }
         i += 1;
     }
-    false
+    found
 }
 
 // What a stream gives: number is 0 where the problem is read, else the refusal's.

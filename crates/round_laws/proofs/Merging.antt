@@ -6,17 +6,18 @@ use mathlib.Core.List.{List, [], _∷_}
 use Prim.Native.Nat.{ℕ, _+_, _≤_, _<_}
 use native.Mathlib.Omega.{arith}
 use lib.ListN.{length, getD, set, length-set}
-use lib.Seq.{length-take-le, getD-set-same, getD-set-other, getD-take, getD-drop, take-set-lt, take-set-le, drop-set-lt, drop-set-add, ext-getD}
+use lib.Seq.{getD-set-same, getD-set-other, ext-getD}
 use Rattle.counting.proofs.Listed.{same-or-not}
+use Rattle.counting.proofs.Cases.{lt-or-le}
 use Rattle.joining_rule.specs.Sets.{In}
 use Rattle.joining_rule.specs.Join.{merged}
 use Rattle.joining_rule.specs.Extend.{addTerms}
 use Rattle.joining_rule.proofs.Elements.{not-nil, in-cons, in-here, in-there}
 use Rattle.joining_rule.proofs.Labels.{merged-long, merged-at, two-low, other-same}
 use Rattle.round_laws.specs.Added.{Crossed, addList, addLists}
-use Rattle.round_laws.specs.Lists.{listFrom, Ends, BlockList, Lists, lastOf, relabel, spliced, labelsOf, followOf, TwoBlocks}
+use Rattle.round_laws.specs.Lists.{listFrom, Ends, BlockList, Lists, lastOf, relabel, spliced, TwoBlocks}
 use Rattle.round_laws.proofs.Crossing.{lists-crossed}
-use Rattle.round_laws.proofs.Walks.{list-none, list-next, next-ends}
+use Rattle.round_laws.proofs.Walks.{list-none, list-next, next-ends, list-less}
 use Rattle.round_laws.proofs.Lists.{lists-splice}
 
 -- ---- a block number given to the indices of a list
@@ -73,77 +74,58 @@ relabel-merged follow L a b below s =
     (same-or-not (getD L x 0) b)))
 
 -- ---- the loop through the block b: it stands at k, after the index `last`
-pub record Merging (n a b : ℕ) (bytes₀ bytes : List ℕ) (last k : ℕ) : Type 0 where
-  pub long : length bytes ≡ 128
-  pub follow : followOf bytes ≡ followOf bytes₀
-  pub ends : Ends (followOf bytes₀) k
-  pub low : (x : ℕ) → In x (listFrom (followOf bytes₀) k) → x < n
-  pub kept : last < n
-  pub last-is : lastOf last (listFrom (followOf bytes₀) k) ≡ lastOf b (listFrom (followOf bytes₀) b)
-  pub labels : relabel a (listFrom (followOf bytes₀) k) (labelsOf n bytes) ≡ merged a b (labelsOf n bytes₀)
+pub record Merging (a b : ℕ) (L₀ follow L : List ℕ) (last k : ℕ) : Type 0 where
+  pub long : length L ≡ length L₀
+  pub ends : Ends follow k
+  pub low : (x : ℕ) → In x (listFrom follow k) → x < length L₀
+  pub kept : last < length L₀
+  pub last-is : lastOf last (listFrom follow k) ≡ lastOf b (listFrom follow b)
+  pub labels : relabel a (listFrom follow k) L ≡ merged a b L₀
 
-module _ (n a b : ℕ) (bytes₀ : List ℕ) (t : TwoBlocks n a b bytes₀) where
-  size : length (labelsOf n bytes₀) ≡ n
-  size = length-take-le n bytes₀ (omega (arith, t .long, t .few))
+module _ (a b : ℕ) (L₀ follow : List ℕ) (t : TwoBlocks a b L₀ follow) where
+  pub merging-start : Merging a b L₀ follow L₀ b b
+  merging-start =
+      let block-b = t .lists .at b (t .inside) (t .other) in
+      record {
+        long = refl;
+        ends = block-b .ends;
+        low = λ x m. block-b .inside x m .0;
+        kept = t .inside;
+        last-is = refl;
+        labels = relabel-merged follow L₀ a b (t .below) block-b;
+      }
 
-  at-a : getD (labelsOf n bytes₀) a 0 ≡ a
-  at-a = getD-take n bytes₀ a 0 (omega (arith, t .below, t .inside)) ∙ t .own
-
-  at-b : getD (labelsOf n bytes₀) b 0 ≡ b
-  at-b = getD-take n bytes₀ b 0 (t .inside) ∙ t .other
-
-  block-b : BlockList (followOf bytes₀) (labelsOf n bytes₀) b
-  block-b = t .lists .at b (omega (arith, size, t .inside)) at-b
-
-  pub merging-start : Merging n a b bytes₀ bytes₀ b b
-  merging-start = record {
-    long = t .long;
-    follow = refl;
-    ends = block-b .ends;
-    low = λ x m. omega (arith, size, block-b .inside x m .0);
-    kept = t .inside;
-    last-is = refl;
-    labels = relabel-merged (followOf bytes₀) (labelsOf n bytes₀) a b (t .below) block-b;
-  }
-
-  module _ (bytes : List ℕ) (last k : ℕ) (m : Merging n a b bytes₀ bytes last k) where
-    pub merging-step : k < 64 → Merging n a b bytes₀ (set bytes k a) k (getD (set bytes k a) (64 + k) 0)
+  module _ (L : List ℕ) (last k : ℕ) (m : Merging a b L₀ follow L last k) where
+    pub merging-step : k < 64 → Merging a b L₀ follow (set L k a) k (getD follow k 0)
     merging-step h =
-        let l = list-next (followOf bytes₀) k (m .ends) h in
-        let i : k < n = m .low k (rw l (in-here k k _ refl)) in
-        let q : getD (set bytes k a) (64 + k) 0 ≡ getD (followOf bytes₀) k 0 =
-        getD-set-other bytes k (64 + k) a 0 (λ e. omega arith) ∙ sym (getD-drop 64 bytes k 0) ∙ ap (λ (f : List ℕ). getD f k 0) (m .follow) in
-        rw q
+        let l = list-next follow k (m .ends) h in
         record {
-          long = length-set bytes k a ∙ m .long;
-          follow = drop-set-lt 64 bytes k a h ∙ m .follow;
-          ends = next-ends (followOf bytes₀) k (m .ends) h;
+          long = length-set L k a ∙ m .long;
+          ends = next-ends follow k (m .ends) h;
           low = λ x w. m .low x (rw l (in-there x k _ w));
-          kept = i;
+          kept = m .low k (rw l (in-here k k _ refl));
           last-is = rw l at (m .last-is);
-          labels = rw (take-set-lt n bytes k a i) (relabel-turn a _ _ k (labelsOf n bytes) l ∙ m .labels);
+          labels = relabel-turn a _ _ k L l ∙ m .labels;
         }
 
-    abbrev after : List ℕ
-    after = set (set bytes (64 + last) (getD bytes (64 + a) 0)) (64 + a) b
+    pub merging-less : k < 64 → length (listFrom follow (getD follow k 0)) < length (listFrom follow k)
+    merging-less h = list-less follow k (m .ends) h
 
-    pub merging-labels : 64 ≤ k → labelsOf n after ≡ merged a b (labelsOf n bytes₀)
-    merging-labels h =
-        take-set-le n (set bytes (64 + last) (getD bytes (64 + a) 0)) (64 + a) b (omega (arith, t .few))
-        ∙ take-set-le n bytes (64 + last) (getD bytes (64 + a) 0) (omega (arith, t .few))
-        ∙ relabel-none a _ (labelsOf n bytes) (list-none (followOf bytes₀) k h)
-        ∙ m .labels
+    -- the end of the list is the end of the loop
+    merging-end : length L₀ ≤ k → 64 ≤ k
+    merging-end h =
+        ⊎-elim
+        (λ l. absurd (omega (arith, m .low k (rw (list-next follow k (m .ends) l) (in-here k k _ refl)))))
+        (λ l. l)
+        (lt-or-le k 64)
 
-    pub merging-lists : 64 ≤ k → Lists (followOf after) (labelsOf n after)
+    pub merging-labels : length L₀ ≤ k → L ≡ merged a b L₀
+    merging-labels h = relabel-none a _ L (list-none follow k (merging-end h)) ∙ m .labels
+
+    pub merging-lists : length L₀ ≤ k → Lists (spliced a b last follow) L
     merging-lists h =
-        let z : lastOf b (listFrom (followOf bytes₀) b) ≡ last = sym (rw (list-none (followOf bytes₀) k h) at (m .last-is)) in
-        let f : followOf after ≡ spliced a b last (followOf bytes₀) =
-        drop-set-add 64 (set bytes (64 + last) (getD bytes (64 + a) 0)) a b
-        ∙ ap (λ (l : List ℕ). set l a b) (drop-set-add 64 bytes last (getD bytes (64 + a) 0))
-        ∙ ap (λ (v : ℕ). set (set (followOf bytes) last v) a b) (sym (getD-drop 64 bytes a 0))
-        ∙ ap (spliced a b last) (m .follow) in
-        rw (f, merging-labels h)
-        (lists-splice (followOf bytes₀) (labelsOf n bytes₀) (t .lists) a b (t .below) (omega (arith, size, t .inside)) at-a at-b last z)
+        let z : lastOf b (listFrom follow b) ≡ last = sym (rw (list-none follow k (merging-end h)) at (m .last-is)) in
+        rw (merging-labels h) (lists-splice follow L₀ (t .lists) a b (t .below) (t .inside) (t .own) (t .other) last z)
 
 -- ---- the products
 module _ (T B follow : List ℕ) where

@@ -5,7 +5,7 @@ use mathlib.Core.Bool.{cond}
 use mathlib.Core.List.{List, [], _∷_}
 use Prim.Native.Nat.{ℕ, zero, suc, _≤_, _<_}
 use lib.Dec.{ltb}
-use lib.ListN.{length, getD, set, take, drop}
+use lib.ListN.{length, getD, set}
 use Rattle.joining_rule.specs.Sets.{In}
 
 -- the indices from x on, at most m
@@ -53,19 +53,11 @@ relabel a (k ∷ ks) L = relabel a ks (set L k a)
 abbrev pub spliced : ℕ → ℕ → ℕ → List ℕ → List ℕ
 spliced a b z follow = set (set follow z (getD follow a 0)) a b
 
--- ---- in one array of bytes: the block numbers of n indices first, and `follow` from byte 64 on
-abbrev pub labelsOf : ℕ → List ℕ → List ℕ
-labelsOf n bytes = take n bytes
-
-abbrev pub followOf : List ℕ → List ℕ
-followOf bytes = drop 64 bytes
-
--- the blocks a and b of n indices are two
-pub record TwoBlocks (n a b : ℕ) (bytes : List ℕ) : Type 0 where
-  pub long : length bytes ≡ 128
-  pub lists : Lists (followOf bytes) (labelsOf n bytes)
-  pub few : n ≤ 64
+-- a and b are the numbers of two blocks
+pub record TwoBlocks (a b : ℕ) (L follow : List ℕ) : Type 0 where
+  pub long : length follow ≡ 64
+  pub lists : Lists follow L
   pub below : a < b
-  pub inside : b < n
-  pub own : getD bytes a 0 ≡ a
-  pub other : getD bytes b 0 ≡ b
+  pub inside : b < length L
+  pub own : getD L a 0 ≡ a
+  pub other : getD L b 0 ≡ b

@@ -19,17 +19,18 @@ use Rattle.joining_rule.proofs.Bytes.{byte-at}
 use Rattle.joining_rule.proofs.Closing.{closing-shaped}
 use Rattle.joining_rule.specs.Rounds.{mostRounds}
 use Rattle.joining_rule.specs.Joining.{basesOf, startSet, closing}
-use Rattle.format.specs.CertificateRules.{Entry, Row, Certificate, noRow, readCertificate}
+use Rattle.format.specs.CertificateRules.{Entry, Row, Certificate, noRow, noCertificate, readCertificate}
 use Rattle.certificate_reader.specs.Rows.{sizeAt, basisAt, entryAt, rowAt, rowsBy, EntriesStand, Walkable}
 use Rattle.format.proofs.ProblemLimits.{basis-few}
 use Rattle.certificate_reader.proofs.Rows.{rows-length, row-by}
 use Rattle.certificate_reader.proofs.Walk.{Step, step-of, step-none, walk-sound}
 use Rattle.accepting.specs.Identity.{blockOf}
-use Rattle.accepting.specs.Judgement.{firstOutside, rowSplit, orElse, splitBy, splitPlace}
+use Rattle.accepting.specs.Judgement.{accepted, firstOutside, rowSplit, orElse, splitBy, splitPlace, byBlocks}
 use Rattle.format.proofs.All.{all-map}
 use Rattle.format.proofs.CertificateLimits.{SoundRow, read-sound}
+use Rattle.row_blocks.specs.declared.Place.{Place}
 use Rattle.row_blocks.specs.declared.Place.the-variants.{At, Nowhere}
-use Rattle.row_blocks.specs.Places.{placeOf, RowIndexed}
+use Rattle.row_blocks.specs.Places.{placeJudged, SplitTold, RowIndexed}
 
 -- ---- the loop over the entries of a row: those from the offset x on give the answer
 module _ (s labels : List ℕ) (from to : ℕ) where
@@ -92,13 +93,24 @@ module _ (s labels : List ℕ) (from to : ℕ) where
         same = (rw (t .is, eq-eqb (block (entryAt s x .index)) first e) at (k .same));
       }
 
-pub place-some : (o : Option ℕ) (x : ℕ) → placeOf o ≡ At x → o ≡ some x
-place-some (some y) x e = cc
-place-some none x e = clash (cc)
+-- ---- the answer and what it tells
+pub told-some : (o : Option ℕ) (x : ℕ) → some x ≡ o → SplitTold (At x) o
+told-some o x e = record { tells = λ j. ap (λ (q : Option ℕ). byBlocks q j) e }
 
-pub place-none : (o : Option ℕ) → placeOf o ≡ Nowhere → o ≡ none
-place-none (some y) e = clash (cc)
-place-none none e = refl
+pub told-none : (o : Option ℕ) → none ≡ o → SplitTold Nowhere o
+told-none o e = record { tells = λ j. ap (λ (q : Option ℕ). byBlocks q j) e }
+
+-- of an answer by what it is found to be
+pub told-as : (r u : Place) (o : Option ℕ) → r ≡ u → SplitTold r o → SplitTold u o
+told-as r u o e h = record { tells = λ j. ap (λ (x : Place). placeJudged x j) (sym e) ∙ h .tells j }
+
+pub place-some : (o : Option ℕ) (x : ℕ) → SplitTold (At x) o → o ≡ some x
+place-some (some y) x h = let e = h .tells (accepted noCertificate) in cc
+place-some none x h = let e = h .tells (accepted noCertificate) in clash (cc)
+
+pub place-none : (o : Option ℕ) → SplitTold Nowhere o → o ≡ none
+place-none (some y) h = let e = h .tells (accepted noCertificate) in clash (cc)
+place-none none h = refl
 
 -- ---- the walk over the rows: those from row r on give the answer
 module _ (s starts labels : List ℕ) (rows : ℕ) where

@@ -11,7 +11,7 @@ ghost use Rattle.joining_rule.specs.Joining.{closing};
 ghost use Rattle.format.specs.CertificateRules.{Certificate, readCertificate};
 ghost use Rattle.certificate_reader.specs.Rows.{rowAt, rowsBy, Walkable};
 ghost use Rattle.accepting.specs.Judgement.{rowSplit, splitPlace};
-ghost use Rattle.row_blocks.specs.Places.{placeOf, RowIndexed};
+ghost use Rattle.row_blocks.specs.Places.{SplitTold, RowIndexed};
 
 // Where a row leaves its block.
 pub enum Place {
@@ -23,7 +23,7 @@ pub enum Place {
 fn row_split(s: &[u8], from: usize, to: usize, labels: &[u8]) -> Place
     requires { ⌜ RowIndexed (now s) from to (now labels) ⌝ }
     ensures { λ r. let row = rowAt (now (s .entry)) from to in ⌜
-        r ≡ placeOf (rowSplit (blockAt (now (labels .entry)) (row .basis)) (row .entries))
+        SplitTold r (rowSplit (blockAt (now (labels .entry)) (row .basis)) (row .entries))
         ⌝ }
 {
     let mut x = from + 4;
@@ -50,7 +50,7 @@ pub fn split_place(s: &[u8], starts: &[usize; 129], rows: usize, labels: &[u8]) 
     ensures { λ r. ⌜
         ((p : Problem) (c : Certificate) → Limits p → readCertificate p (now (s .entry)) ≡ given c
         → c .rows ≡ rowsBy (now (s .entry)) (now (starts .entry)) rows
-        → now (labels .entry) ≡ blockBytes (closing p .state .labels) → r ≡ placeOf (splitPlace p (c .rows)))
+        → now (labels .entry) ≡ blockBytes (closing p .state .labels) → SplitTold r (splitPlace p (c .rows)))
         ⌝ }
 {
     let mut r = 0;

@@ -1,6 +1,16 @@
+pub mod Computing
 pub mod Table
+pub mod Limits
+pub mod Lent
+pub mod Numbers
 pub mod Roots
 pub mod Symmetries
+pub mod Superseding
+pub mod Lengths
+pub mod Reports
+pub mod Noted
+pub mod Window
 pub mod Sums
 pub mod Adjusted
-pub mod Noted
+pub mod Printed
+pub mod Orders

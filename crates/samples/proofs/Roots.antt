@@ -4,37 +4,21 @@ use mathlib.Core.Path.{_≡_, refl, ap}
 use mathlib.Core.Bool.{false}
 use mathlib.Core.List.{[], _∷_}
 use lib.IntN.{pos, negsuc}
-use Rattle.counting.specs.Counting.{listed, fromTo, sumTo}
 use Rattle.ordered_rings.specs.Rings.{Ring, Order, OrderedRing, multiple, whole, power}
 use Rattle.ordered_rings.proofs.Laws.{zero-+, one-*, minus-*}
-use Rattle.polynomial.specs.Monomial.{degreeOf, degree, within, among}
-use Rattle.polynomial.specs.Terms.{term, keysOf}
-use Rattle.polynomial.specs.Algebra.{coefficient}
+use Rattle.polynomial.specs.Terms.{term}
 use Rattle.polynomial.specs.RingPoint.{valueIn}
 use Rattle.format.specs.All.{All}
-use Rattle.format.specs.Operands.{number, signed}
-use Rattle.format.specs.Commands.{Outcome, refused, given, firstRefusal, run, readWhole}
-use Rattle.format.specs.ProblemLayout.{problemCommand}
-use Rattle.format.specs.ProblemRules.{appendAt, fitting, problemApplied, problemRefusalAt, problemNext, readProblem, Problem, noProblem}
-use Rattle.format.specs.ProblemBases.{basisOf, multiplierOf, multiplier, kindOf}
-use Rattle.format.specs.CertificateRules.{readCertificate}
-use Rattle.format.specs.CertificateRules as Certificate
-use Rattle.format.specs.CertificateLayout as CertificateLayout
-use Rattle.joining_rule.specs.Sets.{member, different, insert, insertAll}
-use Rattle.joining_rule.specs.Join.{linked, merged, joinPair, join}
-use Rattle.joining_rule.specs.Extend.{addTerms, addPair, extend}
-use Rattle.joining_rule.specs.Rounds.{singles, start, joinAll, extendTo, addingBases, round, same, sameAll, sameState, closeFrom, mostRounds, blocksIn, countedKeys}
-use Rattle.joining_rule.specs.Rounds as Rounds
-use Rattle.joining_rule.specs.Joining.{startFrom, startSet, closing, tooLarge}
-use Rattle.accepting.specs.Identity.{square, squares, claimOf, blockOf}
-use Rattle.accepting.specs.Judgement.{firstOutside, rowSplit, splitBy, firstDifference, comparedKeys, differenceKey, judgeRead, judge}
+use Rattle.format.specs.Commands.{Outcome, refused, given}
+use Rattle.format.specs.ProblemRules.{readProblem, Problem, noProblem}
 use Rattle.accepting.specs.RingBounds.{MeetsIn, BoundedAboveIn}
 use Rattle.calls.specs.Fractions.{fraction}
-use Rattle.calls.specs.Pair.{pairSides, pairOf, pairVerdict}
+use Rattle.calls.specs.Pair.{pairVerdict}
 use Rattle.calls.specs.declared.PairVerdict.{PairVerdict}
 use Rattle.calls.specs.RingPromises.{HoldsIn}
 use Rattle.calls.proofs.Pairing.{pair-clauses}
 use Rattle.calls.proofs.RingPairs.{stated-in}
+use Rattle.samples.proofs.Computing.{reading, pairing}
 use Rattle.samples.specs.Roots.{problemRoot, lowRoot, highRoot}
 
 -- the pair is accepted, with the bounds −17/12 and 17/12
@@ -45,7 +29,7 @@ accepted :
     (verdict .refusal .number ≡ 0)
     × (verdict .lower ≡ fraction (negsuc 16) 12)
     × (verdict .upper ≡ fraction (pos 17) 12)
-unfolding listed fromTo sumTo number signed firstRefusal run readWhole degreeOf degree within among keysOf problemCommand appendAt fitting problemApplied problemRefusalAt problemNext readProblem basisOf multiplier multiplierOf kindOf member insert linked merged joinPair join addTerms addPair extend different singles start joinAll extendTo addingBases round same sameAll sameState closeFrom blocksIn countedKeys mostRounds Rounds.closingOf insertAll startFrom startSet closing tooLarge CertificateLayout.certificateCommand Certificate.certificateRefusalAt Certificate.certificateApplied Certificate.certificateNext readCertificate coefficient square squares claimOf blockOf firstOutside rowSplit splitBy firstDifference comparedKeys differenceKey judgeRead judge pairSides pairOf pairVerdict
+unfolding pairing
 accepted = (refl, refl, refl)
 
 -- so its bounds hold over every ordered ring
@@ -78,7 +62,7 @@ module _ {A : Type 0} (R : OrderedRing A) where
       simp (two, +-zero, zero-+ ring, *-one, one-* ring, minus-* ring, e, +-minus)
 
   pub root-two : (x : A) → x * x ≡ 𝟙 + 𝟙 → 𝟘 ≤ whole ring (pos 17) + - (whole ring (pos 12) * x)
-  unfolding number signed firstRefusal run readWhole degreeOf degree within among keysOf problemCommand appendAt fitting problemApplied problemRefusalAt problemNext readProblem BoundedAboveIn All MeetsIn
+  unfolding reading BoundedAboveIn All MeetsIn
   root-two x e =
       rw (value-is x) at (root R (problemIn (readProblem problemRoot)) refl .above (x ∷ [])
       (record { coordinates = refl; conditions = (condition-is x e, tt) }))

@@ -1,55 +1,68 @@
 -- The sign symmetries of samples, started from their byte streams: each row's outcome is what the definitions compute.
 use mathlib.Core.Path.{_≡_, refl}
 use mathlib.Core.List.{List, [], _∷_, _++_, map}
-use mathlib.Core.Bool.{true, false}
-use Prim.Native.Nat.{ℕ}
+use mathlib.Core.Bool.{false}
+use Prim.Native.Nat.{ℕ, _-_}
 use lib.Count.{ones}
-use lib.ListN.{take}
-use Rattle.counting.specs.Counting.{listed, fromTo, sumTo}
-use Rattle.format.specs.Operands.{number, signed}
-use Rattle.format.specs.Commands.{firstRefusal, run, readWhole}
-use Rattle.polynomial.specs.Monomial.{exponent, degreeOf, degree, within, among}
-use Rattle.polynomial.specs.Terms.{keysOf}
-use Rattle.format.specs.ProblemLayout.{problemCommand}
-use Rattle.format.specs.ProblemRules.{appendAt, fitting, problemApplied, problemRefusalAt, problemNext, readProblem}
-use Rattle.format.specs.ProblemBases.{basisOf, multiplierOf, multiplier}
-use Rattle.joining_rule.specs.Sets.{member, insert, insertAll}
-use Rattle.joining_rule.specs.Join.{linked, merged, joinPair, join}
-use Rattle.joining_rule.specs.Extend.{addTerms, addPair, extend}
-use Rattle.joining_rule.specs.Rounds.{singles, start, joinAll, extendTo, addingBases, round, same, sameAll, sameState, closeFrom, countedKeys, mostRounds}
-use Rattle.joining_rule.specs.Rounds as Rounds
-use Rattle.joining_rule.specs.Joining.{startFrom, startSet, closing, tooLarge}
-use Rattle.calls.specs.Refusals.{noRefusal}
-use Rattle.calls.specs.Symmetries.{parityByte, meetsEvenly, meetsAll, exponentsOf, passing, symmetriesOf, refusedSymmetries, symmetriesFor, symmetriesVerdict, maskBytes, masksFor, masksLeft}
+use lib.ListN.{length, replicate}
+use Rattle.counting.specs.Counting.{listed}
+use Rattle.polynomial.specs.Monomial.{exponent}
+use Rattle.calls.specs.Symmetries.{parityByte, meetsEvenly, meetsAll, exponentsOf, passing, symmetriesOf, symmetriesFor, symmetriesVerdict, maskBytes, masksFor, masksLeft}
 use Rattle.calls.specs.declared.SymmetriesVerdict.{SymmetriesVerdict}
-use Rattle.samples.specs.Streams.{problemA, problemC, problemD, problemE, problemF, equality, inequality, rule, problemSigns, problemOneCondition}
+use Rattle.samples.proofs.Computing.{joining}
+use Rattle.samples.specs.Streams.{problemA, problemC, problemD, problemE, problemF, equality, inequality, rule, variables, end, problemSigns, problemOneCondition}
+use Rattle.samples.specs.Verdicts.{symmetriesFound, symmetriesRefused}
 
--- a verdict, and the first five bytes
+-- what the call computes through, after the joining rule
+symmetric : Unit {0}
+unfolding exponent ones parityByte meetsEvenly meetsAll exponentsOf passing symmetriesOf symmetriesFor symmetriesVerdict maskBytes masksFor masksLeft
+symmetric = tt
+
+-- a verdict, and the bytes that are left of 257 lent ones
 record Row : Type 0 where
   verdict : SymmetriesVerdict
   bytes : List ℕ
 
 abbrev outcome : List ℕ → Row
-outcome s = record { verdict = symmetriesVerdict false s; bytes = take 5 (masksLeft false s (listed 256 (λ i. 7))) }
+outcome s = record { verdict = symmetriesVerdict false s; bytes = masksLeft false s (replicate 257 7) }
 
-abbrev found : ℕ → List ℕ → Row
-found masks bytes = record { verdict = record { refusal = noRefusal; masks = masks }; bytes = bytes }
+abbrev found : List ℕ → Row
+found masks = record {
+  verdict = symmetriesFound (length masks);
+  bytes = masks ++ replicate (256 - length masks) 0 ++ (7 ∷ []);
+}
 
 -- A, C and F have the exponent 1, and E the constraint x: no mask but 0. D has even exponents alone: all four. The
--- example of paper 003: both signs turned together. The condition x2, of either kind and under rule 2: the sign of x1. The
--- empty stream
+-- example of paper 003: both signs turned together. The condition x2, of either kind and under rule 2: the sign of
+-- x1. The empty stream
 pub symmetries :
-    map outcome (problemA ∷ problemC ∷ problemD ∷ problemE ∷ problemF ∷ problemSigns ∷ problemOneCondition inequality ∷ problemOneCondition equality ∷ problemOneCondition (rule 2 ++ equality) ∷ [] ∷ [])
-    ≡ found 1 (0 ∷ 0 ∷ 0 ∷ 0 ∷ 0 ∷ [])
-    ∷ found 1 (0 ∷ 0 ∷ 0 ∷ 0 ∷ 0 ∷ [])
-    ∷ found 4 (0 ∷ 1 ∷ 2 ∷ 3 ∷ 0 ∷ [])
-    ∷ found 1 (0 ∷ 0 ∷ 0 ∷ 0 ∷ 0 ∷ [])
-    ∷ found 1 (0 ∷ 0 ∷ 0 ∷ 0 ∷ 0 ∷ [])
-    ∷ found 2 (0 ∷ 3 ∷ 0 ∷ 0 ∷ 0 ∷ [])
-    ∷ found 2 (0 ∷ 1 ∷ 0 ∷ 0 ∷ 0 ∷ [])
-    ∷ found 2 (0 ∷ 1 ∷ 0 ∷ 0 ∷ 0 ∷ [])
-    ∷ found 2 (0 ∷ 1 ∷ 0 ∷ 0 ∷ 0 ∷ [])
-    ∷ record { verdict = refusedSymmetries 2 0; bytes = 7 ∷ 7 ∷ 7 ∷ 7 ∷ 7 ∷ [] }
+    map outcome
+    (problemA
+    ∷ problemC
+    ∷ problemD
+    ∷ problemE
+    ∷ problemF
+    ∷ problemSigns
+    ∷ problemOneCondition inequality
+    ∷ problemOneCondition equality
+    ∷ problemOneCondition (rule 2 ++ equality)
     ∷ []
-unfolding listed fromTo sumTo number signed firstRefusal run readWhole exponent degreeOf degree within among keysOf problemCommand appendAt fitting problemApplied problemRefusalAt problemNext readProblem basisOf multiplier multiplierOf member insert linked merged joinPair join addTerms addPair extend singles start joinAll extendTo addingBases round same sameAll sameState closeFrom countedKeys mostRounds Rounds.closingOf insertAll startFrom startSet closing tooLarge ones parityByte meetsEvenly meetsAll exponentsOf passing symmetriesOf symmetriesFor symmetriesVerdict maskBytes masksFor masksLeft
+    ∷ [])
+    ≡ found (0 ∷ [])
+    ∷ found (0 ∷ [])
+    ∷ found (0 ∷ 1 ∷ 2 ∷ 3 ∷ [])
+    ∷ found (0 ∷ [])
+    ∷ found (0 ∷ [])
+    ∷ found (0 ∷ 3 ∷ [])
+    ∷ found (0 ∷ 1 ∷ [])
+    ∷ found (0 ∷ 1 ∷ [])
+    ∷ found (0 ∷ 1 ∷ [])
+    ∷ record { verdict = symmetriesRefused 2 0; bytes = replicate 257 7 }
+    ∷ []
+unfolding joining symmetric
 symmetries = refl
+
+-- "from 0 to 2^n − 1": in 8 variables without an exponent every mask is one
+pub all-masks : outcome (variables 8 ++ end) ≡ found (listed 256 (λ r. r))
+unfolding joining symmetric
+all-masks = refl

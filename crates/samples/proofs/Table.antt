@@ -1,68 +1,152 @@
--- The starred samples, started from their byte streams, as one table: each row's outcome is what the definitions compute.
--- The last rows have equalities, gaps of 0 and below, wide factors, joining rules and sparse orders, which are document 02's.
+-- The starred samples, from their byte streams, as one table: each row's outcome is what the definitions compute. The
+-- tables below it have pairs, equalities, gaps of 0 and below, wide factors, joining rules and sparse orders.
 use mathlib.Core.Path.{_≡_, refl}
 use mathlib.Core.List.{List, [], _∷_, _++_, map}
 use mathlib.Core.Bool.{true, false}
-use Prim.Native.Nat.{ℕ}
-use lib.ListN.{take, drop}
-use Rattle.counting.specs.Counting.{listed, fromTo, sumTo}
-use Rattle.format.specs.Operands.{number, signed}
-use Rattle.format.specs.Commands.{Outcome, refused, given, firstRefusal, run, readWhole}
-use Rattle.polynomial.specs.Monomial.{degreeOf, degree, within, among}
-use Rattle.polynomial.specs.Terms.{keysOf}
-use Rattle.format.specs.ProblemLayout.{problemCommand}
-use Rattle.format.specs.ProblemRules.{appendAt, orderPlace, fitting, problemApplied, problemRefusalAt, problemNext, readProblem, Problem}
-use Rattle.format.specs.ProblemBases.{basisOf, multiplierOf, multiplier, kindOf}
-use Rattle.joining_rule.specs.Sets.{member, different, insert, insertAll}
-use Rattle.joining_rule.specs.Join.{linked, merged, joinPair, join}
-use Rattle.joining_rule.specs.Extend.{addTerms, addPair, extend}
-use Rattle.joining_rule.specs.Rounds.{State, singles, start, joinAll, extendTo, addingBases, round, after, same, sameAll, sameState, closeFrom, mostRounds, blocksIn, countedKeys}
-use Rattle.joining_rule.specs.Rounds as Rounds
-use Rattle.joining_rule.specs.Bytes.{blockBytes}
-use Rattle.joining_rule.specs.Joining.{basesOf, startFrom, startSet, closing, tooLarge, blockTotal}
-use Rattle.calls.specs.Refusals.{noRefusal, problemRefusal, certificateRefusal}
-use Rattle.calls.specs.Blocks.{refusedBlocks, blocksOf, blocksVerdict, bytesOf, bytesLeft}
+use Prim.Native.Nat.{ℕ, _-_}
+use lib.IntN.{pos, negsuc}
+use lib.ListN.{length, take, drop, replicate}
+use Rattle.format.specs.Commands.{Outcome, refused, given}
+use Rattle.format.specs.ProblemRules.{Problem, readProblem}
+use Rattle.joining_rule.specs.Rounds.{State, start, after}
+use Rattle.joining_rule.specs.Joining.{basesOf, startSet}
+use Rattle.calls.specs.Blocks.{blocksVerdict, bytesLeft}
+use Rattle.calls.specs.Check.{checkVerdict}
+use Rattle.calls.specs.Pair.{pairVerdict}
 use Rattle.calls.specs.declared.BlocksVerdict.{BlocksVerdict}
-use Rattle.format.specs.CertificateRules.{readCertificate}
-use Rattle.format.specs.CertificateRules as Certificate
-use Rattle.format.specs.CertificateLayout as CertificateLayout
-use Rattle.polynomial.specs.Algebra.{coefficient}
-use Rattle.accepting.specs.Identity.{square, squares, claimOf, blockOf}
-use Rattle.accepting.specs.Judgement.{firstOutside, rowSplit, splitBy, firstDifference, comparedKeys, differenceKey, judgeRead, judge}
-use Rattle.calls.specs.Fractions.{fraction, none}
-use Rattle.calls.specs.Check.{refusedCheck, checkOf, checkVerdict}
-use Rattle.calls.specs.Pair.{refusedPair, pairSides, pairOf, pairVerdict}
 use Rattle.calls.specs.declared.CheckVerdict.{CheckVerdict}
-use lib.IntN.{ℤ, pos, negsuc}
+use Rattle.calls.specs.declared.PairVerdict.{PairVerdict}
+use Rattle.lines.specs.Answers.{answerTo}
+use Rattle.lines.specs.Lines.{ascii}
+use Rattle.samples.proofs.Computing.{joining, blocking, checking, pairing, printing}
+use Rattle.samples.specs.Verdicts.{over, blocksFound, blocksRefused, checkAccepted, checkRefused, pairAccepted, pairRefused}
 use Rattle.samples.specs.Streams.{problemA, problemC, problemD, problemE, problemF, certificateA, certificateB, certificateD, lowF, highF, certificateI, small, minus, row, equalityRow, entry, entryMinus, wideEntry, equality, inequality, problemEqual, nineConditions, lowEqual, highEqual, problemWide, certificateWide, certificateWideD, withEntries, withRow, problemCrossed, lowCrossed, highCrossed, rule, order, variables, end, objectiveTerm, exponents, problemEWith, problemZero, certificateE, certificateBeside, certificateAcross, certificateZero}
 
--- a verdict, the first three bytes of basis 0 and the first of basis 1
+-- ---- the starred samples
+-- what a case is: a problem with a lower and an upper certificate. One that a letter does not name is the empty stream,
+-- as gapcheck has it for a file that is missing
+record Case : Type 0 where
+  problem : List ℕ
+  low : List ℕ
+  high : List ℕ
+
+abbrev case : List ℕ → List ℕ → List ℕ → Case
+case problem low high = record { problem = problem; low = low; high = high }
+
+-- what becomes of it: the blocks, with the bytes that are left of 577 lent ones; the check of the lower certificate;
+-- the pair; and what gapcheck writes
 record Row : Type 0 where
-  verdict : BlocksVerdict
-  zero : List ℕ
-  one : List ℕ
+  blocks : BlocksVerdict
+  bytes : List ℕ
+  check : CheckVerdict
+  pair : PairVerdict
+  lines : List ℕ
 
-abbrev outcome : List ℕ → Row
-outcome s = let bytes = bytesLeft false s (listed 576 (λ i. 7)) in record { verdict = blocksVerdict false s; zero = take 3 bytes; one = take 1 (drop 64 bytes) }
+abbrev lent : List ℕ
+lent = replicate 577 7
 
-abbrev found : ℕ → ℕ → ℕ → List ℕ → List ℕ → Row
-found blocks rounds rule zero one = record { verdict = record { refusal = noRefusal; blocks = blocks; rounds = rounds; rule = rule }; zero = zero; one = one }
+abbrev outcome : Case → Row
+outcome c = record {
+  blocks = blocksVerdict false (c .problem);
+  bytes = bytesLeft false (c .problem) lent;
+  check = checkVerdict false (c .problem) (c .low);
+  pair = pairVerdict false (c .problem) (c .low) (c .high);
+  lines = answerTo (c .problem) (c .low) (c .high);
+}
 
--- the bytes as they were lent
-abbrev refusedRow : ℕ → ℕ → Row
-refusedRow number place = record { verdict = refusedBlocks number place; zero = 7 ∷ 7 ∷ 7 ∷ []; one = 7 ∷ [] }
+-- the block numbers of the bases 0 and 1, 255 in all others of the 576, and the byte past them as it was
+abbrev numbers : List ℕ → List ℕ → List ℕ
+numbers zero one = (zero ++ replicate (64 - length zero) 255) ++ (one ++ replicate (512 - length one) 255) ++ (7 ∷ [])
 
-pub samples :
-    map outcome (problemA ∷ problemC ∷ problemD ∷ problemE ∷ problemF ∷ [] ∷ [])
-    ≡ found 1 2 1 (0 ∷ 0 ∷ 255 ∷ []) (255 ∷ [])
-    ∷ found 1 2 1 (0 ∷ 0 ∷ 0 ∷ []) (255 ∷ [])
-    ∷ found 3 1 1 (0 ∷ 1 ∷ 2 ∷ []) (255 ∷ [])
-    ∷ found 2 3 1 (0 ∷ 0 ∷ 255 ∷ []) (0 ∷ [])
-    ∷ found 2 2 1 (0 ∷ 0 ∷ 255 ∷ []) (0 ∷ [])
-    ∷ refusedRow 2 0
+-- A to G and I, in the order of the letters
+pub starred :
+    map outcome
+    (case problemA certificateA []
+    ∷ case problemA certificateB []
+    ∷ case problemC [] []
+    ∷ case problemD certificateD []
+    ∷ case problemE [] []
+    ∷ case problemF lowF highF
+    ∷ case [] [] []
+    ∷ case problemA certificateI []
+    ∷ [])
+    -- A: "lower 2/1 ..: accepted, 2 rounds"
+    ≡ record {
+      blocks = blocksFound 1 2 1;
+      bytes = numbers (0 ∷ 0 ∷ []) [];
+      check = checkAccepted 0 (over (pos 2) 1) 2 1;
+      pair = pairRefused 2 2 0 0;
+      lines = ascii "refused 2 2 0 0\n";
+    }
+    -- B: "refusal 9, key 0"; "case B as low.bin gives `refused 9 1 0 0`"
+    ∷ record {
+      blocks = blocksFound 1 2 1;
+      bytes = numbers (0 ∷ 0 ∷ []) [];
+      check = checkRefused 9 1 0 0;
+      pair = pairRefused 9 1 0 0;
+      lines = ascii "refused 9 1 0 0\n";
+    }
+    -- C: "2 rounds, one block"
+    ∷ record {
+      blocks = blocksFound 1 2 1;
+      bytes = numbers (0 ∷ 0 ∷ 0 ∷ []) [];
+      check = checkRefused 2 1 0 0;
+      pair = pairRefused 2 1 0 0;
+      lines = ascii "refused 2 1 0 0\n";
+    }
+    -- D: "three blocks, 1 round; a row on x1 and x2: 8", at its second entry
+    ∷ record {
+      blocks = blocksFound 3 1 1;
+      bytes = numbers (0 ∷ 1 ∷ 2 ∷ []) [];
+      check = checkRefused 8 1 18 0;
+      pair = pairRefused 8 1 18 0;
+      lines = ascii "refused 8 1 18 0\n";
+    }
+    -- E: "3 rounds, and 1 with x³ is one block"
+    ∷ record {
+      blocks = blocksFound 2 3 1;
+      bytes = numbers (0 ∷ 0 ∷ []) (0 ∷ []);
+      check = checkRefused 2 1 0 0;
+      pair = pairRefused 2 1 0 0;
+      lines = ascii "refused 2 1 0 0\n";
+    }
+    -- F: "bounds −1 and 1", and the four lines
+    ∷ record {
+      blocks = blocksFound 2 2 1;
+      bytes = numbers (0 ∷ 0 ∷ []) (0 ∷ []);
+      check = checkAccepted 0 (over (negsuc 0) 1) 2 1;
+      pair = pairAccepted (over (negsuc 0) 1) (over (pos 1) 1) (over (pos 2) 1) 2 1;
+      lines = ascii "lower -1/1\nupper 1/1\ngap 2/1\nrounds 2\n";
+    }
+    -- G: "empty stream: 2 at 0"
+    ∷ record {
+      blocks = blocksRefused 2 0;
+      bytes = lent;
+      check = checkRefused 2 0 0 0;
+      pair = pairRefused 2 0 0 0;
+      lines = ascii "refused 2 0 0 0\n";
+    }
+    -- I: "q = 0: 4"
+    ∷ record {
+      blocks = blocksFound 1 2 1;
+      bytes = numbers (0 ∷ 0 ∷ []) [];
+      check = checkRefused 4 1 0 0;
+      pair = pairRefused 4 1 0 0;
+      lines = ascii "refused 4 1 0 0\n";
+    }
     ∷ []
-unfolding listed fromTo sumTo number signed firstRefusal run readWhole degreeOf degree within among keysOf problemCommand appendAt fitting problemApplied problemRefusalAt problemNext readProblem basisOf multiplier multiplierOf member insert linked merged joinPair join addTerms addPair extend different singles start joinAll extendTo addingBases round same sameAll sameState closeFrom blocksIn countedKeys mostRounds Rounds.closingOf blockBytes insertAll startFrom startSet closing tooLarge blockTotal blocksOf blocksVerdict bytesOf bytesLeft
-samples = refl
+unfolding blocking checking pairing printing
+starred = refl
+
+-- the bytes of F's lines: "each line ends in byte 0A"
+pub bytes-F :
+    answerTo problemF lowF highF
+    ≡ (108 ∷ 111 ∷ 119 ∷ 101 ∷ 114 ∷ 32 ∷ 45 ∷ 49 ∷ 47 ∷ 49 ∷ 10 ∷ [])
+    ++ (117 ∷ 112 ∷ 112 ∷ 101 ∷ 114 ∷ 32 ∷ 49 ∷ 47 ∷ 49 ∷ 10 ∷ [])
+    ++ (103 ∷ 97 ∷ 112 ∷ 32 ∷ 50 ∷ 47 ∷ 49 ∷ 10 ∷ [])
+    ++ (114 ∷ 111 ∷ 117 ∷ 110 ∷ 100 ∷ 115 ∷ 32 ∷ 50 ∷ 10 ∷ [])
+unfolding pairing printing
+bytes-F = refl
 
 -- ---- the rounds of E
 
@@ -84,35 +168,12 @@ pub rounds-E :
     ∷ twoBases (0 ∷ 0 ∷ []) (0 ∷ []) (0 ∷ 1 ∷ 3 ∷ 6 ∷ [])
     ∷ twoBases (0 ∷ 0 ∷ []) (0 ∷ []) (0 ∷ 1 ∷ 3 ∷ 6 ∷ [])
     ∷ []
-unfolding listed fromTo number signed firstRefusal run readWhole degreeOf degree within among keysOf problemCommand appendAt fitting problemApplied problemRefusalAt problemNext readProblem basisOf multiplier multiplierOf member insert linked merged joinPair join addTerms addPair extend singles start joinAll extendTo addingBases round after insertAll startFrom startSet
+unfolding joining
 rounds-E = refl
 
--- ---- certificates
-
--- a bound p/1 that is accepted
-abbrev accepted : ℕ → ℤ → ℕ → ℕ → CheckVerdict
-accepted side p rounds rule = record { refusal = noRefusal; side = side; bound = fraction p 1; rounds = rounds; rule = rule }
-
--- A: accepted, 2 rounds; B: refusal 9, key 0; D: refusal 8 at the second entry; I: 4; an empty certificate: 2
-pub checks :
-    checkVerdict false problemA certificateA
-    ∷ checkVerdict false problemA certificateB
-    ∷ checkVerdict false problemD certificateD
-    ∷ checkVerdict false problemA certificateI
-    ∷ checkVerdict false problemA []
-    ∷ checkVerdict false [] certificateA
-    ∷ []
-    ≡ accepted 0 (pos 2) 2 1
-    ∷ refusedCheck (certificateRefusal 1 9 0 0)
-    ∷ refusedCheck (certificateRefusal 1 8 18 0)
-    ∷ refusedCheck (certificateRefusal 1 4 0 0)
-    ∷ refusedCheck (certificateRefusal 1 2 0 0)
-    ∷ refusedCheck (problemRefusal 2 0)
-    ∷ []
-unfolding listed fromTo sumTo number signed firstRefusal run readWhole degreeOf degree within among keysOf problemCommand appendAt fitting problemApplied problemRefusalAt problemNext readProblem basisOf multiplier multiplierOf kindOf member insert linked merged joinPair join addTerms addPair extend different singles start joinAll extendTo addingBases round same sameAll sameState closeFrom blocksIn countedKeys mostRounds Rounds.closingOf insertAll startFrom startSet closing tooLarge CertificateLayout.certificateCommand Certificate.certificateRefusalAt Certificate.certificateApplied Certificate.certificateNext readCertificate coefficient square squares claimOf blockOf firstOutside rowSplit splitBy firstDifference comparedKeys differenceKey judgeRead judge checkOf checkVerdict
-checks = refl
-
--- F: bounds −1 and 1, gap 2, 2 rounds; two lower ones: 10 in the second stream; the certificates turned: 10 in the first
+-- ---- pairs
+-- F: bounds −1 and 1, gap 2, 2 rounds; two lower ones: 10 in the second stream; the certificates turned: 10 in the
+-- first
 pub pairs :
     pairVerdict false problemF lowF highF
     ∷ pairVerdict false problemF lowF lowF
@@ -120,13 +181,13 @@ pub pairs :
     ∷ pairVerdict false problemF lowF []
     ∷ pairVerdict true problemF lowF highF
     ∷ []
-    ≡ record { refusal = noRefusal; lower = fraction (negsuc 0) 1; upper = fraction (pos 1) 1; gap = fraction (pos 2) 1; empty = false; rounds = 2; rule = 1 }
-    ∷ refusedPair (certificateRefusal 2 10 0 0)
-    ∷ refusedPair (certificateRefusal 1 10 0 0)
-    ∷ refusedPair (certificateRefusal 2 2 0 0)
-    ∷ refusedPair (problemRefusal 1 0)
+    ≡ pairAccepted (over (negsuc 0) 1) (over (pos 1) 1) (over (pos 2) 1) 2 1
+    ∷ pairRefused 10 2 0 0
+    ∷ pairRefused 10 1 0 0
+    ∷ pairRefused 2 2 0 0
+    ∷ pairRefused 1 0 0 0
     ∷ []
-unfolding listed fromTo sumTo number signed firstRefusal run readWhole degreeOf degree within among keysOf problemCommand appendAt fitting problemApplied problemRefusalAt problemNext readProblem basisOf multiplier multiplierOf kindOf member insert linked merged joinPair join addTerms addPair extend different singles start joinAll extendTo addingBases round same sameAll sameState closeFrom blocksIn countedKeys mostRounds Rounds.closingOf insertAll startFrom startSet closing tooLarge CertificateLayout.certificateCommand Certificate.certificateRefusalAt Certificate.certificateApplied Certificate.certificateNext readCertificate coefficient square squares claimOf blockOf firstOutside rowSplit splitBy firstDifference comparedKeys differenceKey judgeRead judge pairSides pairOf pairVerdict
+unfolding pairing
 pairs = refl
 
 -- ---- equalities
@@ -145,18 +206,18 @@ pub equalities :
     ∷ checkVerdict false (nineConditions inequality) []
     ∷ checkVerdict false (nineConditions equality) []
     ∷ []
-    ≡ accepted 0 (pos 1) 1 1
-    ∷ accepted 1 (pos 1) 1 1
-    ∷ refusedCheck (certificateRefusal 1 4 10 0)
-    ∷ refusedCheck (certificateRefusal 1 4 10 0)
-    ∷ refusedCheck (certificateRefusal 1 4 10 0)
-    ∷ refusedCheck (certificateRefusal 1 4 10 0)
-    ∷ refusedCheck (certificateRefusal 1 4 10 0)
-    ∷ refusedCheck (problemRefusal 3 0)
-    ∷ refusedCheck (problemRefusal 6 10)
-    ∷ refusedCheck (problemRefusal 6 10)
+    ≡ checkAccepted 0 (over (pos 1) 1) 1 1
+    ∷ checkAccepted 1 (over (pos 1) 1) 1 1
+    ∷ checkRefused 4 1 10 0
+    ∷ checkRefused 4 1 10 0
+    ∷ checkRefused 4 1 10 0
+    ∷ checkRefused 4 1 10 0
+    ∷ checkRefused 4 1 10 0
+    ∷ checkRefused 3 0 0 0
+    ∷ checkRefused 6 0 10 0
+    ∷ checkRefused 6 0 10 0
     ∷ []
-unfolding listed fromTo sumTo number signed firstRefusal run readWhole degreeOf degree within among keysOf problemCommand appendAt fitting problemApplied problemRefusalAt problemNext readProblem basisOf multiplier multiplierOf kindOf member insert linked merged joinPair join addTerms addPair extend different singles start joinAll extendTo addingBases round same sameAll sameState closeFrom blocksIn countedKeys mostRounds Rounds.closingOf insertAll startFrom startSet closing tooLarge CertificateLayout.certificateCommand Certificate.certificateRefusalAt Certificate.certificateApplied Certificate.certificateNext readCertificate coefficient square squares claimOf blockOf firstOutside rowSplit splitBy firstDifference comparedKeys differenceKey judgeRead judge checkOf checkVerdict
+unfolding checking
 equalities = refl
 
 -- ---- gaps that are no distance
@@ -166,10 +227,18 @@ pub gaps :
     pairVerdict false problemCrossed lowCrossed highCrossed
     ∷ pairVerdict false problemEqual lowEqual highEqual
     ∷ []
-    ≡ record { refusal = noRefusal; lower = fraction (pos 1) 1; upper = fraction (negsuc 0) 1; gap = none; empty = true; rounds = 1; rule = 1 }
-    ∷ record { refusal = noRefusal; lower = fraction (pos 1) 1; upper = fraction (pos 1) 1; gap = fraction (pos 0) 1; empty = false; rounds = 1; rule = 1 }
+    ≡ record {
+      refusal = record { number = 0; stream = 0; place = 0; key = 0 };
+      lower = over (pos 1) 1;
+      upper = over (negsuc 0) 1;
+      gap = record { num = pos 0; den = 0 };
+      empty = true;
+      rounds = 1;
+      rule = 1;
+    }
+    ∷ pairAccepted (over (pos 1) 1) (over (pos 1) 1) (over (pos 0) 1) 1 1
     ∷ []
-unfolding listed fromTo sumTo number signed firstRefusal run readWhole degreeOf degree within among keysOf problemCommand appendAt fitting problemApplied problemRefusalAt problemNext readProblem basisOf multiplier multiplierOf kindOf member insert linked merged joinPair join addTerms addPair extend different singles start joinAll extendTo addingBases round same sameAll sameState closeFrom blocksIn countedKeys mostRounds Rounds.closingOf insertAll startFrom startSet closing tooLarge CertificateLayout.certificateCommand Certificate.certificateRefusalAt Certificate.certificateApplied Certificate.certificateNext readCertificate coefficient square squares claimOf blockOf firstOutside rowSplit splitBy firstDifference comparedKeys differenceKey judgeRead judge pairSides pairOf pairVerdict
+unfolding pairing
 gaps = refl
 
 -- ---- wide factors
@@ -189,27 +258,45 @@ pub wide-factors :
     ∷ checkVerdict false problemA (withEntries (wideEntry 1 (small 1) ++ entry 1 1))
     ∷ checkVerdict false problemA (withEntries (wideEntry 0 (1 ∷ 0 ∷ [])))
     ∷ []
-    ≡ accepted 0 (pos 0) 2 1
-    ∷ accepted 0 (pos 2) 2 1
-    ∷ accepted 0 (pos 2) 2 1
-    ∷ accepted 0 (pos 2) 2 1
-    ∷ refusedCheck (certificateRefusal 1 8 20 0)
-    ∷ refusedCheck (certificateRefusal 1 3 10 0)
-    ∷ refusedCheck (certificateRefusal 1 4 14 0)
-    ∷ refusedCheck (certificateRefusal 1 4 14 0)
-    ∷ refusedCheck (certificateRefusal 1 5 18 0)
-    ∷ refusedCheck (certificateRefusal 1 5 20 0)
-    ∷ refusedCheck (certificateRefusal 1 2 14 0)
+    ≡ checkAccepted 0 (over (pos 0) 1) 2 1
+    ∷ checkAccepted 0 (over (pos 2) 1) 2 1
+    ∷ checkAccepted 0 (over (pos 2) 1) 2 1
+    ∷ checkAccepted 0 (over (pos 2) 1) 2 1
+    ∷ checkRefused 8 1 20 0
+    ∷ checkRefused 3 1 10 0
+    ∷ checkRefused 4 1 14 0
+    ∷ checkRefused 4 1 14 0
+    ∷ checkRefused 5 1 18 0
+    ∷ checkRefused 5 1 20 0
+    ∷ checkRefused 2 1 14 0
     ∷ []
-unfolding listed fromTo sumTo number signed firstRefusal run readWhole degreeOf degree within among keysOf problemCommand appendAt fitting problemApplied problemRefusalAt problemNext readProblem basisOf multiplier multiplierOf kindOf member insert linked merged joinPair join addTerms addPair extend different singles start joinAll extendTo addingBases round same sameAll sameState closeFrom blocksIn countedKeys mostRounds Rounds.closingOf insertAll startFrom startSet closing tooLarge CertificateLayout.certificateCommand Certificate.certificateRefusalAt Certificate.certificateApplied Certificate.certificateNext readCertificate coefficient square squares claimOf blockOf firstOutside rowSplit splitBy firstDifference comparedKeys differenceKey judgeRead judge checkOf checkVerdict
+unfolding checking
 wide-factors = refl
 
 -- ---- joining rules
--- E with rule 1 named, as without it; with rule 2: "only the products of basis 0" are added, so 3 does not enter S, and 1
--- with x³ is not one block; rules 0 and 3; 08 as the first command, after another and a second time; 08 cut; a problem
--- of nothing but its rule
+-- the blocks call: its verdict, the first three bytes of basis 0 and the first of basis 1
+record Blocks : Type 0 where
+  verdict : BlocksVerdict
+  zero : List ℕ
+  one : List ℕ
+
+abbrev blocksOn : List ℕ → Blocks
+blocksOn s =
+    let bytes = bytesLeft false s lent in
+    record { verdict = blocksVerdict false s; zero = take 3 bytes; one = take 1 (drop 64 bytes) }
+
+abbrev found : ℕ → ℕ → ℕ → List ℕ → List ℕ → Blocks
+found blocks rounds rule zero one = record { verdict = blocksFound blocks rounds rule; zero = zero; one = one }
+
+-- the bytes as they were lent
+abbrev refusing : ℕ → ℕ → Blocks
+refusing number place = record { verdict = blocksRefused number place; zero = 7 ∷ 7 ∷ 7 ∷ []; one = 7 ∷ [] }
+
+-- E with rule 1 named, as without it; with rule 2: "only the products of basis 0" are added, so 3 does not enter S,
+-- and 1 with x³ is not one block; rules 0 and 3; 08 as the first command, after another and a second time; 08 cut; a
+-- problem of nothing but its rule
 pub rules :
-    map outcome
+    map blocksOn
     (problemEWith (rule 1)
     ∷ problemEWith (rule 2)
     ∷ problemEWith (rule 0)
@@ -222,15 +309,15 @@ pub rules :
     ∷ [])
     ≡ found 2 3 1 (0 ∷ 0 ∷ 255 ∷ []) (0 ∷ [])
     ∷ found 3 1 2 (0 ∷ 1 ∷ 255 ∷ []) (0 ∷ [])
-    ∷ refusedRow 4 2
-    ∷ refusedRow 4 2
-    ∷ refusedRow 3 0
-    ∷ refusedRow 3 15
-    ∷ refusedRow 3 4
-    ∷ refusedRow 2 2
+    ∷ refusing 4 2
+    ∷ refusing 4 2
+    ∷ refusing 3 0
+    ∷ refusing 3 15
+    ∷ refusing 3 4
+    ∷ refusing 2 2
     ∷ found 0 1 2 (255 ∷ 255 ∷ 255 ∷ []) (255 ∷ [])
     ∷ []
-unfolding listed fromTo sumTo number signed firstRefusal run readWhole degreeOf degree within among keysOf problemCommand appendAt fitting problemApplied problemRefusalAt problemNext readProblem basisOf multiplier multiplierOf member insert linked merged joinPair join addTerms addPair extend different singles start joinAll extendTo addingBases round same sameAll sameState closeFrom blocksIn countedKeys mostRounds Rounds.closingOf blockBytes insertAll startFrom startSet closing tooLarge blockTotal blocksOf blocksVerdict bytesOf bytesLeft
+unfolding blocking
 rules = refl
 
 -- under rule 2 the first round of E changes nothing
@@ -239,7 +326,7 @@ pub rounds-E-two :
     ≡ twoBases (0 ∷ 1 ∷ []) (0 ∷ []) (0 ∷ 1 ∷ 6 ∷ [])
     ∷ twoBases (0 ∷ 1 ∷ []) (0 ∷ []) (0 ∷ 1 ∷ 6 ∷ [])
     ∷ []
-unfolding listed fromTo number signed firstRefusal run readWhole degreeOf degree within among keysOf problemCommand appendAt fitting problemApplied problemRefusalAt problemNext readProblem basisOf multiplier multiplierOf member insert linked merged joinPair join addTerms addPair extend singles start joinAll extendTo addingBases round after insertAll startFrom startSet
+unfolding joining
 rounds-E-two = refl
 
 -- the bound 0 of E is accepted under either rule, in 1 round and in 3; x³ is not in S under rule 2, and yet counted and
@@ -253,24 +340,24 @@ pub checks-E :
     ∷ checkVerdict false (problemEWith (rule 2)) certificateAcross
     ∷ checkVerdict false (problemEWith (rule 1)) certificateAcross
     ∷ []
-    ≡ accepted 0 (pos 0) 1 2
-    ∷ accepted 0 (pos 0) 3 1
-    ∷ accepted 0 (pos 0) 3 1
-    ∷ refusedCheck (certificateRefusal 1 9 0 3)
-    ∷ refusedCheck (certificateRefusal 1 9 0 3)
-    ∷ refusedCheck (certificateRefusal 1 8 18 0)
-    ∷ refusedCheck (certificateRefusal 1 9 0 0)
+    ≡ checkAccepted 0 (over (pos 0) 1) 1 2
+    ∷ checkAccepted 0 (over (pos 0) 1) 3 1
+    ∷ checkAccepted 0 (over (pos 0) 1) 3 1
+    ∷ checkRefused 9 1 0 3
+    ∷ checkRefused 9 1 0 3
+    ∷ checkRefused 8 1 18 0
+    ∷ checkRefused 9 1 0 0
     ∷ []
-unfolding listed fromTo sumTo number signed firstRefusal run readWhole degreeOf degree within among keysOf problemCommand appendAt fitting problemApplied problemRefusalAt problemNext readProblem basisOf multiplier multiplierOf kindOf member insert linked merged joinPair join addTerms addPair extend different singles start joinAll extendTo addingBases round same sameAll sameState closeFrom blocksIn countedKeys mostRounds Rounds.closingOf insertAll startFrom startSet closing tooLarge CertificateLayout.certificateCommand Certificate.certificateRefusalAt Certificate.certificateApplied Certificate.certificateNext readCertificate coefficient square squares claimOf blockOf firstOutside rowSplit splitBy firstDifference comparedKeys differenceKey judgeRead judge checkOf checkVerdict
+unfolding checking
 checks-E = refl
 
 -- ---- sparse orders
--- E at the orders 1 to 4: after one round 1 and x³ are two blocks still; at 2, one below the number of all rounds, the
--- blocks are those of the closure already, and 2 rounds are reported; at 4 the rounds end sooner. Directly after an 08 of
--- either rule. k = 0, after 01 and after 08; 09 as the first command, after an 02, after two conditions, a second time
--- after 01 and after 08; 08 after 09; 09 cut, after 01 and after 08; a problem of nothing but its order
+-- E at the orders 1 to 4: after one round 1 and x³ are two blocks still; at 2, one below the number of all rounds,
+-- the blocks are those of the closure already, and 2 rounds are reported; at 4 the rounds end sooner. Directly after
+-- an 08 of either rule. k = 0, after 01 and after 08; 09 as the first command, after an 02, after two conditions, a
+-- second time after 01 and after 08; 08 after 09; 09 cut, after 01 and after 08; a problem of nothing but its order
 pub orders :
-    map outcome
+    map blocksOn
     (problemEWith (order 1)
     ∷ problemEWith (order 2)
     ∷ problemEWith (order 3)
@@ -297,23 +384,23 @@ pub orders :
     ∷ found 3 1 1 (0 ∷ 1 ∷ 255 ∷ []) (0 ∷ [])
     ∷ found 3 1 2 (0 ∷ 1 ∷ 255 ∷ []) (0 ∷ [])
     ∷ found 3 1 2 (0 ∷ 1 ∷ 255 ∷ []) (0 ∷ [])
-    ∷ refusedRow 4 2
-    ∷ refusedRow 4 4
-    ∷ refusedRow 3 0
-    ∷ refusedRow 3 15
-    ∷ refusedRow 3 4
-    ∷ refusedRow 3 4
-    ∷ refusedRow 3 6
-    ∷ refusedRow 3 4
-    ∷ refusedRow 2 2
-    ∷ refusedRow 2 4
+    ∷ refusing 4 2
+    ∷ refusing 4 4
+    ∷ refusing 3 0
+    ∷ refusing 3 15
+    ∷ refusing 3 4
+    ∷ refusing 3 4
+    ∷ refusing 3 6
+    ∷ refusing 3 4
+    ∷ refusing 2 2
+    ∷ refusing 2 4
     ∷ found 0 1 1 (255 ∷ 255 ∷ 255 ∷ []) (255 ∷ [])
     ∷ []
-unfolding listed fromTo sumTo number signed firstRefusal run readWhole degreeOf degree within among keysOf problemCommand appendAt orderPlace fitting problemApplied problemRefusalAt problemNext readProblem basisOf multiplier multiplierOf member insert linked merged joinPair join addTerms addPair extend different singles start joinAll extendTo addingBases round same sameAll sameState closeFrom blocksIn countedKeys mostRounds Rounds.closingOf blockBytes insertAll startFrom startSet closing tooLarge blockTotal blocksOf blocksVerdict bytesOf bytesLeft
+unfolding blocking
 orders = refl
 
--- a row on 1 and x³ is in two blocks at the order 1, and in one at every larger k and at full closure; the rounds are those
--- done. Under rule 2 the two are never joined
+-- a row on 1 and x³ is in two blocks at the order 1, and in one at every larger k and at full closure; the rounds are
+-- those done. Under rule 2 the two are never joined
 pub checks-order :
     checkVerdict false (problemZero (order 1)) certificateZero
     ∷ checkVerdict false (problemZero (order 2)) certificateZero
@@ -322,12 +409,12 @@ pub checks-order :
     ∷ checkVerdict false (problemZero []) certificateZero
     ∷ checkVerdict false (problemZero (rule 2 ++ order 255)) certificateZero
     ∷ []
-    ≡ refusedCheck (certificateRefusal 1 8 18 0)
-    ∷ accepted 0 (negsuc 0) 2 1
-    ∷ accepted 0 (negsuc 0) 3 1
-    ∷ accepted 0 (negsuc 0) 3 1
-    ∷ accepted 0 (negsuc 0) 3 1
-    ∷ refusedCheck (certificateRefusal 1 8 18 0)
+    ≡ checkRefused 8 1 18 0
+    ∷ checkAccepted 0 (over (negsuc 0) 1) 2 1
+    ∷ checkAccepted 0 (over (negsuc 0) 1) 3 1
+    ∷ checkAccepted 0 (over (negsuc 0) 1) 3 1
+    ∷ checkAccepted 0 (over (negsuc 0) 1) 3 1
+    ∷ checkRefused 8 1 18 0
     ∷ []
-unfolding listed fromTo sumTo number signed firstRefusal run readWhole degreeOf degree within among keysOf problemCommand appendAt orderPlace fitting problemApplied problemRefusalAt problemNext readProblem basisOf multiplier multiplierOf kindOf member insert linked merged joinPair join addTerms addPair extend different singles start joinAll extendTo addingBases round same sameAll sameState closeFrom blocksIn countedKeys mostRounds Rounds.closingOf insertAll startFrom startSet closing tooLarge CertificateLayout.certificateCommand Certificate.certificateRefusalAt Certificate.certificateApplied Certificate.certificateNext readCertificate coefficient square squares claimOf blockOf firstOutside rowSplit splitBy firstDifference comparedKeys differenceKey judgeRead judge checkOf checkVerdict
+unfolding checking
 checks-order = refl

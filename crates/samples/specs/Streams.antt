@@ -109,9 +109,10 @@ abbrev pub problemZero : List ℕ → List ℕ
 problemZero between = problemEOf equality between
 
 -- objective x, constraint 1 − x², bases {1, x} and {1}
-abbrev pub problemF : List ℕ
-problemF =
+abbrev pub problemFWith : List ℕ → List ℕ
+problemFWith between =
     variables 1
+    ++ between
     ++ objectiveTerm (exponents 1 0) 1
     ++ inequality
     ++ conditionTerm (exponents 0 0) 1
@@ -120,6 +121,9 @@ problemF =
     ++ memberCommand 0 (exponents 1 0)
     ++ memberCommand 1 (exponents 0 0)
     ++ end
+
+abbrev pub problemF : List ℕ
+problemF = problemFWith []
 
 -- document 02's equalities: objective x, equality x − 1, basis 1: 1
 abbrev pub problemEqual : List ℕ
@@ -207,6 +211,38 @@ lowF = headerMinus 0 2 255 1 ++ row 0 1 ++ entry 0 1 ++ entry 1 1 ++ row 1 1 ++ 
 
 abbrev pub highF : List ℕ
 highF = header 1 2 1 1 ++ row 0 1 ++ entry 0 1 ++ entryMinus 1 255 ++ row 1 1 ++ entry 0 1 ++ finish
+
+-- the rows of the lower one exchanged; the same bound as −2/2, with D = 1; and looser ones, by 2 × 1²:
+-- 2(x + 2) = (1 + x)² + (1 − x²) + 2 and 2(2 − x) = (1 − x)² + (1 − x²) + 2
+abbrev pub exchangedF : List ℕ
+exchangedF = headerMinus 0 2 255 1 ++ row 1 1 ++ entry 0 1 ++ row 0 1 ++ entry 0 1 ++ entry 1 1 ++ finish
+
+abbrev pub halfF : List ℕ
+halfF = headerMinus 0 1 254 2 ++ row 0 1 ++ entry 0 1 ++ entry 1 1 ++ row 1 1 ++ entry 0 1 ++ finish
+
+abbrev pub looseLowF : List ℕ
+looseLowF =
+    headerMinus 0 2 254 1
+    ++ row 0 1
+    ++ entry 0 1
+    ++ entry 1 1
+    ++ row 1 1
+    ++ entry 0 1
+    ++ row 0 2
+    ++ entry 0 1
+    ++ finish
+
+abbrev pub looseHighF : List ℕ
+looseHighF =
+    header 1 2 2 1
+    ++ row 0 1
+    ++ entry 0 1
+    ++ entryMinus 1 255
+    ++ row 1 1
+    ++ entry 0 1
+    ++ row 0 2
+    ++ entry 0 1
+    ++ finish
 
 -- q = 0
 abbrev pub certificateI : List ℕ

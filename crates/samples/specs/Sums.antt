@@ -2,10 +2,17 @@
 use mathlib.Core.List.{List, _++_}
 use Prim.Native.Nat.{ℕ}
 use Rattle.calls.specs.AddedBounds.{Streams, streams}
-use Rattle.samples.specs.Streams.{variables, exponents, inequality, equality, conditionTerm, conditionMinus, end, header, finish, problemF, lowF, highF}
+use Rattle.samples.specs.Streams.{variables, exponents, inequality, equality, conditionTerm, conditionMinus, end, header, finish, rule, problemF, problemFWith, lowF, halfF, highF}
 
 abbrev pub caseF : Streams
 caseF = streams problemF lowF highF
+
+-- F with the lower bound −2/2, and F under a joining rule
+abbrev pub halvesF : Streams
+halvesF = streams problemF halfF highF
+
+abbrev pub ruledF : ℕ → Streams
+ruledF r = streams (problemFWith (rule r)) lowF highF
 
 -- n variables and some conditions, no objective: both bounds are 0
 abbrev pub without : ℕ → List ℕ → Streams

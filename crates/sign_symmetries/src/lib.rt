@@ -9,7 +9,8 @@ ghost use Rattle.format.specs.ProblemRules.{Problem, readProblem};
 ghost use Rattle.flat.specs.Flat.{FlatProblem};
 ghost use Rattle.closure.specs.Tables.{FlatKeys};
 ghost use Rattle.calls.specs.Tables.{tableLength, tables, TablesLeft};
-ghost use Rattle.calls.specs.Promises.{NumberedTo};
+ghost use Rattle.calls.specs.Promises.{NumberedTo, SevenExactly};
+ghost use Rattle.calls.specs.Zeros.{SymmetriesZeros};
 ghost use Rattle.calls.specs.Symmetries.{parityByte, onesInCommon, isEven, passing, symmetriesOf};
 ghost use Rattle.calls.specs.Symmetries.{maskByteCount, symmetriesShort, refusedSymmetries, symmetriesFor};
 ghost use Rattle.calls.specs.Symmetries.{symmetriesRead, symmetriesVerdict};
@@ -235,6 +236,10 @@ pub fn symmetries(
     ensures group { λ r. ⌜
         SymmetryGroup (now (problem .entry)) (r .refusal .number) (r .masks) (now (out .exit))
         ⌝ }
+    ensures zeros { λ r. ⌜ SymmetriesZeros r ⌝ }
+    ensures seven { λ r.
+        let lent = tables (now (keys .entry)) (now (high .entry)) (now (low .entry)) in
+        ⌜ SevenExactly (symmetriesShort (now (out .entry)) lent) (now (problem .entry)) (r .refusal) ⌝ }
 {
     if out.len() < 256 {
         return refuse(1, 0);

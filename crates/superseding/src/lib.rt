@@ -3,10 +3,12 @@
 ghost use mathlib.Core.Path.{_≡_};
 ghost use Rattle.calls.specs.declared.Chosen.the-variants as Chosen;
 ghost use Rattle.calls.specs.Tables.{tables, tablesShort, TablesLeft};
-ghost use Rattle.calls.specs.Promises.{NumberedTo};
+ghost use Rattle.calls.specs.Rules.{UnderOne, AtLarger};
+ghost use Rattle.calls.specs.RowOrder.{SupersedingAnyOrder};
 ghost use Rattle.calls.specs.Superseding.{isTighter, comesBack, noneBack, tighterOf, supersedingOf, supersedingVerdict};
 ghost use Rattle.calls.specs.Superseding.{partOf, refusalIn};
-ghost use Rattle.calls.specs.Superseding.{ZeroExactly, HoldsBack, TighterBack, AloneBack, FirstRefusal, ElevenExactly};
+ghost use Rattle.calls.specs.Superseding.{SupersedingNumbered, ZeroExactly, ChosenZeros, PartZeros, HoldsBack};
+ghost use Rattle.calls.specs.Superseding.{TighterBack, AloneBack, FirstRefusal, ElevenExactly, TighterKept};
 use calls::CheckVerdict;
 use calls::Chosen;
 use calls::Fraction;
@@ -113,6 +115,9 @@ pub fn choose(
         let lent = tables (now (keys .entry)) (now (high .entry)) (now (low .entry)) in
         let left = tables (now (keys .exit)) (now (high .exit)) (now (low .exit)) in
         ⌜ TablesLeft (tablesShort lent) lent left ⌝ }
+    ensures zeros { λ r.
+        let f = refusalIn (now (number .exit)) (now (stream .exit)) (now (place .exit)) (now (key .exit)) in
+        ⌜ ChosenZeros f r ⌝ }
 {
     let two = checker::check_two(problem, first, second, keys, high, low);
     let a = two.first;
@@ -149,7 +154,8 @@ pub fn tighter<'a>(
         let lent = tables (now (keys .entry)) (now (high .entry)) (now (low .entry)) in
         let s = now (problem .entry) in
         let v = supersedingVerdict (tablesShort lent) s (now (first .entry)) (now (second .entry)) in
-        ⌜ (v .chosen ≡ Chosen.First → r ≡ first .entry) × (v .chosen ≡ Chosen.Second → r ≡ second .entry) ⌝ }
+        ⌜ (v .chosen ≡ Chosen.First → r ≡ first .entry) × (v .chosen ≡ Chosen.Second → r ≡ second .entry)
+        × (v .chosen ≡ Chosen.Neither → r .ptr ≡ first .entry .ptr) ⌝ }
     ensures numbers { λ _.
         let lent = tables (now (keys .entry)) (now (high .entry)) (now (low .entry)) in
         let s = now (problem .entry) in
@@ -159,7 +165,7 @@ pub fn tighter<'a>(
         let lent = tables (now (keys .entry)) (now (high .entry)) (now (low .entry)) in
         let left = tables (now (keys .exit)) (now (high .exit)) (now (low .exit)) in
         ⌜ TablesLeft (tablesShort lent) lent left ⌝ }
-    ensures numbered { λ _. ⌜ NumberedTo 11 (now (number .exit)) ⌝ }
+    ensures numbered { λ _. ⌜ SupersedingNumbered (now (number .exit)) ⌝ }
     ensures zero { λ r.
         let f = refusalIn (now (number .exit)) (now (stream .exit)) (now (place .exit)) (now (key .exit)) in
         ⌜ ZeroExactly (now r) f ⌝ }
@@ -178,6 +184,24 @@ pub fn tighter<'a>(
         let lent = tables (now (keys .entry)) (now (high .entry)) (now (low .entry)) in
         let f = refusalIn (now (number .exit)) (now (stream .exit)) (now (place .exit)) (now (key .exit)) in
         ⌜ ElevenExactly (tablesShort lent) (now (problem .entry)) (now (first .entry)) (now (second .entry)) f ⌝ }
+    ensures zeros { λ r.
+        let f = refusalIn (now (number .exit)) (now (stream .exit)) (now (place .exit)) (now (key .exit)) in
+        ⌜ PartZeros f (now r) ⌝ }
+    ensures under_one { λ r.
+        let lent = tables (now (keys .entry)) (now (high .entry)) (now (low .entry)) in
+        let s = now (problem .entry) in
+        let f = refusalIn (now (number .exit)) (now (stream .exit)) (now (place .exit)) (now (key .exit)) in
+        ⌜ TighterKept UnderOne (tablesShort lent) s (now (first .entry)) (now (second .entry)) (now r) f ⌝ }
+    ensures at_larger { λ r.
+        let lent = tables (now (keys .entry)) (now (high .entry)) (now (low .entry)) in
+        let s = now (problem .entry) in
+        let f = refusalIn (now (number .exit)) (now (stream .exit)) (now (place .exit)) (now (key .exit)) in
+        ⌜ TighterKept AtLarger (tablesShort lent) s (now (first .entry)) (now (second .entry)) (now r) f ⌝ }
+    ensures rows { λ r.
+        let lent = tables (now (keys .entry)) (now (high .entry)) (now (low .entry)) in
+        let s = now (problem .entry) in
+        let f = refusalIn (now (number .exit)) (now (stream .exit)) (now (place .exit)) (now (key .exit)) in
+        ⌜ SupersedingAnyOrder (tablesShort lent) s (now (first .entry)) (now (second .entry)) (now r) f ⌝ }
 {
     let chosen = choose(
         problem,

@@ -95,7 +95,7 @@ fn append_with_ratio(out: &mut [u8], at: usize, word: &[u8], f: Fraction) -> usi
 }
 
 // The hexadecimal digit of a number below 16.
-fn digit(n: u8) -> u8
+pub fn digit(n: u8) -> u8
     requires { ⌜ n < 16 ⌝ }
     ensures { λ r. ⌜ r ≡ glyph n ⌝ }
 {

@@ -35,8 +35,8 @@ fn put_records(text: &mut [u8], out: &[u8], count: usize) -> usize
     at
 }
 
-// The text for the records of a week.
-pub fn answer_to(records: &[u8], text: &mut [u8]) -> usize
+// Puts the text for the records of a week: at most 64 lines of 119 bytes, and one of 128.
+fn put_answer(records: &[u8], text: &mut [u8]) -> usize
     requires { ⌜ 8192 ≤ length (now text) ⌝ }
     ensures { λ r. ⌜ take r (now (text .exit)) ≡ weekAnswer (now (records .entry)) ⌝ }
 {
@@ -53,19 +53,12 @@ pub fn answer_to(records: &[u8], text: &mut [u8]) -> usize
     text::reports::append_last(text, at, v)
 }
 
-// Whether a file was read to its end, or the buffer is full. A read stops where the file ends and where it fails; one
-// more answers 0 at an end and less after a failure.
-fn is_whole(fd: i32, path: &[u8], n: usize, room: usize) -> bool {
-    if n < room {
-        let mut next = [0u8; 1];
-        if libc::read(fd, &mut next) < 0 {
-            messages::not_read(path);
-            return false;
-        }
-    } else if 7340032 < libc::lseek(fd, 0, libc::SEEK_END) {
-        messages::longer(path);
-    }
-    true
+// The text for the records of a week, at the start of the buffer, and how many bytes of it.
+pub fn answer_to(records: &[u8], text: &mut [u8; 8192]) -> usize
+    ensures text { λ r. ⌜ take r (now (text .exit)) ≡ weekAnswer (now (records .entry)) ⌝ }
+    ensures lengths { λ _. ⌜ length (now (text .exit)) ≡ 8192 ⌝ }
+{
+    put_answer(records, text)
 }
 
 // The bytes of a file, at the start of the buffer, and how many. A missing file is a week without records, and so is
@@ -73,15 +66,13 @@ fn is_whole(fd: i32, path: &[u8], n: usize, room: usize) -> bool {
 fn read_file(path: &[u8], bytes: &mut [u8]) -> usize
     ensures { λ n. ⌜ n ≤ length (now (bytes .exit)) ⌝ }
 {
-    let fd = os::open_read(path);
-    if fd < 0 {
-        messages::not_opened(path);
-        return 0;
-    }
-    let n = io::read_full(fd, bytes);
-    let whole = is_whole(fd, path, n, bytes.len());
-    libc::close(fd);
-    if whole { n } else { 0 }
+    file_reader::read_file(
+        b"weekcheck",
+        path,
+        b"7,340,032",
+        b"there are no records",
+        bytes,
+    )
 }
 
 // The bytes of the file that the first argument names, or of week.bin where there is none.

@@ -8,32 +8,32 @@ use Rattle.format.specs.Commands.{Outcome, refused, given}
 use Rattle.calls.specs.Report.{Runs, recordEnd, runsAt, withRuns, recordsFrom, recordsOf}
 use Rattle.calls.proofs.Records.{records-over, records-past, records-cut, records-one}
 use Rattle.weekly_report.specs.declared.Counted.the-variants.{Whole, Cut}
-use Rattle.weekly_report.specs.Steps.{countedFrom}
+use Rattle.weekly_report.specs.Steps.{countOutcome, countFrom}
 
-with-one : (r : Runs) (done : ℕ) (o : Outcome (List Runs)) → countedFrom done (withRuns r o) ≡ countedFrom (done + 1) o
+with-one : (r : Runs) (done : ℕ) (o : Outcome (List Runs)) → countFrom done (withRuns r o) ≡ countFrom (done + 1) o
 with-one r done (refused number place) = refl
-with-one r done (given l) = ap Whole (omega arith)
+with-one r done (given l) = ap given (omega arith)
 
 -- after some records what is left from an offset on gives the count
 pub record Counting (s : List ℕ) (at count : ℕ) : Type 0 where
   pub within : at ≤ length s
   pub few : count ≤ 64
-  pub is : countedFrom 0 (recordsOf s) ≡ countedFrom count (recordsFrom (64 - count) s at)
+  pub is : countFrom 0 (recordsOf s) ≡ countFrom count (recordsFrom (64 - count) s at)
 
 pub counting-none : (s : List ℕ) → Counting s 0 0
 unfolding recordsOf
 counting-none s = record { within = omega arith; few = omega arith; is = refl }
 
 module _ (s : List ℕ) (at count : ℕ) (c : Counting s at count) where
-  pub counted-past : at < length s → count ≡ 64 → Cut at ≡ countedFrom 0 (recordsOf s)
-  counted-past h e = sym (c .is ∙ rw e (ap (countedFrom 64) (records-past s at h)))
+  pub counted-past : at < length s → count ≡ 64 → countOutcome (Cut at) ≡ countFrom 0 (recordsOf s)
+  counted-past h e = sym (c .is ∙ rw e (ap (countFrom 64) (records-past s at h)))
 
-  pub counted-cut : at < length s → length s < recordEnd s at → Cut at ≡ countedFrom 0 (recordsOf s)
-  counted-cut h k = sym (c .is ∙ ap (countedFrom count) (records-cut s at h (64 - count) k))
+  pub counted-cut : at < length s → length s < recordEnd s at → countOutcome (Cut at) ≡ countFrom 0 (recordsOf s)
+  counted-cut h k = sym (c .is ∙ ap (countFrom count) (records-cut s at h (64 - count) k))
 
-  pub counted-all : length s ≤ at → Whole count ≡ countedFrom 0 (recordsOf s)
+  pub counted-all : length s ≤ at → countOutcome (Whole count) ≡ countFrom 0 (recordsOf s)
   counted-all h =
-      sym (c .is ∙ ap (countedFrom count) (records-over s at (64 - count) h) ∙ ap Whole (omega arith))
+      sym (c .is ∙ ap (countFrom count) (records-over s at (64 - count) h) ∙ ap given (omega arith))
 
   pub counting-more : at < length s → count < 64 → recordEnd s at ≤ length s → Counting s (recordEnd s at) (count + 1)
   counting-more h f k =
@@ -43,6 +43,6 @@ module _ (s : List ℕ) (at count : ℕ) (c : Counting s at count) where
         few = omega arith;
         is =
             c .is
-            ∙ rw e (ap (countedFrom count) (records-one s at h (64 - (count + 1)) k))
+            ∙ rw e (ap (countFrom count) (records-one s at h (64 - (count + 1)) k))
             ∙ with-one (runsAt s at) count (recordsFrom (64 - (count + 1)) s (recordEnd s at));
       }

@@ -12,34 +12,28 @@ use Rattle.format.specs.Commands.{Outcome, refused, given}
 use Rattle.calls.specs.Tables.{Tables, tablesShort, TablesLeft}
 use Rattle.calls.specs.declared.ReportVerdict.{ReportVerdict}
 use Rattle.calls.specs.Report.{Runs, recordsOf, recordLength, checkedRecords, outputLeft, isShort, refusedReport}
-use Rattle.calls.specs.Report.{reportVerdict, ReportNumbered, EachRecord, EachTold, OutputKept, WithinBounds, Summarised}
-use Rattle.calls.proofs.Records.{records-twelve}
-use Rattle.calls.proofs.Reports.{report-clauses}
+use Rattle.calls.specs.Report.{reportVerdict}
+use Rattle.calls.proofs.Reports.{ReportClauses, report-clauses}
 use Rattle.work_tables.proofs.Tables.{tables-kept}
 use Rattle.weekly_report.specs.declared.Counted.{Counted}
 use Rattle.weekly_report.specs.declared.Counted.the-variants.{Whole, Cut}
-use Rattle.weekly_report.specs.Steps.{countedFrom, Roomy, Answered}
+use Rattle.weekly_report.specs.Steps.{countOutcome, countFrom, Roomy, Answered}
 
 abbrev pub Promised : List ℕ → List ℕ → Tables → ReportVerdict → List ℕ → Tables → Type 0
 Promised s out lent v outLeft left =
     let o = checkedRecords (tablesShort lent) s out in
     (v ≡ reportVerdict o)
     × ((outLeft ≡ outputLeft o out)
-    × (TablesLeft (isShort o) lent left
-    × (ReportNumbered (v .refusal .number)
-    × (EachRecord s (v .refusal .number) outLeft
-    × (EachTold s (v .refusal .number) outLeft
-    × (OutputKept s (v .refusal .number) out outLeft × (WithinBounds s v × Summarised s v)))))))
+    × (TablesLeft (isShort o) lent left × ReportClauses (tablesShort lent) s out v outLeft))
 
 -- ---- what the count tells of the records
-counted-whole : (o : Outcome (List Runs)) (count : ℕ) → Whole count ≡ countedFrom 0 o
+counted-whole : (o : Outcome (List Runs)) (count : ℕ) → given count ≡ countFrom 0 o
     → record { list : List Runs; is : o ≡ given list; long : length list ≡ count }
 counted-whole (refused number place) count e = clash (cc)
 counted-whole (given l) count e = let f : count ≡ 0 + length l = cc in record { list = l; is = refl; long = omega arith }
 
-counted-cut : (o : Outcome (List Runs)) (place : ℕ) → Cut place ≡ countedFrom 0 o
-    → record { number : ℕ; is : o ≡ refused number place }
-counted-cut (refused number at) place e = let f : place ≡ at = cc in record { number = number; is = rw f refl }
+counted-cut : (o : Outcome (List Runs)) (place : ℕ) → refused 12 place ≡ countFrom 0 o → o ≡ refused 12 place
+counted-cut (refused number at) place e = cc
 counted-cut (given l) place e = clash (cc)
 
 module _ (s out : List ℕ) (lent : Tables) (bytes : Bounded 255 s) where
@@ -56,28 +50,27 @@ module _ (s out : List ℕ) (lent : Tables) (bytes : Bounded 255 s) where
   unfolding checkedRecords reportVerdict outputLeft
   tables-short h v e = by-outcome (refused 1 0) (rw h refl) v out lent e refl (tables-kept lent)
 
-  module _ (long : tablesShort lent ≡ false) (counted : Counted) (c : counted ≡ countedFrom 0 (recordsOf s)) where
+  module _ (long : tablesShort lent ≡ false) (counted : Counted) (c : countOutcome counted ≡ countFrom 0 (recordsOf s)) where
     -- "then 12"
     pub records-cut : (place : ℕ) → counted ≡ Cut place → (v : ReportVerdict) (left : Tables)
         → v ≡ refusedReport 12 place → TablesLeft false lent left → Promised s out lent v out left
-    unfolding checkedRecords reportVerdict outputLeft recordsOf
+    unfolding checkedRecords reportVerdict outputLeft
     records-cut place k v left e t =
-        let r = counted-cut (recordsOf s) place (sym k ∙ c) in
-        let n = records-twelve 64 s 0 (r .number) place (r .is) in
-        by-outcome (refused 12 place) (rw (long, r .is, n) refl) v out left e refl t
+        let r = counted-cut (recordsOf s) place (sym (ap countOutcome k) ∙ c) in
+        by-outcome (refused 12 place) (rw (long, r) refl) v out left e refl t
 
     module _ (count : ℕ) (k : counted ≡ Whole count) where
       -- "then 1 for an output below 32 bytes per record"
       pub output-short : length out / 32 < count → (v : ReportVerdict) → v ≡ refusedReport 1 0 → Promised s out lent v out lent
       unfolding checkedRecords reportVerdict outputLeft
       output-short h v e =
-          let r = counted-whole (recordsOf s) count (sym k ∙ c) in
+          let r = counted-whole (recordsOf s) count (sym (ap countOutcome k) ∙ c) in
           let f : length out < recordLength * length (r .list) = omega (arith, r .long) in
           by-outcome (refused 1 0) (rw (long, r .is, lt-ltb (length out) (recordLength * length (r .list)) f) refl) v out lent e refl (tables-kept lent)
 
       pub roomy : count ≤ length out / 32 → Roomy s out
       roomy h =
-          let r = counted-whole (recordsOf s) count (sym k ∙ c) in
+          let r = counted-whole (recordsOf s) count (sym (ap countOutcome k) ∙ c) in
           record { records = r .list; read = r .is; room = omega (arith, r .long) }
 
       pub all-answered : count ≤ length out / 32 → (v : ReportVerdict) (outLeft : List ℕ) (left : Tables) → Answered s out v outLeft

@@ -9,10 +9,16 @@ use Rattle.calls.specs.declared.ReportVerdict.{ReportVerdict}
 use Rattle.weekly_report.specs.declared.Counted.{Counted}
 use Rattle.weekly_report.specs.declared.Counted.the-variants.{Whole, Cut}
 
--- what is counted of the records that are left, after some
-abbrev pub countedFrom : ℕ → Outcome (List Runs) → Counted
-countedFrom done (refused number place) = Cut place
-countedFrom done (given l) = Whole (done + length l)
+-- what each case of the count says in the document's numbers: refusal 12, "for a record cut short or a byte after the
+-- 64th, at that record's or byte's offset", or how many records there are
+abbrev pub countOutcome : Counted → Outcome ℕ
+countOutcome (Whole count) = given count
+countOutcome (Cut place) = refused 12 place
+
+-- how many records there are in all, where those that are left come after some
+abbrev pub countFrom : ℕ → Outcome (List Runs) → Outcome ℕ
+countFrom done (refused number place) = refused number place
+countFrom done (given l) = given (done + length l)
 
 -- the input gives records, and the output has room for them
 pub record Roomy (s out : List ℕ) : Type 0 where

@@ -2,17 +2,21 @@
 // answers each by the pair.
 ghost use mathlib.Core.Path.{_≡_};
 ghost use mathlib.Core.Bool.{false, cond, _||_};
-ghost use Prim.Native.Nat.{_+_, _^_, _≤_, _<_};
+ghost use Prim.Native.Nat.{ℕ, _+_, _^_, _≤_, _<_};
 ghost use lib.Dec.{eqb};
 ghost use lib.ListN.{length};
+ghost use Rattle.format.specs.Commands.{refused};
 ghost use Rattle.format.specs.Operands.{number};
 ghost use Rattle.calls.specs.Tables.{tables, tablesShort, TablesLeft};
 ghost use Rattle.calls.specs.Report.{recordEnd, isCut, runsAt, recordsOf, recordCount, pairOn, checkedRecords};
 ghost use Rattle.calls.specs.Report.{outputLeft, isShort, withAccepted, withVerdict, refusedReport};
 ghost use Rattle.calls.specs.Report.{reportVerdict, ReportNumbered, EachRecord, EachTold, OutputKept, WithinBounds};
-ghost use Rattle.calls.specs.Report.{Summarised};
+ghost use Rattle.calls.specs.Report.{Summarised, EachZeros, EachKept};
+ghost use Rattle.calls.specs.Rules.{UnderOne, AtLarger};
+ghost use Rattle.calls.specs.Zeros.{ReportZeros};
+ghost use Rattle.calls.specs.RowOrder.{ReportAnyOrder};
 ghost use Rattle.work_tables.specs.Tables.{Long};
-ghost use Rattle.weekly_report.specs.Steps.{countedFrom, Roomy, Answered};
+ghost use Rattle.weekly_report.specs.Steps.{countOutcome, countFrom, Roomy, Answered};
 use calls::Fraction;
 use calls::PairVerdict;
 use calls::Refusal;
@@ -50,7 +54,7 @@ fn end_at(s: &[u8], at: usize) -> usize
 
 // The records of the input.
 fn count_records(s: &[u8]) -> Counted
-    ensures { λ r. ⌜ r ≡ countedFrom 0 (recordsOf (now (s .entry))) ⌝ }
+    ensures { λ r. ⌜ countOutcome r ≡ countFrom 0 (recordsOf (now (s .entry))) ⌝ }
 {
     let mut at = 0;
     let mut count = 0;
@@ -70,7 +74,8 @@ fn count_records(s: &[u8]) -> Counted
 
 // How many records the input holds; none where one is cut.
 pub fn record_count(records: &[u8]) -> usize
-    ensures { λ r. ⌜ r ≡ recordCount (recordsOf (now (records .entry))) ⌝ }
+    ensures count { λ r. ⌜ r ≡ recordCount (recordsOf (now (records .entry))) ⌝ }
+    ensures zeros { λ r. ⌜ ((place : ℕ) → recordsOf (now (records .entry)) ≡ refused 12 place → r ≡ 0) ⌝ }
 {
     match count_records(records) {
         Counted::Whole(count) => count,
@@ -216,6 +221,13 @@ pub fn report(
         ⌝ }
     ensures within { λ r. ⌜ WithinBounds (now (records .entry)) r ⌝ }
     ensures summary { λ r. ⌜ Summarised (now (records .entry)) r ⌝ }
+    ensures zeros { λ r. ⌜ ReportZeros r ⌝ }
+    ensures record_zeros { λ r. ⌜ EachZeros (now (records .entry)) (r .refusal .number) (now (out .exit)) ⌝ }
+    ensures under_one { λ r. ⌜ EachKept UnderOne (now (records .entry)) (r .refusal .number) (now (out .exit)) ⌝ }
+    ensures at_larger { λ r. ⌜ EachKept AtLarger (now (records .entry)) (r .refusal .number) (now (out .exit)) ⌝ }
+    ensures rows { λ r.
+        let lent = tables (now (keys .entry)) (now (high .entry)) (now (low .entry)) in
+        ⌜ ReportAnyOrder (tablesShort lent) (now (records .entry)) (now (out .entry)) r ⌝ }
 {
     if work_tables::is_short(keys.len(), high.len(), low.len()) {
         return refuse(1, 0);

@@ -55,7 +55,7 @@ module _ (keys sizes state₀ : List ℕ) where
       long = n .long;
       numbers = n .numbers;
       counts = n .counts;
-      made = λ i h nine l. ⊎-elim (λ e. let k : getD sizes i 0 ≤ 24 = rw e small in absurd (omega arith)) (λ d. n .made i (omega arith) nine l) (same-or-not i j);
+      made = λ i h nine l. ⊎-elim (λ e. let k : getD sizes i 0 ≤ 16 = rw e small in absurd (omega arith)) (λ d. n .made i (omega arith) nine l) (same-or-not i j);
       none = λ i h. n .none i (omega arith);
     }
 

@@ -14,7 +14,7 @@ use Rattle.key_set.proofs.Keys.{keys-rising}
 use Rattle.round_laws.specs.Added.{Between}
 use Rattle.round_laws.proofs.Sums.{done-grows}
 use Rattle.block_joining.specs.Adding.{plain}
-use Rattle.block_joining.specs.Standing.{Standing, standing, labelled, support, Ready, Grew}
+use Rattle.block_joining.specs.Standing.{Standing, standing, support, Ready, Grew}
 use Rattle.block_joining.specs.declared.Reach.{Reach}
 use Rattle.block_joining.proofs.Growing.{grown-length}
 
@@ -28,31 +28,31 @@ stored-over n S t r t′ idx′ g b S′ x = record {
 
 module _ (T B : List ℕ) where
   -- another basis has added to the support, or how far the round is was told anew
-  pub ready-grows : (b p t i : List ℕ) (r : Reach) → Ready T B (standing b p t i r) → (t′ i′ : List ℕ) (r′ : Reach)
+  pub ready-grows : (b f p t i : List ℕ) (r : Reach) → Ready T B (standing b f p t i r) → (t′ i′ : List ℕ) (r′ : Reach)
       → Holds t′ (r′ .len) → Indexed i′ t′ (r′ .len) → ((x : ℕ) → In x (keysIn (r .len) t) → In x (keysIn (r′ .len) t′))
       → r′ .since ≤ r′ .until → r′ .until ≤ r′ .len → r′ .blocks ≡ r .blocks → (plain < length B → r′ .bits ≡ r .bits) → r′ .adds ≡ r .adds
-      → Ready T B (standing b p t′ i′ r′)
-  ready-grows b p t i r d t′ i′ r′ h x keeps since until blocks bits adds = record {
+      → Ready T B (standing b f p t′ i′ r′)
+  ready-grows b f p t i r d t′ i′ r′ h x keeps since until blocks bits adds = record {
     basis = record { support = h; index = x; basis = d .basis .basis };
     blocks = d .blocks;
     count = blocks ∙ d .count;
     since = since;
     until = until;
     full = λ e.
-        let f = d .full (sym adds ∙ e) in
-        record { at = λ u v a c. record { at = λ q y m. keeps _ (f .at u v a c .at q y m) } };
+        let w = d .full (sym adds ∙ e) in
+        record { at = λ u v a c. record { at = λ q y m. keeps _ (w .at u v a c .at q y m) } };
     index = d .index;
     done = λ e l.
-        let f = d .done (sym adds ∙ e) l in
-        record { at = λ q a c. done-grows T (keysIn (r .len) t) (keysIn (r′ .len) t′) _ keeps (f .at q a c) };
+        let w = d .done (sym adds ∙ e) l in
+        record { at = λ q a c. done-grows T (keysIn (r .len) t) (keysIn (r′ .len) t′) _ keeps (w .at q a c) };
     met = d .met;
     bits = λ l. rw (bits l) (d .bits l);
   }
 
   -- a small basis has no index of pairs
   module _ (small : length B ≤ plain) where
-    pub ready-small : (b p t i : List ℕ) (r : Reach) → Ready T B (standing b p t i r) → (q : List ℕ) → Ready T B (standing b q t i r)
-    ready-small b p t i r d q = record {
+    pub ready-small : (b f p t i : List ℕ) (r : Reach) → Ready T B (standing b f p t i r) → (q : List ℕ) → Ready T B (standing b f q t i r)
+    ready-small b f p t i r d q = record {
       basis = d .basis;
       blocks = d .blocks;
       count = d .count;
@@ -65,14 +65,14 @@ module _ (T B : List ℕ) where
       bits = λ l. absurd (omega arith);
     }
 
-    pub grew-small : (P : ℕ → ℕ → Type 0) (b p t i : List ℕ) (r : Reach) (b′ p′ t′ i′ : List ℕ) (r′ : Reach)
-        → Grew T B P (standing b p t i r) (standing b′ p′ t′ i′ r′) → (q q′ : List ℕ) → Grew T B P (standing b q t i r) (standing b′ q′ t′ i′ r′)
-    grew-small P b p t i r b′ p′ t′ i′ r′ g q q′ = record {
+    pub grew-small : (P : ℕ → ℕ → Type 0) (b f p t i : List ℕ) (r : Reach) (b′ f′ p′ t′ i′ : List ℕ) (r′ : Reach)
+        → Grew T B P (standing b f p t i r) (standing b′ f′ p′ t′ i′ r′) → (q q′ : List ℕ) → Grew T B P (standing b f q t i r) (standing b′ f′ q′ t′ i′ r′)
+    grew-small P b f p t i r b′ f′ p′ t′ i′ r′ g q q′ = record {
       set = g .set;
       stored = g .stored;
       within = g .within;
       same = g .same;
-      fits = λ f. record { joins = g .fits f .joins; ready = ready-small b′ p′ t′ i′ r′ (g .fits f .ready) q′ };
+      fits = λ k. record { joins = g .fits k .joins; ready = ready-small b′ f′ p′ t′ i′ r′ (g .fits k .ready) q′ };
     }
 
   -- ---- what a joining leaves that is not given up
@@ -90,7 +90,7 @@ module _ (T B : List ℕ) where
         )
 
     -- the products of pairs that came into one block, and nothing else
-    pub grew-between : Between (s .reach .adds) T B (labelled B s) (labelled B s′) (support s) (g .set)
+    pub grew-between : Between (s .reach .adds) T B (s .labels) (s′ .labels) (support s) (g .set)
     grew-between =
         let j = g .fits few in
         record {
@@ -99,14 +99,14 @@ module _ (T B : List ℕ) where
           adds = λ a x p.
               let q = p .product in
               rw (← grew-keys, ← q .value)
-              (full-any T B (labelled B s′) (support s′) (j .ready .full (g .same .adds ∙ a)) (q .i) (q .k) (q .t) (q .first) (q .second) (q .together) (q .exponent));
+              (full-any T B (s′ .labels) (support s′) (j .ready .full (g .same .adds ∙ a)) (q .i) (q .k) (q .t) (q .first) (q .second) (q .together) (q .exponent));
           only = λ x m.
               ⊎-elim (λ w. inl w)
               (λ w.
               let q = w .1 in
               ⊎-elim
-              (λ e. inl (rw (← q .value) (full-any T B (labelled B s) (support s) (d .full (w .0)) (q .i) (q .k) (q .t) (q .first) (q .second) e (q .exponent))))
+              (λ e. inl (rw (← q .value) (full-any T B (s .labels) (support s) (d .full (w .0)) (q .i) (q .k) (q .t) (q .first) (q .second) e (q .exponent))))
               (λ e. inr (w .0, record { product = q; apart = e }))
-              (same-or-not (getD (labelled B s) (q .i) 0) (getD (labelled B s) (q .k) 0)))
-              (g .within .only (labelled B s′) (j .joins .joins) (j .joins .keeps) x m);
+              (same-or-not (getD (s .labels) (q .i) 0) (getD (s .labels) (q .k) 0)))
+              (g .within .only (s′ .labels) (j .joins .joins) (j .joins .keeps) x m);
         }

@@ -30,13 +30,14 @@ use Rattle.round_laws.specs.Added.{Product, Products}
 use Rattle.round_laws.proofs.Added.{product-grows}
 use Rattle.round_laws.proofs.Ending.{last-round}
 use Rattle.block_joining.specs.Limits.{ForBasis}
-use Rattle.block_joining.specs.Standing.{labelled, latest}
+use Rattle.block_joining.specs.Standing.{latest}
 use Rattle.block_joining.proofs.Growing.{grown-length, stored-then}
-use Rattle.whole_rounds.specs.Parts.{exponentsIn, basesIn, labelsIn, Arrays}
-use Rattle.whole_rounds.specs.Nine.{Nine, nine, stage, reachAt, standingAt, begun, AllReady, RoundAsks, Rounded}
+use Rattle.whole_rounds.specs.Parts.{exponentsIn, basesIn, labelsAt, labelsIn, Arrays}
+use Rattle.whole_rounds.specs.Nine.{Nine, nine, stage, reachAt, begun, AllReady, RoundAsks, Rounded}
 use Rattle.whole_rounds.specs.Settled.{Settled}
+use Rattle.whole_rounds.proofs.Labels.{bytes-held}
 use Rattle.whole_rounds.proofs.Ready.{stored-over, ready-grows}
-use Rattle.whole_rounds.proofs.Turns.{held-at, held-long, held-numbered}
+use Rattle.whole_rounds.proofs.Turns.{arrays-sizes, held-at, held-long, held-numbered}
 
 -- ---- the definition's rounds
 module _ (rule : ℕ) (g : Bases) where
@@ -114,10 +115,10 @@ module _ (keys sizes : List ℕ) (a : Arrays keys sizes) (s : Nine) (d : AllRead
   pub counts-few : (j : ℕ) → j < 9 → getD (s .state) j 0 ≤ 64
   counts-few j h =
       let e = d .at j h in
-      let l = labelled (basisIn keys sizes j) (standingAt s j) in
+      let l = labelsAt sizes (s .labels) j in
       omega (arith, e .count, different-lowest l (e .blocks .numbered), lowest-few 0 l, held-long keys sizes a s d j h, e .blocks .few)
 
-  pub counts-all : sumTo 9 (λ j. getD (s .state) j 0) ≡ blocksIn (labelsIn 128 sizes (s .blocks))
+  pub counts-all : sumTo 9 (λ j. getD (s .state) j 0) ≡ blocksIn (labelsIn sizes (s .labels))
   unfolding blocksIn
   counts-all = sumTo-same 9 _ _ (λ j h. d .at j h .count ∙ ap different (sym (held-at keys sizes a s j h)))
 
@@ -150,7 +151,7 @@ module _ (rule most : ℕ) (o : Closing) (n₀ : ℕ) (t₀ keys sizes : List �
   rising = keys-rising (s .stage .until) (s .table)
 
   -- all rounds are made
-  pub running-out : most ≤ c → 0 < most → Settled o n₀ t₀ (record { len = s .stage .len; rounds = c; blocks = left }) (s .table) (s .index) (blockBytes (labelsIn 128 sizes (s .blocks)))
+  pub running-out : most ≤ c → 0 < most → Settled o n₀ t₀ (record { len = s .stage .len; rounds = c; blocks = left }) (s .table) (s .index) (s .labels)
   unfolding closeFrom
   running-out h b =
       let z : most - c ≡ 0 = omega arith in
@@ -160,11 +161,11 @@ module _ (rule most : ℕ) (o : Closing) (n₀ : ℕ) (t₀ keys sizes : List �
         stored = rw q at (r .stored);
         rounds = λ _. ap (λ (v : Closing). v .rounds) e;
         blocks = λ _. r .blocks ∙ ap (λ (v : Closing). blocksIn (v .state .labels)) e;
-        labels = λ _. ap (λ (v : Closing). blockBytes (v .state .labels)) e;
+        labels = λ _. bytes-held sizes (arrays-sizes keys sizes (r .asks .arrays)) (s .labels) (r .asks .ready .bytes) ∙ ap (λ (v : Closing). blockBytes (v .state .labels)) e;
       }
 
-  module _ (h : c < most) (blocks pairs t idx state : List ℕ) (n : ℕ)
-      (k : Rounded keys sizes (round rule g old) (s .stage .len) (s .table) (nine blocks pairs t idx state (stage (s .stage .since) (s .stage .until) n (s .stage .adding)))) where
+  module _ (h : c < most) (labels follow pairs t idx state : List ℕ) (n : ℕ)
+      (k : Rounded keys sizes (round rule g old) (s .stage .len) (s .table) (nine labels follow pairs t idx state (stage (s .stage .since) (s .stage .until) n (s .stage .adding)))) where
     step : closeFrom rule g (most - c) old c ≡ cond (sameState old (round rule g old)) (record { state = round rule g old; rounds = c + 1 }) (closeFrom rule g (most - (c + 1)) (round rule g old) (c + 1))
     step = let z : most - c ≡ suc (most - (c + 1)) = omega arith in rw z (close-next rule g _ old c)
 
@@ -181,7 +182,7 @@ module _ (rule most : ℕ) (o : Closing) (n₀ : ℕ) (t₀ keys sizes : List �
     }
 
     module _ (b : n ≤ 2048) (total : ℕ) (e : total ≡ sumTo 9 (λ j. getD state j 0)) where
-      counted : total ≡ blocksIn (labelsIn 128 sizes blocks)
+      counted : total ≡ blocksIn (labelsIn sizes labels)
       counted = e ∙ counts-all keys sizes (r .asks .arrays) _ (k .ready b)
 
       new : keysIn n t ≡ round rule g old .support
@@ -191,7 +192,7 @@ module _ (rule most : ℕ) (o : Closing) (n₀ : ℕ) (t₀ keys sizes : List �
       size = grown-length (round rule g old .support) (s .table) n t (k .stored .grown) b
 
       -- this round has changed nothing
-      pub running-last : n ≡ s .stage .until → total ≡ left → Settled o n₀ t₀ (record { len = n; rounds = c + 1; blocks = left }) t idx (blockBytes (labelsIn 128 sizes blocks))
+      pub running-last : n ≡ s .stage .until → total ≡ left → Settled o n₀ t₀ (record { len = n; rounds = c + 1; blocks = left }) t idx labels
       running-last q f =
           let w : left ≡ blocksIn (round rule g old .labels) = sym f ∙ counted ∙ ap blocksIn (k .labels b) in
           let u : round rule g old ≡ old = last-round rule g old numbered (size ∙ q ∙ sym (r .apart)) (sym w ∙ r .blocks) in
@@ -201,7 +202,7 @@ module _ (rule most : ℕ) (o : Closing) (n₀ : ℕ) (t₀ keys sizes : List �
             stored = rw (ap (λ (x : Closing). x .state .support) v) at grown;
             rounds = λ _. ap (λ (x : Closing). x .rounds) v;
             blocks = λ _. w ∙ ap (λ (x : Closing). blocksIn (x .state .labels)) v;
-            labels = λ _. ap blockBytes (k .labels b ∙ ap (λ (x : Closing). x .state .labels) v);
+            labels = λ _. bytes-held sizes (arrays-sizes keys sizes (r .asks .arrays)) labels (k .ready b .bytes) ∙ ap blockBytes (k .labels b ∙ ap (λ (x : Closing). x .state .labels) v);
           }
 
       -- it has changed something
@@ -210,7 +211,7 @@ module _ (rule most : ℕ) (o : Closing) (n₀ : ℕ) (t₀ keys sizes : List �
         differs = state-differs old (round rule g old) (λ p q. d (sym size ∙ ap length q ∙ r .apart) (counted ∙ ap blocksIn (k .labels b ∙ p) ∙ sym (r .blocks)))
 
         abbrev s′ : Nine
-        s′ = nine blocks pairs t idx state (stage (s .stage .until) n n (s .stage .adding))
+        s′ = nine labels follow pairs t idx state (stage (s .stage .until) n n (s .stage .adding))
 
         now : begun sizes s′ ≡ round rule g old
         now = ap₂ (λ (L : List (List ℕ)) (S : List ℕ). record { labels = L; support = S }) (k .labels b) new
@@ -242,12 +243,13 @@ module _ (rule most : ℕ) (o : Closing) (n₀ : ℕ) (t₀ keys sizes : List �
         ready-next =
             let e = k .ready b in
             record {
-              long = e .long;
+              bytes = e .bytes;
+              links = e .links;
               room = e .room;
               numbers = e .numbers;
               at = λ j h.
                   let v = e .at j h in
-                  ready-grows (exponentsIn keys sizes j) (basisIn keys sizes j) _ _ t idx _ v t idx (reachAt state (s′ .stage) j) (v .basis .support) (v .basis .index) (λ x m. m) until-more (omega arith) refl (λ _. refl) refl;
+                  ready-grows (exponentsIn keys sizes j) (basisIn keys sizes j) _ _ _ t idx _ v t idx (reachAt state (s′ .stage) j) (v .basis .support) (v .basis .index) (λ x m. m) until-more (omega arith) refl (λ _. refl) refl;
             }
 
         asks-next : RoundAsks keys sizes s′

@@ -4,7 +4,7 @@ use mathlib.Core.Logic.{inr, ⊎-elim}
 use mathlib.Core.List.{List}
 use Prim.Native.Nat.{ℕ, _+_, _-_, _*_, _≤_, _<_}
 use native.Mathlib.Omega.{arith}
-use lib.ListN.{length, getD, drop, length-drop}
+use lib.ListN.{length, getD, drop}
 use lib.Seq.{getD-take, getD-drop}
 use borrow.Author.Tests.{ltb-true}
 use Rattle.counting.specs.Counting.{listed, sumTo}
@@ -20,13 +20,13 @@ use Rattle.flat.specs.Flat.{basisIn}
 use Rattle.flat.proofs.Flat.{part-length}
 use Rattle.round_laws.specs.Joins.{Recent}
 use Rattle.round_laws.specs.Added.{Products}
-use Rattle.round_laws.specs.Lists.{Lists, labelsOf, followOf}
+use Rattle.round_laws.specs.Lists.{Lists}
 use Rattle.round_laws.proofs.Sums.{products-all}
 use Rattle.round_laws.proofs.Lists.{lists-single}
 use Rattle.block_joining.specs.Adding.{plain}
 use Rattle.block_joining.specs.Standing.{latest, Ready}
 use Rattle.block_joining.proofs.Growing.{grown-length, stored-then}
-use Rattle.whole_rounds.specs.Parts.{piece, exponentsIn, basesIn, labelsIn, squaresTo}
+use Rattle.whole_rounds.specs.Parts.{piece, exponentsIn, basesIn, labelsAt, labelsIn, squaresTo}
 use Rattle.whole_rounds.specs.Nine.{Nine, nine, stage, standingAt, RoundAsks, AllNoted, AllSingle}
 use Rattle.whole_rounds.specs.Settled.{Starting, Settled}
 use Rattle.whole_rounds.specs.declared.Support.{Support}
@@ -45,14 +45,14 @@ recent-start t n T B L = record {
 }
 
 -- ---- the squares are put in
-module _ (keys sizes t₀ idx₀ : List ℕ) (p : Support) (z : Starting t₀ idx₀ p keys sizes) (blocks state : List ℕ) (single : AllSingle sizes blocks state)
+module _ (keys sizes t₀ idx₀ : List ℕ) (p : Support) (z : Starting t₀ idx₀ p keys sizes) (labels follow state : List ℕ) (single : AllSingle sizes labels follow state)
     (adding : ℕ) (e : adding ≡ addingBases (p .rule)) (n : ℕ) (t idx : List ℕ)
     (k : Stored (p .len) (squaresTo adding (basesIn keys sizes) (keysIn (p .len) t₀)) t₀ n t idx) where
   abbrev g : Bases
   g = basesIn keys sizes
 
   abbrev L : List (List ℕ)
-  L = labelsIn 128 sizes blocks
+  L = labelsIn sizes labels
 
   abbrev S₀ : List ℕ
   S₀ = keysIn (p .len) t₀
@@ -60,14 +60,14 @@ module _ (keys sizes t₀ idx₀ : List ℕ) (p : Support) (z : Starting t₀ id
   abbrev o : Closing
   o = closingOf (p .rule) (p .most) g S₀
 
-  labels-one : (j : ℕ) → j < 9 → labelsOf (length (basisIn keys sizes j)) (piece 128 blocks j) ≡ listed (length (basisIn keys sizes j)) (λ i. i)
+  labels-one : (j : ℕ) → j < 9 → labelsAt sizes labels j ≡ listed (length (basisIn keys sizes j)) (λ i. i)
   labels-one j h = rw (basis-long keys sizes (z .held .arrays) j h) (single .single .labels j h)
 
   shaped : Shaped g L
   shaped = record {
-    nine = labels-nine 128 sizes blocks;
+    nine = labels-nine sizes labels;
     long = λ j h.
-        ap length (labels-at 128 sizes blocks j h ∙ single .single .labels j h) ∙ listed-length (getD sizes j 0) (λ i. i) ∙ sym (basis-long keys sizes (z .held .arrays) j h);
+        ap length (labels-at sizes labels j h ∙ single .single .labels j h) ∙ listed-length (getD sizes j 0) (λ i. i) ∙ sym (basis-long keys sizes (z .held .arrays) j h);
   }
 
   few : adding ≤ 9
@@ -128,7 +128,7 @@ module _ (keys sizes t₀ idx₀ : List ℕ) (p : Support) (z : Starting t₀ id
 
     module _ (pairs : List ℕ) (noted : AllNoted keys sizes pairs state) where
       abbrev s : Nine
-      s = nine blocks pairs t idx state (stage 0 (p .len) n adding)
+      s = nine labels follow pairs t idx state (stage 0 (p .len) n adding)
 
       module _ (j : ℕ) (h : j < 9) where
         abbrev T : List ℕ
@@ -137,27 +137,27 @@ module _ (keys sizes t₀ idx₀ : List ℕ) (p : Support) (z : Starting t₀ id
         abbrev B : List ℕ
         B = basisIn keys sizes j
 
-        part-long : length (piece 128 blocks j) ≡ 128
-        part-long = part-length 128 (128 * j) blocks (omega (arith, single .single .long))
+        part-long : length (piece 64 follow j) ≡ 64
+        part-long = part-length 64 (64 * j) follow (omega (arith, single .links))
 
         small : length B ≤ 64
         small = z .held .arrays .limits j h .basis .few
 
-        ends : (x : ℕ) → x < length B → 64 ≤ getD (followOf (piece 128 blocks j)) x 0
+        ends : (x : ℕ) → x < length B → 64 ≤ getD (piece 64 follow j) x 0
         ends x c =
-            rw (getD-drop 64 (piece 128 blocks j) x 0, getD-take 128 (drop (128 * j) blocks) (64 + x) 0 (omega (arith, small)), getD-drop (128 * j) blocks (64 + x) 0)
-            (single .single .last j x h (omega (arith, small)))
+            rw (getD-take 64 (drop (64 * j) follow) x 0 (omega (arith, small)), getD-drop (64 * j) follow x 0)
+            (single .last (64 * j + x) (omega (arith, small)))
 
-        lists : Lists (followOf (piece 128 blocks j)) (labelsOf (length B) (piece 128 blocks j))
-        lists = rw (labels-one j h) (lists-single (length B) (followOf (piece 128 blocks j)) small (omega (arith, small, part-long, length-drop 64 (piece 128 blocks j))) ends)
+        lists : Lists (piece 64 follow j) (labelsAt sizes labels j)
+        lists = rw (labels-one j h) (lists-single (length B) (piece 64 follow j) small (omega (arith, small, part-long)) ends)
 
         not-small : plain < length B → plain < getD sizes j 0
         not-small l = omega (arith, basis-long keys sizes (z .held .arrays) j h)
 
-        ready-one : Ready T B (standingAt s j)
+        ready-one : Ready T B (standingAt sizes s j)
         ready-one = record {
           basis = record { support = grown-holds (k .grown) (z .held .support .room) b; index = k .index b; basis = z .held .arrays .limits j h };
-          blocks = record { long = part-long; few = small; numbered = rw (labels-one j h) (singles-numbered (length B)); lists = lists };
+          blocks = record { size = ap length (labels-one j h) ∙ listed-length (length B) (λ i. i); long = part-long; few = small; numbered = rw (labels-one j h) (singles-numbered (length B)); lists = lists };
           count = single .counts j h ∙ sym (basis-long keys sizes (z .held .arrays) j h) ∙ rw (labels-one j h) (sym (singles-count (length B)));
           since = omega arith;
           until = longer;
@@ -172,7 +172,7 @@ module _ (keys sizes t₀ idx₀ : List ℕ) (p : Support) (z : Starting t₀ id
       asks-first = record {
         arrays = z .held .arrays;
         adding = few;
-        ready = record { long = single .single .long; room = noted .room; numbers = single .numbers; at = ready-one };
+        ready = record { bytes = single .single .bytes; links = single .links; room = noted .room; numbers = single .numbers; at = ready-one };
         products = rw (same-first, new) products;
         recent = λ j h. recent-start t (p .len) (exponentsIn keys sizes j) (basisIn keys sizes j) _;
       }

@@ -7,7 +7,7 @@ use Prim.Native.Nat.{ℕ, _+_, _-_, _*_, _≤_, _<_}
 use native.Mathlib.Omega.{arith}
 use lib.Dec.{ltb}
 use lib.ListN.{length, getD, take, drop, set, length-set}
-use lib.Seq.{length-take-le, take-take, getD-set-same, getD-set-other}
+use lib.Seq.{take-take, getD-set-same, getD-set-other}
 use Rattle.counting.specs.Counting.{listed}
 use Rattle.counting.proofs.Cases.{lt-or-le}
 use Rattle.counting.proofs.Listed.{same-or-not, listed-same, listed-all}
@@ -23,16 +23,15 @@ use Rattle.flat.specs.Flat.{basisIn}
 use Rattle.flat.proofs.Flat.{part-take, part-length}
 use Rattle.round_laws.specs.Joins.{Together, Has, Through, Blocks, Recent}
 use Rattle.round_laws.specs.Added.{Products, Between, Within}
-use Rattle.round_laws.specs.Lists.{labelsOf}
 use Rattle.round_laws.proofs.Joins.{joins-once, join-is}
 use Rattle.round_laws.proofs.Added.{extend-products, between-products, within-products, round-agrees}
-use Rattle.block_joining.specs.Standing.{standing, labelled, latest, Ready}
+use Rattle.block_joining.specs.Standing.{standing, latest, Ready}
 use Rattle.block_joining.specs.declared.Reach.{Reach}
 use Rattle.block_joining.proofs.Growing.{stored-then}
-use Rattle.whole_rounds.specs.Parts.{piece, exponentsIn, basesIn, labelsIn, Sizes, Arrays}
+use Rattle.whole_rounds.specs.Parts.{piece, exponentsIn, basesIn, labelsAt, labelsIn, Sizes, Arrays}
 use Rattle.whole_rounds.specs.Nine.{Nine, nine, stage, reachAt, standingAt, begun, AsksAt, JoinedAt, AllReady, RoundAsks, Rounded}
 use Rattle.whole_rounds.proofs.Pieces.{turned, turned-none, turned-before, turned-from, turned-more, turned-all}
-use Rattle.whole_rounds.proofs.Labels.{labels-nine, labels-at, labels-set}
+use Rattle.whole_rounds.proofs.Labels.{labels-nine, labels-at, labels-set, others-kept}
 use Rattle.whole_rounds.proofs.Ready.{stored-over, ready-grows, grew-keys, grew-more, grew-between}
 
 -- ---- the arrays
@@ -44,19 +43,17 @@ module _ (keys sizes : List ℕ) (a : Arrays keys sizes) where
   arrays-sizes = record { nine = omega (arith, a .counted); small = λ j h. omega (arith, basis-long j h, a .limits j h .basis .few) }
 
   -- the blocks of basis j, as it stands
-  pub held-at : (s : Nine) (j : ℕ) → j < 9 → getD (labelsIn 128 sizes (s .blocks)) j [] ≡ labelled (basisIn keys sizes j) (standingAt s j)
-  held-at s j h = labels-at 128 sizes (s .blocks) j h ∙ ap (λ (n : ℕ). labelsOf n (piece 128 (s .blocks) j)) (sym (basis-long j h))
+  pub held-at : (s : Nine) (j : ℕ) → j < 9 → getD (labelsIn sizes (s .labels)) j [] ≡ labelsAt sizes (s .labels) j
+  held-at s j h = labels-at sizes (s .labels) j h
 
   module _ (s : Nine) (r : AllReady keys sizes s) where
-    pub held-long : (j : ℕ) → j < 9 → length (labelled (basisIn keys sizes j) (standingAt s j)) ≡ length (basisIn keys sizes j)
-    held-long j h =
-        let b = r .at j h .blocks in
-        length-take-le (length (basisIn keys sizes j)) (piece 128 (s .blocks) j) (omega (arith, b .long, b .few))
+    pub held-long : (j : ℕ) → j < 9 → length (labelsAt sizes (s .labels) j) ≡ length (basisIn keys sizes j)
+    held-long j h = r .at j h .blocks .size
 
-    pub held-shaped : Shaped (basesIn keys sizes) (labelsIn 128 sizes (s .blocks))
-    held-shaped = record { nine = labels-nine 128 sizes (s .blocks); long = λ j h. ap length (held-at s j h) ∙ held-long j h }
+    pub held-shaped : Shaped (basesIn keys sizes) (labelsIn sizes (s .labels))
+    held-shaped = record { nine = labels-nine sizes (s .labels); long = λ j h. ap length (held-at s j h) ∙ held-long j h }
 
-    pub held-numbered : AllNumbered (basesIn keys sizes) (labelsIn 128 sizes (s .blocks))
+    pub held-numbered : AllNumbered (basesIn keys sizes) (labelsIn sizes (s .labels))
     held-numbered = record { shape = held-shaped; at = λ j h. rw (held-at s j h) (r .at j h .blocks .numbered) }
 
 -- ---- a round of the definition, from the state o: those before basis j have joined
@@ -108,8 +105,8 @@ module _ (g : Bases) (o : State) where
 -- ---- the loop
 pub record Turn (keys sizes : List ℕ) (s₀ : Nine) (j : ℕ) (s : Nine) : Type 0 where
   pub ready : AllReady keys sizes s
-  pub labels : labelsIn 128 sizes (s .blocks) ≡ joinedTo (basesIn keys sizes) (begun sizes s₀) j
-  pub products : Products (s₀ .stage .adding) (basesIn keys sizes) (labelsIn 128 sizes (s .blocks)) (begun sizes s₀ .support) (keysIn (s .stage .len) (s .table))
+  pub labels : labelsIn sizes (s .labels) ≡ joinedTo (basesIn keys sizes) (begun sizes s₀) j
+  pub products : Products (s₀ .stage .adding) (basesIn keys sizes) (labelsIn sizes (s .labels)) (begun sizes s₀ .support) (keysIn (s .stage .len) (s .table))
   pub stored : Stored (s₀ .stage .len) (keysIn (s .stage .len) (s .table)) (s₀ .table) (s .stage .len) (s .table) (s .index)
   pub more : s₀ .stage .len ≤ s .stage .len
   pub pairs : length (s .pairs) ≡ length (s₀ .pairs)
@@ -139,9 +136,9 @@ module _ (keys sizes : List ℕ) (s₀ : Nine) (asks : RoundAsks keys sizes s₀
         pairs = refl;
       }
 
-  module _ (j : ℕ) (blocks pairs t idx state : List ℕ) (n : ℕ) (u : Turn keys sizes s₀ j (nine blocks pairs t idx state (stage (s₀ .stage .since) (s₀ .stage .until) n (s₀ .stage .adding)))) where
+  module _ (j : ℕ) (labels follow pairs t idx state : List ℕ) (n : ℕ) (u : Turn keys sizes s₀ j (nine labels follow pairs t idx state (stage (s₀ .stage .since) (s₀ .stage .until) n (s₀ .stage .adding)))) where
     abbrev s : Nine
-    s = nine blocks pairs t idx state (stage (s₀ .stage .since) (s₀ .stage .until) n (s₀ .stage .adding))
+    s = nine labels follow pairs t idx state (stage (s₀ .stage .since) (s₀ .stage .until) n (s₀ .stage .adding))
 
     few : n ≤ 2048
     few = u .ready .at 0 (omega arith) .basis .support .few
@@ -170,14 +167,15 @@ module _ (keys sizes : List ℕ) (s₀ : Nine) (asks : RoundAsks keys sizes s₀
       B = basisIn keys sizes j
 
       -- basis j has not joined yet
-      not-joined : labelled B (standingAt s j) ≡ getD (o .labels) j []
+      not-joined : labelsAt sizes labels j ≡ getD (o .labels) j []
       not-joined = sym (held-at keys sizes (asks .arrays) s j h) ∙ ap (λ (L : List (List ℕ)). getD L j []) (u .labels) ∙ joined-from g o j j h (omega arith)
 
-      pub turn-asks : AsksAt keys sizes blocks pairs t idx (reachAt state (stage (s₀ .stage .since) (s₀ .stage .until) n (s₀ .stage .adding)) j) j
+      pub turn-asks : AsksAt keys sizes labels follow pairs t idx (reachAt state (stage (s₀ .stage .since) (s₀ .stage .until) n (s₀ .stage .adding)) j) j
       turn-asks = record {
         arrays = asks .arrays;
         basis = h;
-        long = u .ready .long;
+        long = u .ready .bytes .long;
+        links = u .ready .links;
         room = u .ready .room;
         joining = record {
           ready = u .ready .at j h;
@@ -185,9 +183,9 @@ module _ (keys sizes : List ℕ) (s₀ : Nine) (asks : RoundAsks keys sizes s₀
         };
       }
 
-      module _ (blocks′ pairs′ t′ idx′ : List ℕ) (r′ : Reach) (k : JoinedAt keys sizes blocks pairs t idx (reachAt state (stage (s₀ .stage .since) (s₀ .stage .until) n (s₀ .stage .adding)) j) j blocks′ pairs′ t′ idx′ r′) where
+      module _ (labels′ follow′ pairs′ t′ idx′ : List ℕ) (r′ : Reach) (k : JoinedAt keys sizes labels follow pairs t idx (reachAt state (stage (s₀ .stage .since) (s₀ .stage .until) n (s₀ .stage .adding)) j) j labels′ follow′ pairs′ t′ idx′ r′) where
         abbrev M : List ℕ
-        M = labelsOf (length B) (piece 128 blocks′ j)
+        M = labelsAt sizes labels′ j
 
         -- where the support has too many keys, that of the round has
         pub turn-over : 2048 < r′ .len → (rule : ℕ) → addingBases rule ≡ s₀ .stage .adding
@@ -196,7 +194,7 @@ module _ (keys sizes : List ℕ) (s₀ : Nine) (asks : RoundAsks keys sizes s₀
             stored-over (s₀ .stage .len) (k .grew .set) (s₀ .table) (r′ .len) t′ idx′
             (stored-then (s₀ .stage .len) (keysIn n t) (s₀ .table) n t idx (u .more) few (u .stored) (k .grew .set) (r′ .len) t′ idx′ (k .grew .stored))
             b (round rule g o .support)
-            (within-products (s₀ .stage .adding) g (o .support) (labelsIn 128 sizes blocks) (round rule g o .labels) (keysIn n t) (k .grew .set) (round rule g o .support) (u .products)
+            (within-products (s₀ .stage .adding) g (o .support) (labelsIn sizes labels) (round rule g o .labels) (keysIn n t) (k .grew .set) (round rule g o .support) (u .products)
             (rw e at (round-products g o rule shaped (keys-rising (s₀ .stage .until) (s₀ .table))))
             (rw (u .labels) (joined-coarser g o rule shaped j))
             (asks .adding) j h (Through T B (keysIn (s₀ .stage .until) t))
@@ -208,55 +206,53 @@ module _ (keys sizes : List ℕ) (s₀ : Nine) (asks : RoundAsks keys sizes s₀
 
         module _ (b : r′ .len ≤ 2048) where
           new : keysIn (r′ .len) t′ ≡ k .grew .set
-          new = grew-keys T B _ (standingAt s j) _ (u .ready .at j h) (k .grew) b
+          new = grew-keys T B _ (standingAt sizes s j) _ (u .ready .at j h) (k .grew) b
 
           -- the blocks are those of the rule
           pub turn-joined : M ≡ joined g o j
           turn-joined =
               let e = held-long keys sizes (asks .arrays) s (u .ready) j h in
-              joins-once (length B) (Through T B (keysIn (s₀ .stage .until) t)) (labelled B (standingAt s j)) M _ e (k .grew .fits b .joins)
-              (join-is (keysIn (s₀ .stage .until) t) T B (labelled B (standingAt s j)) (record { long = e; numbered = u .ready .at j h .blocks .numbered }))
+              joins-once (length B) (Through T B (keysIn (s₀ .stage .until) t)) (labelsAt sizes labels j) M _ e (k .grew .fits b .joins)
+              (join-is (keysIn (s₀ .stage .until) t) T B (labelsAt sizes labels j) (record { long = e; numbered = u .ready .at j h .blocks .numbered }))
               ∙ rw (same-keys, not-joined) refl
 
           abbrev s′ : Nine
-          s′ = nine blocks′ pairs′ t′ idx′ (set state j (r′ .blocks)) (stage (s₀ .stage .since) (s₀ .stage .until) (r′ .len) (s₀ .stage .adding))
+          s′ = nine labels′ follow′ pairs′ t′ idx′ (set state j (r′ .blocks)) (stage (s₀ .stage .since) (s₀ .stage .until) (r′ .len) (s₀ .stage .adding))
 
-          now-labels : labelsIn 128 sizes blocks′ ≡ set (labelsIn 128 sizes blocks) j M
-          now-labels =
-              labels-set 128 sizes blocks j h blocks′ (k .other-blocks)
-              ∙ ap (λ (m : ℕ). set (labelsIn 128 sizes blocks) j (labelsOf m (piece 128 blocks′ j))) (sym (basis-long keys sizes (asks .arrays) j h))
+          now-labels : labelsIn sizes labels′ ≡ set (labelsIn sizes labels) j M
+          now-labels = labels-set sizes labels j h labels′ (k .other-labels)
 
-          now-products : Products (s₀ .stage .adding) g (set (labelsIn 128 sizes blocks) j M) (o .support) (k .grew .set)
+          now-products : Products (s₀ .stage .adding) g (set (labelsIn sizes labels) j M) (o .support) (k .grew .set)
           now-products =
               let e = held-at keys sizes (asks .arrays) s j h in
-              between-products (s₀ .stage .adding) g (o .support) (labelsIn 128 sizes blocks) (keysIn n t) (k .grew .set) (u .products) j h
-              (omega (arith, labels-nine 128 sizes blocks)) M
+              between-products (s₀ .stage .adding) g (o .support) (labelsIn sizes labels) (keysIn n t) (k .grew .set) (u .products) j h
+              (omega (arith, labels-nine sizes labels)) M
               (rw e (k .grew .fits b .joins .keeps))
-              (rw e (grew-between T B _ (standingAt s j) _ (u .ready .at j h) (k .grew) b))
+              (rw e (grew-between T B _ (standingAt sizes s j) _ (u .ready .at j h) (k .grew) b))
 
           now-more : n ≤ r′ .len
-          now-more = grew-more T B _ (standingAt s j) _ (u .ready .at j h) (k .grew) b
+          now-more = grew-more T B _ (standingAt sizes s j) _ (u .ready .at j h) (k .grew) b
 
-          now-ready : (y : ℕ) → y < 9 → Ready (exponentsIn keys sizes y) (basisIn keys sizes y) (standingAt s′ y)
+          now-ready : (y : ℕ) → y < 9 → Ready (exponentsIn keys sizes y) (basisIn keys sizes y) (standingAt sizes s′ y)
           now-ready y c = ⊎-elim (λ e. rw e here) other (same-or-not y j)
             where
-              d : Ready T B (standing (piece 128 blocks′ j) (piece 6240 pairs′ j) t′ idx′ r′)
+              d : Ready T B (standing (labelsAt sizes labels′ j) (piece 64 follow′ j) (piece 6240 pairs′ j) t′ idx′ r′)
               d = k .grew .fits b .ready
 
-              v : Ready (exponentsIn keys sizes y) (basisIn keys sizes y) (standingAt s y)
+              v : Ready (exponentsIn keys sizes y) (basisIn keys sizes y) (standingAt sizes s y)
               v = u .ready .at y c
 
-              here : Ready T B (standingAt s′ j)
+              here : Ready T B (standingAt sizes s′ j)
               here =
-                  ready-grows T B _ _ t′ idx′ r′ d t′ idx′ (reachAt (s′ .state) (s′ .stage) j) (d .basis .support) (d .basis .index) (λ x m. m) (v .since) (omega (arith, v .until, now-more))
+                  ready-grows T B _ _ _ t′ idx′ r′ d t′ idx′ (reachAt (s′ .state) (s′ .stage) j) (d .basis .support) (d .basis .index) (λ x m. m) (v .since) (omega (arith, v .until, now-more))
                   (getD-set-same state j (r′ .blocks) 0 (omega (arith, u .ready .numbers)))
                   (λ _. getD-set-other state j (9 + j) (r′ .blocks) 0 (λ q. omega arith) ∙ sym (k .grew .same .bits))
                   (sym (k .grew .same .adds))
 
-              other : (y ≡ j → ⊥) → Ready (exponentsIn keys sizes y) (basisIn keys sizes y) (standingAt s′ y)
+              other : (y ≡ j → ⊥) → Ready (exponentsIn keys sizes y) (basisIn keys sizes y) (standingAt sizes s′ y)
               other q =
-                  rw (k .other-blocks .others y c q, k .other-pairs .others y c q)
-                  (ready-grows (exponentsIn keys sizes y) (basisIn keys sizes y) _ _ t idx _ v t′ idx′ (reachAt (s′ .state) (s′ .stage) y) (d .basis .support) (d .basis .index)
+                  rw (k .other-labels .others y c q, k .other-follow .others y c q, k .other-pairs .others y c q)
+                  (ready-grows (exponentsIn keys sizes y) (basisIn keys sizes y) _ _ _ t idx _ v t′ idx′ (reachAt (s′ .state) (s′ .stage) y) (d .basis .support) (d .basis .index)
                   (λ x m. rw new (k .grew .within .keeps x m)) (v .since) (omega (arith, v .until, now-more))
                   (getD-set-other state j y (r′ .blocks) 0 q)
                   (λ _. getD-set-other state j (9 + y) (r′ .blocks) 0 (λ e. omega arith))
@@ -265,7 +261,8 @@ module _ (keys sizes : List ℕ) (s₀ : Nine) (asks : RoundAsks keys sizes s₀
           pub turn-next : Turn keys sizes s₀ (j + 1) s′
           turn-next = record {
             ready = record {
-              long = k .other-blocks .long ∙ u .ready .long;
+              bytes = others-kept sizes labels (u .ready .bytes) j labels′ (k .other-labels);
+              links = k .other-follow .long ∙ u .ready .links;
               room = record { at = λ y c l. k .other-pairs .long ∙ u .ready .room .at y c l };
               numbers = length-set state j (r′ .blocks) ∙ u .ready .numbers;
               at = now-ready;
@@ -281,7 +278,7 @@ module _ (keys sizes : List ℕ) (s₀ : Nine) (asks : RoundAsks keys sizes s₀
     pub turn-end : 9 ≤ j → j ≤ 9 → (rule : ℕ) → addingBases rule ≡ s₀ .stage .adding → Rounded keys sizes (round rule g o) (s₀ .stage .len) (s₀ .table) s
     turn-end c d rule e =
         let q : j ≡ 9 = omega arith in
-        let l : labelsIn 128 sizes blocks ≡ round rule g o .labels = u .labels ∙ ap (joinedTo g o) q ∙ joined-all g o rule in
+        let l : labelsIn sizes labels ≡ round rule g o .labels = u .labels ∙ ap (joinedTo g o) q ∙ joined-all g o rule in
         let w : keysIn n t ≡ round rule g o .support =
         round-agrees rule g (o .support) o (keysIn n t) shaped (keys-rising (s₀ .stage .until) (s₀ .table)) (λ x m. m) (λ x m. inl m) (rw (l, ← e) at (u .products)) in
         record { stored = rw w at (u .stored); labels = λ _. l; ready = λ _. u .ready }

@@ -12,23 +12,31 @@ use Rattle.round_laws.specs.Joins.{Through, Recent}
 use Rattle.round_laws.specs.Added.{Products}
 use Rattle.block_joining.specs.Pairs.{PairsMade}
 use Rattle.block_joining.specs.Adding.{plain}
-use Rattle.block_joining.specs.Standing.{Standing, standing, labelled, lookedAt, latest, Ready, Grew, JoiningAsks}
+use Rattle.block_joining.specs.Standing.{Standing, standing, latest, Ready, Grew, JoiningAsks}
 use Rattle.block_joining.specs.declared.Reach.{Reach}
-use Rattle.whole_rounds.specs.Parts.{piece, exponentsIn, basesIn, labelsIn, Arrays, PieceOnly, SingleBlocks, Room}
+use Rattle.whole_rounds.specs.Parts.{piece, exponentsIn, basesIn, labelsAt, labelsIn, Arrays, PieceOnly, LabelsOnly, Others255, SingleBlocks, Room}
 use Rattle.whole_rounds.specs.declared.Stage.{Stage}
 
--- the five arrays that change, and how far the round is
+-- the six arrays that change, and how far the round is
 pub record Nine : Type 0 where
-  pub blocks : List ℕ
+  pub labels : List ℕ
+  pub follow : List ℕ
   pub pairs : List ℕ
   pub table : List ℕ
   pub index : List ℕ
   pub state : List ℕ
   pub stage : Stage
 
-abbrev pub nine : List ℕ → List ℕ → List ℕ → List ℕ → List ℕ → Stage → Nine
-nine blocks pairs table index state stage =
-    record { blocks = blocks; pairs = pairs; table = table; index = index; state = state; stage = stage }
+abbrev pub nine : List ℕ → List ℕ → List ℕ → List ℕ → List ℕ → List ℕ → Stage → Nine
+nine labels follow pairs table index state stage = record {
+  labels = labels;
+  follow = follow;
+  pairs = pairs;
+  table = table;
+  index = index;
+  state = state;
+  stage = stage;
+}
 
 abbrev pub stage : ℕ → ℕ → ℕ → ℕ → Stage
 stage since until len adding = record { since = since; until = until; len = len; adding = adding }
@@ -44,42 +52,46 @@ reachAt state s j = record {
   adds = ltb j (s .adding);
 }
 
-abbrev pub standingAt : Nine → ℕ → Standing
-standingAt s j =
-    standing (piece 128 (s .blocks) j) (piece 6240 (s .pairs) j) (s .table) (s .index) (reachAt (s .state) (s .stage) j)
+abbrev pub standingAt : List ℕ → Nine → ℕ → Standing
+standingAt sizes s j =
+    standing (labelsAt sizes (s .labels) j) (piece 64 (s .follow) j) (piece 6240 (s .pairs) j) (s .table) (s .index)
+    (reachAt (s .state) (s .stage) j)
 
 -- the blocks when a round begins, and the support that its joinings look at
 abbrev pub begun : List ℕ → Nine → State
 begun sizes s =
-    record { labels = labelsIn 128 sizes (s .blocks); support = keysIn (s .stage .until) (s .table) }
+    record { labels = labelsIn sizes (s .labels); support = keysIn (s .stage .until) (s .table) }
 
 -- ---- the joining of basis j
 -- what it asks
-pub record AsksAt (keys sizes blocks pairs t idx : List ℕ) (r : Reach) (j : ℕ) : Type 0 where
+pub record AsksAt (keys sizes labels follow pairs t idx : List ℕ) (r : Reach) (j : ℕ) : Type 0 where
   pub arrays : Arrays keys sizes
   pub basis : j < 9
-  pub long : length blocks ≡ 1152
+  pub long : length labels ≡ 576
+  pub links : length follow ≡ 576
   pub room : Room sizes pairs
   pub joining : JoiningAsks (exponentsIn keys sizes j) (basisIn keys sizes j)
-      (standing (piece 128 blocks j) (piece 6240 pairs j) t idx r)
+      (standing (labelsAt sizes labels j) (piece 64 follow j) (piece 6240 pairs j) t idx r)
 
 -- what it leaves: the basis is joined by what the members before `until` link, and no other piece has changed
-pub record JoinedAt (keys sizes blocks pairs t idx : List ℕ) (r : Reach) (j : ℕ) (blocks′ pairs′ t′ idx′ : List ℕ)
-    (r′ : Reach) : Type 0 where
+pub record JoinedAt (keys sizes labels follow pairs t idx : List ℕ) (r : Reach) (j : ℕ)
+    (labels′ follow′ pairs′ t′ idx′ : List ℕ) (r′ : Reach) : Type 0 where
   pub grew : Grew (exponentsIn keys sizes j) (basisIn keys sizes j)
       (Through (exponentsIn keys sizes j) (basisIn keys sizes j) (keysIn (r .until) t))
-      (standing (piece 128 blocks j) (piece 6240 pairs j) t idx r)
-      (standing (piece 128 blocks′ j) (piece 6240 pairs′ j) t′ idx′ r′)
-  pub other-blocks : PieceOnly 128 j blocks blocks′
+      (standing (labelsAt sizes labels j) (piece 64 follow j) (piece 6240 pairs j) t idx r)
+      (standing (labelsAt sizes labels′ j) (piece 64 follow′ j) (piece 6240 pairs′ j) t′ idx′ r′)
+  pub other-labels : LabelsOnly sizes j labels labels′
+  pub other-follow : PieceOnly 64 j follow follow′
   pub other-pairs : PieceOnly 6240 j pairs pairs′
 
 -- ---- a round
 -- every basis is in order
 pub record AllReady (keys sizes : List ℕ) (s : Nine) : Type 0 where
-  pub long : length (s .blocks) ≡ 1152
+  pub bytes : Others255 sizes (s .labels)
+  pub links : length (s .follow) ≡ 576
   pub room : Room sizes (s .pairs)
   pub numbers : length (s .state) ≡ 18
-  pub at : (j : ℕ) → j < 9 → Ready (exponentsIn keys sizes j) (basisIn keys sizes j) (standingAt s j)
+  pub at : (j : ℕ) → j < 9 → Ready (exponentsIn keys sizes j) (basisIn keys sizes j) (standingAt sizes s j)
 
 -- what a round asks: the support has, beside the members before `until`, the products of the bases that add, and what
 -- the members before `since` link is in one block already
@@ -91,12 +103,12 @@ pub record RoundAsks (keys sizes : List ℕ) (s : Nine) : Type 0 where
       (keysIn (s .stage .len) (s .table))
   pub recent : (j : ℕ) → j < 9
       → Recent (begun sizes s .support) (exponentsIn keys sizes j) (basisIn keys sizes j)
-      (labelled (basisIn keys sizes j) (standingAt s j)) (latest (s .table) (s .stage .since) (s .stage .until))
+      (labelsAt sizes (s .labels) j) (latest (s .table) (s .stage .since) (s .stage .until))
 
 -- what it leaves, where the table was t: the support of the state o, and its blocks, unless it has too many keys
 pub record Rounded (keys sizes : List ℕ) (o : State) (n : ℕ) (t : List ℕ) (s : Nine) : Type 0 where
   pub stored : Stored n (o .support) t (s .stage .len) (s .table) (s .index)
-  pub labels : s .stage .len ≤ 2048 → labelsIn 128 sizes (s .blocks) ≡ o .labels
+  pub labels : s .stage .len ≤ 2048 → labelsIn sizes (s .labels) ≡ o .labels
   pub ready : s .stage .len ≤ 2048 → AllReady keys sizes s
 
 -- ---- before the first round
@@ -107,7 +119,9 @@ pub record AllNoted (keys sizes pairs state : List ℕ) : Type 0 where
       → PairsMade (exponentsIn keys sizes j) (basisIn keys sizes j) (getD state (9 + j) 0) (piece 6240 pairs j)
 
 -- every index is a block of its own
-pub record AllSingle (sizes blocks state : List ℕ) : Type 0 where
-  pub single : SingleBlocks sizes blocks
+pub record AllSingle (sizes labels follow state : List ℕ) : Type 0 where
+  pub single : SingleBlocks sizes labels
+  pub links : length follow ≡ 576
+  pub last : (x : ℕ) → x < 576 → 64 ≤ getD follow x 0
   pub numbers : length state ≡ 18
   pub counts : (j : ℕ) → j < 9 → getD state j 0 ≡ getD sizes j 0

@@ -7,7 +7,6 @@ use lib.ListN.{length, getD, take, drop}
 use Rattle.counting.specs.Counting.{listed, fromTo}
 use Rattle.joining_rule.specs.Rounds.{Bases}
 use Rattle.flat.specs.Flat.{basisAt, exponentsAt, countAt, basisIn}
-use Rattle.round_laws.specs.Lists.{labelsOf}
 use Rattle.block_joining.specs.Limits.{OneBasis}
 use Rattle.block_joining.specs.Adding.{plain, addSquares}
 
@@ -23,9 +22,12 @@ exponentsIn keys sizes j = take (getD sizes (countAt j) 0) (drop (exponentsAt j)
 abbrev pub basesIn : List ℕ → List ℕ → Bases
 basesIn keys sizes = record { basis = basisIn keys sizes; multiplier = exponentsIn keys sizes }
 
--- the nine lists of block numbers that bytes hold, in pieces of w
-unfoldable pub labelsIn : ℕ → List ℕ → List ℕ → List (List ℕ)
-labelsIn w sizes bytes = listed 9 (λ j. labelsOf (getD sizes j 0) (piece w bytes j))
+-- the block numbers of basis j, and the nine lists of them, that bytes hold: byte 64j + i has that of index i
+abbrev pub labelsAt : List ℕ → List ℕ → ℕ → List ℕ
+labelsAt sizes bytes j = take (getD sizes j 0) (drop (64 * j) bytes)
+
+unfoldable pub labelsIn : List ℕ → List ℕ → List (List ℕ)
+labelsIn sizes bytes = listed 9 (labelsAt sizes bytes)
 
 -- S with the products of each index with itself, for the bases before n
 unfoldable pub squaresTo : ℕ → Bases → List ℕ → List ℕ
@@ -48,12 +50,21 @@ pub record PieceOnly (w j : ℕ) (l l′ : List ℕ) : Type 0 where
   pub long : length l′ ≡ length l
   pub others : (i : ℕ) → i < 9 → (i ≡ j → ⊥) → piece w l′ i ≡ piece w l i
 
--- 128 bytes for each basis, as in the crate block_joining, in which every index is a block of its own
-pub record SingleBlocks (sizes blocks : List ℕ) : Type 0 where
-  pub long : length blocks ≡ 1152
-  pub labels : (j : ℕ) → j < 9
-      → labelsOf (getD sizes j 0) (piece 128 blocks j) ≡ listed (getD sizes j 0) (λ i. i)
-  pub last : (j i : ℕ) → j < 9 → i < 64 → 64 ≤ getD blocks (128 * j + (64 + i)) 0
+-- of the bytes only the block numbers of basis j have changed
+pub record LabelsOnly (sizes : List ℕ) (j : ℕ) (l l′ : List ℕ) : Type 0 where
+  pub long : length l′ ≡ length l
+  pub others : (i : ℕ) → i < 9 → (i ≡ j → ⊥) → labelsAt sizes l′ i ≡ labelsAt sizes l i
+  pub rest : (i x : ℕ) → i < 9 → getD sizes i 0 ≤ x → x < 64 → getD l′ (64 * i + x) 255 ≡ getD l (64 * i + x) 255
+
+-- "all others 255": 576 bytes, in which those that no index has are 255
+pub record Others255 (sizes l : List ℕ) : Type 0 where
+  pub long : length l ≡ 576
+  pub rest : (j x : ℕ) → j < 9 → getD sizes j 0 ≤ x → x < 64 → getD l (64 * j + x) 255 ≡ 255
+
+-- every index is a block of its own
+pub record SingleBlocks (sizes l : List ℕ) : Type 0 where
+  pub bytes : Others255 sizes l
+  pub labels : (j : ℕ) → j < 9 → labelsAt sizes l j ≡ listed (getD sizes j 0) (λ i. i)
 
 -- there is room for the pairs, unless every basis is small
 pub record Room (sizes pairs : List ℕ) : Type 0 where

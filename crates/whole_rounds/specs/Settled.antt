@@ -34,4 +34,4 @@ pub record Missing (t idx : List ℕ) (s : Support) (keys sizes l : List ℕ) : 
   pub held : Supported t idx (s .len) keys sizes
   pub long : length l ≡ 576
   pub full : AllFull (addingBases (s .rule)) (basesIn keys sizes)
-      (record { labels = labelsIn 64 sizes l; support = keysIn (s .len) t })
+      (record { labels = labelsIn sizes l; support = keysIn (s .len) t })

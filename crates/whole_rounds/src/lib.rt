@@ -1,8 +1,9 @@
 // The joining rule over all nine bases, round by round. The problem's bases and multipliers stand in `keys` and `sizes`
 // as in the crate flat. The first numbers of `table` are the support, in the order in which they came, with `index`.
-// The blocks of basis j stand from place 128j on in `blocks`, as in the crate block_joining, and the index of its pairs
-// from place 6240j on in `pairs`, where the basis is not small. Place j of `state` has the number of its blocks, and
-// place 9 + j the bits of the sums of its pairs.
+// Byte 64j + i of `labels` is the block number of index i of basis j, and byte 64j + i of `follow` the index that follows
+// it in its block, as in the crate block_joining. The index of the basis's pairs stands from place 6240j on in `pairs`,
+// where the basis is not small. Place j of `state` has the number of its blocks, and place 9 + j the bits of the sums of
+// its pairs.
 ghost use mathlib.Core.Path.{_≡_};
 ghost use mathlib.Core.Bool.{true};
 ghost use Prim.Native.Nat.{ℕ, _+_, _≤_, _<_};
@@ -10,7 +11,6 @@ ghost use lib.ListN.{length, getD, replicate};
 ghost use Rattle.counting.specs.Counting.{listed, sumTo};
 ghost use Rattle.key_set.specs.Table.{keysIn, Stored};
 ghost use Rattle.joining_rule.specs.Rounds.{extendTo, addingBases, round, closingOf};
-ghost use Rattle.joining_rule.specs.Bytes.{blockBytes};
 ghost use Rattle.block_joining.specs.Adding.{plain};
 ghost use Rattle.whole_rounds.specs.Parts.{basesIn, labelsIn, squaresTo, Sizes, Arrays, SingleBlocks, Room};
 ghost use Rattle.whole_rounds.specs.Nine.{nine, stage, begun, AsksAt, JoinedAt, RoundAsks, Rounded, AllNoted, AllSingle};
@@ -30,43 +30,15 @@ fn number(part: &mut [u8])
 }
 
 // The blocks at the start, in bytes that are 255 everywhere: each index of each basis.
-fn start_blocks(blocks: &mut [u8], sizes: &[usize])
-    requires { ⌜ Sizes (now sizes) × (now blocks ≡ replicate 1152 255) ⌝ }
-    ensures { λ _. ⌜ SingleBlocks (now (sizes .entry)) (now (blocks .exit)) ⌝ }
-{
-    let mut j = 0;
-    while j < 9 {
-        let a = 128 * j;
-        let e = a + sizes[j];
-        number(&mut blocks[a..e]);
-        j += 1;
-    }
-}
-
-// Bytes copied.
-fn copy(part: &mut [u8], from: &[u8])
-    requires { ⌜ length (now part) ≡ length (now from) ⌝ }
-    ensures { λ _. ⌜ now (part .exit) ≡ now (from .entry) ⌝ }
-{
-    let mut i = 0;
-    while i < part.len() {
-        part[i] = from[i];
-        i += 1;
-    }
-}
-
-// The block numbers of every basis, in bytes that are 255 everywhere.
-fn write_labels(labels: &mut [u8], blocks: &[u8], sizes: &[usize])
-    requires { ⌜ Sizes (now sizes) × (length (now blocks) ≡ 1152) × (now labels ≡ replicate 576 255) ⌝ }
-    ensures { λ _. ⌜ now (labels .exit) ≡ blockBytes (labelsIn 128 (now (sizes .entry)) (now (blocks .entry))) ⌝ }
+fn start_blocks(labels: &mut [u8], sizes: &[usize])
+    requires { ⌜ Sizes (now sizes) × (now labels ≡ replicate 576 255) ⌝ }
+    ensures { λ _. ⌜ SingleBlocks (now (sizes .entry)) (now (labels .exit)) ⌝ }
 {
     let mut j = 0;
     while j < 9 {
         let a = 64 * j;
         let e = a + sizes[j];
-        let b = 128 * j;
-        let f = b + sizes[j];
-        copy(&mut labels[a..e], &blocks[b..f]);
+        number(&mut labels[a..e]);
         j += 1;
     }
 }
@@ -96,7 +68,8 @@ fn adding_bases(rule: usize) -> usize
 
 // Basis j joins.
 fn join_at(
-    blocks: &mut [u8],
+    labels: &mut [u8],
+    follow: &mut [u8],
     keys: &[u64],
     sizes: &[usize],
     pairs: &mut [u16],
@@ -105,25 +78,36 @@ fn join_at(
     r: Reach,
     j: usize,
 ) -> Reach
-    requires { ⌜ AsksAt (now keys) (now sizes) (now blocks) (now pairs) (now table) (now index) r j ⌝ }
+    requires { ⌜ AsksAt (now keys) (now sizes) (now labels) (now follow) (now pairs) (now table) (now index) r j ⌝ }
     ensures { λ r′. ⌜
-        JoinedAt (now (keys .entry)) (now (sizes .entry)) (now (blocks .entry)) (now (pairs .entry))
-        (now (table .entry)) (now (index .entry)) r j (now (blocks .exit)) (now (pairs .exit)) (now (table .exit))
+        JoinedAt (now (keys .entry)) (now (sizes .entry)) (now (labels .entry)) (now (follow .entry)) (now (pairs .entry))
+        (now (table .entry)) (now (index .entry)) r j (now (labels .exit)) (now (follow .exit)) (now (pairs .exit)) (now (table .exit))
         (now (index .exit)) r′
         ⌝ }
 {
     let basis = flat::basis(keys, sizes, j);
     let exponents = flat::exponents(keys, sizes, j);
-    let a = 128 * j;
-    let e = a + 128;
-    let part = &mut blocks[a..e];
+    let a = 64 * j;
+    let e = a + sizes[j];
+    let part = &mut labels[a..e];
+    let f = a + 64;
+    let links = &mut follow[a..f];
     if sizes[j] <= block_joining::PLAIN {
         let mut none = [0u16; 1];
-        return block_joining::join(part, basis, exponents, &mut none, table, index, r);
+        return block_joining::join(part, links, basis, exponents, &mut none, table, index, r);
     }
     let p = 6240 * j;
     let q = p + 6240;
-    block_joining::join(part, basis, exponents, &mut pairs[p..q], table, index, r)
+    block_joining::join(
+        part,
+        links,
+        basis,
+        exponents,
+        &mut pairs[p..q],
+        table,
+        index,
+        r,
+    )
 }
 
 // How far a round is: the members after the first `since` came in the round before, and the support had `until` keys
@@ -138,7 +122,8 @@ struct Stage {
 // A round: every basis joins by the members before `until`, and adds the products of the blocks that it makes one. The
 // number of the support's keys.
 fn round(
-    blocks: &mut [u8],
+    labels: &mut [u8],
+    follow: &mut [u8],
     keys: &[u64],
     sizes: &[usize],
     pairs: &mut [u16],
@@ -148,17 +133,17 @@ fn round(
     s: Stage,
 ) -> usize
     requires { ⌜
-        RoundAsks (now keys) (now sizes) (nine (now blocks) (now pairs) (now table) (now index) (now state) s)
+        RoundAsks (now keys) (now sizes) (nine (now labels) (now follow) (now pairs) (now table) (now index) (now state) s)
         ⌝ }
     ensures { λ r. ⌜
         ((rule : ℕ) → addingBases rule ≡ s .adding
         → Rounded (now (keys .entry)) (now (sizes .entry))
         (round rule (basesIn (now (keys .entry)) (now (sizes .entry)))
         (begun (now (sizes .entry))
-        (nine (now (blocks .entry)) (now (pairs .entry)) (now (table .entry)) (now (index .entry))
+        (nine (now (labels .entry)) (now (follow .entry)) (now (pairs .entry)) (now (table .entry)) (now (index .entry))
         (now (state .entry)) s)))
         (s .len) (now (table .entry))
-        (nine (now (blocks .exit)) (now (pairs .exit)) (now (table .exit)) (now (index .exit)) (now (state .exit))
+        (nine (now (labels .exit)) (now (follow .exit)) (now (pairs .exit)) (now (table .exit)) (now (index .exit)) (now (state .exit))
         (stage (s .since) (s .until) r (s .adding))))
         ⌝ }
 {
@@ -173,7 +158,7 @@ fn round(
             bits: state[9 + j],
             adds: j < s.adding,
         };
-        let r = join_at(blocks, keys, sizes, pairs, table, index, reach, j);
+        let r = join_at(labels, follow, keys, sizes, pairs, table, index, reach, j);
         n = r.len;
         state[j] = r.blocks;
         if 2048 < n {
@@ -230,7 +215,8 @@ fn add_squares(
 
 // Rounds until one changes neither a block nor the support, or the support has too many keys, or the most were made.
 fn run(
-    blocks: &mut [u8],
+    labels: &mut [u8],
+    follow: &mut [u8],
     keys: &[u64],
     sizes: &[usize],
     pairs: &mut [u16],
@@ -241,14 +227,14 @@ fn run(
 ) -> Closed
     requires { ⌜
         Starting (now table) (now index) support (now keys) (now sizes)
-        × AllSingle (now sizes) (now blocks) (now state)
+        × AllSingle (now sizes) (now labels) (now follow) (now state)
         × AllNoted (now keys) (now sizes) (now pairs) (now state)
         ⌝ }
     ensures { λ r. ⌜
         Settled
         (closingOf (support .rule) (support .most) (basesIn (now (keys .entry)) (now (sizes .entry)))
         (keysIn (support .len) (now (table .entry)))) (support .len) (now (table .entry)) r (now (table .exit))
-        (now (index .exit)) (blockBytes (labelsIn 128 (now (sizes .entry)) (now (blocks .exit))))
+        (now (index .exit)) (now (labels .exit))
         ⌝ }
 {
     let adding = adding_bases(support.rule);
@@ -271,7 +257,7 @@ fn run(
             len,
             adding,
         };
-        len = round(blocks, keys, sizes, pairs, table, index, state, s);
+        len = round(labels, follow, keys, sizes, pairs, table, index, state, s);
         rounds += 1;
         if 2048 < len {
             return Closed {
@@ -312,7 +298,7 @@ pub fn put_missing(
     ensures { λ r. ⌜
         Stored (support .len)
         (extendTo 9 (basesIn (now (keys .entry)) (now (sizes .entry)))
-        (labelsIn 64 (now (sizes .entry)) (now (labels .entry))) (keysIn (support .len) (now (table .entry))))
+        (labelsIn (now (sizes .entry)) (now (labels .entry))) (keysIn (support .len) (now (table .entry))))
         (now (table .entry)) r (now (table .exit)) (now (index .exit))
         ⌝ }
 {
@@ -356,7 +342,8 @@ fn note_all(pairs: &mut [u16], state: &mut [u64; 18], keys: &[u64], sizes: &[usi
 
 // The rounds, with the index of the pairs.
 fn run_indexed(
-    blocks: &mut [u8],
+    labels: &mut [u8],
+    follow: &mut [u8],
     keys: &[u64],
     sizes: &[usize],
     table: &mut [u64],
@@ -366,19 +353,20 @@ fn run_indexed(
 ) -> Closed
     requires { ⌜
         Starting (now table) (now index) support (now keys) (now sizes)
-        × AllSingle (now sizes) (now blocks) (now state)
+        × AllSingle (now sizes) (now labels) (now follow) (now state)
         ⌝ }
     ensures { λ r. ⌜
         Settled
         (closingOf (support .rule) (support .most) (basesIn (now (keys .entry)) (now (sizes .entry)))
         (keysIn (support .len) (now (table .entry)))) (support .len) (now (table .entry)) r (now (table .exit))
-        (now (index .exit)) (blockBytes (labelsIn 128 (now (sizes .entry)) (now (blocks .exit))))
+        (now (index .exit)) (now (labels .exit))
         ⌝ }
 {
     let mut pairs = [0u16; 56160];
     note_all(&mut pairs, state, keys, sizes);
     run(
-        blocks,
+        labels,
+        follow,
         keys,
         sizes,
         &mut pairs,
@@ -435,15 +423,27 @@ pub fn close(
         (now (index .exit)) (now (labels .exit))
         ⌝ }
 {
-    let mut blocks = [255u8; 1152];
-    start_blocks(&mut blocks, sizes);
+    *labels = [255u8; 576];
+    let mut follow = [255u8; 576];
+    start_blocks(labels, sizes);
     let mut state = start_state(sizes);
-    let c = if block_joining::PLAIN < sizes[0] {
-        run_indexed(&mut blocks, keys, sizes, table, index, &mut state, support)
-    } else if are_small(sizes) {
+    if block_joining::PLAIN < sizes[0] {
+        return run_indexed(
+            labels,
+            &mut follow,
+            keys,
+            sizes,
+            table,
+            index,
+            &mut state,
+            support,
+        );
+    }
+    if are_small(sizes) {
         let mut none = [0u16; 1];
-        run(
-            &mut blocks,
+        return run(
+            labels,
+            &mut follow,
             keys,
             sizes,
             &mut none,
@@ -451,11 +451,16 @@ pub fn close(
             index,
             &mut state,
             support,
-        )
-    } else {
-        run_indexed(&mut blocks, keys, sizes, table, index, &mut state, support)
-    };
-    *labels = [255u8; 576];
-    write_labels(labels, &blocks, sizes);
-    c
+        );
+    }
+    run_indexed(
+        labels,
+        &mut follow,
+        keys,
+        sizes,
+        table,
+        index,
+        &mut state,
+        support,
+    )
 }

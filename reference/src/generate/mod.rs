@@ -9,6 +9,7 @@ mod certificates;
 mod changes;
 mod damage;
 mod draft;
+mod hostile;
 mod largest;
 mod limits;
 mod neighbours;

@@ -8,6 +8,7 @@ use crate::generate::cascade::longest;
 use crate::generate::certificates::{plain, with_damage};
 use crate::generate::damage::{self, damaged};
 use crate::generate::draft::{DraftCertificate, DraftRow, ROWS};
+use crate::generate::hostile::hostile;
 use crate::generate::largest::largest;
 use crate::generate::problems;
 use crate::generate::rng::Rng;
@@ -30,7 +31,10 @@ pub fn workload(name: &str) -> Option<Vec<Record>> {
         "largest-check" => largest_check(rng, 16),
         "damaged-pairs" => damaged_pairs(rng, 5_000),
         "worst-pair" => vec![plain(PAIR, &worst(rng))],
-        _ => return series(rng, name),
+        _ => match name.strip_prefix("hostile-") {
+            Some(name) => return hostile(rng, name),
+            None => return series(rng, name),
+        },
     })
 }
 

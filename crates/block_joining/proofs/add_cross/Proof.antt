@@ -5,26 +5,27 @@ use mathlib.Core.Path.{sym, _∙_}
 use lib.ListN.{length}
 use Rattle.key_set.specs.Table.{keysIn}
 use Rattle.round_laws.specs.Added.{addLists}
-use Rattle.round_laws.specs.Lists.{listFrom, followOf}
+use Rattle.round_laws.specs.Lists.{listFrom}
 use Rattle.round_laws.proofs.Crossing.{list-extends, lists-extend}
 use Rattle.round_laws.proofs.Merging.{lists-done}
-use Rattle.block_joining.proofs.Adding.{Adding, adding-start, adding-asks, adding-step, adding-stop, adding-end, Rest, rest-start, rest-low, rest-next, rest-less, cross-turn}
+use Rattle.block_joining.specs.Standing.{IndexList}
+use Rattle.block_joining.proofs.Adding.{Adding, adding-start, adding-asks, adding-step, adding-stop, adding-end, rest-low, rest-next, rest-less, cross-turn}
 use Rattle.block_joining.proofs.add_cross.Statement.{statement}
 use Rattle.block_joining.proofs.add_cross.Tie as tie
 
 abbrev Inv-loop : tie.InvT-loop
-Inv-loop blocks basis exponents pairs₀ table₀ index₀ len m n₀ k₀ pairs table index n k =
-    Rest blocks (length basis) k
-    × Adding exponents basis table₀ pairs₀ len (addLists exponents basis (listFrom (followOf blocks) (m .a)) (listFrom (followOf blocks) (m .b)) (keysIn len table₀))
-    (addLists exponents basis (listFrom (followOf blocks) (m .a)) (listFrom (followOf blocks) k)) n table index pairs
+Inv-loop follow basis exponents pairs₀ table₀ index₀ len m n₀ k₀ pairs table index n k =
+    IndexList (length basis) follow k
+    × Adding exponents basis table₀ pairs₀ len (addLists exponents basis (listFrom follow (m .a)) (listFrom follow (m .b)) (keysIn len table₀))
+    (addLists exponents basis (listFrom follow (m .a)) (listFrom follow k)) n table index pairs
 
 abbrev μ-loop : tie.MeasureT-loop
-μ-loop blocks basis exponents pairs₀ table₀ index₀ len m n₀ k₀ pairs table index n k = length (listFrom (followOf blocks) k)
+μ-loop follow basis exponents pairs₀ table₀ index₀ len m n₀ k₀ pairs table index n k = length (listFrom follow k)
 
 loop-holds : tie.Need-loop-holds Inv-loop μ-loop
 loop-holds c =
     let s = c .before .before .before .before .before .before in
-    (rest-start _ _ _ (s .pre .1) (s .pre .3), adding-start _ _ _ _ _ _ _ (s .pre .0))
+    (s .pre .3, adding-start _ _ _ _ _ _ _ (s .pre .0))
 
 add-row-requires : tie.Need-add-row-requires Inv-loop μ-loop
 add-row-requires c κs =
@@ -55,11 +56,8 @@ returns c =
 cast-k : tie.Need-cast-k Inv-loop μ-loop
 cast-k c = search needs
 
-add-k : tie.Need-add-k Inv-loop μ-loop
-add-k c = omega (arith, c .before .before .before .before .before .before .before .before .before .before .before .loop-test .taken)
-
 shared-slice-read-k : tie.Need-shared-slice-read-k Inv-loop μ-loop
-shared-slice-read-k c = omega (arith, c .before .before .before .before .before .before .before .before .before .before .before .before .loop-test .taken, c .before .before .before .before .before .before .before .before .before .before .before .before .before .before .before .before .before .before .before .before .pre .1 .long)
+shared-slice-read-k c = omega (arith, c .before .before .before .before .before .before .before .before .before .before .before .before .loop-test .taken, c .before .before .before .before .before .before .before .before .before .before .before .before .before .before .before .before .before .before .before .before .pre .1)
 
 loop-less : tie.Need-loop-less Inv-loop μ-loop
 loop-less c =
@@ -102,7 +100,6 @@ add-cross-spec =
     same-length-3
     returns
     cast-k
-    add-k
     shared-slice-read-k
     loop-less
     loop-again

@@ -11,7 +11,7 @@ use Rattle.counting.proofs.Steps.{fromTo-done, fromTo-more}
 use Rattle.key_set.specs.Table.{keysIn}
 use Rattle.joining_rule.specs.Extend.{addPair, addRow}
 use Rattle.joining_rule.proofs.Extending.{add-extends, rest-of-row-extends}
-use Rattle.block_joining.proofs.Growing.{Growing, growing-start, growing-skip, growing-step, growing-stop, growing-end, one-same, one-apart}
+use Rattle.block_joining.proofs.Growing.{Growing, growing-start, growing-skip, growing-step, growing-stop, growing-anew, growing-end, one-same, one-apart}
 use Rattle.block_joining.proofs.add_own.Statement.{statement}
 use Rattle.block_joining.proofs.add_own.Tie as tie
 
@@ -109,16 +109,20 @@ loop-again c =
     ))
     (c .if1 .came)
 
+shorten-requires : tie.Need-shorten-requires Inv-loop μ-loop
+shorten-requires c κs = let g = c .before .before .before .loop .inv .1 in (g .holds, g .index)
+
 same-length-3 : tie.Need-same-length-3 Inv-loop μ-loop
-same-length-3 c = c .before .loop .inv .1 .long
+same-length-3 c = c .before .before .before .before .before .before .loop .inv .1 .long
 
 same-length-4 : tie.Need-same-length-4 Inv-loop μ-loop
-same-length-4 c = c .before .loop .inv .1 .index .long ∙ sym (c .before .before .before .before .before .before .before .pre .0 .index .long)
+same-length-4 c = c .before .before .shorten .ensures .long ∙ sym (c .before .before .before .before .before .before .before .before .before .before .before .before .pre .0 .index .long)
 
 returns-2 : tie.Need-returns-2 Inv-loop μ-loop
 returns-2 c =
-    let l = c .before in
-    growing-end _ _ _ _ _ _ _ (l .loop .inv .1) (fromTo-done _ _ _ _ (omega arith))
+    let e = c .before .before .before .before .before in
+    let l = e .before in
+    growing-end _ _ _ _ _ _ _ (growing-anew _ _ _ _ _ _ _ (l .loop .inv .1) _ (c .before .before .shorten .ensures)) (fromTo-done _ _ _ _ (omega (arith, e .loop-test .left)))
 
 pub add-own-spec : {M : Type 1} → statement M
 add-own-spec =
@@ -141,6 +145,7 @@ add-own-spec =
     add-k
     loop-less
     loop-again
+    shorten-requires
     same-length-3
     same-length-4
     returns-2)

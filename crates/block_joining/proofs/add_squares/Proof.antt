@@ -11,7 +11,7 @@ use Rattle.key_set.specs.Table.{keysIn}
 use Rattle.joining_rule.specs.Extend.{addTerms}
 use Rattle.joining_rule.proofs.Extending.{add-extends, fromTo-extends}
 use Rattle.block_joining.specs.Adding.{addSquares}
-use Rattle.block_joining.proofs.Growing.{Growing, growing-start, growing-step, growing-stop, growing-end}
+use Rattle.block_joining.proofs.Growing.{Growing, growing-start, growing-step, growing-stop, growing-anew, growing-end}
 use Rattle.block_joining.proofs.add_squares.Statement.{statement}
 use Rattle.block_joining.proofs.add_squares.Tie as tie
 
@@ -78,16 +78,20 @@ loop-again c =
       growing-step _ _ _ _ _ _ _ (l .loop .inv .1) _ _ _ _ (c .before .before .before .before .before .add-terms .ensures) _ (fromTo-more _ _ _ _ (omega arith)) (c .if1 .left) (add-extends (s .args .exponents .now) (2 * getD (s .args .basis .now) (l .loop .i) 0) _),
     )
 
+shorten-requires : tie.Need-shorten-requires Inv-loop μ-loop
+shorten-requires c κs = let g = c .before .before .before .loop .inv .1 in (g .holds, g .index)
+
 same-length-3 : tie.Need-same-length-3 Inv-loop μ-loop
-same-length-3 c = c .before .loop .inv .1 .long
+same-length-3 c = c .before .before .before .before .before .before .loop .inv .1 .long
 
 same-length-4 : tie.Need-same-length-4 Inv-loop μ-loop
-same-length-4 c = c .before .loop .inv .1 .index .long ∙ sym (c .before .before .before .before .before .before .pre .index .long)
+same-length-4 c = c .before .before .shorten .ensures .long ∙ sym (c .before .before .before .before .before .before .before .before .before .before .before .pre .index .long)
 
 returns-2 : tie.Need-returns-2 Inv-loop μ-loop
 returns-2 c =
-    let l = c .before in
-    growing-end _ _ _ _ _ _ _ (l .loop .inv .1) (fromTo-done _ _ _ _ (omega arith))
+    let e = c .before .before .before .before .before in
+    let l = e .before in
+    growing-end _ _ _ _ _ _ _ (growing-anew _ _ _ _ _ _ _ (l .loop .inv .1) _ (c .before .before .shorten .ensures)) (fromTo-done _ _ _ _ (omega (arith, e .loop-test .left)))
 
 pub add-squares-spec : {M : Type 1} → statement M
 add-squares-spec =
@@ -106,6 +110,7 @@ add-squares-spec =
     add-i
     loop-less
     loop-again
+    shorten-requires
     same-length-3
     same-length-4
     returns-2)

@@ -11,36 +11,36 @@ use Rattle.block_joining.proofs.join_row.Statement.{statement}
 use Rattle.block_joining.proofs.join_row.Tie as tie
 
 abbrev Inv-loop : tie.InvT-loop
-Inv-loop blocks₀ basis exponents pairs₀ table₀ index₀ i r₀ k₀ blocks pairs table index r k =
-    InRow exponents basis (standing blocks₀ pairs₀ table₀ index₀ r₀) i (standing blocks pairs table index r) k
+Inv-loop labels₀ follow₀ basis exponents pairs₀ table₀ index₀ i r₀ k₀ labels follow pairs table index r k =
+    InRow exponents basis (standing labels₀ follow₀ pairs₀ table₀ index₀ r₀) i (standing labels follow pairs table index r) k
 
 abbrev μ-loop : tie.MeasureT-loop
-μ-loop blocks₀ basis exponents pairs₀ table₀ index₀ i r₀ k₀ blocks pairs table index r k = length basis - k
+μ-loop labels₀ follow₀ basis exponents pairs₀ table₀ index₀ i r₀ k₀ labels follow pairs table index r k = length basis - k
 
 -- the places of the code
 abbrev begun : tie.At-loop Inv-loop μ-loop → tie.Start Inv-loop μ-loop
-begun c = c .before .before .before .before .before .before .before
+begun c = c .before .before .before .before .before .before .before .before
 
 abbrev entry : tie.Start Inv-loop μ-loop → Standing
-entry c = standing (c .args .blocks .now) (c .args .pairs .now) (c .args .table .now) (c .args .index .now) (c .args .start)
+entry c = standing (c .args .labels .now) (c .args .follow .now) (c .args .pairs .now) (c .args .table .now) (c .args .index .now) (c .args .start)
 
 abbrev turn : tie.After-is-open Inv-loop μ-loop → tie.In-loop Inv-loop μ-loop
 turn c = c .before .before .before .before
 
 abbrev call : tie.Then2 Inv-loop μ-loop → tie.After-join-two Inv-loop μ-loop
-call c = c .before .before .before .before .before .before .before .before .before .before
+call c = c .before .before .before .before .before .before .before .before .before .before .before .before
 
 abbrev look : tie.After-join-two Inv-loop μ-loop → tie.Then1 Inv-loop μ-loop
-look c = c .before .before .before .before .before
+look c = c .before .before .before .before .before .before
 
 add-k : tie.Need-add-k Inv-loop μ-loop
 add-k c =
-    let s = c .before .before .before .before .before .before in
+    let s = c .before .before .before .before .before .before .before in
     record { fits = omega (arith, s .pre .1, s .pre .0 .blocks .few) }
 
 loop-holds : tie.Need-loop-holds Inv-loop μ-loop
 loop-holds c =
-    let s = c .before .before .before .before .before .before in
+    let s = c .before .before .before .before .before .before .before in
     row-start _ _ (entry s) (s .pre .0) (s .args .i) (s .pre .1)
 
 -- the indices are below 64
@@ -60,25 +60,28 @@ is-open-requires c κs =
     let t = c .before .before .before in
     let s = begun (t .before) in
     let r = going-ready _ _ _ _ _ (t .before .loop .inv .going) in
-    (r .basis, r .until, r .blocks .long, omega (arith, low t .0, low t .1, s .pre .1), omega (arith, low t .0, low t .1, t .loop-test .taken))
+    (r .basis, r .until, r .blocks .size, omega (arith, low t .0, low t .1, s .pre .1), omega (arith, low t .0, low t .1, t .loop-test .taken))
 
 join-two-requires : tie.Need-join-two-requires Inv-loop μ-loop
 join-two-requires c κs =
-    let t = turn (c .before .before .before .before .before) in
+    let t = turn (c .before .before .before .before .before .before) in
     let s = begun (t .before) in
     (going-ready _ _ _ _ _ (t .before .loop .inv .going), omega (arith, low t .0, low t .1, s .pre .1), omega (arith, low t .0, low t .1, t .loop-test .taken))
 
 same-length : tie.Need-same-length Inv-loop μ-loop
-same-length c = call c .join-two .kept .0 ∙ turn (look (call c) .before) .before .loop .inv .going .sizes .blocks
+same-length c = call c .join-two .kept .0 ∙ turn (look (call c) .before) .before .loop .inv .going .sizes .labels
 
 same-length-2 : tie.Need-same-length-2 Inv-loop μ-loop
-same-length-2 c = call c .join-two .kept .1 .1 .1 .0 ∙ turn (look (call c) .before) .before .loop .inv .going .sizes .pairs
+same-length-2 c = call c .join-two .kept .1 .0 ∙ turn (look (call c) .before) .before .loop .inv .going .sizes .follow
 
 same-length-3 : tie.Need-same-length-3 Inv-loop μ-loop
-same-length-3 c = call c .join-two .kept .1 .1 .1 .1 .0 ∙ turn (look (call c) .before) .before .loop .inv .going .sizes .table
+same-length-3 c = call c .join-two .kept .1 .1 .1 .1 .0 ∙ turn (look (call c) .before) .before .loop .inv .going .sizes .pairs
 
 same-length-4 : tie.Need-same-length-4 Inv-loop μ-loop
-same-length-4 c = call c .join-two .kept .1 .1 .1 .1 .1 .0 ∙ turn (look (call c) .before) .before .loop .inv .going .sizes .index
+same-length-4 c = call c .join-two .kept .1 .1 .1 .1 .1 .0 ∙ turn (look (call c) .before) .before .loop .inv .going .sizes .table
+
+same-length-5 : tie.Need-same-length-5 Inv-loop μ-loop
+same-length-5 c = call c .join-two .kept .1 .1 .1 .1 .1 .1 .0 ∙ turn (look (call c) .before) .before .loop .inv .going .sizes .index
 
 returns : tie.Need-returns Inv-loop μ-loop
 returns c =
@@ -103,27 +106,30 @@ loop-again c =
     let s = begun l in
     ⊎-elim
     (λ w.
-    rw (w .16, w .17, w .18, w .19, w .20)
+    rw (w .19, w .20, w .21, w .22, w .23, w .24)
     (row-hit _ _ (entry s) (s .pre .0) (s .args .i) (s .pre .1) _ (l .loop .k) (l .loop .inv) (t .loop-test .taken)
-    (sym (c .before .is-open .ensures) ∙ w .0 .taken) _ (w .5 .ensures)
-    (record { blocks = w .5 .kept .0; pairs = w .5 .kept .1 .1 .1 .0; table = w .5 .kept .1 .1 .1 .1 .0; index = w .5 .kept .1 .1 .1 .1 .1 .0 })
-    (w .15 .left)))
+    (sym (c .before .is-open .ensures) ∙ w .0 .taken) _ (w .6 .ensures)
+    (record { labels = w .6 .kept .0; follow = w .6 .kept .1 .0; pairs = w .6 .kept .1 .1 .1 .1 .0; table = w .6 .kept .1 .1 .1 .1 .1 .0; index = w .6 .kept .1 .1 .1 .1 .1 .1 .0 })
+    (w .18 .left)))
     (λ w.
-    rw (w .1, w .2, w .3, w .4, w .5)
+    rw (w .1, w .2, w .3, w .4, w .5, w .6)
     (row-skip _ _ (entry s) (s .pre .0) (s .args .i) (s .pre .1) _ (l .loop .k) (l .loop .inv) (t .loop-test .taken) (sym (c .before .is-open .ensures) ∙ w .0 .left)))
     (c .if1 .came)
 
-same-length-5 : tie.Need-same-length-5 Inv-loop μ-loop
-same-length-5 c = c .before .loop .inv .going .sizes .blocks
-
 same-length-6 : tie.Need-same-length-6 Inv-loop μ-loop
-same-length-6 c = c .before .loop .inv .going .sizes .pairs
+same-length-6 c = c .before .loop .inv .going .sizes .labels
 
 same-length-7 : tie.Need-same-length-7 Inv-loop μ-loop
-same-length-7 c = c .before .loop .inv .going .sizes .table
+same-length-7 c = c .before .loop .inv .going .sizes .follow
 
 same-length-8 : tie.Need-same-length-8 Inv-loop μ-loop
-same-length-8 c = c .before .loop .inv .going .sizes .index
+same-length-8 c = c .before .loop .inv .going .sizes .pairs
+
+same-length-9 : tie.Need-same-length-9 Inv-loop μ-loop
+same-length-9 c = c .before .loop .inv .going .sizes .table
+
+same-length-10 : tie.Need-same-length-10 Inv-loop μ-loop
+same-length-10 c = c .before .loop .inv .going .sizes .index
 
 returns-2 : tie.Need-returns-2 Inv-loop μ-loop
 returns-2 c =
@@ -147,12 +153,14 @@ join-row-spec =
     same-length-2
     same-length-3
     same-length-4
+    same-length-5
     returns
     add-k-2
     loop-less
     loop-again
-    same-length-5
     same-length-6
     same-length-7
     same-length-8
+    same-length-9
+    same-length-10
     returns-2)

@@ -11,49 +11,52 @@ use Rattle.block_joining.proofs.join_rows.Statement.{statement}
 use Rattle.block_joining.proofs.join_rows.Tie as tie
 
 abbrev Inv-loop : tie.InvT-loop
-Inv-loop blocks₀ basis exponents pairs₀ table₀ index₀ r₀ i₀ blocks pairs table index r i =
-    ToRow exponents basis (standing blocks₀ pairs₀ table₀ index₀ r₀) (standing blocks pairs table index r) i
+Inv-loop labels₀ follow₀ basis exponents pairs₀ table₀ index₀ r₀ i₀ labels follow pairs table index r i =
+    ToRow exponents basis (standing labels₀ follow₀ pairs₀ table₀ index₀ r₀) (standing labels follow pairs table index r) i
 
 abbrev μ-loop : tie.MeasureT-loop
-μ-loop blocks₀ basis exponents pairs₀ table₀ index₀ r₀ i₀ blocks pairs table index r i = length basis - i
+μ-loop labels₀ follow₀ basis exponents pairs₀ table₀ index₀ r₀ i₀ labels follow pairs table index r i = length basis - i
 
 -- the places of the code
 abbrev begun : tie.At-loop Inv-loop μ-loop → tie.Start Inv-loop μ-loop
-begun c = c .before .before .before .before .before .before .before
+begun c = c .before .before .before .before .before .before .before .before
 
 abbrev entry : tie.Start Inv-loop μ-loop → Standing
-entry c = standing (c .args .blocks .now) (c .args .pairs .now) (c .args .table .now) (c .args .index .now) (c .args .start)
+entry c = standing (c .args .labels .now) (c .args .follow .now) (c .args .pairs .now) (c .args .table .now) (c .args .index .now) (c .args .start)
 
 abbrev call : tie.After-is-over Inv-loop μ-loop → tie.After-join-row Inv-loop μ-loop
-call c = c .before .before .before .before .before .before .before .before .before
+call c = c .before .before .before .before .before .before .before .before .before .before .before
 
 abbrev turn : tie.After-join-row Inv-loop μ-loop → tie.In-loop Inv-loop μ-loop
-turn c = c .before .before .before .before .before
+turn c = c .before .before .before .before .before .before
 
 loop-holds : tie.Need-loop-holds Inv-loop μ-loop
 loop-holds c =
-    let s = c .before .before .before .before .before .before in
+    let s = c .before .before .before .before .before .before .before in
     all-start _ _ (entry s) (s .pre)
 
 join-row-requires : tie.Need-join-row-requires Inv-loop μ-loop
 join-row-requires c κs =
-    let t = c .before .before .before .before in
+    let t = c .before .before .before .before .before in
     (going-ready _ _ _ _ _ (t .before .loop .inv .going), t .loop-test .taken)
 
 is-over-requires : tie.Need-is-over-requires Inv-loop μ-loop
 is-over-requires c κs = search needs
 
 same-length : tie.Need-same-length Inv-loop μ-loop
-same-length c = let j = call (c .before) in j .join-row .kept .0 ∙ turn j .before .loop .inv .going .sizes .blocks
+same-length c = let j = call (c .before) in j .join-row .kept .0 ∙ turn j .before .loop .inv .going .sizes .labels
 
 same-length-2 : tie.Need-same-length-2 Inv-loop μ-loop
-same-length-2 c = let j = call (c .before) in j .join-row .kept .1 .1 .1 .0 ∙ turn j .before .loop .inv .going .sizes .pairs
+same-length-2 c = let j = call (c .before) in j .join-row .kept .1 .0 ∙ turn j .before .loop .inv .going .sizes .follow
 
 same-length-3 : tie.Need-same-length-3 Inv-loop μ-loop
-same-length-3 c = let j = call (c .before) in j .join-row .kept .1 .1 .1 .1 .0 ∙ turn j .before .loop .inv .going .sizes .table
+same-length-3 c = let j = call (c .before) in j .join-row .kept .1 .1 .1 .1 .0 ∙ turn j .before .loop .inv .going .sizes .pairs
 
 same-length-4 : tie.Need-same-length-4 Inv-loop μ-loop
-same-length-4 c = let j = call (c .before) in j .join-row .kept .1 .1 .1 .1 .1 .0 ∙ turn j .before .loop .inv .going .sizes .index
+same-length-4 c = let j = call (c .before) in j .join-row .kept .1 .1 .1 .1 .1 .0 ∙ turn j .before .loop .inv .going .sizes .table
+
+same-length-5 : tie.Need-same-length-5 Inv-loop μ-loop
+same-length-5 c = let j = call (c .before) in j .join-row .kept .1 .1 .1 .1 .1 .1 .0 ∙ turn j .before .loop .inv .going .sizes .index
 
 returns : tie.Need-returns Inv-loop μ-loop
 returns c =
@@ -79,20 +82,23 @@ loop-again c =
     let s = begun l in
     let k = j .join-row .kept in
     all-turn _ _ (entry s) (s .pre) _ (l .loop .i) (l .loop .inv) (t .loop-test .taken) _ (j .join-row .ensures)
-    (record { blocks = k .0; pairs = k .1 .1 .1 .0; table = k .1 .1 .1 .1 .0; index = k .1 .1 .1 .1 .1 .0 })
+    (record { labels = k .0; follow = k .1 .0; pairs = k .1 .1 .1 .1 .0; table = k .1 .1 .1 .1 .1 .0; index = k .1 .1 .1 .1 .1 .1 .0 })
     (c .before .is-over .ensures .1 (c .if1 .left))
 
-same-length-5 : tie.Need-same-length-5 Inv-loop μ-loop
-same-length-5 c = c .before .loop .inv .going .sizes .blocks
-
 same-length-6 : tie.Need-same-length-6 Inv-loop μ-loop
-same-length-6 c = c .before .loop .inv .going .sizes .pairs
+same-length-6 c = c .before .loop .inv .going .sizes .labels
 
 same-length-7 : tie.Need-same-length-7 Inv-loop μ-loop
-same-length-7 c = c .before .loop .inv .going .sizes .table
+same-length-7 c = c .before .loop .inv .going .sizes .follow
 
 same-length-8 : tie.Need-same-length-8 Inv-loop μ-loop
-same-length-8 c = c .before .loop .inv .going .sizes .index
+same-length-8 c = c .before .loop .inv .going .sizes .pairs
+
+same-length-9 : tie.Need-same-length-9 Inv-loop μ-loop
+same-length-9 c = c .before .loop .inv .going .sizes .table
+
+same-length-10 : tie.Need-same-length-10 Inv-loop μ-loop
+same-length-10 c = c .before .loop .inv .going .sizes .index
 
 returns-2 : tie.Need-returns-2 Inv-loop μ-loop
 returns-2 c =
@@ -113,12 +119,14 @@ join-rows-spec =
     same-length-2
     same-length-3
     same-length-4
+    same-length-5
     returns
     add-i
     loop-less
     loop-again
-    same-length-5
     same-length-6
     same-length-7
     same-length-8
+    same-length-9
+    same-length-10
     returns-2)

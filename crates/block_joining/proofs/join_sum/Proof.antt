@@ -12,11 +12,11 @@ use Rattle.block_joining.proofs.join_sum.Statement.{statement}
 use Rattle.block_joining.proofs.join_sum.Tie as tie
 
 abbrev entry : tie.Start → Standing
-entry c = standing (c .args .blocks .now) (c .args .pairs .now) (c .args .table .now) (c .args .index .now) (c .args .start)
+entry c = standing (c .args .labels .now) (c .args .follow .now) (c .args .pairs .now) (c .args .table .now) (c .args .index .now) (c .args .start)
 
 -- the sum is one of two indices
 abbrev begun : tie.Else1 → tie.Start
-begun c = c .before .before .before .before .before .before .before .before .before .before
+begun c = c .before .before .before .before .before .before .before .before .before .before .before
 
 found : (c : tie.Else1) → c .before .find-sum .result < 4096
 found c = omega (arith, c .if1 .left)
@@ -31,7 +31,7 @@ remainder-requires c κs = search needs
 
 find-sum-requires : tie.Need-find-sum-requires
 find-sum-requires c κs =
-    let s = c .before .before .before .before .before .before .before .before in
+    let s = c .before .before .before .before .before .before .before .before .before in
     (s .pre .0 .basis .basis .basis, s .pre .0 .index .all (s .pre .1), c .remainder .ensures)
 
 same-length : tie.Need-same-length
@@ -39,7 +39,7 @@ same-length c = search needs
 
 returns : tie.Need-returns
 returns c =
-    let s = c .before .before .before .before .before .before .before .before .before .before in
+    let s = c .before .before .before .before .before .before .before .before .before .before .before in
     sum-none _ _ _ (entry s) _ (s .pre .0) (c .if1 .taken) (c .before .find-sum .ensures)
 
 told-at-requires : tie.Need-told-at-requires
@@ -68,17 +68,17 @@ returns-2 c =
 
 join-chain-requires : tie.Need-join-chain-requires
 join-chain-requires c κs =
-    let e = c .before .before .before .before .before .before .before in
+    let e = c .before .before .before .before .before .before .before .before in
     let s = begun e in
     let f = e .before .find-sum .ensures in
     (s .pre .0, s .pre .1, finds-as _ _ _ _ (sym (f .sum (found e))) f, found e)
 
 -- after the joining
-abbrev call : tie.After-slice-known9 → tie.After-join-chain
-call c = c .before .before .before .before .before .before .before .before
+abbrev call : tie.After-slice-known11 → tie.After-join-chain
+call c = c .before .before .before .before .before .before .before .before .before .before
 
 abbrev place : tie.After-join-chain → tie.After-told-at
-place c = c .before .before .before .before .before .before .before
+place c = c .before .before .before .before .before .before .before .before
 
 mul-pairs : tie.Need-mul-pairs
 mul-pairs c = omega (arith, at-low (place (call c)))
@@ -87,19 +87,22 @@ slice-write-pairs : tie.Need-slice-write-pairs
 slice-write-pairs c =
     let t = place (call c) in
     let s = begun (t .before) in
-    omega (arith, at-low t, call c .join-chain .kept .1 .1 .1 .0, s .pre .0 .index .all (s .pre .1) .remainders .long)
+    omega (arith, at-low t, call c .join-chain .kept .1 .1 .1 .1 .0, s .pre .0 .index .all (s .pre .1) .remainders .long)
 
 same-length-3 : tie.Need-same-length-3
 same-length-3 c = call c .join-chain .kept .0
 
 same-length-4 : tie.Need-same-length-4
-same-length-4 c = length-set (call c .join-chain .last .1 .1 .1 .0) (place (call c) .told-at .result) 2 ∙ call c .join-chain .kept .1 .1 .1 .0
+same-length-4 c = call c .join-chain .kept .1 .0
 
 same-length-5 : tie.Need-same-length-5
-same-length-5 c = call c .join-chain .kept .1 .1 .1 .1 .0
+same-length-5 c = length-set (call c .join-chain .last .1 .1 .1 .1 .0) (place (call c) .told-at .result) 2 ∙ call c .join-chain .kept .1 .1 .1 .1 .0
 
 same-length-6 : tie.Need-same-length-6
 same-length-6 c = call c .join-chain .kept .1 .1 .1 .1 .1 .0
+
+same-length-7 : tie.Need-same-length-7
+same-length-7 c = call c .join-chain .kept .1 .1 .1 .1 .1 .1 .0
 
 returns-3 : tie.Need-returns-3
 returns-3 c =
@@ -130,4 +133,5 @@ join-sum-spec =
     same-length-4
     same-length-5
     same-length-6
+    same-length-7
     returns-3)

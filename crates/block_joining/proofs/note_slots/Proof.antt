@@ -4,13 +4,13 @@ use native.Mathlib.Omega.{arith}
 use mathlib.Core.Path.{_∙_}
 use Prim.Native.Nat.{ℕ, _-_, _%_, _≤_}
 use lib.ListN.{length, getD}
-use Rattle.key_set.specs.Table.{divisor}
+use Rattle.key_set.specs.Table.{first}
 use Rattle.block_joining.proofs.Pairs.{Written, written-start, written-next}
 use Rattle.block_joining.proofs.note_slots.Statement.{statement}
 use Rattle.block_joining.proofs.note_slots.Tie as tie
 
 abbrev Inv-loop : tie.InvT-loop
-Inv-loop pairs₀ exponents i₀ pairs i = (i ≤ length exponents) × Written 6144 (λ (j : ℕ). getD exponents j 0 % divisor) pairs₀ i pairs
+Inv-loop pairs₀ exponents i₀ pairs i = (i ≤ length exponents) × Written 6144 (λ (j : ℕ). getD exponents j 0 % first) pairs₀ i pairs
 
 abbrev μ-loop : tie.MeasureT-loop
 μ-loop pairs₀ exponents i₀ pairs i = length exponents - i
@@ -21,17 +21,17 @@ at-start l = l .before .before .before
 loop-holds : tie.Need-loop-holds Inv-loop μ-loop
 loop-holds c = (omega arith, written-start _ _ _)
 
-mul-slot : tie.Need-mul-slot Inv-loop μ-loop
-mul-slot c = search needs
+mul-first-slot : tie.Need-mul-first-slot Inv-loop μ-loop
+mul-first-slot c = search needs
 
-shared-slice-read-slot : tie.Need-shared-slice-read-slot Inv-loop μ-loop
-shared-slice-read-slot c = search needs
+shared-slice-read-first-slot : tie.Need-shared-slice-read-first-slot Inv-loop μ-loop
+shared-slice-read-first-slot c = search needs
 
-slot-requires : tie.Need-slot-requires Inv-loop μ-loop
-slot-requires c κs = search needs
+first-slot-requires : tie.Need-first-slot-requires Inv-loop μ-loop
+first-slot-requires c κs = search needs
 
 cast-pairs : tie.Need-cast-pairs Inv-loop μ-loop
-cast-pairs c = omega (arith, c .slot .ensures)
+cast-pairs c = omega (arith, c .first-slot .ensures)
 
 add-pairs : tie.Need-add-pairs Inv-loop μ-loop
 add-pairs c = let l = c .before .before .before in omega (arith, at-start l .pre .1, c .before .before .loop-test .taken)
@@ -55,7 +55,7 @@ loop-again c =
     let l = c .before .before .before in
     let h = c .before .before .loop-test .taken in
     let p = at-start l .pre in
-    (omega (arith, h), written-next _ _ _ _ _ (l .loop .inv .1) (omega (arith, p .1, h, p .0 .long)) _ (c .slot .ensures))
+    (omega (arith, h), written-next _ _ _ _ _ (l .loop .inv .1) (omega (arith, p .1, h, p .0 .long)) _ (c .first-slot .ensures))
 
 same-length : tie.Need-same-length Inv-loop μ-loop
 same-length c = c .before .loop .inv .1 .long
@@ -73,9 +73,9 @@ note-slots-spec =
     Inv-loop
     μ-loop
     loop-holds
-    mul-slot
-    shared-slice-read-slot
-    slot-requires
+    mul-first-slot
+    shared-slice-read-first-slot
+    first-slot-requires
     cast-pairs
     add-pairs
     mul-pairs

@@ -25,9 +25,13 @@ same-length-3 c = search needs
 returns : tie.Need-returns
 returns c =
     let k = c .before .before .before .before .before .before .before .moved-bound in
-    let stored = toZ-ofZ {w = w64} {z = k .result .bound .num} (record { sfits = c .before .struct-told .given .0 .1 }) in (
+    let stored = toZ-ofZ {w = w64} {z = k .result .bound .num} (record { sfits = c .before .struct-told .given .0 .1 }) in
+    let zeros = k .ensures .1 .1 .1 .1 .1 .1 .0 in (
       c .number-of .ensures ∙ ap (λ (v : AdjustedVerdict). v .refusal .number) (k .ensures .0),
-      (rw stored (ap (λ (v : AdjustedVerdict). v .bound) (k .ensures .0)), k .ensures .1 .0),
+      (
+        rw stored (ap (λ (v : AdjustedVerdict). v .bound) (k .ensures .0)),
+        (k .ensures .1 .0, λ h. rw stored (zeros .bound (rw (c .number-of .ensures) at h))),
+      ),
     )
 
 pub zamiachisel-moved-bound-spec : {M : Type 1} → statement M

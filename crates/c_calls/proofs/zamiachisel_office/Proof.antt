@@ -2,6 +2,7 @@
 use borrow.Author.Needs.{needs}
 use mathlib.Core.Path.{ap, _∙_}
 use Rattle.calls.specs.declared.OfficeVerdict.{OfficeVerdict}
+use Rattle.calls.proofs.OfficeZeros.{office-zeros}
 use Rattle.c_calls.proofs.zamiachisel_office.Statement.{statement}
 use Rattle.c_calls.proofs.zamiachisel_office.Tie as tie
 
@@ -25,13 +26,10 @@ same-length-4 c = search needs
 
 returns : tie.Need-returns
 returns c =
-    let e = c .before .before .before .before .before .before .before .before .office .ensures in (
-      (
-        c .number-of .ensures ∙ ap (λ (v : OfficeVerdict). v .check .refusal .number) (e .0),
-        ap (λ (v : OfficeVerdict). v .notes) (e .0),
-      ),
-      (e .1 .0, e .1 .1 .0),
-    )
+    let e = c .before .before .before .before .before .before .before .before .office .ensures in
+    let number = c .number-of .ensures ∙ ap (λ (v : OfficeVerdict). v .check .refusal .number) (e .0) in
+    let notes = ap (λ (v : OfficeVerdict). v .notes) (e .0) in
+    ((number, notes), (e .1 .0, (e .1 .1 .0, λ h. notes ∙ office-zeros _ _ _ _ .notes (rw number at h))))
 
 pub zamiachisel-office-spec : {M : Type 1} → statement M
 zamiachisel-office-spec =

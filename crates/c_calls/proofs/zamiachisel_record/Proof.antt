@@ -10,9 +10,11 @@ use borrow.Author.Tests.{lt-ltb, le-ltb}
 use Rattle.calls.specs.declared.PairVerdict.{PairVerdict}
 use Rattle.calls.specs.Pair.{pairVerdict}
 use Rattle.calls.specs.Report.{Runs, threeRuns, pairOn, recordBytes, recordLength}
-use Rattle.calls.specs.BidTool.{toolNumber, toolBytes, OneRecord, AnyOrder}
+use Rattle.calls.specs.BidTool.{toolNumber, toolBytes, OneRecord, AnyOrder, ToolZeros, ToolKept}
+use Rattle.calls.specs.Rules.{UnderOne, AtLarger}
+use Rattle.calls.proofs.Rules.{under-leads, larger-leads}
 use Rattle.calls.proofs.Told.{Bytes}
-use Rattle.calls.proofs.BidTools.{one-record, any-order}
+use Rattle.calls.proofs.BidTools.{one-record, tool-zeros, tool-kept, any-order}
 use Rattle.c_calls.proofs.zamiachisel_record.Statement.{statement}
 use Rattle.c_calls.proofs.zamiachisel_record.Tie as tie
 
@@ -23,11 +25,29 @@ module _ (out problem low high : List ℕ) where
   abbrev Promised : ℕ → List ℕ → Type 0
   Promised n left =
       (n ≡ toolNumber out runs)
-      × ((left ≡ toolBytes out runs) × (OneRecord out runs left n × AnyOrder out runs n))
+      × ((left ≡ toolBytes out runs)
+      × (OneRecord out runs left n
+      × (AnyOrder out runs n
+      × (ToolZeros out left × (ToolKept UnderOne out runs left n × ToolKept AtLarger out runs left n)))))
 
   module _ (bytes : Bytes runs) where
     promised : (n : ℕ) (left : List ℕ) → n ≡ toolNumber out runs → left ≡ toolBytes out runs → Promised n left
-    promised n left e f = (e, (f, (one-record out runs left n e f bytes, any-order out runs n e)))
+    promised n left e f = (
+      e,
+      (
+        f,
+        (
+          one-record out runs left n e f bytes,
+          (
+            any-order out runs n e,
+            (
+              tool-zeros out runs left n e f bytes,
+              (tool-kept out runs left n e f UnderOne under-leads, tool-kept out runs left n e f AtLarger larger-leads),
+            ),
+          ),
+        ),
+      ),
+    )
 
     short : length out < recordLength → Promised 1 out
     unfolding toolNumber toolBytes

@@ -28,11 +28,20 @@ returns c =
     let l = u .before .before in
     let k = l .before .before .before .before .before .before .sum in
     let lower = toZ-ofZ {w = w64} {z = k .result .lower .num} (record { sfits = l .struct-told .given .0 .1 }) in
-    let upper = toZ-ofZ {w = w64} {z = k .result .upper .num} (record { sfits = u .struct-told2 .given .0 .1 }) in (
+    let upper = toZ-ofZ {w = w64} {z = k .result .upper .num} (record { sfits = u .struct-told2 .given .0 .1 }) in
+    let zeros = k .ensures .1 .1 .1 .1 .1 .1 .1 .1 .1 .0 in (
       c .number-of .ensures ∙ ap (λ (v : SumVerdict). v .refusal .number) (k .ensures .0),
       (
         rw lower (ap (λ (v : SumVerdict). v .lower) (k .ensures .0)),
-        (rw upper (ap (λ (v : SumVerdict). v .upper) (k .ensures .0)), k .ensures .1 .0),
+        (
+          rw upper (ap (λ (v : SumVerdict). v .upper) (k .ensures .0)),
+          (
+            k .ensures .1 .0,
+            λ h.
+                let refused = rw (c .number-of .ensures) at h in
+                (rw lower (zeros .lower refused), rw upper (zeros .upper refused)),
+          ),
+        ),
       ),
     )
 

@@ -29,7 +29,9 @@ same-length-3 c = search needs
 returns : tie.Need-returns
 returns c =
     let k = c .before .before .before .before .before .before .choose .ensures in
-    (ap streamOf (sym (c .enum-told .given .1) ∙ k .0), k .1)
+    let chosen = sym (c .enum-told .given .1) in
+    let z = k .1 .1 .1 in
+    (ap streamOf (chosen ∙ k .0), (k .1 .0, (k .1 .1 .0, (z .refusal, λ h. ap streamOf (chosen ∙ z .none h)))))
 
 same-length-4 : tie.Need-same-length-4
 same-length-4 c = search needs
@@ -43,7 +45,9 @@ same-length-6 c = search needs
 returns-2 : tie.Need-returns-2
 returns-2 c =
     let k = c .before .before .before .before .before .before .choose .ensures in
-    (ap streamOf (sym (c .enum-told2 .given .1) ∙ k .0), k .1)
+    let chosen = sym (c .enum-told2 .given .1) in
+    let z = k .1 .1 .1 in
+    (ap streamOf (chosen ∙ k .0), (k .1 .0, (k .1 .1 .0, (z .refusal, λ h. ap streamOf (chosen ∙ z .none h)))))
 
 same-length-7 : tie.Need-same-length-7
 same-length-7 c = search needs
@@ -57,7 +61,9 @@ same-length-9 c = search needs
 returns-3 : tie.Need-returns-3
 returns-3 c =
     let k = c .before .before .before .before .before .before .choose .ensures in
-    (ap streamOf (sym (c .enum-told3 .given .1) ∙ k .0), k .1)
+    let chosen = sym (c .enum-told3 .given .1) in
+    let z = k .1 .1 .1 in
+    (ap streamOf (chosen ∙ k .0), (k .1 .0, (k .1 .1 .0, (z .refusal, λ h. ap streamOf (chosen ∙ z .none h)))))
 
 pub zamiachisel-tighter-spec : {M : Type 1} → statement M
 zamiachisel-tighter-spec =

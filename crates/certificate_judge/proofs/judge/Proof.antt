@@ -1,11 +1,12 @@
 -- `judge`: each return by what the reading, the walk over the rows and the comparison decide.
 use borrow.Author.Needs.{needs}
 use native.Mathlib.Omega.{arith}
-use mathlib.Core.Path.{refl, sym, _∙_}
+use mathlib.Core.Path.{refl, _∙_}
 use Rattle.format.specs.ProblemRules.{Problem}
 use Rattle.certificate_reader.specs.Rows.{Validated, GivenRows}
 use Rattle.certificate_reader.proofs.Shapes.{flat-sized}
 use Rattle.certificate_reader.proofs.Walk.{given-walkable}
+use Rattle.row_blocks.proofs.Splits.{told-as}
 use Rattle.certificate_judge.specs.Steps.{JoinedProblem}
 use Rattle.certificate_judge.proofs.Judging.{labels-long, joined-comparable, joined-given, judge-refused, judge-split, judge-compared}
 use Rattle.certificate_judge.proofs.judge.Statement.{statement}
@@ -78,7 +79,7 @@ returns-2 c =
       (λ p j.
           let t = stands e p j in
           let q = w .split-place .ensures p (t .certificate) (j .limits) (t .read) (t .rows-are) (j .labels-are) in
-          c .refuse2 .ensures ∙ judge-split p (s .args .s .now) (t .certificate) (t .read) _ _ (sym (k .place .given .1) ∙ q)),
+          c .refuse2 .ensures ∙ judge-split p (s .args .s .now) (t .certificate) (t .read) _ _ (told-as _ _ _ (k .place .given .1) q)),
       record { high-rest = refl; low-rest = refl },
     )
 
@@ -100,7 +101,7 @@ returns-3 c =
           let t = stands e p j in
           let q = w .split-place .ensures p (t .certificate) (j .limits) (t .read) (t .rows-are) (j .labels-are) in
           c .by-identity .ensures
-          ∙ judge-compared p (s .args .s .now) (t .certificate) (t .read) _ _ _ (sym (n .enum-told .given .1) ∙ q) (t .header-is) (a .difference p (t .certificate) (joined-given j t))),
+          ∙ judge-compared p (s .args .s .now) (t .certificate) (t .read) _ _ _ (told-as _ _ _ (n .enum-told .given .1) q) (t .header-is) (a .difference p (t .certificate) (joined-given j t))),
       record { high-rest = a .high .rest; low-rest = a .low .rest },
     )
 

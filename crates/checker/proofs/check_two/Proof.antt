@@ -1,4 +1,4 @@
--- `check_two`: the equations from the callees.
+-- `check_two`: the equations from the callees, and the zeros from the equations.
 use borrow.Author.Needs.{needs}
 use native.Mathlib.Omega.{arith}
 use mathlib.Core.Path.{_≡_, sym, _∙_}
@@ -7,6 +7,7 @@ use Rattle.calls.specs.Tables.{Tables, tables, tablesShort}
 use Rattle.work_tables.specs.Tables.{Long}
 use Rattle.calls.specs.Check.{checkVerdict}
 use Rattle.work_tables.proofs.Tables.{tables-long, tables-kept, tables-cleared}
+use Rattle.calls.proofs.Checking.{two-zeros}
 use Rattle.checker.proofs.check_two.Statement.{statement}
 use Rattle.checker.proofs.check_two.Tie as tie
 
@@ -36,7 +37,7 @@ returns c =
     let s = i .before .before .before .before .before .before in
     let e : tablesShort (lent s) ≡ true = sym (i .before .is-short .ensures) ∙ i .if1 .taken in
     let v = rw (c .before .problem-refusal .ensures) at (c .refuse-two .ensures) in
-    rw e (v .0, (v .1, tables-kept _))
+    rw e (v .0, (v .1, (tables-kept _, two-zeros true (s .args .problem .now) (s .args .first .now) (s .args .second .now) _ (v .0) (v .1))))
 
 answer-two-requires : tie.Need-answer-two-requires
 answer-two-requires c κs = long (c .before .before .before)
@@ -69,7 +70,7 @@ returns-2 c =
     let s = start b in
     let e : tablesShort (lent s) ≡ false = sym (b .before .is-short .ensures) ∙ b .if1 .left in
     let v = a .answer-two .ensures in
-    rw e (v .0, (v .1, tables-cleared (v .2) (k .clear-tables .ensures)))
+    rw e (v .0, (v .1, (tables-cleared (v .2) (k .clear-tables .ensures), two-zeros false (s .args .problem .now) (s .args .first .now) (s .args .second .now) _ (v .0) (v .1))))
 
 pub check-two-spec : {M : Type 1} → statement M
 check-two-spec =

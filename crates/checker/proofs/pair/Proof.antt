@@ -3,11 +3,12 @@ use borrow.Author.Needs.{needs}
 use native.Mathlib.Omega.{arith}
 use mathlib.Core.Path.{_≡_, sym, _∙_}
 use mathlib.Core.Bool.{true, false}
+use Rattle.counting.specs.Counting.{Bounded}
 use Rattle.calls.specs.Tables.{Tables, tables, tablesShort}
 use Rattle.work_tables.specs.Tables.{Long}
 use Rattle.calls.specs.Pair.{pairVerdict}
 use Rattle.work_tables.proofs.Tables.{tables-long, tables-kept, tables-cleared}
-use Rattle.calls.proofs.Pairing.{pair-clauses}
+use Rattle.calls.proofs.Pushing.{byte-clauses}
 use Rattle.checker.proofs.pair.Statement.{statement}
 use Rattle.checker.proofs.pair.Tie as tie
 
@@ -20,6 +21,13 @@ start c = c .before .before .before .before .before .before
 
 long : (c : tie.Else1) → Long (lent (start c))
 long c = tables-long _ (sym (c .before .is-short .ensures) ∙ c .if1 .left)
+
+-- both certificates are streams of bytes
+first-bytes : (c : tie.After-is-short) → Bounded 255 (c .before .before .before .before .before .args .first .now)
+first-bytes c i = let b = c .before .before .before .shared-slice-known2 .given i in omega arith
+
+second-bytes : (c : tie.After-is-short) → Bounded 255 (c .before .before .before .before .before .args .second .now)
+second-bytes c i = let b = c .before .before .shared-slice-known3 .given i in omega arith
 
 is-short-requires : tie.Need-is-short-requires
 is-short-requires c κs = search needs
@@ -37,7 +45,7 @@ returns c =
     let s = i .before .before .before .before .before .before in
     let e : tablesShort (lent s) ≡ true = sym (i .before .is-short .ensures) ∙ i .if1 .taken in
     let v = rw (c .before .problem-refusal .ensures) at (c .refuse-pair .ensures) in
-    rw e (v, (tables-kept _, pair-clauses true (s .args .problem .now) (s .args .first .now) (s .args .second .now) _ v))
+    rw e (v, (tables-kept _, byte-clauses true (s .args .problem .now) (s .args .first .now) (s .args .second .now) (first-bytes (i .before)) (second-bytes (i .before)) _ v))
 
 answer-pair-requires : tie.Need-answer-pair-requires
 answer-pair-requires c κs = long (c .before .before .before)
@@ -67,7 +75,7 @@ returns-2 c =
     let e : tablesShort (lent s) ≡ false = sym (b .before .is-short .ensures) ∙ b .if1 .left in
     let v = a .answer-pair .ensures .0 in
     let t = tables-cleared (a .answer-pair .ensures .1) (k .clear-tables .ensures) in
-    rw e (v, (t, pair-clauses false (s .args .problem .now) (s .args .first .now) (s .args .second .now) _ v))
+    rw e (v, (t, byte-clauses false (s .args .problem .now) (s .args .first .now) (s .args .second .now) (first-bytes (b .before)) (second-bytes (b .before)) _ v))
 
 pub pair-spec : {M : Type 1} → statement M
 pair-spec =

@@ -11,7 +11,7 @@ use Rattle.identity_check.proofs.add_number.Tie as tie
 
 module _ (c : tie.After-cut) where
   abbrev s : tie.Start
-  s = c .before .before .before .before .before
+  s = c .before .before .before .before .before .before
 
   cut-is : c .cut .result ≡ halvesOf (s .args .y)
   cut-is = rw (toZ-ofZ (s .fits .y)) at (c .cut .ensures)

@@ -1,9 +1,11 @@
--- `add_term`: the number is added at the key's place, or the key has none and nothing is added.
+-- `add_term`: the number is added at the place that the search tells, or it tells that there is none and nothing is added.
 use borrow.Author.Needs.{needs}
 use mir.Facts.{toZ-ofZ, sfits-widen}
 use mir.Syntax.{w64}
 use mir.Val.{SFits}
-use Rattle.identity_check.proofs.Growth.{room-high, room-low, grown-at, grown-gap}
+use Prim.Native.Nat.{_≤_}
+use native.Mathlib.Omega.{arith}
+use Rattle.identity_check.proofs.Growth.{sought-at, sought-nowhere, found-inside, room-high, room-low, grown-at, grown-gap}
 use Rattle.identity_check.proofs.add_term.Statement.{statement}
 use Rattle.identity_check.proofs.add_term.Tie as tie
 
@@ -11,22 +13,30 @@ use Rattle.identity_check.proofs.add_term.Tie as tie
 wide : (c : tie.Start) → SFits w64 (c .args .c)
 wide c = sfits-widen tt (c .fits .c)
 
-place-of-requires : tie.Need-place-of-requires
-place-of-requires c κs = search needs
+find-at-requires : tie.Need-find-at-requires
+find-at-requires c κs = search needs
+
+enum-known-p : tie.Need-enum-known-p
+enum-known-p c = search needs
 
 cast-add : tie.Need-cast-add
-cast-add c = let s = c .before .before .before .before .before in simp (toZ-ofZ (s .fits .c)) (wide s)
+cast-add c = let s = c .before .before .before .before .before .before .before .before in simp (toZ-ofZ (s .fits .c)) (wide s)
 
 add-requires : tie.Need-add-requires
 add-requires c κs =
-    let i = c .before .before in
-    let f = i .before in
-    let s = f .before .before in
+    let q = c .before .before .before in
+    let f = q .before .before in
+    let s = f .before .before .before in
     let p = s .pre in
+    let t = sought-at (p .0 .support) (s .args .key) _ (f .find-at .ensures) _ (q .p .given .1) in
+    let b = found-inside (p .0 .support) (s .args .key) _ (f .find-at .ensures) _ (q .p .given .1) in
     simp (toZ-ofZ, s .fits .c, wide s) (
-      room-high (p .0) (s .args .key) _ (f .place-of .ensures) (s .args .x) (s .args .c) (i .if1 .taken) (p .1),
-      room-low (p .0) (s .args .key) _ (f .place-of .ensures) (s .args .x) (s .args .c) (i .if1 .taken) (p .1),
+      room-high (p .0) (s .args .key) _ t (s .args .x) (s .args .c) b (p .1),
+      room-low (p .0) (s .args .key) _ t (s .args .x) (s .args .c) b (p .1),
     )
+
+enum-told : tie.Need-enum-told
+enum-told c = search needs
 
 same-length : tie.Need-same-length
 same-length c = search needs
@@ -37,19 +47,31 @@ same-length-2 c = search needs
 returns : tie.Need-returns
 returns c =
     let a = c .before .before in
-    let i = a .before .before .before in
-    let f = i .before in
-    let s = f .before .before in
+    let q = a .before .before .before .before in
+    let f = q .before .before in
+    let s = f .before .before .before in
+    let p = s .pre in
+    let t = sought-at (p .0 .support) (s .args .key) _ (f .find-at .ensures) _ (q .p .given .1) in
+    let b = found-inside (p .0 .support) (s .args .key) _ (f .find-at .ensures) _ (q .p .given .1) in
     let e = simp (toZ-ofZ, s .fits .c, wide s) at (a .add .ensures) in
-    grown-at (s .pre .0) (s .args .key) _ (f .place-of .ensures) (s .args .x) (s .args .c) (i .if1 .taken) (s .pre .1) (e .0) (e .1)
+    grown-at (p .0) (s .args .key) _ t (s .args .x) (s .args .c) b (p .1) (e .0) (e .1)
 
 returns-2 : tie.Need-returns-2
 returns-2 c =
-    let f = c .before in
-    let s = f .before .before in
-    grown-gap (s .pre .0) (s .args .key) _ (f .place-of .ensures) (s .args .x) (s .args .c) (c .if1 .left)
+    let f = c .before .before in
+    let s = f .before .before .before in
+    grown-gap (s .pre .0) (s .args .key) _ (sought-nowhere (s .pre .0 .support) (s .args .key) _ (f .find-at .ensures) _ (c .enum-told .given .1)) (s .args .x) (s .args .c) (omega arith)
 
 pub add-term-spec : {M : Type 1} → statement M
 add-term-spec =
     tie.close
-    (tie.spec place-of-requires cast-add add-requires same-length same-length-2 returns returns-2)
+    (tie.spec
+    find-at-requires
+    enum-known-p
+    cast-add
+    add-requires
+    enum-told
+    same-length
+    same-length-2
+    returns
+    returns-2)

@@ -9,34 +9,41 @@ use mir.Facts.{toZ-ofZ}
 use mir.Syntax.{w32, w64}
 use mir.Val.{SFits, toZ}
 use Rattle.polynomial.specs.Algebra.{match}
-use Rattle.key_set.specs.Table.{divisor}
+use Rattle.key_set.specs.Table.{divisorIn}
+use Rattle.key_set.proofs.Index.{slot-low}
 use Rattle.wide_sums.specs.Sums.{halvesOf}
-use Rattle.identity_check.proofs.Growth.{ready-after, grown-same}
+use Rattle.identity_check.proofs.Growth.{slot-of-product, ready-after, grown-same}
 use Rattle.identity_check.proofs.Products.{scaled-entry, halves-times, Summing, summing-start, summing-more}
 use Rattle.identity_check.proofs.add_terms.Statement.{statement}
 use Rattle.identity_check.proofs.add_terms.Tie as tie
 
 abbrev Inv-loop : tie.InvT-loop
-Inv-loop table n places high₀ low₀ exponents slots coefficients key x h slot t₀ high low t =
+Inv-loop table n places high₀ low₀ exponents slots coefficients key x h d slot t₀ high low t =
     (t ≤ length exponents)
     × (h ≡ halvesOf (toZ w64 x))
-    × (slot ≡ key % divisor)
+    × (d ≡ divisorIn places)
+    × (slot ≡ key % divisorIn places)
     × Summing table n high₀ low₀ (λ k e. match k (key + e)) (toZ w64 x) exponents coefficients t high low
 
 abbrev μ-loop : tie.MeasureT-loop
-μ-loop table n places high₀ low₀ exponents slots coefficients key x h slot t₀ high low t = length exponents - t
+μ-loop table n places high₀ low₀ exponents slots coefficients key x h d slot t₀ high low t = length exponents - t
 
 abbrev at-start : tie.At-loop Inv-loop μ-loop → tie.Start Inv-loop μ-loop
-at-start l = l .before .before .before .before .before
+at-start l = l .before .before .before .before .before .before .before .before
 
 cut-requires : tie.Need-cut-requires Inv-loop μ-loop
 cut-requires c κs = search needs
 
+divisor-requires : tie.Need-divisor-requires Inv-loop μ-loop
+divisor-requires c κs = let x = c .before .before .before .before .pre .0 .index in record { long = x .long; some = x .some }
+
 slot-requires : tie.Need-slot-requires Inv-loop μ-loop
-slot-requires c κs = search needs
+slot-requires c κs = let x = c .before .before .before .before .before .before .pre .0 .index in record { long = x .long; some = x .some }
 
 loop-holds : tie.Need-loop-holds Inv-loop μ-loop
-loop-holds c = (omega arith, c .before .cut .ensures, c .slot .ensures, summing-start)
+loop-holds c =
+    let d = c .before .before in
+    (omega arith, d .before .before .cut .ensures, d .divisor .ensures, c .slot .ensures, summing-start)
 
 mul-add-term : tie.Need-mul-add-term Inv-loop μ-loop
 mul-add-term c = search needs
@@ -61,8 +68,13 @@ slot-of-sum-requires : tie.Need-slot-of-sum-requires Inv-loop μ-loop
 slot-of-sum-requires c κs =
     let i = c .before .before .before .before in
     let l = i .before in
-    let e = at-start l .pre .1 .1 .each (l .loop .t) (i .loop-test .taken) in
-    (omega (arith, l .loop .inv .2), omega arith)
+    let s = at-start l in
+    let v = l .loop .inv in
+    let x = s .pre .0 .index in (
+      omega (arith, v .2, v .3, slot-low x (s .args .key)),
+      omega (arith, v .2, s .pre .1 .1 .each (l .loop .t) (i .loop-test .taken), slot-low x (getD (s .args .exponents .now) (l .loop .t) 0)),
+      omega (arith, v .2),
+    )
 
 mul-add-term-2 : tie.Need-mul-add-term-2 Inv-loop μ-loop
 mul-add-term-2 c = search needs
@@ -90,13 +102,13 @@ add-term-requires : tie.Need-add-term-requires Inv-loop μ-loop
 add-term-requires c κs =
     let p = s c .pre in
     let v = l c .loop .inv in (
-      ready-after (p .0) (v .3 .grown) (omega (arith, i c .loop-test .taken)),
+      ready-after (p .0) (v .4 .grown) (omega (arith, i c .loop-test .taken)),
       simp (v .1, toZ-ofZ, s c .fits .x, coefficient-fits c) (scaled-entry _ _ (p .1 .0 .small) (p .1 .0 .coefficients-small (l c .loop .t))),
-      omega (arith, c .before .slot-of-sum .ensures, v .2, p .1 .1 .each (l c .loop .t) (i c .loop-test .taken)),
+      slot-of-product _ _ _ _ _ _ _ (v .2) (v .3) (p .1 .1 .each (l c .loop .t) (i c .loop-test .taken)) (c .before .slot-of-sum .ensures),
     )
 
 add-t : tie.Need-add-t Inv-loop μ-loop
-add-t c = search needs
+add-t c = let a = c .before .before .before in omega (arith, i a .loop-test .taken, s a .pre .1 .1 .few)
 
 loop-less : tie.Need-loop-less Inv-loop μ-loop
 loop-less c = search needs
@@ -109,7 +121,8 @@ loop-again c =
       omega (arith, i b .loop-test .taken),
       v .1,
       v .2,
-      summing-more (v .3) (grown-same (rw (toZ-ofZ (coefficient-fits b)) at (a .add-term .ensures)) (λ k. halves-times _ _ (v .1) _ _) (omega arith)),
+      v .3,
+      summing-more (v .4) (grown-same (rw (toZ-ofZ (coefficient-fits b)) at (a .add-term .ensures)) (λ k. halves-times _ _ (v .1) _ _) (omega arith)),
     )
 
 same-length : tie.Need-same-length Inv-loop μ-loop
@@ -123,7 +136,7 @@ returns c =
     let l = c .before in
     let s = at-start l in
     let e : l .loop .t ≡ length (s .args .exponents .now) = omega (arith, l .loop .inv .0, c .loop-test .left) in
-    rw (← e) (simp (toZ-ofZ (s .fits .x)) at (l .loop .inv .3 .grown))
+    rw (← e) (simp (toZ-ofZ (s .fits .x)) at (l .loop .inv .4 .grown))
 
 pub add-terms-spec : {M : Type 1} → statement M
 add-terms-spec =
@@ -132,6 +145,7 @@ add-terms-spec =
     Inv-loop
     μ-loop
     cut-requires
+    divisor-requires
     slot-requires
     loop-holds
     mul-add-term

@@ -12,6 +12,7 @@ use Rattle.identity_check.specs.Spread.{tableUnit}
 use Rattle.identity_check.proofs.Growth.{ready-after}
 use Rattle.identity_check.proofs.Untouched.{near-untouched, untouched-then}
 use Rattle.identity_check.proofs.Differences.{zeroed-ready, claim-most, found-same, found-differs}
+use Rattle.identity_check.proofs.Squares.{room-for-all}
 use Rattle.identity_check.proofs.compare_with.Statement.{statement}
 use Rattle.identity_check.proofs.compare_with.Tie as tie
 
@@ -69,7 +70,7 @@ add-squares-requires c κs =
     let a = c .before .before .before .before .before in
     let p = s a .pre in
     let g = claim-most _ (lent-few a) (a .add-claim .ensures) in
-    (ready-after (zeroed-ready (p .0 .0) (p .0 .1) (257 * unit + (9 * tableUnit + 2 ^ 36)) (omega arith)) g (omega arith), (p .0 .2, p .1))
+    (ready-after (zeroed-ready (p .0 .0) (p .0 .1) (257 * unit + (9 * tableUnit + 2 ^ 36)) (omega (arith, room-for-all))) g (omega arith), (p .0 .2, p .1))
 
 smallest-requires : tie.Need-smallest-requires
 smallest-requires c κs =

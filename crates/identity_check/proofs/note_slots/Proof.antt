@@ -7,16 +7,16 @@ use native.Mathlib.Omega.{arith}
 use borrow.Author.Needs.{needs}
 use lib.ListN.{length, getD, length-set}
 use lib.Seq.{getD-set-same, getD-set-other}
-use Rattle.key_set.specs.Table.{divisor}
+use Rattle.key_set.specs.Table.{divisorIn}
 use Rattle.identity_check.proofs.note_slots.Statement.{statement}
 use Rattle.identity_check.proofs.note_slots.Tie as tie
 
 abbrev Inv-loop : tie.InvT-loop
-Inv-loop slots₀ exponents t₀ slots t =
-    (t ≤ length exponents) × (length slots ≡ 32) × ((i : ℕ) → i < t → getD slots i 0 ≡ getD exponents i 0 % divisor)
+Inv-loop slots₀ exponents index t₀ slots t =
+    (t ≤ length exponents) × (length slots ≡ 32) × ((i : ℕ) → i < t → getD slots i 0 ≡ getD exponents i 0 % divisorIn index)
 
 abbrev μ-loop : tie.MeasureT-loop
-μ-loop slots₀ exponents t₀ slots t = length exponents - t
+μ-loop slots₀ exponents index t₀ slots t = length exponents - t
 
 loop-holds : tie.Need-loop-holds Inv-loop μ-loop
 loop-holds c = (omega arith, c .before .pre .1, λ i b. absurd (omega arith))
@@ -34,7 +34,7 @@ mul-slots : tie.Need-mul-slots Inv-loop μ-loop
 mul-slots c = search needs
 
 element-write-slots : tie.Need-element-write-slots Inv-loop μ-loop
-element-write-slots c = let i = c .before .before in omega (arith, i .loop-test .taken, i .before .before .before .pre .0)
+element-write-slots c = let i = c .before .before .before in omega (arith, i .loop-test .taken, i .before .before .before .pre .0)
 
 add-t : tie.Need-add-t Inv-loop μ-loop
 add-t c = search needs
@@ -44,7 +44,7 @@ loop-less c = search needs
 
 loop-again : tie.Need-loop-again Inv-loop μ-loop
 loop-again c =
-    let n = c .before .before in
+    let n = c .before .before .before in
     let l = n .before in
     let few = l .before .before .pre .0 in
     let long = l .loop .inv .1 in (

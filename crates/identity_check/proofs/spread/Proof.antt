@@ -10,6 +10,7 @@ use mir.Facts.{toZ-ofZ}
 use mir.Syntax.{w64}
 use mir.Val.{SFits}
 use Rattle.flat.specs.TermArrays.{termsIn}
+use Rattle.key_set.specs.Table.{divisorIn}
 use Rattle.identity_check.specs.Tables.{Slots}
 use Rattle.identity_check.proofs.Growth.{ready-after}
 use Rattle.identity_check.proofs.Spreading.{Spreading, spreading-start, spreading-entered, spreading-room, spreading-more, spreading-skip, spreading-end}
@@ -20,7 +21,7 @@ abbrev Inv-loop : tie.InvT-loop
 Inv-loop g₀ basis exponents coefficients table n places hi₀ lo₀ slots size last x₀ g hi lo x =
     (size ≡ length basis)
     × (last ≡ 64 * length basis)
-    × Slots exponents slots
+    × Slots (divisorIn places) exponents slots
     × Spreading table n basis (termsIn (length exponents) exponents coefficients) g₀ hi₀ lo₀ x g hi lo
     × ((x / 64 ≤ x % 64) ⊎ (64 * length basis ≤ x))
 
@@ -48,7 +49,9 @@ module _ (c : tie.After-a Inv-loop μ-loop) where
   fits-a = sfits-of (c .a .given)
 
 note-slots-requires : tie.Need-note-slots-requires Inv-loop μ-loop
-note-slots-requires c κs = (c .before .before .before .before .pre .1 .0 .few, search needs)
+note-slots-requires c κs =
+    let p = c .before .before .before .before .pre in
+    (p .1 .0 .few, search needs, record { long = p .0 .index .long; some = p .0 .index .some })
 
 mul-last : tie.Need-mul-last Inv-loop μ-loop
 mul-last c = let s = c .before .before .before .before .before in omega (arith, s .pre .1 .0 .basis-few)

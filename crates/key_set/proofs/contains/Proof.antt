@@ -18,7 +18,7 @@ returns : tie.Need-returns
 returns c = let f = c .before .before in found-at _ _ _ _ (f .find .ensures) _ (c .enum-told .given .1)
 
 returns-2 : tie.Need-returns-2
-returns-2 c = let f = c .before .before in found-nowhere _ _ _ _ (f .find .ensures) (c .enum-told2 .given .1)
+returns-2 c = let f = c .before .before in found-nowhere _ _ _ _ (f .find .ensures) _ (c .enum-told2 .given .1)
 
 pub contains-spec : {M : Type 1} → statement M
 contains-spec = tie.close (tie.spec find-requires enum-told enum-told-2 returns returns-2)

@@ -23,7 +23,7 @@ returns-2 : tie.Need-returns-2
 returns-2 c =
     let f = c .before .before in
     let s = f .before .before .before in
-    before-nowhere (s .pre .0) _ (s .pre .2) _ (rw (c .enum-told .given .1) at (f .find .ensures))
+    before-nowhere (s .pre .0) _ (s .pre .2) _ _ (rw (c .enum-told .given .1) at (f .find .ensures))
 
 pub is-before-spec : {M : Type 1} → statement M
 is-before-spec = tie.close (tie.spec find-requires enum-known-p enum-told returns returns-2)

@@ -1,5 +1,7 @@
--- `is_among`: a monomial stands in the list exactly if it stands in it from i on.
-use mathlib.Core.Path.{_≡_, refl, sym, _∙_}
+-- `is_among`: what was found so far, or stands in the list from i on.
+use mathlib.Core.Path.{_≡_, refl, sym, ap, _∙_}
+use mathlib.Core.Logic.{⊎-elim}
+use mathlib.Core.Bool.{Bool, true, false, _||_}
 use Prim.Native.Nat.{_-_, _≤_}
 use native.Mathlib.Omega.{arith}
 use lib.ListN.{length, drop}
@@ -8,11 +10,19 @@ use Rattle.polynomial.proofs.Monomials.{among-here, among-later, among-none}
 use Rattle.problem_reader.proofs.is_among.Statement.{statement}
 use Rattle.problem_reader.proofs.is_among.Tie as tie
 
+or-true : (b : Bool) → (b || true) ≡ true
+or-true true = refl
+or-true false = refl
+
+or-false : (b : Bool) → (b || false) ≡ b
+or-false true = refl
+or-false false = refl
+
 abbrev Inv-loop : tie.InvT-loop
-Inv-loop keys key i₀ i = (i ≤ length keys) × (among key keys ≡ among key (drop i keys))
+Inv-loop keys key found₀ i₀ found i = (i ≤ length keys) × (among key keys ≡ (found || among key (drop i keys)))
 
 abbrev μ-loop : tie.MeasureT-loop
-μ-loop keys key i₀ i = length keys - i
+μ-loop keys key found₀ i₀ found i = length keys - i
 
 loop-holds : tie.Need-loop-holds Inv-loop μ-loop
 loop-holds c = (omega arith, refl)
@@ -22,12 +32,6 @@ mul-if1 c = omega arith
 
 shared-slice-read-if1 : tie.Need-shared-slice-read-if1 Inv-loop μ-loop
 shared-slice-read-if1 c = omega arith
-
-returns : tie.Need-returns Inv-loop μ-loop
-returns c =
-    let l = c .before .before .before in
-    let a = l .before .args in
-    sym (l .loop .inv .1 ∙ among-here (a .key) (a .keys .now) (l .loop .i) (omega arith) (c .if1 .taken))
 
 add-i : tie.Need-add-i Inv-loop μ-loop
 add-i c = omega arith
@@ -39,13 +43,21 @@ loop-again : tie.Need-loop-again Inv-loop μ-loop
 loop-again c =
     let l = c .before .before .before in
     let a = l .before .args in
-    (omega arith, l .loop .inv .1 ∙ among-later (a .key) (a .keys .now) (l .loop .i) (omega arith) (c .if1 .left))
+    let v = l .loop .inv .1 in
+    let or : Bool → Bool = λ b. l .loop .found || b in (
+      omega arith,
+      ⊎-elim
+          (λ t. rw (t .1) (v ∙ ap or (among-here (a .key) (a .keys .now) (l .loop .i) (omega arith) (t .0 .taken)) ∙ or-true (l .loop .found)))
+          (λ f. rw (f .1) (v ∙ ap or (among-later (a .key) (a .keys .now) (l .loop .i) (omega arith) (f .0 .left))))
+          (c .if1 .came),
+    )
 
-returns-2 : tie.Need-returns-2 Inv-loop μ-loop
-returns-2 c =
+returns : tie.Need-returns Inv-loop μ-loop
+returns c =
     let l = c .before in
     let a = l .before .args in
-    sym (l .loop .inv .1 ∙ among-none (a .key) (a .keys .now) (l .loop .i) (omega arith))
+    let or : Bool → Bool = λ b. l .loop .found || b in
+    sym (l .loop .inv .1 ∙ ap or (among-none (a .key) (a .keys .now) (l .loop .i) (omega arith)) ∙ or-false (l .loop .found))
 
 pub is-among-spec : {M : Type 1} → statement M
 is-among-spec =
@@ -56,8 +68,7 @@ is-among-spec =
     loop-holds
     mul-if1
     shared-slice-read-if1
-    returns
     add-i
     loop-less
     loop-again
-    returns-2)
+    returns)

@@ -8,8 +8,7 @@ use Rattle.joining_rule.specs.Bytes.{blockAt}
 use Rattle.certificate_reader.specs.Rows.{basisAt, entryAt, EntryStands}
 use Rattle.certificate_reader.proofs.Rows.{stand-low}
 use Rattle.certificate_reader.proofs.Walk.{Step, step-of, step-entry, step-long}
-use Rattle.row_blocks.specs.Places.{placeOf}
-use Rattle.row_blocks.proofs.Splits.{Searching, searching-none, searching-start, searching-end, searching-low, searching-found, searching-more}
+use Rattle.row_blocks.proofs.Splits.{Searching, told-some, told-none, searching-none, searching-start, searching-end, searching-low, searching-found, searching-more}
 use Rattle.row_blocks.proofs.row_split.Statement.{statement}
 use Rattle.row_blocks.proofs.row_split.Tie as tie
 
@@ -48,7 +47,7 @@ add-x : tie.Need-add-x Inv-loop μ-loop
 add-x c = let w = row-inside c in omega (arith, start c .good .0 .0)
 
 returns : tie.Need-returns Inv-loop μ-loop
-returns c = let s = start (c .before) in ap placeOf (sym (searching-none _ _ _ _ (s .pre) (c .if1 .taken)))
+returns c = let s = start (c .before) in told-none _ (sym (searching-none _ _ _ _ (s .pre) (c .if1 .taken)))
 
 basis-at-requires : tie.Need-basis-at-requires Inv-loop μ-loop
 basis-at-requires c κs = row-inside (c .before)
@@ -112,7 +111,7 @@ returns-2 : tie.Need-returns-2 Inv-loop μ-loop
 returns-2 c =
     let i = c .before .before in
     let l = i .before .before in
-    ap placeOf (sym (searching-found _ _ _ _ _ _ (l .loop .inv) (i .before .loop-test .taken) (λ q. c .if2 .taken (sym (block-is i) ∙ q))))
+    told-some _ _ (sym (searching-found _ _ _ _ _ _ (l .loop .inv) (i .before .loop-test .taken) (λ q. c .if2 .taken (sym (block-is i) ∙ q))))
 
 after-entry-requires : tie.Need-after-entry-requires Inv-loop μ-loop
 after-entry-requires c κs = entry-stands (c .before .before .before)
@@ -131,7 +130,7 @@ loop-again c =
     rw (c .after-entry .ensures) (searching-more _ _ _ _ _ _ (l .loop .inv) (i .before .loop-test .taken) (block-is i ∙ c .before .if2 .left))
 
 returns-3 : tie.Need-returns-3 Inv-loop μ-loop
-returns-3 c = let l = c .before in ap placeOf (sym (searching-end _ _ _ _ _ _ (l .loop .inv) (c .loop-test .left)))
+returns-3 c = let l = c .before in told-none _ (sym (searching-end _ _ _ _ _ _ (l .loop .inv) (c .loop-test .left)))
 
 pub row-split-spec : {M : Type 1} → statement M
 row-split-spec =

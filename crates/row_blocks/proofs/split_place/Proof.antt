@@ -3,8 +3,7 @@ use mathlib.Core.Path.{sym, ap, _∙_}
 use Prim.Native.Nat.{_-_, _<_}
 use native.Mathlib.Omega.{arith}
 use borrow.Author.Needs.{needs}
-use Rattle.row_blocks.specs.Places.{placeOf}
-use Rattle.row_blocks.proofs.Splits.{Splitting, splitting-start, splitting-end, splitting-indexed, splitting-found, splitting-more, place-some, place-none, split-is}
+use Rattle.row_blocks.proofs.Splits.{Splitting, splitting-start, splitting-end, splitting-indexed, splitting-found, splitting-more, told-some, told-none, told-as, place-some, place-none, split-is}
 use Rattle.row_blocks.proofs.split_place.Statement.{statement}
 use Rattle.row_blocks.proofs.split_place.Tie as tie
 
@@ -55,8 +54,8 @@ returns : tie.Need-returns Inv-loop μ-loop
 returns c = λ p k limits read rows labels.
     let m = c .before .before .before in
     let i = m .before .before .before in
-    ap placeOf
-    (sym (splitting-found _ _ _ _ _ (l i .loop .inv) (i .loop-test .taken) _ (place-some _ _ (sym (m .row-split .ensures) ∙ c .before .found .given .1)))
+    told-some _ _
+    (sym (splitting-found _ _ _ _ _ (l i .loop .inv) (i .loop-test .taken) _ (place-some _ _ (told-as _ _ _ (c .before .found .given .1) (m .row-split .ensures))))
     ∙ split-is p limits _ _ _ _ k read rows labels)
 
 enum-told : tie.Need-enum-told Inv-loop μ-loop
@@ -72,11 +71,11 @@ loop-again : tie.Need-loop-again Inv-loop μ-loop
 loop-again c =
     let m = c .before .before in
     let i = m .before .before .before in
-    splitting-more _ _ _ _ _ (l i .loop .inv) (i .loop-test .taken) (place-none _ (sym (m .row-split .ensures) ∙ c .enum-told .given .1))
+    splitting-more _ _ _ _ _ (l i .loop .inv) (i .loop-test .taken) (place-none _ (told-as _ _ _ (c .enum-told .given .1) (m .row-split .ensures)))
 
 returns-2 : tie.Need-returns-2 Inv-loop μ-loop
 returns-2 c = λ p k limits read rows labels.
-    ap placeOf (sym (splitting-end _ _ _ _ _ (c .before .loop .inv) (c .loop-test .left)) ∙ split-is p limits _ _ _ _ k read rows labels)
+    told-none _ (sym (splitting-end _ _ _ _ _ (c .before .loop .inv) (c .loop-test .left)) ∙ split-is p limits _ _ _ _ k read rows labels)
 
 pub split-place-spec : {M : Type 1} → statement M
 split-place-spec =

@@ -9,6 +9,7 @@ use Rattle.calls.specs.Tables.{tables, tablesShort}
 use Rattle.calls.specs.Check.{checkVerdict}
 use Rattle.calls.specs.declared.SupersedingVerdict.{SupersedingVerdict}
 use Rattle.calls.specs.Superseding.{supersedingOf, supersedingVerdict}
+use Rattle.calls.proofs.SupersedingKept.{choice-zeros}
 use Rattle.superseding.proofs.choose.Statement.{statement}
 use Rattle.superseding.proofs.choose.Tie as tie
 
@@ -49,7 +50,10 @@ returns c =
     let v =
     decided short (a .problem .now) (a .first .now) (a .second .now) (k .check-two .result) _ (d .decide .ensures)
     (two .0) (two .1 .0) in
-    (ap (λ (w : SupersedingVerdict). w .chosen) v, (ap (λ (w : SupersedingVerdict). w .refusal) v, two .1 .1))
+    let chosen = ap (λ (w : SupersedingVerdict). w .chosen) v in
+    let refusal = ap (λ (w : SupersedingVerdict). w .refusal) v in
+    let zeros = choice-zeros short (a .problem .now) (a .first .now) (a .second .now) _ _ chosen refusal in
+    (chosen, (refusal, (two .1 .1 .0, zeros)))
 
 pub choose-spec : {M : Type 1} → statement M
 choose-spec =

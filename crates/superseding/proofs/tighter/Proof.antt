@@ -3,7 +3,7 @@ use borrow.Author.Needs.{needs}
 use mathlib.Core.Path.{_≡_, refl, sym, _∙_}
 use Rattle.calls.specs.declared.Chosen.{Chosen}
 use Rattle.calls.specs.declared.Chosen.the-variants as Chosen
-use Rattle.calls.proofs.Superseded.{left-clauses}
+use Rattle.calls.proofs.SupersedingKept.{left-clauses}
 use Rattle.superseding.proofs.Parts.{part-by, not-both}
 use Rattle.superseding.proofs.tighter.Statement.{statement}
 use Rattle.superseding.proofs.tighter.Tie as tie
@@ -42,8 +42,17 @@ returns c =
     let k = h .choose .ensures in
     let e = sym (k .0) ∙ c .enum-told .given .1 in
     let part = part-by _ Chosen.First _ (a .first .now) (a .second .now) e refl in
-    let clauses = left-clauses _ (a .problem .now) (a .first .now) (a .second .now) _ _ part (k .1 .0) in
-    (part, ((λ g. refl, λ g. not-both _ Chosen.First Chosen.Second e g refl), (k .1 .0, (k .1 .1, clauses))))
+    let clauses = left-clauses _ (a .problem .now) (a .first .now) (a .second .now) _ _ part (k .1 .0) in (
+      part,
+      (
+        (
+          λ g. refl,
+          λ g. not-both _ Chosen.First Chosen.Second e g refl,
+          λ g. not-both _ Chosen.First Chosen.Neither e g refl,
+        ),
+        (k .1 .0, (k .1 .1 .0, clauses)),
+      ),
+    )
 
 same-length-4 : tie.Need-same-length-4
 same-length-4 c = search needs
@@ -61,8 +70,17 @@ returns-2 c =
     let k = h .choose .ensures in
     let e = sym (k .0) ∙ c .enum-told2 .given .1 in
     let part = part-by _ Chosen.Second _ (a .first .now) (a .second .now) e refl in
-    let clauses = left-clauses _ (a .problem .now) (a .first .now) (a .second .now) _ _ part (k .1 .0) in
-    (part, ((λ g. not-both _ Chosen.Second Chosen.First e g refl, λ g. refl), (k .1 .0, (k .1 .1, clauses))))
+    let clauses = left-clauses _ (a .problem .now) (a .first .now) (a .second .now) _ _ part (k .1 .0) in (
+      part,
+      (
+        (
+          λ g. not-both _ Chosen.Second Chosen.First e g refl,
+          λ g. refl,
+          λ g. not-both _ Chosen.Second Chosen.Neither e g refl,
+        ),
+        (k .1 .0, (k .1 .1 .0, clauses)),
+      ),
+    )
 
 same-length-7 : tie.Need-same-length-7
 same-length-7 c = search needs
@@ -83,8 +101,12 @@ returns-3 c =
     let clauses = left-clauses _ (a .problem .now) (a .first .now) (a .second .now) _ _ part (k .1 .0) in (
       part,
       (
-        (λ g. not-both _ Chosen.Neither Chosen.First e g refl, λ g. not-both _ Chosen.Neither Chosen.Second e g refl),
-        (k .1 .0, (k .1 .1, clauses)),
+        (
+          λ g. not-both _ Chosen.Neither Chosen.First e g refl,
+          λ g. not-both _ Chosen.Neither Chosen.Second e g refl,
+          λ g. refl,
+        ),
+        (k .1 .0, (k .1 .1 .0, clauses)),
       ),
     )
 

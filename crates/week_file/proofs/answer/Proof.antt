@@ -31,8 +31,8 @@ answer-to-requires c κs = search needs
 returns : tie.Need-returns
 returns c =
     let r = c .before .before .before .before .before in (
-      c .answer-to .ensures ∙ ap weekAnswer (c .before .before .cut .ensures),
-      (at-most (r .read-week .result) (r .read-week .last .0) (r .read-week .ensures) (omega arith), omega arith),
+      c .answer-to .ensures .0 ∙ ap weekAnswer (c .before .before .cut .ensures),
+      (at-most (r .read-week .result) (r .read-week .last .0) (r .read-week .ensures) (omega arith), c .answer-to .ensures .1),
     )
 
 pub answer-spec : {M : Type 1} → statement M

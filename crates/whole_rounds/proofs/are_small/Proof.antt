@@ -10,7 +10,7 @@ use Rattle.whole_rounds.proofs.are_small.Statement.{statement}
 use Rattle.whole_rounds.proofs.are_small.Tie as tie
 
 abbrev Inv-loop : tie.InvT-loop
-Inv-loop sizes j₀ j = (j ≤ 9) × ((i : ℕ) → i < j → getD sizes i 0 ≤ 24)
+Inv-loop sizes j₀ j = (j ≤ 9) × ((i : ℕ) → i < j → getD sizes i 0 ≤ 16)
 
 abbrev μ-loop : tie.MeasureT-loop
 μ-loop sizes j₀ j = 9 - j

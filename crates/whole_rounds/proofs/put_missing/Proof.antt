@@ -19,7 +19,7 @@ use Rattle.whole_rounds.proofs.put_missing.Statement.{statement}
 use Rattle.whole_rounds.proofs.put_missing.Tie as tie
 
 abbrev Inv-loop : tie.InvT-loop
-Inv-loop labels keys sizes table₀ index₀ n₀ j₀ table index n j = (j ≤ 9) × Growing table₀ n₀ (extendTo 9 (basesIn keys sizes) (labelsIn 64 sizes labels) (keysIn n₀ table₀)) (extendFrom j (basesIn keys sizes) (labelsIn 64 sizes labels)) n table index
+Inv-loop labels keys sizes table₀ index₀ n₀ j₀ table index n j = (j ≤ 9) × Growing table₀ n₀ (extendTo 9 (basesIn keys sizes) (labelsIn sizes labels) (keysIn n₀ table₀)) (extendFrom j (basesIn keys sizes) (labelsIn sizes labels)) n table index
 
 abbrev μ-loop : tie.MeasureT-loop
 μ-loop labels keys sizes table₀ index₀ n₀ j₀ table index n j = 9 - j
@@ -34,7 +34,7 @@ loop-holds c =
     let e = c .adding-bases .ensures in
     let m = adding-most (s .args .support .rule) in (
       omega (arith, e),
-      growing-skip _ _ _ _ _ _ _ (growing-start _ (extendTo 9 (basesIn (s .args .keys .now) (s .args .sizes .now)) (labelsIn 64 (s .args .sizes .now) (s .args .labels .now))) _ _ (h .support) (h .index)) _
+      growing-skip _ _ _ _ _ _ _ (growing-start _ (extendTo 9 (basesIn (s .args .keys .now) (s .args .sizes .now)) (labelsIn (s .args .sizes .now) (s .args .labels .now))) _ _ (h .support) (h .index)) _
           (rw e (sym (missing-start _ _ _ _ m (keys-rising _ _) (s .pre .full)))),
     )
 
@@ -88,9 +88,9 @@ returns c =
     let l = c .before .before .before .before .before .before .before .before .before .before .before .before .before in
     let s = c .before .before .before .before .before .before .before .before .before .before .before .before .before .before .before .before .before .before .before .before in
     let h : l .loop .j < 9 = c .before .before .before .before .before .before .before .before .before .before .before .before .loop-test .taken in
-    let p = part-is _ (arrays-sizes _ _ (s .pre .held .arrays)) 64 (s .args .labels .now) (l .loop .j) h (omega arith) ∙ sym (labels-at 64 _ _ (l .loop .j) h) in
+    let p = part-is _ (arrays-sizes _ _ (s .pre .held .arrays)) (s .args .labels .now) (l .loop .j) ∙ sym (labels-at _ _ (l .loop .j) h) in
     let e = rw (c .before .before .before .before .before .before .before .before .before .before .exponents .ensures, c .before .before .before .before .before .before .before .before .before .before .before .basis .ensures, p) at (c .before .before .before .before .before .add-blocks .ensures) in
-    growing-stop _ _ _ _ _ _ _ (l .loop .inv .1) _ _ _ _ e (extendFrom (l .loop .j + 1) (basesIn (s .args .keys .now) (s .args .sizes .now)) (labelsIn 64 (s .args .sizes .now) (s .args .labels .now))) (missing-more _ _ (l .loop .j) _ h) (c .if1 .taken) (missing-extends _ _ (l .loop .j + 1) _)
+    growing-stop _ _ _ _ _ _ _ (l .loop .inv .1) _ _ _ _ e (extendFrom (l .loop .j + 1) (basesIn (s .args .keys .now) (s .args .sizes .now)) (labelsIn (s .args .sizes .now) (s .args .labels .now))) (missing-more _ _ (l .loop .j) _ h) (c .if1 .taken) (missing-extends _ _ (l .loop .j + 1) _)
 
 add-j : tie.Need-add-j Inv-loop μ-loop
 add-j c = search needs
@@ -103,7 +103,7 @@ loop-again c =
     let l = c .before .before .before .before .before .before .before .before .before .before .before .before .before in
     let s = c .before .before .before .before .before .before .before .before .before .before .before .before .before .before .before .before .before .before .before .before in
     let h : l .loop .j < 9 = c .before .before .before .before .before .before .before .before .before .before .before .before .loop-test .taken in
-    let p = part-is _ (arrays-sizes _ _ (s .pre .held .arrays)) 64 (s .args .labels .now) (l .loop .j) h (omega arith) ∙ sym (labels-at 64 _ _ (l .loop .j) h) in
+    let p = part-is _ (arrays-sizes _ _ (s .pre .held .arrays)) (s .args .labels .now) (l .loop .j) ∙ sym (labels-at _ _ (l .loop .j) h) in
     let e = rw (c .before .before .before .before .before .before .before .before .before .before .exponents .ensures, c .before .before .before .before .before .before .before .before .before .before .before .basis .ensures, p) at (c .before .before .before .before .before .add-blocks .ensures) in
     (omega arith, growing-step _ _ _ _ _ _ _ (l .loop .inv .1) _ _ _ _ e _ (missing-more _ _ (l .loop .j) _ h) (c .if1 .left) (extend-extends _ _ _ _))
 

@@ -11,10 +11,10 @@ use Rattle.whole_rounds.proofs.start_blocks.Statement.{statement}
 use Rattle.whole_rounds.proofs.start_blocks.Tie as tie
 
 abbrev Inv-loop : tie.InvT-loop
-Inv-loop blocks₀ sizes j₀ blocks j = (j ≤ 9) × NumberedTo sizes j blocks
+Inv-loop labels₀ sizes j₀ labels j = (j ≤ 9) × NumberedTo sizes j labels
 
 abbrev μ-loop : tie.MeasureT-loop
-μ-loop blocks₀ sizes j₀ blocks j = 9 - j
+μ-loop labels₀ sizes j₀ labels j = 9 - j
 
 loop-holds : tie.Need-loop-holds Inv-loop μ-loop
 loop-holds c = (omega arith, rw (c .before .before .pre .1) (numbering-start _))
@@ -38,14 +38,14 @@ part-number-start : tie.Need-part-number-start Inv-loop μ-loop
 part-number-start c = search needs
 
 part-number-end : tie.Need-part-number-end Inv-loop μ-loop
-part-number-end c = let l = c .before .before in omega (arith, c .before .before .before .before .before .pre .0 .small (l .loop .j) (omega arith), l .loop .inv .1 .long)
+part-number-end c = let l = c .before .before in omega (arith, c .before .before .before .before .before .pre .0 .small (l .loop .j) (omega arith), l .loop .inv .1 .bytes .long)
 
 number-requires : tie.Need-number-requires Inv-loop μ-loop
 number-requires c κs =
     let l = c .before .before .before in
     let s = c .before .before .before .before .before .before in
     let z = s .pre .0 .small (l .loop .j) (omega arith) in
-    rw (taken-long (128 * l .loop .j) (getD (s .args .sizes .now) (l .loop .j) 0) (l .loop .blocks) (omega (arith, l .loop .inv .1 .long))) z
+    rw (taken-long (64 * l .loop .j) (getD (s .args .sizes .now) (l .loop .j) 0) (l .loop .labels) (omega (arith, l .loop .inv .1 .bytes .long))) z
 
 add-j : tie.Need-add-j Inv-loop μ-loop
 add-j c = search needs
@@ -61,7 +61,7 @@ loop-again c =
 same-length : tie.Need-same-length Inv-loop μ-loop
 same-length c =
     let s = c .before .before .before .before in
-    c .before .loop .inv .1 .long ∙ sym (ap length (s .pre .1) ∙ length-replicate {A = ℕ} 1152 255)
+    c .before .loop .inv .1 .bytes .long ∙ sym (ap length (s .pre .1) ∙ length-replicate {A = ℕ} 576 255)
 
 returns : tie.Need-returns Inv-loop μ-loop
 returns c = let l = c .before in numbering-end _ (l .loop .j) _ (l .loop .inv .1) (omega arith)

@@ -1,0 +1,138 @@
+"""The figures of a filing, in one place: the sheet, the lines printed and whatever else quotes them is made from here.
+
+All is computed from the bytes that gapcheck accepted, in exact fractions; the manifest gives factor and variables,
+which are checked by stating the model again.
+"""
+from __future__ import annotations
+
+from dataclasses import dataclass
+from fractions import Fraction
+from typing import Optional
+
+from .decimals import decimal, digits_for, is_exact
+from .manifest import Manifest, read_manifest
+from .model import Model, parse, read_text
+from .polynomials import evaluate
+from .problem import encode_problem
+from .programs import Verdict
+from .reading import Certificate, Problem, read_certificate, read_problem
+from .restating import Mismatch, Restated, Scaled, faithful
+
+
+@dataclass(frozen=True)
+class Quoted:
+    """A figure as it is quoted: its words, its value in the model's units, and the decimal, rounded outward."""
+    name: str
+    words: str
+    exact: Fraction
+    up: bool
+    digits: int
+
+    @property
+    def decimal(self) -> str:
+        return decimal(self.exact, self.up, self.digits)
+
+    @property
+    def is_exact(self) -> bool:
+        return is_exact(self.exact, self.digits)
+
+
+@dataclass(frozen=True)
+class Reached:
+    """A point of the model's region, in the model's variables, and the value there in the model's units."""
+    point: list[Fraction]
+    value: Fraction
+
+
+@dataclass(frozen=True)
+class Figures:
+    """All that a filing says."""
+    model: Model
+    problem: Problem
+    certificates: tuple[Certificate, Certificate]
+    verdict: Verdict
+    factor: int
+    variables: list[Scaled]
+    restated: Restated
+    reached: list[Optional[Reached]]                         # for each side
+    relaxations: list[str]
+    made: dict[str, str]                                     # how, when and with what
+
+    @property
+    def as_sent(self) -> bool:
+        """Whether the stream has the model's own polynomial and variables."""
+        return self.factor == 1 and all(v.same for v in self.variables)
+
+    @property
+    def bounds(self) -> tuple[Fraction, Fraction]:
+        """The bounds in the model's units."""
+        assert self.verdict.lower is not None and self.verdict.upper is not None
+        return self.verdict.lower / self.factor, self.verdict.upper / self.factor
+
+    @property
+    def digits(self) -> int:
+        return digits_for(self.bounds[1] - self.bounds[0], *self.bounds)
+
+    @property
+    def quoted(self) -> list[Quoted]:
+        """What is quoted; nothing where the bounds cross."""
+        if self.verdict.empty:
+            return []
+        low, high = self.bounds
+        return [Quoted("lower", "at least", low, False, self.digits),
+                Quoted("upper", "at most", high, True, self.digits),
+                Quoted("gap", "two values differ by at most", high - low, True, self.digits)]
+
+    @property
+    def date(self) -> str:
+        return self.model.head.get("date", self.made.get("date", ""))
+
+
+def figures_of(streams: list[bytes], verdict: Verdict, manifest: Manifest, model: Model) -> Figures:
+    """The figures of three streams that gapcheck accepted. Raises Mismatch where they are not the model's."""
+    problem = read_problem(streams[0])
+    restated = faithful(model, manifest.variables, manifest.factor, problem)
+    if encode_problem(restated.problem) != streams[0]:
+        raise Mismatch("problem.bin is not written in the order in which gapfile writes the model's problem")
+    low, high = read_certificate(streams[1], problem, 1), read_certificate(streams[2], problem, 2)
+    reached = [None if point is None else _reached(model, manifest, point) for point in manifest.points]
+    return Figures(model, problem, (low, high), verdict, manifest.factor, manifest.variables, restated, reached,
+                   manifest.relaxations, manifest.made)
+
+
+def filed_figures(streams: list[bytes], verdict: Verdict, manifest: Optional[bytes],
+                  model: Optional[bytes]) -> Optional[Figures]:
+    """The figures in the model's units, where a folder has a model and a manifest: the model is stated again, so that a
+    factor which is not the model's is an error and never a figure. Raises ManifestError, ModelError or Mismatch."""
+    if manifest is None or model is None:
+        return None
+    return figures_of(streams, verdict, read_manifest(manifest), parse(read_text(model)))
+
+
+def _reached(model: Model, manifest: Manifest, point: list[Fraction]) -> Optional[Reached]:
+    """The point in the model's variables, if it meets the model's own conditions, exactly."""
+    outer = [v.outer(x) for v, x in zip(manifest.variables, point)]
+    assert model.bound is not None
+    for v, x in zip(model.variables, outer):
+        if v.range and not v.range[0] <= x <= v.range[1]:
+            return None
+    for where in model.conditions:
+        value = evaluate(where.polynomial, outer)
+        if value < 0 or where.equality and value:
+            return None
+    return Reached(outer, evaluate(model.bound, outer))
+
+
+def quoted_lines(figures: Figures) -> list[str]:
+    """The figure in the model's units, in words."""
+    if figures.verdict.empty:
+        return ["no point meets all the conditions: the bounds cross, so there is no figure to quote"]
+    unit = figures.model.head.get("unit", "")
+    return [f"{q.words} {q.decimal}{' ' + unit if unit else ''}{'' if q.is_exact else ' (rounded outward)'}"
+            for q in figures.quoted]
+
+
+def stream_lines(figures: Figures) -> list[str]:
+    """What gapcheck printed, named as the stream's."""
+    of = "the model's" if figures.factor == 1 else f"{figures.factor} times the model's"
+    return [f"gapcheck on the stream, whose polynomial is {of}:", *(f"  {line}" for line in figures.verdict.lines)]

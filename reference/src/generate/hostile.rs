@@ -1,0 +1,290 @@
+//! Accepted pairs that are made to be slow, each in another way.
+//!
+//! The objective is a constant, and the conditions come in pairs g, -g with the same basis and the
+//! same rows, so that all squares cancel and both bounds are the constant. Basis 0 is that of the
+//! conditions. What is left to choose are the monomials of the basis and of g: how many different
+//! sums they have, and what remainders.
+
+use std::collections::{HashMap, HashSet};
+
+use crate::generate::draft::{
+    basis_monomial, bound, certificate_end, constraint, constraint_term, entry, equality,
+    equality_row, objective_term, problem_end, product, row, variables, wide_entry,
+};
+use crate::generate::problems::all_monomials;
+use crate::generate::rng::Rng;
+use crate::monomial::Monomial;
+use crate::records::{Record, PAIR};
+
+/// The divisor that the index of the support has as a rule, and that of the index of pairs.
+const SUPPORT: u64 = 3_821;
+const PAIRS: u64 = 2_039;
+
+/// The most members of the support.
+const MOST: usize = 2_048;
+
+/// The monomials of all nine bases, and the terms of the conditions 1 and 2, 3 and 4, 5 and 6, 7 and 8.
+struct Shape {
+    variables: u8,
+    basis: Vec<Monomial>,
+    terms: [Vec<Monomial>; 4],
+}
+
+/// Factors of 16 or of 32 bits, and inequalities or equalities.
+#[derive(Clone, Copy)]
+struct Kind {
+    wide: bool,
+    equal: bool,
+}
+
+/// The hostile pair of a name: `colliding`, `chained`, `sums` or `pairs`, and then nothing, `-wide` or
+/// `-wide-equal`.
+pub fn hostile(rng: &mut Rng, name: &str) -> Option<Vec<Record>> {
+    let (shape, kind) = name.split_once('-').unwrap_or((name, ""));
+    let kind = match kind {
+        "" => (false, false),
+        "wide" => (true, false),
+        "wide-equal" => (true, true),
+        _ => return None,
+    };
+    let kind = Kind {
+        wide: kind.0,
+        equal: kind.1,
+    };
+    let shape = match shape {
+        "colliding" => colliding(rng),
+        "chained" => chained(rng),
+        "sums" => sums(rng),
+        "pairs" => pairs(rng),
+        _ => return None,
+    };
+    Some(vec![shape.record(rng, kind)])
+}
+
+/// Every product has one of two remainders in the index of the support, and nearly all the same one.
+fn colliding(rng: &mut Rng) -> Shape {
+    let basis = largest_class(&all_monomials(8, 8), SUPPORT);
+    let links = basis[1..].iter().map(|&b| product(basis[0], b)).collect();
+    fitting(8, basis, links, neutral(rng))
+}
+
+/// Every sum of the basis has with all terms one remainder in the index of the support.
+fn chained(rng: &mut Rng) -> Shape {
+    let basis: Vec<Monomial> = (0..32).map(|e| spread([e % 8, e / 8 % 2, e / 16])).collect();
+    let links = basis[1..].to_vec();
+    fitting(3, basis, links, neutral(rng))
+}
+
+/// The most different sums: 64 monomials of degree 8 at most in 3 variables, and 32 terms of low degree.
+fn sums(rng: &mut Rng) -> Shape {
+    let all = all_monomials(3, 8);
+    let mut best: Vec<Monomial> = Vec::new();
+    for _ in 0..400 {
+        // Hill climbing: one monomial of the basis is changed, and kept where the sums are not fewer.
+        let mut next = best.clone();
+        if next.len() < 64 {
+            next = vec![Monomial::ONE];
+            next.extend(all[1..64].iter());
+        }
+        for _ in 0..rng.between(1, 4) {
+            let place = 1 + rng.below(63);
+            let other = *rng.pick(&all);
+            if !next.contains(&other) {
+                next[place] = other;
+            }
+        }
+        if best.is_empty() || sums_of(&next).len() >= sums_of(&best).len() {
+            best = next;
+        }
+    }
+    let low: Vec<Monomial> = all_monomials(3, 4).into_iter().take(32).collect();
+    let names = |from: usize| {
+        let mut terms: Vec<Monomial> = vec![Monomial::ONE];
+        terms.extend(best.iter().skip(from).take(31));
+        terms
+    };
+    Shape {
+        variables: 3,
+        terms: [low.clone(), low, names(1), names(32)],
+        basis: best,
+    }
+}
+
+/// The pairs of a basis of 17 monomials or more have few remainders in their own index.
+fn pairs(rng: &mut Rng) -> Shape {
+    let all = all_monomials(8, 8);
+    let mut by_rest: HashMap<u64, Vec<Monomial>> = HashMap::new();
+    for m in all {
+        by_rest.entry(m.key() % PAIRS).or_default().push(m);
+    }
+    // Classes in arithmetic progression, so that the sums of two are few.
+    let mut best: Vec<Monomial> = Vec::new();
+    for _ in 0..4_000 {
+        let (from, step) = (rng.next() % PAIRS, 1 + rng.next() % (PAIRS - 1));
+        let classes = (0..6).map(|i| (from + i * step) % PAIRS);
+        let next: Vec<Monomial> = classes
+            .flat_map(|rest| by_rest.get(&rest).cloned().unwrap_or_default())
+            .filter(|&m| m != Monomial::ONE)
+            .take(63)
+            .collect();
+        if next.len() > best.len() {
+            best = next;
+        }
+    }
+    let names = |from: usize| {
+        let mut terms = vec![Monomial::ONE];
+        terms.extend(best.iter().skip(from).take(31));
+        terms
+    };
+    let terms = [
+        vec![Monomial::ONE],
+        vec![Monomial::ONE],
+        names(0),
+        names(31),
+    ];
+    let mut basis = vec![Monomial::ONE];
+    basis.extend(&best);
+    Shape {
+        variables: 8,
+        basis,
+        terms,
+    }
+}
+
+fn spread([a, b, c]: [u8; 3]) -> Monomial {
+    Monomial([a, b, c, 0, 0, 0, 0, 0])
+}
+
+/// The monomials with the remainder that most of them have.
+fn largest_class(all: &[Monomial], divisor: u64) -> Vec<Monomial> {
+    let mut classes: HashMap<u64, Vec<Monomial>> = HashMap::new();
+    for &m in all {
+        classes.entry(m.key() % divisor).or_default().push(m);
+    }
+    let mut classes: Vec<(u64, Vec<Monomial>)> = classes.into_iter().collect();
+    classes.sort_by_key(|(rest, class)| (usize::MAX - class.len(), *rest));
+    classes.swap_remove(0).1
+}
+
+/// Terms of degree 16 at most that change no remainder, in random order.
+fn neutral(rng: &mut Rng) -> Vec<Monomial> {
+    let mut all = Vec::new();
+    while all.len() < 64 {
+        let m = crate::generate::draft::random_monomial(rng, 8, 16);
+        if m != Monomial::ONE && m.key() % SUPPORT == 0 && !all.contains(&m) {
+            all.push(m);
+        }
+    }
+    all
+}
+
+/// The shape with as many of the neutral terms as the support has room for. The links stand in the last
+/// two conditions, and make the basis one block.
+fn fitting(variables: u8, basis: Vec<Monomial>, links: Vec<Monomial>, neutral: Vec<Monomial>) -> Shape {
+    let variables = if neutral.is_empty() { variables } else { 8 };
+    let mut count = 31;
+    loop {
+        let mut terms = vec![Monomial::ONE];
+        terms.extend(&neutral[..count]);
+        let mut last = vec![Monomial::ONE];
+        last.extend(&links);
+        last.truncate(32);
+        let shape = Shape {
+            variables,
+            basis: basis.clone(),
+            terms: [terms.clone(), terms.clone(), terms, last],
+        };
+        if shape.members() <= MOST {
+            return shape;
+        }
+        count -= 1;
+    }
+}
+
+/// The keys of all products of two.
+fn sums_of(basis: &[Monomial]) -> HashSet<u64> {
+    let all = basis.iter().flat_map(|a| basis.iter().map(move |b| a.key() + b.key()));
+    all.collect()
+}
+
+impl Shape {
+    /// How many keys the support has when every basis is one block.
+    fn members(&self) -> usize {
+        let sums = sums_of(&self.basis);
+        let mut all = sums.clone();
+        for t in self.terms.iter().flatten() {
+            all.insert(t.key());
+            all.extend(sums.iter().map(|s| s + t.key()));
+        }
+        all.len()
+    }
+
+    fn record(&self, rng: &mut Rng, kind: Kind) -> Record {
+        let constant = 1 + rng.below(1_000) as i32;
+        let runs = vec![
+            self.problem(rng, kind, constant),
+            self.certificate(rng, kind, constant, 0),
+            self.certificate(rng, kind, constant, 1),
+        ];
+        Record { kind: PAIR, runs }
+    }
+
+    fn problem(&self, rng: &mut Rng, kind: Kind, constant: i32) -> Vec<u8> {
+        let mut all = vec![variables(self.variables), objective_term(Monomial::ONE, constant)];
+        for terms in &self.terms {
+            let g: Vec<i16> = terms.iter().map(|_| rng.nonzero(999) as i16).collect();
+            for sign in [1, -1] {
+                all.push(if kind.equal { equality() } else { constraint() });
+                all.extend(terms.iter().zip(&g).map(|(&m, c)| constraint_term(m, sign * c)));
+            }
+        }
+        for j in 0..9 {
+            all.extend(self.basis.iter().map(|&m| basis_monomial(j, m)));
+        }
+        all.push(problem_end());
+        all.concat()
+    }
+
+    /// 128 full rows on the conditions in turn.
+    fn certificate(&self, rng: &mut Rng, kind: Kind, constant: i32, side: u8) -> Vec<u8> {
+        let mut all = vec![bound(side, 1, constant, 1)];
+        for place in 0..64 {
+            let weight = 1 + rng.below(30_000) as u16;
+            let entries: Vec<Vec<u8>> = (0..self.basis.len() as u8)
+                .map(|i| match kind.wide {
+                    true => wide_entry(i, rng.nonzero(i32::MAX)),
+                    false => entry(i, rng.nonzero(32_767) as i16),
+                })
+                .collect();
+            for j in [1, 2] {
+                let j = 2 * (place % 4) + j;
+                all.push(match kind.equal {
+                    true => equality_row(j, weight as i16),
+                    false => row(j, weight),
+                });
+                all.extend(entries.iter().cloned());
+            }
+        }
+        all.push(certificate_end());
+        all.concat()
+    }
+}
+
+#[cfg(test)]
+mod tests {
+    use super::*;
+    use crate::plain::line;
+
+    #[test]
+    fn hostile_pairs_are_accepted() {
+        for shape in ["colliding", "chained", "sums", "pairs"] {
+            for kind in ["", "-wide", "-wide-equal"] {
+                let name = format!("{shape}{kind}");
+                let records = hostile(&mut Rng::new(2), &name).expect("it is a name");
+                let line = line(&records[0]);
+                assert!(line.starts_with("pair "), "{name}: {line}");
+            }
+        }
+        assert!(hostile(&mut Rng::new(2), "colliding-narrow").is_none());
+    }
+}
