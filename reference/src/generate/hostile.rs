@@ -1,6 +1,6 @@
-//! Accepted pairs that are made to be slow, each in another way.
+//! Accepted pairs that are made to be slow, each in another way, and a problem whose blocks are.
 //!
-//! The objective is a constant, and the conditions come in pairs g, -g with the same basis and the
+//! The objective of a pair is a constant, and the conditions come in pairs g, -g with the same basis and the
 //! same rows, so that all squares cancel and both bounds are the constant. Basis 0 is that of the
 //! conditions. What is left to choose are the monomials of the basis and of g: how many different
 //! sums they have, and what remainders.
@@ -37,9 +37,12 @@ struct Kind {
     equal: bool,
 }
 
-/// The hostile pair of a name: `colliding`, `chained`, `sums` or `pairs`, and then nothing, `-wide` or
-/// `-wide-equal`.
+/// The hostile pair of a name: `colliding`, `chained` or `sums`, and then nothing, `-wide` or `-wide-equal`;
+/// and the hostile problem `pairs`.
 pub fn hostile(rng: &mut Rng, name: &str) -> Option<Vec<Record>> {
+    if name == "pairs" {
+        return Some(vec![Record::blocks(pairs(rng))]);
+    }
     let (shape, kind) = name.split_once('-').unwrap_or((name, ""));
     let kind = match kind {
         "" => (false, false),
@@ -55,7 +58,6 @@ pub fn hostile(rng: &mut Rng, name: &str) -> Option<Vec<Record>> {
         "colliding" => colliding(rng),
         "chained" => chained(rng),
         "sums" => sums(rng),
-        "pairs" => pairs(rng),
         _ => return None,
     };
     Some(vec![shape.record(rng, kind)])
@@ -70,7 +72,7 @@ fn colliding(rng: &mut Rng) -> Shape {
 
 /// Every sum of the basis has with all terms one remainder in the index of the support.
 fn chained(rng: &mut Rng) -> Shape {
-    let basis: Vec<Monomial> = (0..32).map(|e| spread([e % 8, e / 8 % 2, e / 16])).collect();
+    let basis: Vec<Monomial> = (0..32).map(|e| spread([e % 4, e / 4 % 4, e / 16])).collect();
     let links = basis[1..].to_vec();
     fitting(3, basis, links, neutral(rng))
 }
@@ -78,43 +80,44 @@ fn chained(rng: &mut Rng) -> Shape {
 /// The most different sums: 64 monomials of degree 8 at most in 3 variables, and 32 terms of low degree.
 fn sums(rng: &mut Rng) -> Shape {
     let all = all_monomials(3, 8);
-    let mut best: Vec<Monomial> = Vec::new();
+    let low: Vec<Monomial> = all_monomials(3, 4).into_iter().take(32).collect();
+    let mut best = named(3, all[..64].to_vec(), &low);
     for _ in 0..400 {
-        // Hill climbing: one monomial of the basis is changed, and kept where the sums are not fewer.
-        let mut next = best.clone();
-        if next.len() < 64 {
-            next = vec![Monomial::ONE];
-            next.extend(all[1..64].iter());
-        }
+        // Hill climbing: some monomials of the basis are changed, and kept where the sums are not fewer.
+        let mut basis = best.basis.clone();
         for _ in 0..rng.between(1, 4) {
             let place = 1 + rng.below(63);
             let other = *rng.pick(&all);
-            if !next.contains(&other) {
-                next[place] = other;
+            if !basis.contains(&other) {
+                basis[place] = other;
             }
         }
-        if best.is_empty() || sums_of(&next).len() >= sums_of(&best).len() {
+        let next = named(3, basis, &low);
+        if sums_of(&next.basis).len() >= sums_of(&best.basis).len() && next.members() <= MOST {
             best = next;
         }
     }
-    let low: Vec<Monomial> = all_monomials(3, 4).into_iter().take(32).collect();
+    best
+}
+
+/// The shape whose first conditions have the given terms. The last ones name the monomials of the basis,
+/// which makes it one block.
+fn named(variables: u8, basis: Vec<Monomial>, low: &[Monomial]) -> Shape {
     let names = |from: usize| {
-        let mut terms: Vec<Monomial> = vec![Monomial::ONE];
-        terms.extend(best.iter().skip(from).take(31));
-        terms
+        let named = basis.iter().skip(from).take(31);
+        [Monomial::ONE].iter().chain(named).copied().collect()
     };
     Shape {
-        variables: 3,
-        terms: [low.clone(), low, names(1), names(32)],
-        basis: best,
+        variables,
+        terms: [low.to_vec(), low.to_vec(), names(1), names(32)],
+        basis,
     }
 }
 
-/// The pairs of a basis of 17 monomials or more have few remainders in their own index.
-fn pairs(rng: &mut Rng) -> Shape {
-    let all = all_monomials(8, 8);
+/// The problem of one basis of 62 monomials, one block, whose pairs have few remainders in their own index.
+fn pairs(rng: &mut Rng) -> Vec<u8> {
     let mut by_rest: HashMap<u64, Vec<Monomial>> = HashMap::new();
-    for m in all {
+    for m in all_monomials(8, 8) {
         by_rest.entry(m.key() % PAIRS).or_default().push(m);
     }
     // Classes in arithmetic progression, so that the sums of two are few.
@@ -125,30 +128,18 @@ fn pairs(rng: &mut Rng) -> Shape {
         let next: Vec<Monomial> = classes
             .flat_map(|rest| by_rest.get(&rest).cloned().unwrap_or_default())
             .filter(|&m| m != Monomial::ONE)
-            .take(63)
+            .take(61)
             .collect();
         if next.len() > best.len() {
             best = next;
         }
     }
-    let names = |from: usize| {
-        let mut terms = vec![Monomial::ONE];
-        terms.extend(best.iter().skip(from).take(31));
-        terms
-    };
-    let terms = [
-        vec![Monomial::ONE],
-        vec![Monomial::ONE],
-        names(0),
-        names(31),
-    ];
-    let mut basis = vec![Monomial::ONE];
-    basis.extend(&best);
-    Shape {
-        variables: 8,
-        basis,
-        terms,
-    }
+    let mut all = vec![variables(8)];
+    all.extend(best.iter().map(|&m| objective_term(m, 1)));
+    all.push(basis_monomial(0, Monomial::ONE));
+    all.extend(best.iter().map(|&m| basis_monomial(0, m)));
+    all.push(problem_end());
+    all.concat()
 }
 
 fn spread([a, b, c]: [u8; 3]) -> Monomial {
@@ -277,7 +268,7 @@ mod tests {
 
     #[test]
     fn hostile_pairs_are_accepted() {
-        for shape in ["colliding", "chained", "sums", "pairs"] {
+        for shape in ["colliding", "chained", "sums"] {
             for kind in ["", "-wide", "-wide-equal"] {
                 let name = format!("{shape}{kind}");
                 let records = hostile(&mut Rng::new(2), &name).expect("it is a name");
@@ -285,6 +276,8 @@ mod tests {
                 assert!(line.starts_with("pair "), "{name}: {line}");
             }
         }
+        let blocks = hostile(&mut Rng::new(2), "pairs").expect("it is a name");
+        assert!(line(&blocks[0]).starts_with("blocks "), "{}", line(&blocks[0]));
         assert!(hostile(&mut Rng::new(2), "colliding-narrow").is_none());
     }
 }
