@@ -47,7 +47,7 @@ fn check_fit(n: usize, changes: &[u8]) -> Refusal
     let mut i = 0;
     while i < count {
         let key = operand_reader::number_at(changes, 12 * i, 8);
-        if !problem_reader::is_fitting(n, 32, key) {
+        if !problem_commands::is_fitting(n, 32, key) {
             return change_refusal(4, i);
         }
         i += 1;

@@ -16,7 +16,7 @@ use Rattle.row_blocks.specs.declared.Place.{Place}
 use Rattle.row_blocks.specs.declared.Place.the-variants as Place
 use Rattle.certificate_reader.specs.Rows.{GivenRows}
 use Rattle.certificate_reader.proofs.Walk.{given-walkable}
-use Rattle.identity_check.specs.Walk.{Comparable}
+use Rattle.identity_rows.specs.Walk.{Comparable}
 use Rattle.identity_check.specs.Compare.{differenceOf, Given}
 use Rattle.identity_check.specs.declared.Difference.{Difference}
 use Rattle.certificate_judge.specs.declared.Judged.the-variants as Judged

@@ -4,7 +4,7 @@ ghost use Rattle.format.specs.ProblemRules.{Problem};
 ghost use Rattle.accepting.specs.Judgement as J;
 ghost use Rattle.calls.specs.Refusals.{problemRefusal, certificateRefusal};
 ghost use Rattle.key_set.specs.Table.{Holds, Indexed};
-ghost use Rattle.identity_check.specs.Walk.{Comparable};
+ghost use Rattle.identity_rows.specs.Walk.{Comparable};
 ghost use Rattle.identity_check.specs.Compare.{Answered};
 ghost use Rattle.certificate_judge.specs.declared.Judged.the-variants as Judged;
 ghost use Rattle.certificate_judge.specs.Steps.{JoinedProblem, Judgeable, LongSums, SumsRest};

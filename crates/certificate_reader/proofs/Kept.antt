@@ -20,12 +20,13 @@ use Rattle.format.specs.declared.certificate.Header.{Header}
 use Rattle.format.specs.CertificateLayout.{certificateDecoded}
 use Rattle.format.specs.CertificateRules.{Certificate, noHeader, noCertificate, lastRow, mostRows, entryPlaced, rowsFull, withRow, entered, certificatePlaced, certificateApplied, certificateCommandAt, certificateInstructionAt, certificateRefusalAt, certificateNext, certificateLanguage, readCertificate}
 use Rattle.format.proofs.CertificateChecks.{last-append, last-set, Passed, passed, taken-size, taken-whole}
-use Rattle.certificate_reader.specs.declared.Progress.{Progress}
+use Rattle.certificate_commands.specs.declared.Progress.{Progress}
 use Rattle.certificate_reader.specs.declared.Reading.{Reading}
-use Rattle.certificate_reader.specs.Kept.{Sized, progressOf, noProgress, headed, begun, risen, advanced, ProgressWithin}
-use Rattle.certificate_reader.specs.Rows.{sizeAt, GivenRows, Validated}
-use Rattle.certificate_reader.proofs.Shapes.{rows-are, floor-more}
-use Rattle.certificate_reader.proofs.Rows.{Noted, noted-start, noted-next}
+use Rattle.certificate_commands.specs.Kept.{Sized, progressOf, noProgress, headed, begun, risen, advanced, ProgressWithin}
+use Rattle.certificate_rows.specs.Offsets.{sizeAt}
+use Rattle.certificate_reader.specs.Rows.{GivenRows, Validated}
+use Rattle.certificate_commands.proofs.Asked.{rows-are, floor-more}
+use Rattle.certificate_reader.proofs.Noted.{Noted, noted-start, noted-next}
 
 -- ---- the header and the progress of what has been read after a command
 with-row-progress : (c : Certificate) (j : ℕ) (w : ℤ) → progressOf (withRow c j w) ≡ begun (progressOf c) j

@@ -1,5 +1,5 @@
 pub mod Shapes
 pub mod Checks
-pub mod Rows
-pub mod Walk
+pub mod Noted
 pub mod Kept
+pub mod Walk

@@ -18,7 +18,7 @@ use Rattle.joining_rule.specs.Joining.{basesOf, startFrom, startSet, closing}
 use Rattle.joining_rule.proofs.Same.{closing-same}
 use Rattle.joining_rule.proofs.Counted.{counted-same}
 use Rattle.joining_rule.proofs.Start.{start-same}
-use Rattle.whole_rounds.specs.Parts.{basesIn, Arrays}
+use Rattle.joining_bases.specs.Parts.{basesIn, Arrays}
 use Rattle.closure.specs.Tables.{FlatKeys, startIn}
 
 module _ (keys sizes : List ℕ) (k : FlatKeys keys sizes) where

@@ -12,17 +12,17 @@ use Rattle.joining_rule.specs.Sets.{insert}
 use Rattle.key_set.specs.Table.{keysIn, Holds, Indexed, Grown, Stored}
 use Rattle.joining_rule.proofs.Elements.{insert-grows}
 use Rattle.joining_rule.specs.Rounds.{Bases, State, Closing, extendTo, start, after, closingOf, countedKeys}
-use Rattle.whole_rounds.specs.Parts.{basesIn, labelsIn, Arrays}
+use Rattle.joining_bases.specs.Parts.{basesIn, labelsIn, Arrays}
 use Rattle.joining_rule.specs.Bytes.{blockBytes}
-use Rattle.whole_rounds.specs.Settled.{Settled, Missing}
-use Rattle.whole_rounds.proofs.Labels.{labels-of}
-use Rattle.whole_rounds.proofs.Turns.{basis-long, arrays-sizes}
+use Rattle.joining_bases.specs.Settled.{Settled, Missing}
+use Rattle.joining_bases.proofs.Labels.{labels-of}
+use Rattle.joining_bases.proofs.Turns.{basis-long, arrays-sizes}
 use Rattle.joining_rule.proofs.Bytes.{bytes-long}
 use Rattle.joining_rule.proofs.Closing.{closing-state, closing-shaped, closing-full}
 use Rattle.joining_rule.proofs.Counted.{counted-extends}
 use Rattle.joining_rule.proofs.Extending.{Extends}
 use Rattle.joining_rule.proofs.Rounds.{after-extends}
-use Rattle.whole_rounds.specs.declared.Closed.{Closed}
+use Rattle.joining_bases.specs.declared.Closed.{Closed}
 use Rattle.closure.specs.Tables.{ClosureLeft}
 use Rattle.closure.specs.declared.Joined.{Joined}
 

@@ -8,7 +8,7 @@ use lib.ListN.{length, drop, getD, drop-of-length-le}
 use lib.Seq.{drop-cons}
 use Rattle.joining_rule.specs.Sets.{insert, insertAll}
 use Rattle.key_set.specs.Table.{keysIn, Stored}
-use Rattle.block_joining.proofs.Growing as Growing
+use Rattle.joining_products.proofs.Growing as Growing
 use Rattle.joining_rule.specs.Joining.{multiples}
 
 -- ---- one key after another

@@ -11,7 +11,7 @@ use Rattle.key_set.specs.Table.{keysIn, Indexed}
 use Rattle.joining_rule.specs.Rounds.{Bases, Closing, blocksIn, countedKeys}
 use Rattle.joining_rule.specs.Bytes.{blockBytes}
 use Rattle.joining_rule.specs.Joining.{startFrom, mostKeys}
-use Rattle.whole_rounds.specs.Parts.{exponentsIn, basesIn}
+use Rattle.joining_bases.specs.Parts.{exponentsIn, basesIn}
 use Rattle.closure.specs.declared.Joined.{Joined}
 
 -- arrays that a problem within the limits can stand in, whatever its coefficients are: the joining rule does not look

@@ -14,10 +14,10 @@ ghost use Rattle.joining_rule.specs.Rounds.{mostRounds, closingOf};
 ghost use Rattle.joining_rule.specs.Joining.{multiples, basesOf, closing};
 ghost use Rattle.key_set.specs.Table.{keysIn, Holds, Indexed, Stored};
 ghost use Rattle.flat.specs.Flat.{FlatProblem};
-ghost use Rattle.whole_rounds.specs.Parts.{exponentsIn, basesIn};
-ghost use Rattle.whole_rounds.specs.Settled.{Starting};
+ghost use Rattle.joining_bases.specs.Parts.{exponentsIn, basesIn};
+ghost use Rattle.joining_bases.specs.Settled.{Starting};
 ghost use Rattle.closure.specs.Tables.{FlatKeys, startIn, ClosureLeft};
-use whole_rounds::Support;
+use joining_bases::Support;
 
 // The support with each key times `factor` put in; 2,049 where it has too many.
 fn put_keys(table: &mut [u64], index: &mut [u16], len: usize, keys: &[u64], factor: u64) -> usize
@@ -153,7 +153,7 @@ fn settle(
         (now (labels .exit))
         ⌝ }
 {
-    let c = whole_rounds::close(labels, keys, sizes, table, index, support);
+    let c = joining_rounds::close(labels, keys, sizes, table, index, support);
     let m = c.len;
     if 2048 < m {
         return too_many();
@@ -163,7 +163,7 @@ fn settle(
         rule: support.rule,
         most: support.most,
     };
-    let n = whole_rounds::put_missing(labels, keys, sizes, table, index, closed);
+    let n = joining_bases::put_missing(labels, keys, sizes, table, index, closed);
     if 2048 < n {
         return too_many();
     }

@@ -27,11 +27,11 @@ use Rattle.flat.proofs.Flat.{objective-terms}
 use Rattle.key_set.specs.Table.{keysIn, Holds, Indexed}
 use Rattle.key_set.proofs.Keys.{keys-rising, keys-at, at-keys}
 use Rattle.wide_sums.specs.Sums.{valueAt}
-use Rattle.certificate_reader.specs.Rows.{rowsBy}
+use Rattle.certificate_rows.specs.Offsets.{rowsBy}
 use Rattle.identity_check.specs.declared.Difference.the-variants.{Same, Differs}
-use Rattle.identity_check.specs.Tables.{unit, Ready, SumsGrown}
+use Rattle.identity_sums.specs.Tables.{unit, Ready, SumsGrown}
 use Rattle.identity_check.specs.Compare.{differenceOf, Nonzero, Zeroed, Smallest, Carried, Given}
-use Rattle.identity_check.proofs.Growth.{grown-same}
+use Rattle.identity_sums.proofs.Growth.{grown-same}
 use Rattle.identity_check.proofs.Carries.{Least, reached-end}
 
 -- ---- one comparison

@@ -1,8 +1,3 @@
-pub mod Growth
-pub mod Products
-pub mod Claims
-pub mod Spreading
-pub mod Walks
 pub mod Untouched
 pub mod Least
 pub mod Carries

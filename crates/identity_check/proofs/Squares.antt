@@ -4,30 +4,25 @@ use mathlib.Core.List.{List}
 use Prim.Native.Nat.{ℕ, _+_, _*_, _^_, _≤_, _<_}
 use native.Mathlib.Omega.{arith}
 use lib.IntN.{ℤ, pos, _+ℤ_, _*ℤ_, +ℤ-assoc}
-use lib.ListN.{length, getD}
+use lib.ListN.{getD}
 use Rattle.integers.proofs.Ring.{view, diffs, ⊖-eq}
 use Rattle.polynomial.specs.Algebra.{coefficient}
 use Rattle.format.specs.ProblemRules.{Problem}
 use Rattle.format.specs.CertificateRules.{Row}
 use Rattle.accepting.specs.Identity.{squares}
 use Rattle.flat.specs.Flat.{FlatProblem}
-use Rattle.certificate_reader.specs.Rows.{rowsBy}
+use Rattle.certificate_rows.specs.Offsets.{rowsBy}
 use Rattle.wide_sums.specs.Sums.{step, valueAt}
 use Rattle.wide_sums.proofs.Tables.{shrunk-room}
-use Rattle.row_products.specs.declared.Part.the-variants.{Low, Cross, High}
-use Rattle.identity_check.specs.Tables.{Ready}
-use Rattle.identity_check.specs.Spread.{tableUnit}
-use Rattle.identity_check.specs.Walk.{Comparable, onBases, basesIn, beyond, Alone, Summed}
+use Rattle.row_digits.specs.declared.Part.the-variants.{Low, Cross, High}
+use Rattle.identity_sums.specs.Tables.{Ready}
+use Rattle.identity_rows.specs.Spread.{tableUnit}
+use Rattle.identity_rows.specs.Walk.{Comparable, onBases, basesIn, beyond, Alone, Summed}
 use Rattle.identity_check.specs.Compare.{DividedSums, Reached, Carried}
-use Rattle.identity_check.proofs.Growth.{ready-after}
-use Rattle.identity_check.proofs.Walks.{squares-are}
+use Rattle.identity_sums.proofs.Growth.{ready-after}
+use Rattle.identity_rows.proofs.Walks.{squares-are}
 use Rattle.identity_check.proofs.Carries.{reached-start, reached-same, reached-of, reached-divided}
 use Rattle.identity_check.proofs.Untouched.{near-untouched, shrunk-untouched, untouched-then}
-
--- all that is added before a sum is tested or divided fits a half of 64 bits: 257 products of the claim and nine tables of
--- 2,080 entries, each times 32 terms, at most 5 × 2^41 each, and a carry
-pub room-for-all : (257 + 9 * 2080 * 32) * (5 * 2 ^ 41) + 2 ^ 36 < 2 ^ 63
-room-for-all = omega arith
 
 -- after a division there is room again
 pub divided-ready : {table idx : List ℕ} {n c found r : ℕ} {hi₀ lo₀ hi₁ lo₁ : List ℤ} → Ready table idx n hi₀ lo₀ c

@@ -13,7 +13,7 @@ use Rattle.accepting.specs.Judgement.{comparedKeys, differenceKey}
 use Rattle.key_set.specs.Table.{keysIn, Holds}
 use Rattle.wide_sums.specs.Sums.{base, valueAt, Shrunk, Uneven, Floor}
 use Rattle.flat.specs.Flat.{FlatProblem}
-use Rattle.certificate_reader.specs.Rows.{rowsBy}
+use Rattle.certificate_rows.specs.Offsets.{rowsBy}
 use Rattle.identity_check.specs.declared.Difference.{Difference}
 use Rattle.identity_check.specs.declared.Difference.the-variants.{Same, Differs}
 

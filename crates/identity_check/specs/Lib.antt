@@ -1,4 +1,1 @@
-pub mod Tables
-pub mod Spread
-pub mod Walk
 pub mod Compare

@@ -31,7 +31,7 @@ fn length_of(byte: u8) -> usize
     if byte == 0x40 {
         return 9;
     }
-    certificate_reader::length_of(byte)
+    certificate_commands::length_of(byte)
 }
 
 // Where the walk begins: behind the 10, or at the end of a stream that does not begin with a whole one.

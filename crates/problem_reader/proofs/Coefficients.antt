@@ -10,7 +10,7 @@ use Rattle.format.specs.declared.problem.Command.the-variants as C
 use Rattle.format.specs.declared.problem.Instruction.{Instruction}
 use Rattle.format.specs.declared.problem.Instruction.the-variants as I
 use Rattle.format.proofs.Numbers.{operand-small}
-use Rattle.problem_reader.proofs.Checks.{Passes}
+use Rattle.problem_commands.proofs.Checks.{Passes}
 
 -- the size of a command's coefficient
 abbrev pub Sized : Instruction → Type 0

@@ -24,8 +24,8 @@ use Rattle.flat.specs.TermArrays.{termsIn, FilledTerms}
 use Rattle.flat.specs.Flat.{basisIn, polynomialIn, kindNumber, mostAt, degreeAt, largestAt, FlatLimits, FlatProblem, FlatZero}
 use Rattle.flat.proofs.TermArrays.{set-all, terms-same, terms-more, small-zeros, filled-none, filled-more}
 use Rattle.flat.proofs.Flat.{basis-most, multiplier-most, basis-degree, multiplier-degree, objective-degree, multiplier-largest, objective-largest, kind-most}
-use Rattle.problem_reader.specs.Storing.{noTerms, terms}
-use Rattle.problem_reader.specs.declared.Polynomial.{Polynomial}
+use Rattle.problem_storing.specs.Stores.{noTerms, terms}
+use Rattle.problem_storing.specs.declared.Polynomial.{Polynomial}
 use Rattle.problem_reader.proofs.Arrays.{basis-list, polynomial-place, Apart, apart-set, apart-paste, paste-all, paste-here, Others, coefficients-apart, others, limits-more, number-others, number-limits}
 use Rattle.problem_reader.proofs.Problems.{conditionOf, multiplier-is, kind-is, same-terms, same-kind, appended-length, condition-same, condition-none, nothing-kind, member-here, member-other, begun-other, begun-here, term-other, term-here}
 

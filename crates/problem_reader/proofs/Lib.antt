@@ -1,4 +1,3 @@
-pub mod Checks
 pub mod Coefficients
 pub mod Arrays
 pub mod Problems

@@ -21,8 +21,8 @@ use Rattle.format.proofs.problem.Instruction.{the-type}
 use Rattle.format.specs.ProblemRules.{Condition, Problem, noCondition, lastCondition, appendAt, conditionsFull, withCondition, withTerm, problemApplied}
 use Rattle.format.specs.ProblemBases.{basisOf, multiplier, kindOf}
 use Rattle.flat.specs.Flat.{kindNumber}
-use Rattle.problem_reader.specs.Checks.{late}
-use Rattle.problem_reader.specs.Storing.{beginning}
+use Rattle.problem_commands.specs.Checks.{late}
+use Rattle.problem_storing.specs.Stores.{beginning}
 
 -- one more at the end of list j
 module _ {A : Type 0} (ls : List (List A)) (j : ℕ) (a : A) where

@@ -28,11 +28,12 @@ use Rattle.flat.specs.TermArrays.{termsIn, FilledTerms}
 use Rattle.flat.specs.Flat.{exponentsAt, coefficientsAt, kindAt, kindNumber, FlatLimits, FlatZero}
 use Rattle.flat.proofs.TermArrays.{terms-length, terms-keys}
 use Rattle.flat.proofs.Flat.{basis-long}
-use Rattle.problem_reader.specs.Checks.{late, lateIn}
-use Rattle.problem_reader.specs.Storing.{terms, noTerms, beginning, storedIf, ReadFlat}
-use Rattle.problem_reader.specs.declared.Polynomial.{Polynomial}
+use Rattle.problem_commands.specs.Checks.{late, lateIn}
+use Rattle.problem_storing.specs.Stores.{terms, noTerms, beginning, storedIf}
+use Rattle.problem_reader.specs.Storing.{ReadFlat}
+use Rattle.problem_storing.specs.declared.Polynomial.{Polynomial}
 use Rattle.problem_reader.specs.declared.Reading.{Reading}
-use Rattle.problem_reader.proofs.Checks.{Passes, passes-size, passes-end, passes-on, space}
+use Rattle.problem_commands.proofs.Checks.{Passes, passes-size, passes-end, passes-on, space}
 use Rattle.problem_reader.proofs.Problems.{condition-last, same-terms, begins-on, begins-applied, begins-late}
 use Rattle.problem_reader.proofs.Coefficients.{passed-small}
 use Rattle.problem_reader.proofs.Held.{Held, held-variables, held-rule, held-order, held-member, held-objective, held-term, held-condition, held-end, held-start}

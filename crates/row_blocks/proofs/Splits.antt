@@ -20,10 +20,10 @@ use Rattle.joining_rule.proofs.Closing.{closing-shaped}
 use Rattle.joining_rule.specs.Rounds.{mostRounds}
 use Rattle.joining_rule.specs.Joining.{basesOf, startSet, closing}
 use Rattle.format.specs.CertificateRules.{Entry, Row, Certificate, noRow, noCertificate, readCertificate}
-use Rattle.certificate_reader.specs.Rows.{sizeAt, basisAt, entryAt, rowAt, rowsBy, EntriesStand, Walkable}
+use Rattle.certificate_rows.specs.Offsets.{sizeAt, basisAt, entryAt, rowAt, rowsBy, EntriesStand, Walkable}
 use Rattle.format.proofs.ProblemLimits.{basis-few}
-use Rattle.certificate_reader.proofs.Rows.{rows-length, row-by}
-use Rattle.certificate_reader.proofs.Walk.{Step, step-of, step-none, walk-sound}
+use Rattle.certificate_rows.proofs.Offsets.{rows-length, row-by}
+use Rattle.certificate_rows.proofs.Steps.{Step, step-of, step-none, walk-sound}
 use Rattle.accepting.specs.Identity.{blockOf}
 use Rattle.accepting.specs.Judgement.{accepted, firstOutside, rowSplit, orElse, splitBy, splitPlace, byBlocks}
 use Rattle.format.proofs.All.{all-map}

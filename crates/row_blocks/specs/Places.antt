@@ -7,7 +7,7 @@ use lib.ListN.{length}
 use Rattle.format.specs.All.{All}
 use Rattle.format.specs.CertificateRules.{Entry}
 use Rattle.accepting.specs.Judgement.{Judgement, refused, byBlocks}
-use Rattle.certificate_reader.specs.Rows.{basisAt, rowAt, RowStands}
+use Rattle.certificate_rows.specs.Offsets.{basisAt, rowAt, RowStands}
 use Rattle.row_blocks.specs.declared.Place.{Place}
 use Rattle.row_blocks.specs.declared.Place.the-variants.{At, Nowhere}
 

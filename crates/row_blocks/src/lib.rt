@@ -9,7 +9,7 @@ ghost use Rattle.format.proofs.WithinLimits.{Limits};
 ghost use Rattle.joining_rule.specs.Bytes.{blockBytes, blockAt};
 ghost use Rattle.joining_rule.specs.Joining.{closing};
 ghost use Rattle.format.specs.CertificateRules.{Certificate, readCertificate};
-ghost use Rattle.certificate_reader.specs.Rows.{rowAt, rowsBy, Walkable};
+ghost use Rattle.certificate_rows.specs.Offsets.{rowAt, rowsBy, Walkable};
 ghost use Rattle.accepting.specs.Judgement.{rowSplit, splitPlace};
 ghost use Rattle.row_blocks.specs.Places.{SplitTold, RowIndexed};
 
@@ -30,15 +30,15 @@ fn row_split(s: &[u8], from: usize, to: usize, labels: &[u8]) -> Place
     if to <= x {
         return Place::Nowhere;
     }
-    let part = 64 * certificate_reader::basis_at(s, from);
-    let i = part + (certificate_reader::index_at(s, x) as usize);
+    let part = 64 * certificate_rows::basis_at(s, from);
+    let i = part + (certificate_rows::index_at(s, x) as usize);
     let first = labels[i];
     while x < to {
-        let i = part + (certificate_reader::index_at(s, x) as usize);
+        let i = part + (certificate_rows::index_at(s, x) as usize);
         if labels[i] != first {
             return Place::At(x);
         }
-        x = certificate_reader::after_entry(s, x);
+        x = certificate_rows::after_entry(s, x);
     }
     Place::Nowhere
 }

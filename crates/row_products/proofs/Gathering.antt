@@ -27,21 +27,21 @@ use Rattle.format.specs.CertificateRules.{Entry, Row, noRow, mostRows}
 use Rattle.format.proofs.All.{all-map}
 use Rattle.format.proofs.Numbers.{number-low, signed-small}
 use Rattle.format.proofs.CertificateLimits.{IndicesRise, all-within}
-use Rattle.certificate_reader.specs.Rows.{sizeAt, entryAt, basisAt, weightAt, rowAt, rowsBy, EntriesStand, done, more, SoundRows}
+use Rattle.certificate_rows.specs.Offsets.{sizeAt, entryAt, basisAt, weightAt, rowAt, rowsBy, EntriesStand, done, more, SoundRows}
 use Rattle.format.proofs.ProblemLimits.{basis-few}
-use Rattle.certificate_reader.proofs.Walk.{Step, step-of, step-none, factor-small, width-most, walk-sound}
+use Rattle.certificate_rows.proofs.Steps.{Step, step-of, step-none, factor-small, width-most, walk-sound}
 use Rattle.accepting.proofs.Reach.{all-both}
-use Rattle.row_products.specs.declared.Part.{Part}
-use Rattle.row_products.specs.declared.Part.the-variants as P
+use Rattle.row_digits.specs.declared.Part.{Part}
+use Rattle.row_digits.specs.declared.Part.the-variants as P
 use Rattle.row_products.specs.declared.Found.{Found}
-use Rattle.row_products.specs.Gram.{factorTerms, rowsOn}
-use Rattle.row_products.specs.Frame.{Empty, Below, Framed}
-use Rattle.row_products.specs.Outer.{weightMost, factorMost, digitMost, outerUnit, rowUnit, gatheredMost, HasRow, Entries, HoldsEntries, Raised, above, outerAt}
-use Rattle.row_products.specs.Digits.{highDigit, lowDigit, Narrow, NarrowRow, partOf, partAt, parts, HoldsDigits}
+use Rattle.row_outer.specs.Gram.{factorTerms, rowsOn}
+use Rattle.row_outer.specs.Frame.{Empty, Below, Framed}
+use Rattle.row_outer.specs.Outer.{weightMost, factorMost, digitMost, outerUnit, rowUnit, gatheredMost, HasRow, Entries, HoldsEntries, Raised, above, outerAt}
+use Rattle.row_digits.specs.Digits.{highDigit, lowDigit, Narrow, NarrowRow, partOf, partAt, parts, HoldsDigits}
 use Rattle.row_products.specs.Gather.{RowsFor, LowRow, RowHeld, PartAdded, RowAdded, Gathered}
-use Rattle.row_products.proofs.Gram.{factors-low, rows-on, rows-all}
-use Rattle.row_products.proofs.Outers.{above-other, above-never, outer-at-bound, raised-none, raised-then, raised-below}
-use Rattle.row_products.proofs.Digits.{low-small, high-small, Upper, upper-none, part-none, all-append, held-digits, held-narrow}
+use Rattle.row_outer.proofs.Gram.{factors-low, rows-on, rows-all}
+use Rattle.row_outer.proofs.Outers.{above-other, above-never, outer-at-bound, raised-none, raised-then, raised-below}
+use Rattle.row_digits.proofs.Digits.{low-small, high-small, Upper, upper-none, part-none, all-append, held-digits, held-narrow}
 
 -- ---- a row in arrays, as the table of sums takes it
 abbrev noEntry : Entry

@@ -1,9 +1,2 @@
-pub mod Prefixes
-pub mod Frames
-pub mod Folds
-pub mod Outers
-pub mod Gram
-pub mod Halves
-pub mod Digits
 pub mod Gathering
 pub mod Parts

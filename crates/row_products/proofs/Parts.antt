@@ -18,21 +18,21 @@ use Rattle.format.specs.ProblemRules.{Problem}
 use Rattle.format.specs.ProblemBases.{basisOf, multiplier}
 use Rattle.format.specs.CertificateRules.{Entry, Row}
 use Rattle.format.proofs.All.{all-map}
-use Rattle.certificate_reader.specs.Rows.{rowsBy}
+use Rattle.certificate_rows.specs.Offsets.{rowsBy}
 use Rattle.format.proofs.ProblemLimits.{basis-few}
 use Rattle.accepting.specs.Identity.{squares}
-use Rattle.row_products.specs.declared.Part.{Part}
-use Rattle.row_products.specs.declared.Part.the-variants as P
+use Rattle.row_digits.specs.declared.Part.{Part}
+use Rattle.row_digits.specs.declared.Part.the-variants as P
 use Rattle.row_products.specs.declared.Found.{Found}
-use Rattle.row_products.specs.Gram.{factorTerms, outer, gram, timesAt, doubled, rowsOn}
-use Rattle.row_products.specs.Frame.{share, spreadAt}
-use Rattle.row_products.specs.Outer.{above, inRow, outerAt}
-use Rattle.row_products.specs.Digits.{NarrowRow, partAt, parts, partSpread}
+use Rattle.row_outer.specs.Gram.{factorTerms, outer, gram, timesAt, doubled, rowsOn}
+use Rattle.row_outer.specs.Frame.{share, spreadAt}
+use Rattle.row_outer.specs.Outer.{above, inRow, outerAt}
+use Rattle.row_digits.specs.Digits.{NarrowRow, partAt, parts, partSpread}
 use Rattle.row_products.specs.Gather.{RowsFor, Gathered}
-use Rattle.row_products.proofs.Gram.{sum-same, factors-low, outer-coefficient, rows-on}
-use Rattle.row_products.proofs.Halves.{sum-alike, sum-times, gram-table}
-use Rattle.row_products.proofs.Outers.{match-other, above-other}
-use Rattle.row_products.proofs.Digits.{Upper, cross-upper, high-upper, outer-parts, upper-none}
+use Rattle.row_outer.proofs.Gram.{sum-same, factors-low, outer-coefficient, rows-on}
+use Rattle.row_outer.proofs.Halves.{sum-alike, sum-times, gram-table}
+use Rattle.row_outer.proofs.Outers.{match-other, above-other}
+use Rattle.row_digits.proofs.Digits.{Upper, cross-upper, high-upper, outer-parts, upper-none}
 use Rattle.row_products.proofs.Gathering.{on-low}
 
 -- ---- the half that is kept

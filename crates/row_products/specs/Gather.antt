@@ -11,13 +11,13 @@ use Rattle.format.specs.ProblemBases.{basisOf}
 use Rattle.format.specs.All.{All}
 use Rattle.format.specs.CertificateRules.{Entry, Row}
 use Rattle.format.proofs.CertificateLimits.{IndicesRise}
-use Rattle.certificate_reader.specs.Rows.{rowAt, RowStands, SoundRows}
-use Rattle.row_products.specs.declared.Part.{Part}
+use Rattle.certificate_rows.specs.Offsets.{rowAt, RowStands, SoundRows}
+use Rattle.row_digits.specs.declared.Part.{Part}
 use Rattle.row_products.specs.declared.Found.{Found}
-use Rattle.row_products.specs.Gram.{factorTerms, rowsOn}
-use Rattle.row_products.specs.Frame.{Below}
-use Rattle.row_products.specs.Outer.{weightMost, factorMost, rowUnit, gatheredMost, HasRow, Entries, Raised}
-use Rattle.row_products.specs.Digits.{Narrow, NarrowRow, partOf, parts}
+use Rattle.row_outer.specs.Gram.{factorTerms, rowsOn}
+use Rattle.row_outer.specs.Frame.{Below}
+use Rattle.row_outer.specs.Outer.{weightMost, factorMost, rowUnit, gatheredMost, HasRow, Entries, Raised}
+use Rattle.row_digits.specs.Digits.{Narrow, NarrowRow, partOf, parts}
 
 -- the rows of a stream keep their limits against a problem whose basis j has room in a table of this length
 pub record RowsFor (s starts : List ℕ) (rows j room : ℕ) : Type 0 where

@@ -10,7 +10,7 @@ use Rattle.format.specs.CertificateLayout.{certificateCommand, certificateSize}
 use Rattle.format.specs.ProblemRules.{Problem}
 use Rattle.format.proofs.WithinLimits.{Limits}
 use Rattle.format.specs.CertificateRules.{certificateCommandAt, certificateInstructionAt, certificateRefusalAt}
-use Rattle.certificate_reader.specs.Kept.{Sized}
+use Rattle.certificate_commands.specs.Kept.{Sized}
 use Rattle.certificate_reader.proofs.Kept.{Held, HeldFor, held-start, said, held-end, held-refused, held-extra, held-given, bounded-next, held-next}
 use Rattle.format.proofs.CertificateChecks.{taken-size, taken-whole}
 use Rattle.certificate_reader.proofs.validate.Statement.{statement}
@@ -21,12 +21,6 @@ Inv-loop sizes s starts₀ header₀ progress₀ at₀ starts header progress at
 
 abbrev μ-loop : tie.MeasureT-loop
 μ-loop sizes s starts₀ header₀ progress₀ at₀ starts header progress at = length s - at
-
-no-header-requires : tie.Need-no-header-requires Inv-loop μ-loop
-no-header-requires c κs = search needs
-
-no-progress-requires : tie.Need-no-progress-requires Inv-loop μ-loop
-no-progress-requires c κs = search needs
 
 -- ---- the problem that the caller has, and what the loop keeps against it
 module _ (l : tie.At-loop Inv-loop μ-loop) where
@@ -75,12 +69,6 @@ module _ (c : tie.Else1 Inv-loop μ-loop) where
 length-is : (c : tie.After-length-of Inv-loop μ-loop) → let l = c .before .before .before .before .before in c .length-of .result ≡ certificateSize (certificateCommandAt (s l) (l .loop .at))
 length-is c = c .length-of .ensures .0
 
-shared-slice-read-byte : tie.Need-shared-slice-read-byte Inv-loop μ-loop
-shared-slice-read-byte c = search needs
-
-length-of-requires : tie.Need-length-of-requires Inv-loop μ-loop
-length-of-requires c κs = search needs
-
 add-next : tie.Need-add-next Inv-loop μ-loop
 add-next c = let k = length-is c in omega (arith, taken-whole _ _ _ _ (taken (c .before .before)))
 
@@ -104,9 +92,6 @@ returns-3 c = λ p limits e.
       gives = λ _. held-given p (s l) _ _ _ (l .loop .at) (l .loop .inv p limits e) (omega arith) (none i p limits e) b (omega arith);
       refuses = λ z. absurd (omega arith);
     }
-
-header-after-requires : tie.Need-header-after-requires Inv-loop μ-loop
-header-after-requires c κs = search needs
 
 progress-after-requires : tie.Need-progress-after-requires Inv-loop μ-loop
 progress-after-requires c κs = held (here (c .before .before .before .before)) .bounded
@@ -150,17 +135,17 @@ validate-spec =
     (tie.spec
     Inv-loop
     μ-loop
-    no-header-requires
-    no-progress-requires
+    (λ c κs. search needs)
+    (λ c κs. search needs)
     loop-holds
     verdict-at-requires
     returns
-    shared-slice-read-byte
-    length-of-requires
+    (λ c. search needs)
+    (λ c κs. search needs)
     add-next
     returns-2
     returns-3
-    header-after-requires
+    (λ c κs. search needs)
     progress-after-requires
     mul-starts
     element-write-starts

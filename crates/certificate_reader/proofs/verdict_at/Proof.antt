@@ -10,25 +10,10 @@ use borrow.Author.Tests.{not-true, not-false}
 use Rattle.format.specs.ProblemRules.{Problem}
 use Rattle.format.specs.CertificateLayout.{certificateSize}
 use Rattle.format.specs.CertificateRules.{Certificate, certificatePlaced, certificateOperandsFit, certificateRepeated, certificateCommandAt, certificateInstructionAt}
-use Rattle.certificate_reader.specs.Kept.{Sized, progressOf}
+use Rattle.certificate_commands.specs.Kept.{Sized, progressOf}
 use Rattle.certificate_reader.proofs.Checks.{verdict-3, verdict-2, verdict-4, verdict-5, verdict-6, verdict-0}
 use Rattle.certificate_reader.proofs.verdict_at.Statement.{statement}
 use Rattle.certificate_reader.proofs.verdict_at.Tie as tie
-
-shared-slice-read-byte : tie.Need-shared-slice-read-byte
-shared-slice-read-byte c = search needs
-
-command-of-requires : tie.Need-command-of-requires
-command-of-requires c κs = search needs
-
-is-placed-requires : tie.Need-is-placed-requires
-is-placed-requires c κs = search needs
-
-sub-if2 : tie.Need-sub-if2
-sub-if2 c = search needs
-
-length-of-requires : tie.Need-length-of-requires
-length-of-requires c κs = search needs
 
 length-is : (c : tie.After-length-of) → let a = c .before .before .before .before .before .before .before .args in c .length-of .result ≡ certificateSize (certificateCommandAt (a .s .now) (a .at))
 length-is c = c .length-of .ensures .0
@@ -46,12 +31,6 @@ decoded c = rw (c .decode-at .ensures, c .before .before .before .before .before
 is-allowed-requires : tie.Need-is-allowed-requires
 is-allowed-requires c κs = let s = c .before .before .before .before .before .before .before .before .before in (s .pre .0, s .pre .1)
 
-is-repeated-requires : tie.Need-is-repeated-requires
-is-repeated-requires c κs = search needs
-
-is-full-requires : tie.Need-is-full-requires
-is-full-requires c κs = search needs
-
 -- ---- past each check, for every problem of the shape and every certificate with the progress
 module _ (c : tie.After-is-placed) where
   abbrev s : List ℕ
@@ -64,9 +43,6 @@ module _ (c : tie.After-is-placed) where
     placed-as : {b : Bool} → c .is-placed .result ≡ b → certificatePlaced k at (certificateCommandAt s at) ≡ b
     placed-as e = rw (c .before .command-of .ensures) at (sym (c .is-placed .ensures k f) ∙ e)
 
-refused-requires : tie.Need-refused-requires
-refused-requires c κs = search needs
-
 -- a refusal: its number, and no instruction is promised
 refusal : {n r : ℕ} {Q : Type 0} → r ≡ suc n → r ≡ 0 → Q
 refusal e z = absurd (omega arith)
@@ -74,17 +50,11 @@ refusal e z = absurd (omega arith)
 returns : tie.Need-returns
 returns c = (λ p k e f. c .refused .ensures ∙ verdict-3 p k _ _ (placed-as (c .before .before) k f (not-true _ (c .before .if1 .taken))), refusal (c .refused .ensures))
 
-refused-requires-2 : tie.Need-refused-requires-2
-refused-requires-2 c κs = search needs
-
 returns-2 : tie.Need-returns-2
 returns-2 c =
     let i = c .before .before .before in
     let n = length-is (c .before .before) in
     (λ p k e f. c .refused2 .ensures ∙ verdict-2 p k _ _ (placed-as (i .before) k f (not-false _ (i .if1 .left))) (omega arith), refusal (c .refused2 .ensures))
-
-refused-requires-3 : tie.Need-refused-requires-3
-refused-requires-3 c κs = search needs
 
 returns-3 : tie.Need-returns-3
 returns-3 c =
@@ -102,9 +72,6 @@ returns-3 c =
 kept : (c : tie.Else3) → let a = c .before .before .before .before .before .before .before .before .before .before .before .args in (p : Problem) (k : Certificate) → Sized p (a .sizes .now) → a .g ≡ progressOf k → certificateOperandsFit p k (certificateInstructionAt (a .s .now) (a .at)) ≡ true
 kept c p k e f = rw (decoded (c .before .before)) at (sym (c .before .is-allowed .ensures p k e f) ∙ not-false _ (c .if3 .left))
 
-refused-requires-4 : tie.Need-refused-requires-4
-refused-requires-4 c κs = search needs
-
 returns-4 : tie.Need-returns-4
 returns-4 c =
     let t = c .before in
@@ -120,9 +87,6 @@ returns-4 c =
 -- past the fourth
 fresh : (c : tie.Else4) → let a = c .before .before .before .before .before .before .before .before .before .before .before .before .before .args in (k : Certificate) → a .g ≡ progressOf k → certificateRepeated k (certificateInstructionAt (a .s .now) (a .at)) ≡ false
 fresh c k f = rw (decoded (c .before .before .before .before)) at (sym (c .before .is-repeated .ensures k f) ∙ c .if4 .left)
-
-refused-requires-5 : tie.Need-refused-requires-5
-refused-requires-5 c κs = search needs
 
 returns-5 : tie.Need-returns-5
 returns-5 c =
@@ -150,23 +114,23 @@ pub verdict-at-spec : {M : Type 1} → statement M
 verdict-at-spec =
     tie.close
     (tie.spec
-    shared-slice-read-byte
-    command-of-requires
-    is-placed-requires
-    refused-requires
+    (λ c. search needs)
+    (λ c κs. search needs)
+    (λ c κs. search needs)
+    (λ c κs. search needs)
     returns
-    sub-if2
-    length-of-requires
-    refused-requires-2
+    (λ c. search needs)
+    (λ c κs. search needs)
+    (λ c κs. search needs)
     returns-2
     decode-at-requires
     is-allowed-requires
-    refused-requires-3
+    (λ c κs. search needs)
     returns-3
-    is-repeated-requires
-    refused-requires-4
+    (λ c κs. search needs)
+    (λ c κs. search needs)
     returns-4
-    is-full-requires
-    refused-requires-5
+    (λ c κs. search needs)
+    (λ c κs. search needs)
     returns-5
     returns-6)

@@ -11,17 +11,8 @@ use Rattle.closure.proofs.Laid.{arrays, start-held, closing-held, count
 use Rattle.closure.proofs.join.Statement.{statement}
 use Rattle.closure.proofs.join.Tie as tie
 
-seed-requires : tie.Need-seed-requires
-seed-requires c κs = search needs
-
 too-many-requires : tie.Need-too-many-requires
 too-many-requires c κs = tt
-
-same-length : tie.Need-same-length
-same-length c = search needs
-
-same-length-2 : tie.Need-same-length-2
-same-length-2 c = search needs
 
 returns : tie.Need-returns
 unfolding closing
@@ -36,9 +27,6 @@ shared-slice-read-t14 c = omega (arith, c .before .before .before .before .befor
 shared-slice-read-most-rounds : tie.Need-shared-slice-read-most-rounds
 shared-slice-read-most-rounds c = omega (arith, c .before .before .before .before .before .before .before .before .before .before .before .before .before .before .pre .2 .limits .sizes-length)
 
-most-rounds-requires : tie.Need-most-rounds-requires
-most-rounds-requires c κs = search needs
-
 settle-requires : tie.Need-settle-requires
 settle-requires c κs =
     let s = c .before .before .before .before .before .before .before .before .before .before .before .before .before .before .before .before .before .before in
@@ -48,12 +36,6 @@ settle-requires c κs =
       held = record { support = grown-holds (w .grown) (s .pre .0) few; index = w .index few; arrays = arrays _ _ (s .pre .2) };
       some = rw (c .before .before .before .most-rounds .ensures) (most-positive _);
     }
-
-same-length-3 : tie.Need-same-length-3
-same-length-3 c = search needs
-
-same-length-4 : tie.Need-same-length-4
-same-length-4 c = search needs
 
 returns-2 : tie.Need-returns-2
 returns-2 c p coefficients f =
@@ -65,15 +47,15 @@ pub join-spec : {M : Type 1} → statement M
 join-spec =
     tie.close
     (tie.spec
-    seed-requires
+    (λ c κs. search needs)
     too-many-requires
-    same-length
-    same-length-2
+    (λ c. search needs)
+    (λ c. search needs)
     returns
     shared-slice-read-t14
     shared-slice-read-most-rounds
-    most-rounds-requires
+    (λ c κs. search needs)
     settle-requires
-    same-length-3
-    same-length-4
+    (λ c. search needs)
+    (λ c. search needs)
     returns-2)

@@ -8,10 +8,10 @@ use Rattle.counting.specs.Counting.{fromTo}
 use Rattle.counting.proofs.Steps.{fromTo-done, fromTo-more}
 use Rattle.joining_rule.specs.Sets.{insertAll}
 use Rattle.key_set.specs.Table.{keysIn}
-use Rattle.block_joining.proofs.Growing.{Growing, growing-start, growing-step, growing-stop, growing-end}
+use Rattle.joining_products.proofs.Growing.{Growing, growing-start, growing-step, growing-stop, growing-end}
 use Rattle.joining_rule.proofs.Extending.{fromTo-extends}
 use Rattle.joining_rule.proofs.Start.{insertAll-extends}
-use Rattle.whole_rounds.specs.Parts.{exponentsIn}
+use Rattle.joining_bases.specs.Parts.{exponentsIn}
 use Rattle.closure.proofs.put_conditions.Statement.{statement}
 use Rattle.closure.proofs.put_conditions.Tie as tie
 
@@ -46,12 +46,6 @@ returns c =
     let s = l .before .before .before .before .before in
     growing-stop _ _ _ _ _ _ _ (l .loop .inv .1) _ _ _ _ (c .before .before .before .before .before .put-polynomial .ensures) (fromTo (l .loop .j + 1) 9 (step (s .args .keys .now) (s .args .sizes .now))) (fromTo-more _ _ _ _ (omega arith)) (c .if1 .taken) (fromTo-extends (step (s .args .keys .now) (s .args .sizes .now)) (λ j X. insertAll-extends _ X) _ 9 _)
 
-add-j : tie.Need-add-j Inv-loop μ-loop
-add-j c = search needs
-
-loop-less : tie.Need-loop-less Inv-loop μ-loop
-loop-less c = search needs
-
 loop-again : tie.Need-loop-again Inv-loop μ-loop
 loop-again c =
     let l = c .before .before .before .before .before .before .before .before .before in
@@ -77,8 +71,8 @@ put-conditions-spec =
     same-length
     same-length-2
     returns
-    add-j
-    loop-less
+    (λ c. search needs)
+    (λ c. search needs)
     loop-again
     same-length-3
     same-length-4

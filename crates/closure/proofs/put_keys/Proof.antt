@@ -6,7 +6,7 @@ use Prim.Native.Nat.{_+_, _-_, _≤_}
 use lib.ListN.{length, drop}
 use Rattle.joining_rule.specs.Sets.{insertAll}
 use Rattle.key_set.specs.Table.{keysIn}
-use Rattle.block_joining.proofs.Growing.{Growing, growing-start, growing-step, growing-stop, growing-end}
+use Rattle.joining_products.proofs.Growing.{Growing, growing-start, growing-step, growing-stop, growing-end}
 use Rattle.joining_rule.proofs.Extending.{insert-extends}
 use Rattle.joining_rule.specs.Joining.{multiples}
 use Rattle.closure.proofs.Start.{insert-next, insert-done, product-fits}
@@ -22,12 +22,6 @@ abbrev μ-loop : tie.MeasureT-loop
 
 loop-holds : tie.Need-loop-holds Inv-loop μ-loop
 loop-holds c = let s = c .before .before .before in (omega arith, growing-start _ _ _ _ (s .pre .0 .0) (s .pre .0 .1))
-
-mul-put : tie.Need-mul-put Inv-loop μ-loop
-mul-put c = search needs
-
-shared-slice-read-put : tie.Need-shared-slice-read-put Inv-loop μ-loop
-shared-slice-read-put c = omega arith
 
 mul-put-2 : tie.Need-mul-put-2 Inv-loop μ-loop
 mul-put-2 c =
@@ -50,12 +44,6 @@ returns c =
     let s = l .before .before .before .before in
     let rest = insertAll (multiples (s .args .factor) (drop (l .loop .i + 1) (s .args .keys .now))) in
     growing-stop _ _ _ _ _ _ _ (l .loop .inv .1) _ _ _ _ (c .before .before .before .before .before .put .ensures) rest (insert-next (s .args .factor) (s .args .keys .now) _ (l .loop .i) (omega arith)) (c .if1 .taken) (insertAll-extends (multiples (s .args .factor) (drop (l .loop .i + 1) (s .args .keys .now))) _)
-
-add-i : tie.Need-add-i Inv-loop μ-loop
-add-i c = search needs
-
-loop-less : tie.Need-loop-less Inv-loop μ-loop
-loop-less c = search needs
 
 loop-again : tie.Need-loop-again Inv-loop μ-loop
 loop-again c =
@@ -82,15 +70,15 @@ put-keys-spec =
     Inv-loop
     μ-loop
     loop-holds
-    mul-put
-    shared-slice-read-put
+    (λ c. search needs)
+    (λ c. omega arith)
     mul-put-2
     put-requires
     same-length
     same-length-2
     returns
-    add-i
-    loop-less
+    (λ c. search needs)
+    (λ c. search needs)
     loop-again
     same-length-3
     same-length-4

@@ -16,9 +16,9 @@ use Rattle.flat.proofs.Flat.{basis-fits}
 use Rattle.joining_rule.proofs.Extending.{Extends, fromTo-extends}
 use Rattle.joining_rule.specs.Joining.{multiples, startFrom}
 use Rattle.joining_rule.proofs.Start.{insertAll-extends}
-use Rattle.whole_rounds.specs.Parts.{exponentsIn}
+use Rattle.joining_bases.specs.Parts.{exponentsIn}
 use Rattle.closure.specs.Tables.{startIn}
-use Rattle.whole_rounds.proofs.Ready.{stored-over}
+use Rattle.joining_bases.proofs.Ready.{stored-over}
 use Rattle.closure.proofs.Start.{stored-then}
 use Rattle.closure.proofs.Laid.{all-low}
 use Rattle.closure.proofs.seed.Statement.{statement}
@@ -63,12 +63,6 @@ two c =
 put-polynomial-requires : tie.Need-put-polynomial-requires
 put-polynomial-requires c κs = let s = c .before .before .before .before .before .before in ((record { few = omega arith; room = s .pre .0; apart = ap length (keys-none _) }, s .pre .1), s .pre .2, omega arith)
 
-same-length : tie.Need-same-length
-same-length c = search needs
-
-same-length-2 : tie.Need-same-length-2
-same-length-2 c = search needs
-
 returns : tie.Need-returns
 returns c =
     let s = c .before .before .before .before .before .before .before .before .before .before .before .before in
@@ -80,12 +74,6 @@ put-conditions-requires c κs =
     let s = c .before .before .before .before .before .before .before .before .before .before .before .before .before .before in
     let few = c .before .before .if1 .left in
     ((grown-holds (o .grown) (s .pre .0) few, o .index few), s .pre .2)
-
-same-length-3 : tie.Need-same-length-3
-same-length-3 c = search needs
-
-same-length-4 : tie.Need-same-length-4
-same-length-4 c = search needs
 
 returns-2 : tie.Need-returns-2
 returns-2 c =
@@ -102,12 +90,6 @@ put-keys-requires c κs =
     let few = c .before .before .before .if2 .left in
     ((grown-holds (d .grown) (s .pre .0) few, d .index few), (λ i. rw (c .before .before .basis .ensures) (bounded-part _ (64 * 0) (getD (sizes s) 0 0) (keys s) (all-low _ _ (s .pre .2)) i)), omega arith)
 
-same-length-5 : tie.Need-same-length-5
-same-length-5 c = search needs
-
-same-length-6 : tie.Need-same-length-6
-same-length-6 c = search needs
-
 returns-3 : tie.Need-returns-3
 returns-3 c =
     let s = c .before .before .before .before .before .before .before .before .before .before .before .before .before .before .before .before .before .before .before .before .before .before .before .before .before .before .before .before in
@@ -118,15 +100,15 @@ seed-spec =
     tie.close
     (tie.spec
     put-polynomial-requires
-    same-length
-    same-length-2
+    (λ c. search needs)
+    (λ c. search needs)
     returns
     put-conditions-requires
-    same-length-3
-    same-length-4
+    (λ c. search needs)
+    (λ c. search needs)
     returns-2
     basis-requires
     put-keys-requires
-    same-length-5
-    same-length-6
+    (λ c. search needs)
+    (λ c. search needs)
     returns-3)

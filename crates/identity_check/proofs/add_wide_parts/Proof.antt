@@ -2,9 +2,9 @@
 use Prim.Native.Nat.{_*_}
 use native.Mathlib.Omega.{arith}
 use borrow.Author.Needs.{needs}
-use Rattle.certificate_reader.specs.Rows.{rowsBy}
+use Rattle.certificate_rows.specs.Offsets.{rowsBy}
 use Rattle.key_set.proofs.Keys.{inside}
-use Rattle.identity_check.specs.Spread.{tableUnit}
+use Rattle.identity_rows.specs.Spread.{tableUnit}
 use Rattle.identity_check.proofs.Squares.{divided-ready, summed-ready, wide-carried}
 use Rattle.identity_check.proofs.add_wide_parts.Statement.{statement}
 use Rattle.identity_check.proofs.add_wide_parts.Tie as tie
@@ -22,9 +22,6 @@ module _ (c : tie.After-sum-rows) where
 
 abbrev middle : tie.After-divide-sums2 → tie.After-sum-rows
 middle e = e .before .before .before .before .before .before
-
-divide-sums-requires : tie.Need-divide-sums-requires
-divide-sums-requires c κs = search needs
 
 sum-rows-requires : tie.Need-sum-rows-requires
 sum-rows-requires c κs =
@@ -45,15 +42,6 @@ sum-rows-requires-2 c κs =
     let h = summed-ready (s r .pre .0) (divided r .divide-sums .ensures) (r .sum-rows .ensures .0) in
     (divided-ready h (e .divide-sums2 .ensures) (9 * tableUnit) (omega arith), (s r .pre .1 .0, r .sum-rows .ensures .1))
 
-same-length : tie.Need-same-length
-same-length c = search needs
-
-same-length-2 : tie.Need-same-length-2
-same-length-2 c = search needs
-
-same-length-3 : tie.Need-same-length-3
-same-length-3 c = search needs
-
 returns : tie.Need-returns
 returns c =
     let u = c .before .before .before in
@@ -66,11 +54,11 @@ pub add-wide-parts-spec : {M : Type 1} → statement M
 add-wide-parts-spec =
     tie.close
     (tie.spec
-    divide-sums-requires
+    (λ c κs. search needs)
     sum-rows-requires
     divide-sums-requires-2
     sum-rows-requires-2
-    same-length
-    same-length-2
-    same-length-3
+    (λ c. search needs)
+    (λ c. search needs)
+    (λ c. search needs)
     returns)

@@ -1,7 +1,7 @@
 -- `compare`: where every basis is small, 64 × 16 zeros have room for each.
 use native.Mathlib.Omega.{arith}
 use borrow.Author.Needs.{needs}
-use Rattle.identity_check.proofs.Walks.{room-zeros}
+use Rattle.identity_rows.proofs.Walks.{room-zeros}
 use Rattle.identity_check.proofs.compare.Statement.{statement}
 use Rattle.identity_check.proofs.compare.Tie as tie
 
@@ -11,29 +11,14 @@ is-large-requires c κs = omega (arith, c .before .before .before .before .pre .
 compare-large-requires : tie.Need-compare-large-requires
 compare-large-requires c κs = c .before .before .before .before .before .before .before .before .pre
 
-same-length : tie.Need-same-length
-same-length c = search needs
-
-same-length-2 : tie.Need-same-length-2
-same-length-2 c = search needs
-
 returns : tie.Need-returns
 returns c = c .before .before .compare-large .ensures
-
-slice-aggregate-compare-with : tie.Need-slice-aggregate-compare-with
-slice-aggregate-compare-with c = search needs
 
 compare-with-requires : tie.Need-compare-with-requires
 compare-with-requires c κs =
     let e = c .before .before .before in
     let l = e .before in
     (l .before .before .before .before .before .pre, room-zeros 1024 (λ j b. omega (arith, l .is-large .ensures (e .if1 .left) j b)))
-
-same-length-3 : tie.Need-same-length-3
-same-length-3 c = search needs
-
-same-length-4 : tie.Need-same-length-4
-same-length-4 c = search needs
 
 returns-2 : tie.Need-returns-2
 returns-2 c = c .before .before .before .compare-with .ensures
@@ -44,11 +29,11 @@ compare-spec =
     (tie.spec
     is-large-requires
     compare-large-requires
-    same-length
-    same-length-2
+    (λ c. search needs)
+    (λ c. search needs)
     returns
-    slice-aggregate-compare-with
+    (λ c. search needs)
     compare-with-requires
-    same-length-3
-    same-length-4
+    (λ c. search needs)
+    (λ c. search needs)
     returns-2)

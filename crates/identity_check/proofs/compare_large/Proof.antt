@@ -2,7 +2,7 @@
 use native.Mathlib.Omega.{arith}
 use borrow.Author.Needs.{needs}
 use Rattle.flat.proofs.Flat.{basis-size}
-use Rattle.identity_check.proofs.Walks.{room-zeros}
+use Rattle.identity_rows.proofs.Walks.{room-zeros}
 use Rattle.identity_check.proofs.compare_large.Statement.{statement}
 use Rattle.identity_check.proofs.compare_large.Tie as tie
 

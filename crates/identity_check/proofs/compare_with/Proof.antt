@@ -7,12 +7,12 @@ use lib.ListN.{length, getD}
 use Rattle.flat.specs.Flat.{FlatLimits}
 use Rattle.flat.proofs.Flat.{polynomial-counted, exponents-fit, coefficients-fit, exponents-long, coefficients-long}
 use Rattle.key_set.proofs.Keys.{inside}
-use Rattle.identity_check.specs.Tables.{unit}
-use Rattle.identity_check.specs.Spread.{tableUnit}
-use Rattle.identity_check.proofs.Growth.{ready-after}
+use Rattle.identity_sums.specs.Tables.{unit}
+use Rattle.identity_rows.specs.Spread.{tableUnit}
+use Rattle.identity_sums.proofs.Growth.{ready-after}
+use Rattle.identity_rows.proofs.Room.{room-for-all}
 use Rattle.identity_check.proofs.Untouched.{near-untouched, untouched-then}
 use Rattle.identity_check.proofs.Differences.{zeroed-ready, claim-most, found-same, found-differs}
-use Rattle.identity_check.proofs.Squares.{room-for-all}
 use Rattle.identity_check.proofs.compare_with.Statement.{statement}
 use Rattle.identity_check.proofs.compare_with.Tie as tie
 
@@ -90,15 +90,6 @@ mul-t34 c = omega (arith, s (claiming (squared (c .before))) .pre .0 .0 .support
 shared-slice-read-t36 : tie.Need-shared-slice-read-t36
 shared-slice-read-t36 c = omega (arith, inside (s (claiming (squared (c .before .before))) .pre .0 .0 .support), c .before .if1 .taken)
 
-same-length : tie.Need-same-length
-same-length c = search needs
-
-same-length-2 : tie.Need-same-length-2
-same-length-2 c = search needs
-
-same-length-3 : tie.Need-same-length-3
-same-length-3 c = search needs
-
 returns : tie.Need-returns
 returns c =
     let f = c .before .before in
@@ -113,15 +104,6 @@ returns c =
       high = untouched-then (near-untouched few (g .high)) (m .high);
       low = untouched-then (near-untouched few (g .low)) (m .low);
     }
-
-same-length-4 : tie.Need-same-length-4
-same-length-4 c = search needs
-
-same-length-5 : tie.Need-same-length-5
-same-length-5 c = search needs
-
-same-length-6 : tie.Need-same-length-6
-same-length-6 c = search needs
 
 returns-2 : tie.Need-returns-2
 returns-2 c =
@@ -149,11 +131,11 @@ compare-with-spec =
     smallest-requires
     mul-t34
     shared-slice-read-t36
-    same-length
-    same-length-2
-    same-length-3
+    (λ c. search needs)
+    (λ c. search needs)
+    (λ c. search needs)
     returns
-    same-length-4
-    same-length-5
-    same-length-6
+    (λ c. search needs)
+    (λ c. search needs)
+    (λ c. search needs)
     returns-2)

@@ -34,9 +34,6 @@ divide-requires c κs =
 smaller-requires : tie.Need-smaller-requires Inv-loop μ-loop
 smaller-requires c κs = let i = turn (c .before .before .before) in (i .before .before .before .pre .0, i .loop-test .taken)
 
-add-k : tie.Need-add-k Inv-loop μ-loop
-add-k c = search needs
-
 loop-less : tie.Need-loop-less Inv-loop μ-loop
 loop-less c = let i = turn (c .before .before .before) in omega (arith, i .loop-test .taken)
 
@@ -70,7 +67,7 @@ divide-sums-spec =
     loop-holds
     divide-requires
     smaller-requires
-    add-k
+    (λ c. search needs)
     loop-less
     loop-again
     same-length

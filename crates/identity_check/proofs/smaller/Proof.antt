@@ -6,18 +6,6 @@ use mathlib.Core.Logic.{inl, inr}
 use Rattle.identity_check.proofs.smaller.Statement.{statement}
 use Rattle.identity_check.proofs.smaller.Tie as tie
 
-mul-if2 : tie.Need-mul-if2
-mul-if2 c = search needs
-
-shared-slice-read-if2 : tie.Need-shared-slice-read-if2
-shared-slice-read-if2 c = search needs
-
-mul-if2-2 : tie.Need-mul-if2-2
-mul-if2-2 c = search needs
-
-shared-slice-read-if2-2 : tie.Need-shared-slice-read-if2-2
-shared-slice-read-if2-2 c = search needs
-
 returns : tie.Need-returns
 returns c = record { one = inl (refl, c .before .before .before .if1 .taken); first = λ _. omega arith; second = c .if2 .taken }
 
@@ -31,10 +19,10 @@ pub smaller-spec : {M : Type 1} → statement M
 smaller-spec =
     tie.close
     (tie.spec
-    mul-if2
-    shared-slice-read-if2
-    mul-if2-2
-    shared-slice-read-if2-2
+    (λ c. search needs)
+    (λ c. search needs)
+    (λ c. search needs)
+    (λ c. search needs)
     returns
     returns-2
     returns-3)

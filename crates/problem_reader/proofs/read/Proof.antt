@@ -17,8 +17,8 @@ use Rattle.format.specs.declared.problem.Instruction.the-variants as I
 use Rattle.format.specs.ProblemLayout.{problemSize}
 use Rattle.format.specs.ProblemRules.{problemOperandsFit, problemInstructionAt}
 use Rattle.flat.proofs.Flat.{basis-size}
-use Rattle.problem_reader.specs.Checks.{early}
-use Rattle.problem_reader.proofs.Checks.{Passes, passes, early-refusal, early-whole, operands-refusal, passes-longer, space}
+use Rattle.problem_commands.specs.Checks.{early}
+use Rattle.problem_commands.proofs.Checks.{Passes, passes, early-refusal, early-whole, operands-refusal, passes-longer, space}
 use Rattle.problem_reader.proofs.Problems.{begins}
 use Rattle.problem_reader.proofs.Held.{Held}
 use Rattle.problem_reader.proofs.Steps.{Going, Stepped, stepped-as, starting, ended, first-refusing, late-refusing, going-on, extra, complete, stepped-variables, stepped-rule, stepped-order, stepped-objective, stepped-full, stepped-begun, stepped-refused, stepped-term, named, stepped-member}
@@ -85,23 +85,8 @@ passed c i e =
 shorter : (c : Told) → length (bytes (head c)) - next c < length (bytes (head c)) - head c .loop .at
 shorter c = let t = passed c (told c) refl in let l = passes-longer _ _ _ _ _ t in let w = t .whole in omega arith
 
-element-write-sizes : tie.Need-element-write-sizes Inv-loop μ-loop
-element-write-sizes c = search needs
-
-one-requires : tie.Need-one-requires Inv-loop μ-loop
-one-requires c κs = search needs
-
 loop-holds : tie.Need-loop-holds Inv-loop μ-loop
 loop-holds c = let a = c .before .before .args in starting (a .s .now) (a .keys .now) (a .coefficients .now) (a .sizes .now) (c .one .result) (c .before .before .pre) (c .one .ensures .0) (c .one .ensures .1)
-
-shared-slice-read-byte : tie.Need-shared-slice-read-byte Inv-loop μ-loop
-shared-slice-read-byte c = search needs
-
-command-of-requires : tie.Need-command-of-requires Inv-loop μ-loop
-command-of-requires c κs = search needs
-
-length-of-requires : tie.Need-length-of-requires Inv-loop μ-loop
-length-of-requires c κs = search needs
 
 check-at-requires : tie.Need-check-at-requires Inv-loop μ-loop
 check-at-requires c κs =
@@ -120,50 +105,11 @@ decode-at-requires c κs =
     let w = early-whole _ _ _ (none c) in
     omega arith
 
-is-allowed-requires : tie.Need-is-allowed-requires Inv-loop μ-loop
-is-allowed-requires c κs = search needs
-
-enum-known-told : tie.Need-enum-known-told Inv-loop μ-loop
-enum-known-told c = search needs
-
-enum-known-told-2 : tie.Need-enum-known-told-2 Inv-loop μ-loop
-enum-known-told-2 c = search needs
-
 put-objective-requires : tie.Need-put-objective-requires Inv-loop μ-loop
 put-objective-requires c κs = kept (head (c .before .before .before .before .before .before)) .limits
 
 lay-out-requires : tie.Need-lay-out-requires Inv-loop μ-loop
 lay-out-requires c κs = let k = kept (head (c .before .before .before .before .before .before .before)) in (k .limits .keys-length, k .limits .coefficients-length, omega arith, k .filled)
-
-add-sizes : tie.Need-add-sizes Inv-loop μ-loop
-add-sizes c = search needs
-
-mul-sizes : tie.Need-mul-sizes Inv-loop μ-loop
-mul-sizes c = search needs
-
-element-write-sizes-2 : tie.Need-element-write-sizes-2 Inv-loop μ-loop
-element-write-sizes-2 c = search needs
-
-empty-requires : tie.Need-empty-requires Inv-loop μ-loop
-empty-requires c κs = search needs
-
-add-count : tie.Need-add-count Inv-loop μ-loop
-add-count c = search needs
-
-kind-of-requires : tie.Need-kind-of-requires Inv-loop μ-loop
-kind-of-requires c κs = search needs
-
-add-sizes-2 : tie.Need-add-sizes-2 Inv-loop μ-loop
-add-sizes-2 c = search needs
-
-mul-sizes-2 : tie.Need-mul-sizes-2 Inv-loop μ-loop
-mul-sizes-2 c = search needs
-
-element-write-sizes-3 : tie.Need-element-write-sizes-3 Inv-loop μ-loop
-element-write-sizes-3 c = search needs
-
-enum-known-told-3 : tie.Need-enum-known-told-3 Inv-loop μ-loop
-enum-known-told-3 c = search needs
 
 check-room-requires : tie.Need-check-room-requires Inv-loop μ-loop
 check-room-requires c κs = let f = kept (head (c .before .before .before .before .before .before)) .filled in omega arith
@@ -189,9 +135,6 @@ element-set-from-c c = let h = term-space c in omega arith
 add-last : tie.Need-add-last Inv-loop μ-loop
 add-last c = let h = term-space c in omega arith
 
-enum-known-told-4 : tie.Need-enum-known-told-4 Inv-loop μ-loop
-enum-known-told-4 c = search needs
-
 -- ---- a monomial of a basis
 member-passed : (c : tie.After-known-told4 Inv-loop μ-loop) → At (c .before .before .before) (I.Member (c .before .told4 .given .0 .0) (c .before .told4 .given .0 .1 .0))
 member-passed c = passed (c .before .before .before) _ (c .before .told4 .given .1)
@@ -208,35 +151,8 @@ put-requires c κs =
     let h = basis-named (c .before .before) in
     (omega arith, omega (arith, basis-size (kept l .limits) _ h), omega arith)
 
-enum-told : tie.Need-enum-told Inv-loop μ-loop
-enum-told c = search needs
-
 lay-out-requires-2 : tie.Need-lay-out-requires-2 Inv-loop μ-loop
 lay-out-requires-2 c κs = let k = kept (head (c .before .before .before .before .before .before .before .before)) in let w = k .count-low in (k .limits .keys-length, k .limits .coefficients-length, omega arith, k .filled)
-
-add-sizes-3 : tie.Need-add-sizes-3 Inv-loop μ-loop
-add-sizes-3 c = search needs
-
-mul-sizes-3 : tie.Need-mul-sizes-3 Inv-loop μ-loop
-mul-sizes-3 c = search needs
-
-element-write-sizes-4 : tie.Need-element-write-sizes-4 Inv-loop μ-loop
-element-write-sizes-4 c = search needs
-
-element-write-sizes-5 : tie.Need-element-write-sizes-5 Inv-loop μ-loop
-element-write-sizes-5 c = search needs
-
-enum-known-told-5 : tie.Need-enum-known-told-5 Inv-loop μ-loop
-enum-known-told-5 c = search needs
-
-element-write-sizes-6 : tie.Need-element-write-sizes-6 Inv-loop μ-loop
-element-write-sizes-6 c = search needs
-
-enum-known-told-6 : tie.Need-enum-known-told-6 Inv-loop μ-loop
-enum-known-told-6 c = search needs
-
-element-write-sizes-7 : tie.Need-element-write-sizes-7 Inv-loop μ-loop
-element-write-sizes-7 c = search needs
 
 -- ---- what the arms leave, where they meet
 -- a coefficient is what its bits stand for
@@ -341,49 +257,49 @@ read-spec =
     (tie.spec
     Inv-loop
     μ-loop
-    element-write-sizes
-    one-requires
+    (λ c. search needs)
+    (λ c κs. search needs)
     loop-holds
-    shared-slice-read-byte
-    command-of-requires
-    length-of-requires
+    (λ c. search needs)
+    (λ c κs. search needs)
+    (λ c κs. search needs)
     check-at-requires
     add-next
     decode-at-requires
-    is-allowed-requires
-    enum-known-told
-    enum-known-told-2
+    (λ c κs. search needs)
+    (λ c. search needs)
+    (λ c. search needs)
     put-objective-requires
     lay-out-requires
-    add-sizes
-    mul-sizes
-    element-write-sizes-2
-    empty-requires
-    add-count
-    kind-of-requires
-    add-sizes-2
-    mul-sizes-2
-    element-write-sizes-3
-    enum-known-told-3
+    (λ c. search needs)
+    (λ c. search needs)
+    (λ c. search needs)
+    (λ c κs. search needs)
+    (λ c. search needs)
+    (λ c κs. search needs)
+    (λ c. search needs)
+    (λ c. search needs)
+    (λ c. search needs)
+    (λ c. search needs)
     check-room-requires
     mul-last
     element-write-last
     mul-c
     element-set-from-c
     add-last
-    enum-known-told-4
+    (λ c. search needs)
     mul-put
     put-requires
-    enum-told
+    (λ c. search needs)
     lay-out-requires-2
-    add-sizes-3
-    mul-sizes-3
-    element-write-sizes-4
-    element-write-sizes-5
-    enum-known-told-5
-    element-write-sizes-6
-    enum-known-told-6
-    element-write-sizes-7
+    (λ c. search needs)
+    (λ c. search needs)
+    (λ c. search needs)
+    (λ c. search needs)
+    (λ c. search needs)
+    (λ c. search needs)
+    (λ c. search needs)
+    (λ c. search needs)
     loop-less
     loop-again
     returns

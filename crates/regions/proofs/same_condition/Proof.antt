@@ -10,24 +10,6 @@ use Rattle.regions.proofs.same_condition.Tie as tie
 abbrev start : tie.After-shared-slice-known6 → tie.Start
 start c = c .before .before .before .before .before .before
 
-add-if1 : tie.Need-add-if1
-add-if1 c = search needs
-
-mul-if1 : tie.Need-mul-if1
-mul-if1 c = search needs
-
-shared-slice-read-if1 : tie.Need-shared-slice-read-if1
-shared-slice-read-if1 c = search needs
-
-add-if1-2 : tie.Need-add-if1-2
-add-if1-2 c = search needs
-
-mul-if1-2 : tie.Need-mul-if1-2
-mul-if1-2 c = search needs
-
-shared-slice-read-if1-2 : tie.Need-shared-slice-read-if1-2
-shared-slice-read-if1-2 c = search needs
-
 returns : tie.Need-returns
 returns c p q f g =
     tells-false (λ s. c .if1 .taken (same-kind f g _ (start (c .before) .pre .2) (s .kind)))
@@ -79,12 +61,12 @@ pub same-condition-spec : {M : Type 1} → statement M
 same-condition-spec =
     tie.close
     (tie.spec
-    add-if1
-    mul-if1
-    shared-slice-read-if1
-    add-if1-2
-    mul-if1-2
-    shared-slice-read-if1-2
+    (λ c. search needs)
+    (λ c. search needs)
+    (λ c. search needs)
+    (λ c. search needs)
+    (λ c. search needs)
+    (λ c. search needs)
     returns
     exponents-requires
     coefficients-requires

@@ -33,12 +33,6 @@ abbrev μ-loop : tie.MeasureT-loop
 abbrev start : tie.After-shared-slice-known6 Inv-loop μ-loop → tie.Start Inv-loop μ-loop
 start c = c .before .before .before .before .before .before
 
-shared-slice-read-n : tie.Need-shared-slice-read-n Inv-loop μ-loop
-shared-slice-read-n c = search needs
-
-shared-slice-read-if1 : tie.Need-shared-slice-read-if1 Inv-loop μ-loop
-shared-slice-read-if1 c = search needs
-
 returns : tie.Need-returns Inv-loop μ-loop
 returns c p q f g =
     tells-false (λ e. c .if1 .taken (f .conditions ∙ ap length e ∙ sym (g .conditions)))
@@ -59,9 +53,6 @@ returns-2 c p q f g =
 
 add-j : tie.Need-add-j Inv-loop μ-loop
 add-j c = omega (arith, conditions-few (start (c .before .before .before .before .before) .pre .0))
-
-loop-less : tie.Need-loop-less Inv-loop μ-loop
-loop-less c = search needs
 
 loop-again : tie.Need-loop-again Inv-loop μ-loop
 loop-again c =
@@ -88,13 +79,13 @@ same-conditions-spec =
     (tie.spec
     Inv-loop
     μ-loop
-    shared-slice-read-n
-    shared-slice-read-if1
+    (λ c. search needs)
+    (λ c. search needs)
     returns
     loop-holds
     same-condition-requires
     returns-2
     add-j
-    loop-less
+    (λ c. search needs)
     loop-again
     returns-3)

@@ -5,9 +5,9 @@ use native.Mathlib.Omega.{arith}
 use borrow.Author.Needs.{needs}
 use lib.ListN.{length, getD}
 use Rattle.joining_rule.specs.Bytes.{blockAt}
-use Rattle.certificate_reader.specs.Rows.{basisAt, entryAt, EntryStands}
-use Rattle.certificate_reader.proofs.Rows.{stand-low}
-use Rattle.certificate_reader.proofs.Walk.{Step, step-of, step-entry, step-long}
+use Rattle.certificate_rows.specs.Offsets.{basisAt, entryAt, EntryStands}
+use Rattle.certificate_rows.proofs.Offsets.{stand-low}
+use Rattle.certificate_rows.proofs.Steps.{Step, step-of, step-entry, step-long}
 use Rattle.row_blocks.proofs.Splits.{Searching, told-some, told-none, searching-none, searching-start, searching-end, searching-low, searching-found, searching-more}
 use Rattle.row_blocks.proofs.row_split.Statement.{statement}
 use Rattle.row_blocks.proofs.row_split.Tie as tie
@@ -69,9 +69,6 @@ module _ (c : tie.After-index-at Inv-loop μ-loop) where
   part-low : c .before .basis-at .result < 9
   part-low = rw (c .before .basis-at .ensures) (s .pre .basis)
 
-cast-i : tie.Need-cast-i Inv-loop μ-loop
-cast-i c = search needs
-
 add-i : tie.Need-add-i Inv-loop μ-loop
 add-i c = let a = first-low c in let b = part-low c in omega arith
 
@@ -97,9 +94,6 @@ module _ (c : tie.After-index-at2 Inv-loop μ-loop) where
   block-is : blockAt (s first .args .labels .now) (basisAt (s first .args .s .now) (s first .args .from)) (entryAt (s first .args .s .now) (c .before .before .loop .x) .index)
       ≡ getD (s first .args .labels .now) (64 * first .before .basis-at .result + c .index-at2 .result) 0
   block-is = ap₂ (λ (j i : ℕ). getD (s first .args .labels .now) (64 * j + i) 0) (sym (first .before .basis-at .ensures)) (sym (c .index-at2 .ensures))
-
-cast-i-2 : tie.Need-cast-i-2 Inv-loop μ-loop
-cast-i-2 c = search needs
 
 add-i-2 : tie.Need-add-i-2 Inv-loop μ-loop
 add-i-2 c = let a = other-low c in let b = part-low (first c) in omega arith
@@ -143,12 +137,12 @@ row-split-spec =
     basis-at-requires
     mul-part
     index-at-requires
-    cast-i
+    (λ c. search needs)
     add-i
     shared-slice-read-first
     loop-holds
     index-at-requires-2
-    cast-i-2
+    (λ c. search needs)
     add-i-2
     shared-slice-read-if2
     returns-2

@@ -47,9 +47,6 @@ row-split-requires c κs =
     let i = c .before .before in
     splitting-indexed _ _ _ _ _ (l i .loop .inv) (i .loop-test .taken) (start i .pre .0) (start i .pre .1)
 
-enum-known-found : tie.Need-enum-known-found Inv-loop μ-loop
-enum-known-found c = search needs
-
 returns : tie.Need-returns Inv-loop μ-loop
 returns c = λ p k limits read rows labels.
     let m = c .before .before .before in
@@ -57,9 +54,6 @@ returns c = λ p k limits read rows labels.
     told-some _ _
     (sym (splitting-found _ _ _ _ _ (l i .loop .inv) (i .loop-test .taken) _ (place-some _ _ (told-as _ _ _ (c .before .found .given .1) (m .row-split .ensures))))
     ∙ split-is p limits _ _ _ _ k read rows labels)
-
-enum-told : tie.Need-enum-told Inv-loop μ-loop
-enum-told c = search needs
 
 add-r : tie.Need-add-r Inv-loop μ-loop
 add-r c = let b = row-low (c .before .before .before .before .before) in omega arith
@@ -90,9 +84,9 @@ split-place-spec =
     mul-row-split-2
     element-copy-out-row-split-2
     row-split-requires
-    enum-known-found
+    (λ c. search needs)
     returns
-    enum-told
+    (λ c. search needs)
     add-r
     loop-less
     loop-again

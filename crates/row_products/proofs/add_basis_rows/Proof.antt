@@ -5,8 +5,8 @@ use Prim.Native.Nat.{_+_, _-_, _≤_, _<_}
 use native.Mathlib.Omega.{arith}
 use lib.ListN.{length, getD}
 use Rattle.format.specs.CertificateRules.{noRow}
-use Rattle.certificate_reader.specs.Rows.{rowsBy, RowStands}
-use Rattle.certificate_reader.proofs.Rows.{stand-low, rows-length, row-by}
+use Rattle.certificate_rows.specs.Offsets.{rowsBy, RowStands}
+use Rattle.certificate_rows.proofs.Offsets.{stand-low, rows-length, row-by}
 use Rattle.row_products.proofs.Gathering.{Gathering, gathering-start, gathering-small, gathering-end, gathering-wide, gathering-row, gathering-other, walked-low}
 use Rattle.row_products.proofs.add_basis_rows.Statement.{statement}
 use Rattle.row_products.proofs.add_basis_rows.Tie as tie

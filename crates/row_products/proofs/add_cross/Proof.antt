@@ -3,22 +3,16 @@ use native.Mathlib.Omega.{arith}
 use borrow.Author.Needs.{needs}
 use borrow.Author.Tests.{not-true}
 use mir.Facts.{toZ-ofZ}
-use Rattle.row_products.proofs.Digits.{cross-upper, held-narrow}
+use Rattle.row_digits.proofs.Digits.{cross-upper, held-narrow}
 use Rattle.row_products.proofs.Gathering.{low-digit-entries, high-digit-entries, not-added, cross-below, cross-added}
 use Rattle.row_products.proofs.add_cross.Statement.{statement}
 use Rattle.row_products.proofs.add_cross.Tie as tie
-
-high-digits-requires : tie.Need-high-digits-requires
-high-digits-requires c κs = search needs
 
 returns : tie.Need-returns
 returns c =
     let u = c .before in
     let s = u .before .before .before in
     not-added (s .pre) cross-upper (held-narrow (u .high-digits .ensures) (s .args .indices .now) (not-true _ (c .if1 .taken)))
-
-keep-low-digits-requires : tie.Need-keep-low-digits-requires
-keep-low-digits-requires c κs = search needs
 
 -- both digits of each factor
 module _ (c : tie.After-keep-low-digits) where
@@ -51,9 +45,6 @@ add-outer-requires-2 c κs =
       rw (toZ-ofZ (s l .fits .w)) (p .weight-small),
     )
 
-same-length : tie.Need-same-length
-same-length c = search needs
-
 returns-2 : tie.Need-returns-2
 returns-2 c =
     let o = c .before .before .before .before .before .before in
@@ -65,10 +56,10 @@ pub add-cross-spec : {M : Type 1} → statement M
 add-cross-spec =
     tie.close
     (tie.spec
-    high-digits-requires
+    (λ c κs. search needs)
     returns
-    keep-low-digits-requires
+    (λ c κs. search needs)
     add-outer-requires
     add-outer-requires-2
-    same-length
+    (λ c. search needs)
     returns-2)

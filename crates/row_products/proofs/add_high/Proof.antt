@@ -3,7 +3,7 @@ use native.Mathlib.Omega.{arith}
 use borrow.Author.Needs.{needs}
 use borrow.Author.Tests.{not-true}
 use mir.Facts.{toZ-ofZ}
-use Rattle.row_products.proofs.Digits.{high-upper, held-narrow}
+use Rattle.row_digits.proofs.Digits.{high-upper, held-narrow}
 use Rattle.row_products.proofs.Gathering.{high-digit-entries, not-added, high-added}
 use Rattle.row_products.proofs.add_high.Statement.{statement}
 use Rattle.row_products.proofs.add_high.Tie as tie

@@ -8,8 +8,8 @@ use mir.Facts.{toZ-ofZ}
 use mir.Syntax.{w64}
 use mir.Val.{toZ, ofZ}
 use Rattle.counting.specs.Counting.{Bounded}
-use Rattle.certificate_reader.specs.Rows.{weightAt}
-use Rattle.certificate_reader.proofs.Rows.{stand-low}
+use Rattle.certificate_rows.specs.Offsets.{weightAt}
+use Rattle.certificate_rows.proofs.Offsets.{stand-low}
 use Rattle.row_products.specs.Gather.{RowHeld}
 use Rattle.row_products.proofs.Gathering.{low-few, row-held, added-same}
 use Rattle.row_products.proofs.add_row.Statement.{statement}
@@ -47,26 +47,14 @@ module _ (c : tie.After-weight-at) where
   held : RowHeld (r .read-row .last .1 .1 .1 .0) (r .read-row .last .1 .1 .1 .1 .0) (r .read-row .result) (toZ w64 (ofZ w64 (c .weight-at .result))) (s .args .g .now)
   held = rw weight-is (row-held (bytes k) (s .pre .1) (r .read-row .ensures) refl (s .pre .0))
 
-enum-told : tie.Need-enum-told
-enum-told c = search needs
-
 add-low-requires : tie.Need-add-low-requires
 add-low-requires c κs = held (c .before .before .before .before .before)
-
-enum-told-2 : tie.Need-enum-told-2
-enum-told-2 c = search needs
 
 add-cross-requires : tie.Need-add-cross-requires
 add-cross-requires c κs = held (c .before .before .before .before .before)
 
-enum-told-3 : tie.Need-enum-told-3
-enum-told-3 c = search needs
-
 add-high-requires : tie.Need-add-high-requires
 add-high-requires c κs = held (c .before .before .before .before .before)
-
-same-length : tie.Need-same-length
-same-length c = search needs
 
 returns : tie.Need-returns
 returns c =
@@ -74,17 +62,11 @@ returns c =
     let w = e .before .before in
     added-same (c .before .add-low .ensures) (e .enum-told .given .1) (weight-is w) (r w .read-row .ensures .terms)
 
-same-length-2 : tie.Need-same-length-2
-same-length-2 c = search needs
-
 returns-2 : tie.Need-returns-2
 returns-2 c =
     let e = c .before .before .before .before .before in
     let w = e .before .before in
     added-same (c .before .add-cross .ensures) (e .enum-told2 .given .1) (weight-is w) (r w .read-row .ensures .terms)
-
-same-length-3 : tie.Need-same-length-3
-same-length-3 c = search needs
 
 returns-3 : tie.Need-returns-3
 returns-3 c =
@@ -98,15 +80,15 @@ add-row-spec =
     (tie.spec
     read-row-requires
     weight-at-requires
-    enum-told
+    (λ c. search needs)
     add-low-requires
-    enum-told-2
+    (λ c. search needs)
     add-cross-requires
-    enum-told-3
+    (λ c. search needs)
     add-high-requires
-    same-length
+    (λ c. search needs)
     returns
-    same-length-2
+    (λ c. search needs)
     returns-2
-    same-length-3
+    (λ c. search needs)
     returns-3)

@@ -7,9 +7,9 @@ use lib.ListN.{length}
 use mir.Facts.{toZ-ofZ}
 use mir.Syntax.{w32}
 use mir.Val.{toZ, ofZ}
-use Rattle.certificate_reader.specs.Rows.{rowAt, entryAt, EntryStands}
-use Rattle.certificate_reader.proofs.Rows.{stand-low}
-use Rattle.certificate_reader.proofs.Walk.{Step, step-of, step-entry, step-long}
+use Rattle.certificate_rows.specs.Offsets.{rowAt, entryAt, EntryStands}
+use Rattle.certificate_rows.proofs.Offsets.{stand-low}
+use Rattle.certificate_rows.proofs.Steps.{Step, step-of, step-entry, step-long}
 use Rattle.row_products.proofs.Gathering.{Filling, filling-start, filling-end, filling-few, filling-more}
 use Rattle.row_products.proofs.read_row.Statement.{statement}
 use Rattle.row_products.proofs.read_row.Tie as tie

@@ -1,4 +1,0 @@
-pub mod Limits
-pub mod Pairs
-pub mod Adding
-pub mod Standing

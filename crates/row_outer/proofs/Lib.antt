@@ -1,0 +1,5 @@
+pub mod Prefixes
+pub mod Frames
+pub mod Outers
+pub mod Gram
+pub mod Halves

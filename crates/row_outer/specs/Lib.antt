@@ -1,0 +1,3 @@
+pub mod Gram
+pub mod Frame
+pub mod Outer

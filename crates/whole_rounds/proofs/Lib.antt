@@ -1,9 +1,0 @@
-pub mod Pieces
-pub mod Labels
-pub mod Ready
-pub mod Turns
-pub mod Lending
-pub mod Squares
-pub mod Noting
-pub mod Running
-pub mod Starting
