@@ -1,0 +1,41 @@
+-- The limits of the two streams as the documents state them: what may be written. The numbers stand here as the
+-- documents have them, and not by the names that the readers go by; so proofs/ holds the readers to them from both sides.
+use mathlib.Core.Path.{_≡_}
+use mathlib.Core.List.{List, []}
+use Prim.Native.Nat.{ℕ, _-_, _^_, _≤_, _<_}
+use lib.IntN.{ℤ, pos, negsuc}
+use lib.ListN.{length, getD}
+use Rattle.polynomial.specs.Terms.{Term}
+use Rattle.format.specs.All.{All}
+use Rattle.format.proofs.WithinLimits.{Monomials, Terms}
+use Rattle.format.specs.ProblemRules.{Condition, Problem}
+
+-- "u and i mean unsigned and signed with their width in bits": a signed number of b bits, −2^(b−1) to 2^(b−1) − 1
+abbrev pub OfBits : ℕ → ℤ → Type 0
+OfBits b (pos n) = n < 2 ^ (b - 1)
+OfBits b (negsuc n) = n < 2 ^ (b - 1)
+
+-- a polynomial in n variables, of total degree at most d, with at most `most` terms of different monomials, and with
+-- coefficients of b bits that "are never 0". It "may be empty"
+pub record Polynomial (n d most b : ℕ) (ts : List Term) : Type 0 where
+  pub terms : Terms n d most ts
+  pub coefficients : All (λ (t : Term). OfBits b (t .coefficient)) ts
+
+pub record Legal (p : Problem) : Type 0 where
+  -- "01 n(u8): number of variables, 1 to 8"
+  pub variables : (1 ≤ p .variables) × (p .variables ≤ 8)
+  -- "08 rule(u8), value 1 or 2"
+  pub rule : (1 ≤ p .rule) × (p .rule ≤ 2)
+  -- "09 k(u8), from 1 to 255"; 0 without a 09
+  pub order : p .order ≤ 255
+  -- "02 E c(i32): objective term, total degree at most 32, at most 256"
+  pub objective : Polynomial (p .variables) 32 256 32 (p .objective)
+  -- "03: begins the next constraint, at most 8", and 07 "counted among the 8"
+  pub conditions : length (p .conditions) ≤ 8
+  -- "04 E c(i16): term of the constraint begun last, degree at most 16, at most 32 each"
+  pub terms : All (λ (g : Condition). Polynomial (p .variables) 16 32 16 (g .terms)) (p .conditions)
+  -- "05 j(u8) E: next monomial of basis j, degree at most 8, at most 64 each"
+  pub bases : length (p .bases) ≡ 9
+  pub members : All (Monomials (p .variables) 8 64) (p .bases)
+  -- "j is 0 or a constraint already begun"
+  pub begun : (j : ℕ) → length (p .conditions) < j → getD (p .bases) j [] ≡ []

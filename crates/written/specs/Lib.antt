@@ -1,0 +1,4 @@
+pub mod Bytes
+pub mod ProblemWritten
+pub mod Legal
+pub mod CommandOrder
