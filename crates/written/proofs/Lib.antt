@@ -5,3 +5,6 @@ pub mod ProblemReading
 pub mod ProblemOrders
 pub mod ProblemRoundTrip
 pub mod ProblemLegal
+pub mod CertificateSteps
+pub mod CertificateRoundTrip
+pub mod CertificateLegal

@@ -3,12 +3,17 @@
 use mathlib.Core.Path.{_≡_}
 use mathlib.Core.List.{List, []}
 use Prim.Native.Nat.{ℕ, _-_, _^_, _≤_, _<_}
-use lib.IntN.{ℤ, pos, negsuc}
+use lib.IntN.{ℤ, pos, negsuc, natAbs}
 use lib.ListN.{length, getD}
 use Rattle.polynomial.specs.Terms.{Term}
 use Rattle.format.specs.All.{All}
-use Rattle.format.proofs.WithinLimits.{Monomials, Terms}
+use Rattle.format.specs.declared.problem.Kind.{Kind}
+use Rattle.format.specs.declared.problem.Kind.the-variants as K
 use Rattle.format.specs.ProblemRules.{Condition, Problem}
+use Rattle.format.specs.ProblemBases.{kindOf}
+use Rattle.format.specs.CertificateRules.{Entry, Row, Certificate}
+use Rattle.format.proofs.WithinLimits.{Monomials, Terms}
+use Rattle.format.proofs.CertificateLimits.{SoundRow}
 
 -- "u and i mean unsigned and signed with their width in bits": a signed number of b bits, −2^(b−1) to 2^(b−1) − 1
 abbrev pub OfBits : ℕ → ℤ → Type 0
@@ -39,3 +44,27 @@ pub record Legal (p : Problem) : Type 0 where
   pub members : All (Monomials (p .variables) 8 64) (p .bases)
   -- "j is 0 or a constraint already begun"
   pub begun : (j : ℕ) → length (p .conditions) < j → getD (p .bases) j [] ≡ []
+
+-- ---- a certificate that keeps to its problem's rules
+-- "11 j(u8) w(u16)", and "14 j(u8) w(i16)" on an equality
+abbrev pub WeightOf : Kind → ℤ → Type 0
+WeightOf K.Inequality w = natAbs w < 2 ^ 16
+WeightOf K.Equality w = OfBits 16 w
+
+pub record LegalRow (p : Problem) (r : Row) : Type 0 where
+  -- "on basis j, 0 or a constraint of the problem, with weight w at least 1"; on an equality "negative or positive, never
+  -- 0"; entries "on basis index i, less than the basis's length", which "rise within a row"; "factors are never 0"
+  pub sound : SoundRow p r
+  pub weight : WeightOf (kindOf p (r .basis)) (r .weight)
+  -- "12 i(u8) l(i16)", and "15 i(u8) l(i32)"
+  pub factors : All (λ (e : Entry). OfBits 32 (e .factor)) (r .entries)
+
+pub record LegalCertificate (p : Problem) (c : Certificate) : Type 0 where
+  -- "10 side(u8) D(u16) p(i32) q(u16): side 0 lower, 1 upper; D and q at least 1"
+  pub side : c .header .side ≤ 1
+  pub scale : (1 ≤ c .header .scale) × (c .header .scale < 2 ^ 16)
+  pub numerator : OfBits 32 (c .header .p)
+  pub denominator : (1 ≤ c .header .q) × (c .header .q < 2 ^ 16)
+  -- "at most 128 rows", and a row on an equality is "counted among the 128"
+  pub count : length (c .rows) ≤ 128
+  pub rows : All (LegalRow p) (c .rows)

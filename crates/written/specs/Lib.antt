@@ -1,4 +1,5 @@
 pub mod Bytes
 pub mod ProblemWritten
+pub mod CertificateWritten
 pub mod Legal
 pub mod CommandOrder
