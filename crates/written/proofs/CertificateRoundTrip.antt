@@ -100,7 +100,7 @@ Follows : List Entry → List Entry → Type 0
 Follows ds [] = Unit {0}
 Follows ds (e ∷ es) = rises ds (e .index) ≡ true
 
-rises-last : (ds : List Entry) (e : Entry) (n : ℕ) → rises (ds ++ (e ∷ [])) n ≡ ltb (e .index) n
+pub rises-last : (ds : List Entry) (e : Entry) (n : ℕ) → rises (ds ++ (e ∷ [])) n ≡ ltb (e .index) n
 rises-last [] e n = refl
 rises-last (x ∷ []) e n = refl
 rises-last (x ∷ y ∷ ds) e n = rises-last (y ∷ ds) e n
@@ -242,7 +242,7 @@ module _ (p : Problem) (conditions : length (p .conditions) ≤ 8) (few : (j : �
       (rw (append-assoc done (row ∷ []) (placedRows p (length ((front ++ y) ++ ys)) rs)) at rest)
 
 -- no basis of a legal problem has more than 64 monomials
-basis-few : (p : Problem) → Legal p → (j : ℕ) → length (basisOf p j) ≤ 64
+pub basis-few : (p : Problem) → Legal p → (j : ℕ) → length (basisOf p j) ≤ 64
 unfolding basisOf
 basis-few p l j =
     all-at (Monomials (p .variables) 8 64) (p .bases) j [] (l .members) (monomials-none (p .variables) 8 64) .count
@@ -267,6 +267,12 @@ module _ (p : Problem) (c : Certificate) (legal : LegalCertificate p c) where
   abbrev commands : List Instruction
   commands = headerCommand h ∷ rowCommands p (c .rows)
 
+  pub commands-some : 0 < length (certificateStream commands)
+  unfolding certificateStream flatMap
+  commands-some =
+      let y = certificateBytes (headerCommand h) in
+      omega (arith, length-append y (certificateStream (rowCommands p (c .rows))), bytes-some (headerCommand h))
+
   module _ (problem : Legal p) where
     pub commands-read : (s back : List ℕ) → s ≡ certificateStream commands ++ back
         → Left (certificateLanguage p) s (readCertificate p s) (placed p c) (length (certificateStream commands))
@@ -285,7 +291,5 @@ module _ (p : Problem) (c : Certificate) (legal : LegalCertificate p c) where
         let one : certificateStream (I.End ∷ []) ≡ certificateBytes I.End ++ [] = unfold certificateStream flatMap in refl in
         let e : s ≡ certificateStream commands ++ (certificateBytes I.End ++ []) =
         stream-append commands (I.End ∷ []) ∙ rw one in
-        let some : 0 < length (certificateStream commands) =
-        unfold certificateStream flatMap in omega (arith, length-append (certificateBytes (headerCommand h)) (certificateStream (rowCommands p (c .rows))), bytes-some (headerCommand h)) in
-        sym (written-end p s (certificateStream commands) e some (readCertificate p s) (placed p c)
+        sym (written-end p s (certificateStream commands) e commands-some (readCertificate p s) (placed p c)
         (commands-read s (certificateBytes I.End ++ []) e))

@@ -8,3 +8,4 @@ pub mod ProblemLegal
 pub mod CertificateSteps
 pub mod CertificateRoundTrip
 pub mod CertificateLegal
+pub mod OneMore

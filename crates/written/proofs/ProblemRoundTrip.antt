@@ -28,7 +28,7 @@ module _ (n r k : ℕ) where
   abbrev headed : List Instruction
   headed = I.Variables n ∷ (ruleCommands r ++ orderCommands k)
 
-  head-is : Head headed
+  pub head-is : Head headed
   head-is = go (eqb r 1) (eqb k 0) refl
     where
       go : (b c : Bool) → eqb k 0 ≡ c → Head (I.Variables n ∷ (cond b [] (I.Rule r ∷ []) ++ cond c [] (I.Order k ∷ [])))
@@ -187,7 +187,7 @@ bases-placed n j (b ∷ bs) e =
     members-placed n j b (basisCommands (suc j) bs) (λ h. e 0 (omega arith))
     (bases-placed n (suc j) bs (λ x h. e (suc x) (omega arith)))
 
-body-placed : (p : Problem) → Legal p → InPlace 0 (bodyCommands p)
+pub body-placed : (p : Problem) → Legal p → InPlace 0 (bodyCommands p)
 body-placed p l =
     let z : 0 + length (p .conditions) ≡ length (p .conditions) = omega arith in
     objective-placed 0 (p .objective) _

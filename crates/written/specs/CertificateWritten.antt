@@ -63,6 +63,10 @@ unfoldable pub encodeCertificate : Problem → Certificate → List ℕ
 encodeCertificate p c =
     certificateStream (headerCommand (c .header) ∷ (rowCommands p (c .rows) ++ (I.End ∷ [])))
 
+-- without its end: what one more command would stand behind
+unfoldable pub openCertificate : Problem → Certificate → List ℕ
+openCertificate p c = certificateStream (headerCommand (c .header) ∷ rowCommands p (c .rows))
+
 -- ---- the same certificate with the places that its layout gives: of each entry the offset of its command
 unfoldable pub placedEntries : ℕ → List Entry → List Entry
 placedEntries at [] = []
@@ -70,12 +74,21 @@ placedEntries at (e ∷ es) =
     record { index = e .index; factor = e .factor; place = at }
     ∷ placedEntries (at + length (certificateBytes (entryCommand e))) es
 
+abbrev pub placedRow : Problem → ℕ → Row → Row
+placedRow p at r = record {
+  basis = r .basis;
+  weight = r .weight;
+  entries = placedEntries (at + length (certificateBytes (rowCommand p r))) (r .entries);
+}
+
+-- where the row at an offset ends
+abbrev pub rowEnd : Problem → ℕ → Row → ℕ
+rowEnd p at r =
+    at + length (certificateBytes (rowCommand p r)) + length (certificateStream (entryCommands (r .entries)))
+
 unfoldable pub placedRows : Problem → ℕ → List Row → List Row
 placedRows p at [] = []
-placedRows p at (r ∷ rs) =
-    let first = at + length (certificateBytes (rowCommand p r)) in
-    record { basis = r .basis; weight = r .weight; entries = placedEntries first (r .entries) }
-    ∷ placedRows p (first + length (certificateStream (entryCommands (r .entries)))) rs
+placedRows p at (r ∷ rs) = placedRow p at r ∷ placedRows p (rowEnd p at r) rs
 
 unfoldable pub placed : Problem → Certificate → Certificate
 placed p c = record {

@@ -3,3 +3,4 @@ pub mod ProblemWritten
 pub mod CertificateWritten
 pub mod Legal
 pub mod CommandOrder
+pub mod OneMore

@@ -71,3 +71,7 @@ inStream head body = problemStream (head ++ (body ++ (I.End ∷ [])))
 
 unfoldable pub encodeProblem : Problem → List ℕ
 encodeProblem p = inStream (headCommands p) (bodyCommands p)
+
+-- without its end: what one more command would stand behind
+unfoldable pub openProblem : Problem → List ℕ
+openProblem p = problemStream (headCommands p ++ bodyCommands p)
