@@ -9,3 +9,6 @@ pub mod CertificateSteps
 pub mod CertificateRoundTrip
 pub mod CertificateLegal
 pub mod OneMore
+pub mod ProblemCommands
+pub mod OtherOrder
+pub mod EncodedBytes

@@ -1,19 +1,22 @@
 -- What a command's operands give where they stand, by the layout: each operand again, if it has its width.
 use mathlib.Core.Path.{_≡_, refl, sym, ap, _∙_}
+use mathlib.Core.Bool.{Bool, true, false}
 use mathlib.Core.List.{List, [], _∷_, _++_, append-assoc}
 use Prim.Native.Nat.{ℕ, zero, suc, _+_, _-_, _*_, _%_, _^_, _≤_, _<_}
 use native.Mathlib.Nat.{pow-suc, mod-eq-of-lt}
 use native.Mathlib.Numerals.{add-one}
 use native.Mathlib.Omega.{arith}
 use lib.IntN.{ℤ, pos, negsuc, _-ℤ_}
-use lib.ListN.{length, getD, take, length-append}
-use lib.Seq.{getD-append-seam}
-use borrow.Author.Tests.{lt-ltb, le-ltb}
+use lib.Dec.{ltb}
+use lib.ListN.{length, getD, take, drop, length-append}
+use lib.Seq.{getD-append-seam, take-add, drop-cons, drop-drop}
+use borrow.Author.Tests.{lt-ltb, le-ltb, ltb-true, ltb-false}
+use Rattle.counting.specs.Counting.{Bounded}
 use Rattle.format.specs.Operands.{number, signed}
 use Rattle.format.specs.Layouts.{Layout, line, total, lengthOf, unsignedOperand, signedOperand}
 use Rattle.format.proofs.Numbers.{lower, upper}
 use Rattle.calls.specs.Report.{littleEndian, unsigned}
-use Rattle.calls.proofs.Records.{number-of}
+use Rattle.calls.proofs.Records.{number-of, bytes-of}
 use Rattle.written.specs.Bytes.{Operand, u, i, operandNumber, operandBytes, commandBytes}
 use Rattle.written.specs.Legal.{OfBits}
 
@@ -46,6 +49,17 @@ module _ (b : ℕ) where
       let j : n < 2 ^ b = rw one-less at h in
       let x = 2 ^ (b + 1) - suc n in
       sym (upper b x (omega arith)) ∙ turned (2 ^ (b + 1)) x n (omega arith)
+
+  pub unsigned-signed : (x : ℕ) → x < 2 ^ (b + 1) → unsigned b (signed b x) ≡ x
+  unfolding unsigned
+  unsigned-signed x h = go (ltb x (2 ^ b)) refl
+    where
+      go : (t : Bool) → ltb x (2 ^ b) ≡ t → unsigned b (signed b x) ≡ x
+      go true q = rw (← lower b x (ltb-true x (2 ^ b) q)) (unsigned-up x)
+      go false q =
+          let n = 2 ^ (b + 1) - suc x in
+          let e : signed b x ≡ negsuc n = sym (upper b x (ltb-false x (2 ^ b) q)) ∙ turned (2 ^ (b + 1)) x n (omega arith) in
+          rw e (omega arith)
 
 -- ---- operand n of a layout, wherever the command stands
 pub bytes-length : (w x : ℕ) → length (littleEndian w x) ≡ w
@@ -115,3 +129,29 @@ pub command-length : (b : ℕ) (ws : List ℕ) (os : List Operand) → length ws
     → length (commandBytes (line b ws) os) ≡ lengthOf (line b ws)
 unfolding commandBytes
 command-length b ws os e = omega (arith, operands-length ws os e)
+
+-- ---- the other way round: the bytes that operands were read from
+module _ (s : List ℕ) (bounded : Bounded 255 s) where
+  -- operands one after another, from an offset on
+  unfoldable pub OperandsAt : List ℕ → List Operand → ℕ → Type 0
+  OperandsAt [] os at = Unit {0}
+  OperandsAt (w ∷ ws) [] at = ⊥
+  OperandsAt (w ∷ ws) (o ∷ os) at = (operandNumber w o ≡ number w s at) × OperandsAt ws os (at + w)
+
+  operands-of : (ws : List ℕ) (os : List Operand) (at : ℕ) → OperandsAt ws os at → at + total ws ≤ length s
+      → operandBytes ws os ≡ take (total ws) (drop at s)
+  unfolding OperandsAt operandBytes
+  operands-of [] os at h n = refl
+  operands-of (w ∷ ws) [] at h n = absurd h
+  operands-of (w ∷ ws) (o ∷ os) at h n =
+      rw (take-add w (total ws) (drop at s), drop-drop w at s, h .0, bytes-of w s at bounded (omega arith))
+      (ap (λ (l : List ℕ). take w (drop at s) ++ l) (operands-of ws os (at + w) (h .1) (omega arith)))
+
+  pub command-of : (b : ℕ) (ws : List ℕ) (os : List Operand) (at : ℕ) → getD s at 0 ≡ b → OperandsAt ws os (at + 1)
+      → at + (1 + total ws) ≤ length s → commandBytes (line b ws) os ≡ take (1 + total ws) (drop at s)
+  unfolding commandBytes
+  command-of b ws os at e h n =
+      let z : 1 + total ws ≡ suc (total ws) = omega arith in
+      let y : suc at ≡ at + 1 = omega arith in
+      rw (z, drop-cons s at 0 (omega arith), e, y)
+      (ap (λ (l : List ℕ). b ∷ l) (operands-of ws os (at + 1) h (omega arith)))

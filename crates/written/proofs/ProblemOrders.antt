@@ -29,11 +29,11 @@ pub record HeadFits (p : Problem) : Type 0 where
 
 -- where a 09 may stand
 module _ (n : ℕ) (rest : List ℕ) where
-  place-second : (k : ℕ) → orderPlace (problemBytes (I.Variables n) ++ (problemBytes (I.Order k) ++ rest)) ≡ 2
+  pub place-second : (k : ℕ) → orderPlace (problemBytes (I.Variables n) ++ (problemBytes (I.Order k) ++ rest)) ≡ 2
   unfolding orderPlace problemBytes commandBytes operandBytes
   place-second k = refl
 
-  place-third : (r : ℕ) → orderPlace (problemBytes (I.Variables n) ++ (problemBytes (I.Rule r) ++ rest)) ≡ 4
+  pub place-third : (r : ℕ) → orderPlace (problemBytes (I.Variables n) ++ (problemBytes (I.Rule r) ++ rest)) ≡ 4
   unfolding orderPlace problemBytes commandBytes operandBytes
   place-third r = refl
 
@@ -98,10 +98,10 @@ head-read s (both n r k h) back e f =
     (order-read s _ _ (a ++ b) back m k g (four ∙ sym (rw d (place-third n (c ++ back) r))) h (f .order))
 
 -- ---- the body names nothing of that
-record SameHead (p q : Problem) : Type 0 where
-  variables : p .variables ≡ q .variables
-  rule : p .rule ≡ q .rule
-  order : p .order ≡ q .order
+pub record SameHead (p q : Problem) : Type 0 where
+  pub variables : p .variables ≡ q .variables
+  pub rule : p .rule ≡ q .rule
+  pub order : p .order ≡ q .order
 
 applied-head : (n : ℕ) (p : Problem) (x : Instruction) → mayStand n x ≡ true → SameHead (problemApplied p x) p
 unfolding problemApplied
@@ -115,7 +115,7 @@ applied-head n p I.Equality h = record { variables = refl; rule = refl; order = 
 applied-head n p (I.Rule r) h = clash (cc)
 applied-head n p (I.Order k) h = clash (cc)
 
-after-head : (p : Problem) (xs : List Instruction) → InPlace (length (p .conditions)) xs → SameHead (after p xs) p
+pub after-head : (p : Problem) (xs : List Instruction) → InPlace (length (p .conditions)) xs → SameHead (after p xs) p
 unfolding after InPlace
 after-head p [] h = record { variables = refl; rule = refl; order = refl }
 after-head p (x ∷ xs) h =
@@ -123,7 +123,7 @@ after-head p (x ∷ xs) h =
     let b = after-head (problemApplied p x) xs (further p x xs (h .1)) in
     record { variables = b .variables ∙ a .variables; rule = b .rule ∙ a .rule; order = b .order ∙ a .order }
 
-none-begun : {head : List Instruction} → Head head → after noProblem head .conditions ≡ []
+pub none-begun : {head : List Instruction} → Head head → after noProblem head .conditions ≡ []
 unfolding after problemApplied
 none-begun (plain n) = refl
 none-begun (ruled n r) = refl

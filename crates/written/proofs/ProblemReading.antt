@@ -146,7 +146,7 @@ passed-before p (I.Rule r) h w = clash (cc)
 passed-before p (I.Order k) h w = clash (cc)
 
 -- how many conditions are begun after it
-conditions-begun : (p : Problem) (x : Instruction) → length (problemApplied p x .conditions) ≡ begun (length (p .conditions)) x
+pub conditions-begun : (p : Problem) (x : Instruction) → length (problemApplied p x .conditions) ≡ begun (length (p .conditions)) x
 unfolding problemApplied
 conditions-begun p (I.Variables n) = refl
 conditions-begun p (I.Objective k c) = refl

@@ -8,8 +8,8 @@ use native.Mathlib.Omega.{arith}
 use lib.Dec.{eqb}
 use lib.ListN.{length, getD, set, replicate, length-append}
 use lib.Seq.{getD-at, set-at}
-use borrow.Author.Tests.{le-leb, eqb-true, eqb-false}
-use Rattle.counting.proofs.Cases.{lt-or-le}
+use borrow.Author.Tests.{le-leb, eqb-true}
+use Rattle.counting.proofs.Cases.{clash, lt-or-le}
 use Rattle.polynomial.specs.Terms.{Term}
 use Rattle.format.specs.Commands.{given}
 use Rattle.format.specs.declared.problem.Instruction.{Instruction}
@@ -31,19 +31,15 @@ module _ (n r k : ℕ) where
   pub head-is : Head headed
   head-is = go (eqb r 1) (eqb k 0) refl
     where
+      named : (x : ℕ) → eqb x 0 ≡ false → 1 ≤ x
+      named zero e = clash (cc)
+      named (suc x) e = omega arith
+
       go : (b c : Bool) → eqb k 0 ≡ c → Head (I.Variables n ∷ (cond b [] (I.Rule r ∷ []) ++ cond c [] (I.Order k ∷ [])))
       go true true e = plain n
-      go true false e = ordered n k (let d = eqb-false k 0 e in some k d)
-        where
-          some : (x : ℕ) → (x ≡ 0 → ⊥) → 1 ≤ x
-          some zero d = absurd (d refl)
-          some (suc x) d = omega arith
+      go true false e = ordered n k (named k e)
       go false true e = ruled n r
-      go false false e = both n r k (let d = eqb-false k 0 e in some k d)
-        where
-          some : (x : ℕ) → (x ≡ 0 → ⊥) → 1 ≤ x
-          some zero d = absurd (d refl)
-          some (suc x) d = omega arith
+      go false false e = both n r k (named k e)
 
 -- a problem by its parts
 abbrev made : ℕ → ℕ → ℕ → List Term → List Condition → List (List ℕ) → Problem

@@ -52,7 +52,7 @@ module _ (front back : List ℕ) where
   abbrev stream : Instruction → List ℕ
   stream x = front ++ (problemBytes x ++ back)
 
-  command-is : (x : Instruction) → problemCommandAt (stream x) (length front) ≡ commandOf x
+  pub command-is : (x : Instruction) → problemCommandAt (stream x) (length front) ≡ commandOf x
   unfolding problemBytes problemCommand
   command-is (I.Variables n) = rw (first-byte 1 (u8 ∷ []) (u n ∷ []) front back)
   command-is (I.Objective k c) = rw (first-byte 2 (E ∷ i32 ∷ []) (u k ∷ i c ∷ []) front back)
