@@ -1,5 +1,5 @@
--- Every certificate that a stream of bytes gives keeps to its problem's rules: so nothing past the documents' numbers is
--- read. And written again it is read as the same certificate, but for the places.
+-- Every certificate that a stream of bytes gives keeps to its problem's rules: so nothing past the documents' numbers
+-- is read. And written again it is read as the same certificate, but for the places.
 use mathlib.Core.Path.{_≡_, refl}
 use mathlib.Core.Bool.{Bool, true, false, not, _&&_}
 use mathlib.Core.List.{List, [], _∷_, _++_}
@@ -29,7 +29,7 @@ use Rattle.format.proofs.CertificateLimits.{SoundRow, read-sound}
 use Rattle.written.specs.Legal.{OfBits, Legal, WeightOf, LegalRow, LegalCertificate}
 use Rattle.written.specs.CertificateWritten.{encodeCertificate, placed}
 use Rattle.written.proofs.ProblemLegal.{signed-bits}
-use Rattle.written.proofs.CertificateRoundTrip.{encode-read}
+use Rattle.written.proofs.CertificateRoundTrip.{encoded-certificate-read}
 
 -- a number of 16 bits is one of 32
 more-bits : (z : ℤ) → OfBits 16 z → OfBits 32 z
@@ -83,8 +83,9 @@ module _ (p : Problem) where
       }
 
   module _ (s : List ℕ) (bytes : Bounded 255 s) where
-    wide-applied : (c : Certificate) (at : ℕ) (k : Command) → certificateOperandsFit p c (certificateDecoded k s at) ≡ true
-        → Wide p c → Wide p (certificateApplied c (certificateDecoded k s at) at)
+    wide-applied : (c : Certificate) (at : ℕ) (k : Command)
+        → certificateOperandsFit p c (certificateDecoded k s at) ≡ true → Wide p c
+        → Wide p (certificateApplied c (certificateDecoded k s at) at)
     unfolding certificateApplied
     wide-applied c at C.Header f w = record {
       scale = number-low s bytes 2 (at + 2);
@@ -106,8 +107,9 @@ module _ (p : Problem) where
     wide-applied c at C.EqualityRow f w =
         let j = number 1 s (at + 1) in
         let low = leb j (length (p .conditions)) in
-        row-wide c j _ w
-        (equality-weight (kindOf p j) (signed 15 (number 2 s (at + 2))) (and-left (isEquality (kindOf p j)) _ (and-right low _ f))
+        let w′ = signed 15 (number 2 s (at + 2)) in
+        row-wide c j w′ w
+        (equality-weight (kindOf p j) w′ (and-left (isEquality (kindOf p j)) _ (and-right low _ f))
         (signed-bits 15 _ (number-low s bytes 2 (at + 2))))
     wide-applied c at C.WideEntry f w = entry-wide c _ _ at w (signed-bits 31 _ (number-low s bytes 4 (at + 2)))
 
@@ -116,8 +118,10 @@ module _ (p : Problem) where
     read-wide c h =
         read-induction (certificateLanguage p) s (λ a at cs b. Wide p a → Wide p b)
         (λ a at t e w. w)
-        (λ a b at cs t e f w. f (wide-applied a at (certificateCommandAt s at) (passed p a s at (t .passed) .allowed) w))
-        noCertificate c h (record { scale = omega arith; numerator = omega arith; denominator = omega arith; rows = tt })
+        (λ a b at cs t e f w.
+        f (wide-applied a at (certificateCommandAt s at) (passed p a s at (t .passed) .allowed) w))
+        noCertificate c h
+        (record { scale = omega arith; numerator = omega arith; denominator = omega arith; rows = tt })
 
   legal-rows : (rs : List Row) → All (SoundRow p) rs → All (WideRow p) rs → All (LegalRow p) rs
   unfolding All
@@ -126,9 +130,10 @@ module _ (p : Problem) where
       (record { sound = t .0; weight = w .0 .weight; factors = w .0 .factors }, legal-rows rs (t .1) (w .1))
 
 -- ---- the law, from the reader's side
-module _ (p : Problem) (s : List ℕ) (bytes : Bounded 255 s) (c : Certificate) (read : readCertificate p s ≡ given c) where
-  pub read-legal : LegalCertificate p c
-  read-legal =
+module _ (p : Problem) (s : List ℕ) (bytes : Bounded 255 s) (c : Certificate)
+    (read : readCertificate p s ≡ given c) where
+  pub read-certificate-legal : LegalCertificate p c
+  read-certificate-legal =
       let k = read-sound p s c read in
       let w = read-wide p s bytes c read in
       record {
@@ -140,5 +145,5 @@ module _ (p : Problem) (s : List ℕ) (bytes : Bounded 255 s) (c : Certificate) 
         rows = legal-rows p (c .rows) (k .rows) (w .rows);
       }
 
-  pub read-again : Legal p → readCertificate p (encodeCertificate p c) ≡ given (placed p c)
-  read-again problem = encode-read p c read-legal problem
+  pub read-certificate-again : Legal p → readCertificate p (encodeCertificate p c) ≡ given (placed p c)
+  read-certificate-again problem = encoded-certificate-read p c read-certificate-legal problem

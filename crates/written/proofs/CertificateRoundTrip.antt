@@ -49,11 +49,15 @@ entry-sized e i f = go (e .factor) f (narrow (e .factor)) refl
     go (negsuc n) f true q = (i, ltb-true n (2 ^ 15) q)
     go (negsuc n) f false q = (i, f)
 
+-- by 12 where b, and else by 15
+abbrev entryBy : Bool → Entry → Instruction
+entryBy b e = cond b (I.Entry (e .index) (e .factor)) (I.WideEntry (e .index) (e .factor))
+
 entry-goes : (e : Entry) → commandOf (entryCommand e) ≡ C.End → ⊥
 unfolding entryCommand
 entry-goes e = go (narrow (e .factor))
   where
-    go : (b : Bool) → commandOf (cond b (I.Entry (e .index) (e .factor)) (I.WideEntry (e .index) (e .factor))) ≡ C.End → ⊥
+    go : (b : Bool) → commandOf (entryBy b e) ≡ C.End → ⊥
     go true h = clash (cc)
     go false h = clash (cc)
 
@@ -69,11 +73,12 @@ module _ (p : Problem) (h : Header) (rs : List Row) (r : Row) (at : ℕ) (e : En
       last : lastRow (rs ++ (r ∷ [])) ≡ r
       last = last-append rs r
 
-      go : (t : Bool) → refusalOf p (begun h rs r) at (cond t (I.Entry (e .index) (e .factor)) (I.WideEntry (e .index) (e .factor))) ≡ 0
-      go true =
-          rw (lt-ltb 0 at b, lt-ltb 0 (length (rs ++ (r ∷ []))) some-rows, last, lt-ltb (e .index) _ i, not-nonzero (e .factor) f, q)
-      go false =
-          rw (lt-ltb 0 at b, lt-ltb 0 (length (rs ++ (r ∷ []))) some-rows, last, lt-ltb (e .index) _ i, not-nonzero (e .factor) f, q)
+      rows : ltb 0 (length (rs ++ (r ∷ []))) ≡ true
+      rows = lt-ltb 0 _ some-rows
+
+      go : (t : Bool) → refusalOf p (begun h rs r) at (entryBy t e) ≡ 0
+      go true = rw (lt-ltb 0 at b, rows, last, lt-ltb (e .index) _ i, not-nonzero (e .factor) f, q)
+      go false = rw (lt-ltb 0 at b, rows, last, lt-ltb (e .index) _ i, not-nonzero (e .factor) f, q)
 
   entry-applied : certificateApplied (begun h rs r) (entryCommand e) at
       ≡ begun h rs (withEntry r (record { index = e .index; factor = e .factor; place = at }))
@@ -89,9 +94,7 @@ module _ (p : Problem) (h : Header) (rs : List Row) (r : Row) (at : ℕ) (e : En
       both : entered (begun h rs r) (e .index) (e .factor) at ≡ begun h rs (withEntry r new)
       both = rw (last-append rs r, n, set-at rs r [] (withEntry r new) (length rs) refl)
 
-      go : (t : Bool)
-          → certificateApplied (begun h rs r) (cond t (I.Entry (e .index) (e .factor)) (I.WideEntry (e .index) (e .factor))) at
-          ≡ begun h rs (withEntry r new)
+      go : (t : Bool) → certificateApplied (begun h rs r) (entryBy t e) at ≡ begun h rs (withEntry r new)
       go true = both
       go false = both
 
@@ -121,8 +124,9 @@ module _ (p : Problem) (s : List ℕ) (o : Outcome Certificate) (h : Header) (rs
   abbrev sofar : List Entry → Certificate
   sofar ds = begun h rs (record { basis = j; weight = w; entries = ds })
 
-  entries-read : (ds es : List Entry) (front back : List ℕ) → s ≡ front ++ (certificateStream (entryCommands es) ++ back)
-      → 0 < length front → All (λ (e : Entry). e .index < length (basisOf p j)) es
+  entries-read : (ds es : List Entry) (front back : List ℕ)
+      → s ≡ front ++ (certificateStream (entryCommands es) ++ back) → 0 < length front
+      → All (λ (e : Entry). e .index < length (basisOf p j)) es
       → All (λ (e : Entry). e .factor ≡ pos 0 → ⊥) es → All (λ (e : Entry). OfBits 32 (e .factor)) es
       → Follows ds es → IndicesRise es → Left (certificateLanguage p) s o (sofar ds) (length front)
       → Left (certificateLanguage p) s o (sofar (ds ++ placedEntries (length front) es))
@@ -136,13 +140,15 @@ module _ (p : Problem) (s : List ℕ) (o : Outcome Certificate) (h : Header) (rs
       let here : s ≡ front ++ (y ++ (ys ++ back)) = e ∙ ap (λ (t : List ℕ). front ++ t) (append-assoc y ys back) in
       let n = length-append front y in
       let low : x .index < 256 = let z = i .0 in omega arith in
-      let v = entry-passes p h rs (record { basis = j; weight = w; entries = ds }) (length front) x b (i .0) (f .0) q in
-      let next =
-      written-next p s front (ys ++ back) (entryCommand x) here (entry-sized x low (g .0)) o (sofar ds) l (entry-goes x) v in
-      let a = entry-applied p h rs (record { basis = j; weight = w; entries = ds }) (length front) x in
+      let row : Row = record { basis = j; weight = w; entries = ds } in
+      let v = entry-passes p h rs row (length front) x b (i .0) (f .0) q in
+      let size = entry-sized x low (g .0) in
+      let next = written-next p s front (ys ++ back) (entryCommand x) here size o (sofar ds) l (entry-goes x) v in
+      let a = entry-applied p h rs row (length front) x in
+      let then = here ∙ sym (append-assoc front y (ys ++ back)) in
       let more =
-      entries-read (ds ++ (d ∷ [])) es (front ++ y) back (here ∙ sym (append-assoc front y (ys ++ back))) (omega arith) (i .1) (f .1)
-      (g .1) (follows-next ds x d es refl m) (rise-next x es m) (rw a at next) in
+      entries-read (ds ++ (d ∷ [])) es (front ++ y) back then (omega arith) (i .1) (f .1) (g .1)
+      (follows-next ds x d es refl m) (rise-next x es m) (rw a at next) in
       rw (append-assoc front y ys, append-assoc ds (d ∷ []) (placedEntries (length (front ++ y)) es), n) at more
 
 -- ---- a row, by 11 or by 14
@@ -151,8 +157,8 @@ positive-is (pos zero) h = absurd (h .le)
 positive-is (pos (suc n)) h = (refl, omega arith)
 positive-is (negsuc n) h = absurd (h .le)
 
-module _ (p : Problem) (c : Certificate) (at : ℕ) (r : Row) (legal : LegalRow p r) (room : length (c .rows) < 128) (b : 0 < at)
-    (low : length (p .conditions) ≤ 8) where
+module _ (p : Problem) (c : Certificate) (at : ℕ) (r : Row) (legal : LegalRow p r) (room : length (c .rows) < 128)
+    (b : 0 < at) (low : length (p .conditions) ≤ 8) where
   record Begins (x : Instruction) : Type 0 where
     sized : Sized x
     goes : commandOf x ≡ C.End → ⊥
@@ -163,22 +169,28 @@ module _ (p : Problem) (c : Certificate) (at : ℕ) (r : Row) (legal : LegalRow 
   unfolding refusalOf firstRefusal certificateApplied
   row-begins = go (kindOf p (r .basis)) refl
     where
-      j : r .basis ≤ length (p .conditions)
-      j = legal .sound .basis
+      j : leb (r .basis) (length (p .conditions)) ≡ true
+      j = le-leb (r .basis) _ (legal .sound .basis)
+
+      basis : r .basis < 256
+      basis = let k = legal .sound .basis in omega arith
+
+      full : leb 128 (length (c .rows)) ≡ false
+      full = lt-leb 128 (length (c .rows)) room
 
       go : (k : Kind) → kindOf p (r .basis) ≡ k → Begins (beginning k (r .basis) (r .weight))
       go K.Inequality e =
           let w = positive-is (r .weight) (legal .sound .positive e) in
           record {
-            sized = (omega arith, rw e at (legal .weight));
+            sized = (basis, rw e at (legal .weight));
             goes = λ z. clash (cc);
-            passes = rw (lt-ltb 0 at b, le-leb (r .basis) _ j, e, le-leb 1 (natAbs (r .weight)) (w .1), lt-leb 128 (length (c .rows)) room);
+            passes = rw (lt-ltb 0 at b, j, e, le-leb 1 (natAbs (r .weight)) (w .1), full);
             applied = rw (w .0);
           }
       go K.Equality e = record {
-        sized = (omega arith, rw e at (legal .weight));
+        sized = (basis, rw e at (legal .weight));
         goes = λ z. clash (cc);
-        passes = rw (lt-ltb 0 at b, le-leb (r .basis) _ j, e, not-nonzero (r .weight) (legal .sound .weight), lt-leb 128 (length (c .rows)) room);
+        passes = rw (lt-ltb 0 at b, j, e, not-nonzero (r .weight) (legal .sound .weight), full);
         applied = refl;
       }
 
@@ -191,7 +203,8 @@ stream-append (x ∷ xs) ys =
 
 row-stream : (p : Problem) (r : Row) (rs : List Row)
     → certificateStream (rowCommands p (r ∷ rs))
-    ≡ certificateBytes (rowCommand p r) ++ (certificateStream (entryCommands (r .entries)) ++ certificateStream (rowCommands p rs))
+    ≡ certificateBytes (rowCommand p r)
+    ++ (certificateStream (entryCommands (r .entries)) ++ certificateStream (rowCommands p rs))
 row-stream p r rs =
     let e = stream-append (entryCommands (r .entries)) (rowCommands p rs) in
     unfold certificateStream flatMap rowCommands in ap (λ (l : List ℕ). certificateBytes (rowCommand p r) ++ l) e
@@ -201,8 +214,8 @@ unfolding Follows
 follows-first [] = tt
 follows-first (e ∷ es) = refl
 
-module _ (p : Problem) (conditions : length (p .conditions) ≤ 8) (few : (j : ℕ) → length (basisOf p j) ≤ 64) (s : List ℕ)
-    (o : Outcome Certificate) (h : Header) where
+module _ (p : Problem) (conditions : length (p .conditions) ≤ 8) (few : (j : ℕ) → length (basisOf p j) ≤ 64)
+    (s : List ℕ) (o : Outcome Certificate) (h : Header) where
   abbrev rowed : List Row → Certificate
   rowed rs = record { header = h; rows = rs }
 
@@ -228,7 +241,8 @@ module _ (p : Problem) (conditions : length (p .conditions) ≤ 8) (few : (j : �
       let k = length-append (front ++ y) ys in
       let x = row-begins p (rowed done) (length front) r (q .0) (omega arith) b conditions in
       let next =
-      written-next p s front (ys ++ (zs ++ back)) (rowCommand p r) here (x .sized) o (rowed done) l (x .goes) (x .passes) in
+      written-next p s front (ys ++ (zs ++ back)) (rowCommand p r) here (x .sized) o (rowed done) l (x .goes)
+      (x .passes) in
       let sound = q .0 .sound in
       let row : Row =
       record { basis = r .basis; weight = r .weight; entries = placedEntries (length (front ++ y)) (r .entries) } in
@@ -237,7 +251,8 @@ module _ (p : Problem) (conditions : length (p .conditions) ≤ 8) (few : (j : �
       (omega arith) (sound .indices) (sound .factors) (q .0 .factors) (follows-first (r .entries)) (sound .rising)
       (rw (x .applied) at next) in
       let d = length-append done (row ∷ []) in
-      let rest = rows-read (done ++ (row ∷ [])) rs ((front ++ y) ++ ys) back last (omega arith) (omega arith) (q .1) entries in
+      let rest =
+      rows-read (done ++ (row ∷ [])) rs ((front ++ y) ++ ys) back last (omega arith) (omega arith) (q .1) entries in
       rw (is, ← append-assoc front y (ys ++ zs), ← append-assoc (front ++ y) ys zs, ← n, ← k)
       (rw (append-assoc done (row ∷ []) (placedRows p (length ((front ++ y) ++ ys)) rs)) at rest)
 
@@ -258,9 +273,12 @@ module _ (p : Problem) (c : Certificate) (legal : LegalCertificate p c) where
   unfolding readCertificate certificateApplied
   header-read s back e =
       let side = legal .side in
+      let d = le-leb 1 (h .scale) (legal .scale .0) in
+      let q = le-leb 1 (h .q) (legal .denominator .0) in
       let v : refusalOf p noCertificate 0 (headerCommand h) ≡ 0 =
-      unfold refusalOf firstRefusal in rw (le-leb (h .side) 1 side, le-leb 1 (h .scale) (legal .scale .0), le-leb 1 (h .q) (legal .denominator .0)) in
-      written-next p s [] back (headerCommand h) e (omega arith, legal .scale .1, legal .numerator, legal .denominator .1) _ noCertificate
+      unfold refusalOf firstRefusal in rw (le-leb (h .side) 1 side, d, q) in
+      written-next p s [] back (headerCommand h) e
+      (omega arith, legal .scale .1, legal .numerator, legal .denominator .1) _ noCertificate
       (left-start (certificateLanguage p) s noCertificate) (λ z. clash (cc)) v
 
   -- the stream without its end, and what may stand behind it
@@ -281,14 +299,15 @@ module _ (p : Problem) (c : Certificate) (legal : LegalCertificate p c) where
         let y = certificateBytes (headerCommand h) in
         let d : s ≡ y ++ (certificateStream (rowCommands p (c .rows)) ++ back) = e ∙ append-assoc y _ back in
         let few = legal .count in
-        rows-read p (problem .conditions) (basis-few p problem) s _ h [] (c .rows) y back d (bytes-some (headerCommand h))
-        (omega arith) (legal .rows) (header-read s _ d)
+        rows-read p (problem .conditions) (basis-few p problem) s _ h [] (c .rows) y back d
+        (bytes-some (headerCommand h)) (omega arith) (legal .rows) (header-read s _ d)
 
-    pub encode-read : readCertificate p (encodeCertificate p c) ≡ given (placed p c)
+    pub encoded-certificate-read : readCertificate p (encodeCertificate p c) ≡ given (placed p c)
     unfolding encodeCertificate
-    encode-read =
+    encoded-certificate-read =
         let s = certificateStream (headerCommand h ∷ (rowCommands p (c .rows) ++ (I.End ∷ []))) in
-        let one : certificateStream (I.End ∷ []) ≡ certificateBytes I.End ++ [] = unfold certificateStream flatMap in refl in
+        let one : certificateStream (I.End ∷ []) ≡ certificateBytes I.End ++ [] =
+        unfold certificateStream flatMap in refl in
         let e : s ≡ certificateStream commands ++ (certificateBytes I.End ++ []) =
         stream-append commands (I.End ∷ []) ∙ rw one in
         sym (written-end p s (certificateStream commands) e commands-some (readCertificate p s) (placed p c)

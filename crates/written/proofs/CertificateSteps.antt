@@ -1,5 +1,5 @@
--- A command of the certificate stream where it was written: the reader finds it again, with its operands, and takes it if
--- the checks pass.
+-- A command of the certificate stream where it was written: the reader finds it again, with its operands, and takes it
+-- if the checks pass.
 use mathlib.Core.Path.{_≡_, refl, sym, ap, ap₂, _∙_}
 use mathlib.Core.Bool.{Bool, true, false}
 use mathlib.Core.List.{List, [], _∷_, _++_}
@@ -62,7 +62,11 @@ module _ (front back : List ℕ) where
   decoded-is (I.Header side d p q) h =
       let ws = u8 ∷ u16 ∷ i32 ∷ u16 ∷ [] in
       let os = u side ∷ u d ∷ i p ∷ u q ∷ [] in
-      cc (unsigned-is 0x10 ws os front back refl 0 (lit< tt) side refl (h .0), unsigned-is 0x10 ws os front back refl 1 (lit< tt) d refl (h .1), signed-is 0x10 ws os front back refl 2 (lit< tt) 31 refl refl p refl (h .2), unsigned-is 0x10 ws os front back refl 3 (lit< tt) q refl (h .3))
+      let a = unsigned-is 0x10 ws os front back refl 0 (lit< tt) side refl (h .0) in
+      let b = unsigned-is 0x10 ws os front back refl 1 (lit< tt) d refl (h .1) in
+      let c = signed-is 0x10 ws os front back refl 2 (lit< tt) 31 refl refl p refl (h .2) in
+      let e = unsigned-is 0x10 ws os front back refl 3 (lit< tt) q refl (h .3) in
+      cc (a, b, c, e)
   decoded-is (I.Row j w) h =
       ap₂ I.Row
       (unsigned-is 0x11 (u8 ∷ u16 ∷ []) (u j ∷ u w ∷ []) front back refl 0 (lit< tt) j refl (h .0))
@@ -160,5 +164,5 @@ written-end p s front is b o c l =
     let n = ap length is ∙ length-append front (certificateBytes I.End ++ []) in
     let m = length-append (certificateBytes I.End) [] in
     let d = bytes-length I.End in
-    left-given (certificateLanguage p) s o c (length front) l (omega arith) (refusal-is p s front [] I.End is tt c ∙ v) e
-    (omega arith)
+    left-given (certificateLanguage p) s o c (length front) l (omega arith)
+    (refusal-is p s front [] I.End is tt c ∙ v) e (omega arith)

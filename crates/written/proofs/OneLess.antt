@@ -100,8 +100,8 @@ pub record LastTerm (n d most b : ℕ) (ts : List Term) (k : ℕ) (c : ℤ) : Ty
   pub low : k ≤ d * 2 ^ 56
   pub bits : OfBits b c
 
-pub terms-less : (n d most b : ℕ) (ts : List Term) (k : ℕ) (c : ℤ) → n ≤ 8 → Polynomial n d most b (ts ++ (term k c ∷ []))
-    → LastTerm n d most b ts k c
+pub terms-less : (n d most b : ℕ) (ts : List Term) (k : ℕ) (c : ℤ) → n ≤ 8
+    → Polynomial n d most b (ts ++ (term k c ∷ [])) → LastTerm n d most b ts k c
 terms-less n d most b ts k c h p =
     let m = monomials-less n d most (keysOf ts) k h (rw (keys-less ts (term k c)) at (p .terms .monomials)) in
     let z = all-less _ ts (term k c) (p .terms .nonzero) in

@@ -1,5 +1,5 @@
--- One more than a count allows is refused with 6, and a monomial twice or an index that does not rise with 5, behind every
--- legal problem and certificate.
+-- One more than a count allows is refused with 6, and a monomial twice or an index that does not rise with 5, behind
+-- every legal problem and certificate.
 use mathlib.Core.Path.{_≡_, refl, sym, ap, _∙_}
 use mathlib.Core.Bool.{Bool, true, false, cond, not, _&&_}
 use mathlib.Core.List.{List, [], _∷_, _++_}
@@ -26,6 +26,7 @@ use Rattle.format.proofs.CertificateChecks.{last-append}
 use Rattle.written.specs.Legal.{OfBits, Legal, LegalCertificate}
 use Rattle.written.specs.ProblemWritten.{problemBytes, headCommands, bodyCommands, openProblem}
 use Rattle.written.specs.CertificateWritten.{certificateBytes, headerCommand, entryCommand, openCertificate, placedEntries, placedRow, rowEnd, placedRows, placed}
+use Rattle.written.specs.CommandOrder.{Head}
 use Rattle.written.specs.OneMore.{Monomial, OfTerm, Refuses, OneMoreRefused, RefusesRow, OneMoreRowRefused}
 use Rattle.written.proofs.OneLess.{not-nonzero}
 use Rattle.written.proofs.ProblemSteps as ProblemSteps
@@ -40,11 +41,13 @@ module _ (p : Problem) (legal : Legal p) where
   abbrev front : List ℕ
   front = openProblem p
 
+  headed : Head (headCommands p)
+  headed = head-is (p .variables) (p .rule) (p .order)
+
   open-some : 0 < length front
   unfolding openProblem
   open-some =
-      commands-some (headCommands p) (bodyCommands p) (head-is (p .variables) (p .rule) (p .order)) (body-placed p legal)
-      (rw (problem-commands p legal) legal)
+      commands-some (headCommands p) (bodyCommands p) headed (body-placed p legal) (rw (problem-commands p legal) legal)
 
   -- one more command: its own checks
   module _ (x : ProblemInstruction) (sized : ProblemSteps.Sized x) (number : ℕ) (some : 0 < number)
@@ -55,8 +58,8 @@ module _ (p : Problem) (legal : Legal p) where
         let s = front ++ (problemBytes x ++ rest) in
         let e = problem-commands p legal in
         let left =
-        rw e at (commands-read (headCommands p) (bodyCommands p) (head-is (p .variables) (p .rule) (p .order)) (body-placed p legal)
-        (rw e legal) s (problemBytes x ++ rest) refl) in
+        rw e at (commands-read (headCommands p) (bodyCommands p) headed (body-placed p legal) (rw e legal) s
+        (problemBytes x ++ rest) refl) in
         let c = checks s in
         sym (rw c at (ProblemSteps.written-refused s front rest x refl sized (readProblem s) p left (rw c some)))
 
@@ -73,8 +76,9 @@ module _ (p : Problem) (legal : Legal p) where
       let z : length (gs ++ (g ∷ [])) - 1 ≡ length gs = omega arith in
       rw (e, z) (getD-at gs g [] noCondition (length gs) refl)
 
-  last-some : (gs : List Condition) (g : Condition) → p .conditions ≡ gs ++ (g ∷ []) → 0 < length (p .conditions)
-  last-some gs g e = rw e (omega (arith, length-append gs (g ∷ [])))
+  last-some : (gs : List Condition) (g : Condition) → p .conditions ≡ gs ++ (g ∷ [])
+      → ltb 0 (length (p .conditions)) ≡ true
+  last-some gs g e = rw e (lt-ltb 0 (length (gs ++ (g ∷ []))) (omega (arith, length-append gs (g ∷ []))))
 
   pub one-more-refused : OneMoreRefused p
   unfolding ProblemSteps.refusalOf firstRefusal basisOf
@@ -88,7 +92,7 @@ module _ (p : Problem) (legal : Legal p) where
         equality = λ h. refused-here P.Equality tt 6 (omega arith) (λ s. rw (b, h));
         term = λ gs g e h k c t a.
             refused-here (P.Term k c) (omega (arith, low 16 k (t .monomial)), t .bits) 6 (omega arith)
-            (λ s. rw (b, lt-ltb 0 _ (last-some gs g e), fits 16 k (t .monomial), not-nonzero c (t .nonzero), last-is gs g e, a, h));
+            (λ s. rw (b, last-some gs g e, fits 16 k (t .monomial), not-nonzero c (t .nonzero), last-is gs g e, a, h));
         member = λ j n h k m a.
             let few = legal .conditions in
             refused-here (P.Member j k) (omega arith, omega (arith, low 8 k m)) 6 (omega arith)
@@ -98,7 +102,7 @@ module _ (p : Problem) (legal : Legal p) where
             (λ s. rw (b, fits 32 k (t .monomial), not-nonzero c (t .nonzero), a));
         term-twice = λ gs g e k c t a.
             refused-here (P.Term k c) (omega (arith, low 16 k (t .monomial)), t .bits) 5 (omega arith)
-            (λ s. rw (b, lt-ltb 0 _ (last-some gs g e), fits 16 k (t .monomial), not-nonzero c (t .nonzero), last-is gs g e, a));
+            (λ s. rw (b, last-some gs g e, fits 16 k (t .monomial), not-nonzero c (t .nonzero), last-is gs g e, a));
         member-twice = λ j n k m a.
             let few = legal .conditions in
             refused-here (P.Member j k) (omega arith, omega (arith, low 8 k m)) 5 (omega arith)
@@ -129,7 +133,8 @@ placed-rises : (at : ℕ) (es : List Entry) (e : Entry) (n : ℕ)
     → rises (placedEntries at (es ++ (e ∷ []))) n ≡ ltb (e .index) n
 placed-rises at es e n =
     let d = last-entry at es e in
-    rw (d .is) (CertificateReading.rises-last (d .before) (record { index = e .index; factor = e .factor; place = d .place }) n)
+    let last : Entry = record { index = e .index; factor = e .factor; place = d .place } in
+    rw (d .is) (CertificateReading.rises-last (d .before) last n)
 
 record LastPlaced (p : Problem) (at : ℕ) (rs : List Row) (r : Row) : Type 0 where
   before : List Row
@@ -159,7 +164,8 @@ module _ (p : Problem) (problem : Legal p) (c : Certificate) (legal : LegalCerti
     refused-row rest =
         let s = behind ++ (certificateBytes x ++ rest) in
         let left = CertificateReading.commands-read p c legal problem s (certificateBytes x ++ rest) refl in
-        sym (rw checks at (CertificateSteps.written-refused p s behind rest x refl sized (readCertificate p s) (placed p c) left (rw checks some)))
+        sym (rw checks at (CertificateSteps.written-refused p s behind rest x refl sized (readCertificate p s)
+        (placed p c) left (rw checks some)))
 
   rows-same : length (placed p c .rows) ≡ length (c .rows)
   unfolding placed
@@ -180,8 +186,8 @@ module _ (p : Problem) (problem : Legal p) (c : Certificate) (legal : LegalCerti
         let d = last-placed p (length (certificateBytes (headerCommand (c .header)))) rs r in
         record { place = d .place; is = rw (last, d .is) (last-append (d .before) (placedRow p (d .place) r)) }
 
-    module _ (es : List Entry) (e : Entry) (indices : r .entries ≡ es ++ (e ∷ [])) (n : ℕ) (l : ℤ) (under : n ≤ e .index)
-        (inside : n < length (basisOf p (r .basis))) (nonzero-l : l ≡ pos 0 → ⊥) where
+    module _ (es : List Entry) (e : Entry) (indices : r .entries ≡ es ++ (e ∷ [])) (n : ℕ) (l : ℤ)
+        (under : n ≤ e .index) (inside : n < length (basisOf p (r .basis))) (nonzero-l : l ≡ pos 0 → ⊥) where
       not-rising : not (rises (lastRow (placed p c .rows) .entries) n) ≡ true
       not-rising =
           ap (λ (row : Row). not (rises (row .entries) n)) (last-row .is) ∙ go _
@@ -197,12 +203,14 @@ module _ (p : Problem) (problem : Legal p) (c : Certificate) (legal : LegalCerti
       entry-five : CertificateSteps.refusalOf p (placed p c) (length behind) (I.Entry n l) ≡ 5
       unfolding CertificateSteps.refusalOf firstRefusal
       entry-five =
-          rw (lt-ltb 0 (length behind) behind-some, lt-ltb 0 _ some-rows, not-rising, last-row .is, lt-ltb n _ inside, not-nonzero l nonzero-l)
+          let b = lt-ltb 0 (length behind) behind-some in
+          rw (b, lt-ltb 0 _ some-rows, not-rising, last-row .is, lt-ltb n _ inside, not-nonzero l nonzero-l)
 
       wide-five : CertificateSteps.refusalOf p (placed p c) (length behind) (I.WideEntry n l) ≡ 5
       unfolding CertificateSteps.refusalOf firstRefusal
       wide-five =
-          rw (lt-ltb 0 (length behind) behind-some, lt-ltb 0 _ some-rows, not-rising, last-row .is, lt-ltb n _ inside, not-nonzero l nonzero-l)
+          let b = lt-ltb 0 (length behind) behind-some in
+          rw (b, lt-ltb 0 _ some-rows, not-rising, last-row .is, lt-ltb n _ inside, not-nonzero l nonzero-l)
 
   pub one-more-row-refused : OneMoreRowRefused p c
   unfolding CertificateSteps.refusalOf firstRefusal
@@ -217,7 +225,8 @@ module _ (p : Problem) (problem : Legal p) (c : Certificate) (legal : LegalCerti
             refused-row (I.EqualityRow j w) (omega arith, m) 6 (omega arith)
             (rw (b, le-leb j (length (p .conditions)) n, k, not-nonzero w a, rows-same, h));
         entry = λ rs r q es e i n l u v a m.
-            refused-row (I.Entry n l) (index-low rs r q es e i n l u v a, m) 5 (omega arith) (entry-five rs r q es e i n l u v a);
+            refused-row (I.Entry n l) (index-low rs r q es e i n l u v a, m) 5 (omega arith)
+            (entry-five rs r q es e i n l u v a);
         wide-entry = λ rs r q es e i n l u v a m.
             refused-row (I.WideEntry n l) (index-low rs r q es e i n l u v a, m) 5 (omega arith)
             (wide-five rs r q es e i n l u v a);

@@ -58,7 +58,8 @@ module _ (b : ℕ) where
       go true q = rw (← lower b x (ltb-true x (2 ^ b) q)) (unsigned-up x)
       go false q =
           let n = 2 ^ (b + 1) - suc x in
-          let e : signed b x ≡ negsuc n = sym (upper b x (ltb-false x (2 ^ b) q)) ∙ turned (2 ^ (b + 1)) x n (omega arith) in
+          let e : signed b x ≡ negsuc n =
+          sym (upper b x (ltb-false x (2 ^ b) q)) ∙ turned (2 ^ (b + 1)) x n (omega arith) in
           rw e (omega arith)
 
 -- ---- operand n of a layout, wherever the command stands
@@ -80,8 +81,10 @@ operand-number (w ∷ ws) (o ∷ os) zero front back at h k e =
     (number-of w x front (operandBytes ws os ++ back) at h)
 operand-number (w ∷ ws) (o ∷ os) (suc n) front back at h k e =
     let x = operandNumber w o in
+    let y = littleEndian w x in
+    let ys = operandBytes ws os in
     let z : at + (w + total (take n ws)) ≡ at + w + total (take n ws) = omega arith in
-    rw (z, append-assoc (littleEndian w x) (operandBytes ws os) back, ← append-assoc front (littleEndian w x) (operandBytes ws os ++ back))
+    rw (z, append-assoc y ys back, ← append-assoc front y (ys ++ back))
     (operand-number ws os n (front ++ littleEndian w x) back (at + w)
     (length-append front (littleEndian w x) ∙ omega (arith, bytes-length w x)) (omega arith) (omega arith))
 
@@ -113,7 +116,8 @@ module _ (b : ℕ) (ws : List ℕ) (os : List Operand) (front back : List ℕ) w
         → signedOperand (line b ws) n written (length front) ≡ z
     unfolding operandNumber
     signed-is c bits size z e h =
-        let f : unsignedOperand (line b ws) n written (length front) ≡ unsigned c z = operand-is ∙ rw (e, bits, size) (mod-eq-of-lt (unsigned-low c z h)) in
+        let f : unsignedOperand (line b ws) n written (length front) ≡ unsigned c z =
+        operand-is ∙ rw (e, bits, size) (mod-eq-of-lt (unsigned-low c z h)) in
         ap (signed (8 * w - 1)) f ∙ rw bits (signed-unsigned c z h)
 
 -- a command is as long as its layout says

@@ -22,7 +22,7 @@ use Rattle.written.specs.ProblemWritten.{inStream}
 use Rattle.written.specs.CommandOrder.{InPlace, ofPart, OtherOrder, AnyOrder}
 use Rattle.written.proofs.ProblemReading.{after}
 use Rattle.written.proofs.ProblemOrders.{SameHead, after-head, none-begun, reads-in-order}
-use Rattle.written.proofs.ProblemLegal.{read-legal}
+use Rattle.written.proofs.ProblemLegal.{read-problem-legal}
 use Rattle.written.proofs.ProblemCommands.{ReadAs, read-as}
 
 -- ---- what a list is, by the commands that add to it
@@ -111,7 +111,8 @@ module _ (j : ℕ) where
     where
       go : (b : Bool) → eqb (suc (suc m)) (suc (suc j)) ≡ b
           → ((r : Problem) → Same (appendAt (p .bases) m k) (r .bases)
-          → getD (after (problemApplied p (I.Member m k)) xs .bases) j [] ≡ getD (after r (ofPart (suc (suc j)) xs) .bases) j [])
+          → getD (after (problemApplied p (I.Member m k)) xs .bases) j []
+          ≡ getD (after r (ofPart (suc (suc j)) xs) .bases) j [])
           → getD (after (problemApplied p (I.Member m k)) xs .bases) j []
           ≡ getD (after q (cond b (I.Member m k ∷ ofPart (suc (suc j)) xs) (ofPart (suc (suc j)) xs)) .bases) j []
       go true z next =
@@ -126,7 +127,8 @@ module _ (j : ℕ) where
   basis-by n p q (I.Order k ∷ xs) h e = clash (cc (h .0))
 
 -- ---- all of it
-after-length : (n : ℕ) (p : Problem) (xs : List Instruction) → InPlace n xs → length (after p xs .bases) ≡ length (p .bases)
+after-length : (n : ℕ) (p : Problem) (xs : List Instruction) → InPlace n xs
+    → length (after p xs .bases) ≡ length (p .bases)
 unfolding InPlace after problemApplied appendAt
 after-length n p [] h = refl
 after-length n p (I.Variables m ∷ xs) h = clash (cc (h .0))
@@ -151,7 +153,8 @@ same-problem p q h o g b = λ x. record {
   bases = b x;
 }
 
-module _ (p : Problem) (none : p .conditions ≡ []) (xs ys : List Instruction) (places : InPlace 0 xs) (other : OtherOrder xs ys) where
+module _ (p : Problem) (none : p .conditions ≡ []) (xs ys : List Instruction) (places : InPlace 0 xs)
+    (other : OtherOrder xs ys) where
   here : (zs : List Instruction) → InPlace 0 zs → InPlace (length (p .conditions)) zs
   here zs h = rw none h
 
@@ -178,13 +181,15 @@ module _ (p : Problem) (none : p .conditions ≡ []) (xs ys : List Instruction) 
       (λ j h.
       let l : j < length (p .bases) = omega arith in
       let e : Same j (p .bases) (p .bases) = record { same = refl; first = l; second = l } in
-      by-part (λ q. getD (q .bases) j []) (suc (suc j)) (basis-by j 0 p p xs places e) (basis-by j 0 p p ys (other .places) e))
+      by-part (λ q. getD (q .bases) j []) (suc (suc j)) (basis-by j 0 p p xs places e)
+      (basis-by j 0 p p ys (other .places) e))
 
   after-same : after p xs ≡ after p ys
   after-same =
       same-problem (after p xs) (after p ys) head-same
       (by-part (λ q. q .objective) 0 (objective-by 0 p p xs places refl) (objective-by 0 p p ys (other .places) refl))
-      (by-part (λ q. q .conditions) 1 (conditions-by 0 p p xs places refl) (conditions-by 0 p p ys (other .places) refl))
+      (by-part (λ q. q .conditions) 1 (conditions-by 0 p p xs places refl)
+      (conditions-by 0 p p ys (other .places) refl))
       bases-same
 
 -- ---- the law, of every stream of bytes that reads
@@ -194,7 +199,7 @@ module _ (s : List ℕ) (bounded : Bounded 255 s) (p : Problem) (read : readProb
   others-read r ys o =
       let e : after (after noProblem (r .head)) ys ≡ p =
       sym (after-same (after noProblem (r .head)) (none-begun (r .headed)) (r .body) ys (r .places) o) ∙ r .gives in
-      reads-in-order (r .head) ys (r .headed) (o .places) (rw e (read-legal s bounded p read)) ∙ ap given e
+      reads-in-order (r .head) ys (r .headed) (o .places) (rw e (read-problem-legal s bounded p read)) ∙ ap given e
 
   pub any-order : AnyOrder s p
   any-order =

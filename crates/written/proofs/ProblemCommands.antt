@@ -91,7 +91,11 @@ module _ (s : List ℕ) (bounded : Bounded 255 s) (q : Problem) (read : readProb
     abbrev k : Command
     k = problemCommandAt s at
 
-    passed : Passes (problemPlaced p s at k) (leb (at + problemSize k) (length s)) (problemOperandsFit p (problemInstructionAt s at)) (problemRepeated p (problemInstructionAt s at)) (problemFull p (problemInstructionAt s at))
+    abbrev x : Instruction
+    x = problemInstructionAt s at
+
+    passed : Passes (problemPlaced p s at k) (leb (at + problemSize k) (length s)) (problemOperandsFit p x)
+        (problemRepeated p x) (problemFull p x)
     unfolding problemRefusalAt
     passed = passes _ _ _ _ _ v
 
@@ -115,11 +119,15 @@ module _ (s : List ℕ) (bounded : Bounded 255 s) (q : Problem) (read : readProb
     more : (getD s at 0 ≡ 6 → ⊥) → Rest s (problemNext p s at) (at + problemSize k) q → Rest s p at q
     unfolding Chain problemNext after problemStream flatMap
     more goes r =
-        let x = problemInstructionAt s at in
         let c = decoded-command s bounded at k known in
         record {
           commands = x ∷ r .commands;
-          chain = (rw c (passed .placed), passed .allowed, (λ e. goes (end-byte (getD s at 0) (sym c ∙ e))), rw same-size (r .chain));
+          chain = (
+            rw c (passed .placed),
+            passed .allowed,
+            (λ e. goes (end-byte (getD s at 0) (sym c ∙ e))),
+            rw same-size (r .chain),
+          );
           is = bytes-here ∙ rw (r .is);
           gives = r .gives;
         }
@@ -137,7 +145,8 @@ module _ (s : List ℕ) (bounded : Bounded 255 s) (q : Problem) (read : readProb
           gives = g;
         }
 
-  rest-from : (f : ℕ) (p : Problem) (at : ℕ) → length s ≤ at + f → Left problemLanguage s (readProblem s) p at → Rest s p at q
+  rest-from : (f : ℕ) (p : Problem) (at : ℕ) → length s ≤ at + f → Left problemLanguage s (readProblem s) p at
+      → Rest s p at q
   rest-from zero p at n l = go (meets problemLanguage s _ p at l)
     where
       go : Meets problemLanguage s (readProblem s) p at → Rest s p at q
@@ -146,10 +155,14 @@ module _ (s : List ℕ) (bounded : Bounded 255 s) (q : Problem) (read : readProb
       go (extra h v b m f) = clash (cc)
       go (finished h v b m f) = absurd (omega arith)
       go (taken h v b) = absurd (omega arith)
-  rest-from (suc f) p at n l = go (meets problemLanguage s _ p at l) (λ v h b. rest-from f _ _ (omega (arith, some p at v)) (left-next problemLanguage s _ p at l h v b (some p at v)))
+  rest-from (suc f) p at n l =
+      go (meets problemLanguage s _ p at l)
+      (λ v h b.
+      rest-from f _ _ (omega (arith, some p at v)) (left-next problemLanguage s _ p at l h v b (some p at v)))
     where
       go : Meets problemLanguage s (readProblem s) p at
-          → (problemRefusalAt p s at ≡ 0 → at < length s → (getD s at 0 ≡ 6 → ⊥) → Rest s (problemNext p s at) (at + problemSize (problemCommandAt s at)) q)
+          → (problemRefusalAt p s at ≡ 0 → at < length s → (getD s at 0 ≡ 6 → ⊥)
+          → Rest s (problemNext p s at) (at + problemSize (problemCommandAt s at)) q)
           → Rest s p at q
       go (past h f) next = clash (cc)
       go (stopped h v f) next = clash (cc)
@@ -176,28 +189,30 @@ module _ (s : List ℕ) (p : Problem) (at : ℕ) where
   stands (I.Rule n) h f b e r o = absurd (r refl)
   stands (I.Order k) h f b e r o = absurd (o refl)
 
-body-in-place : (s : List ℕ) (p : Problem) (at : ℕ) (xs : List Instruction) → 2 < at → orderPlace s < at → Chain s p at xs
-    → InPlace (length (p .conditions)) xs
+body-in-place : (s : List ℕ) (p : Problem) (at : ℕ) (xs : List Instruction) → 2 < at → orderPlace s < at
+    → Chain s p at xs → InPlace (length (p .conditions)) xs
 unfolding Chain InPlace
 body-in-place s p at [] b o h = tt
 body-in-place s p at (x ∷ xs) b o h =
-    let rule : commandOf x ≡ C.Rule → ⊥ =
-    (λ e. let q : problemPlaced p s at C.Rule ≡ true = rw e at (h .0) in omega (arith, eqb-true at 2 q)) in
-    let order : commandOf x ≡ C.Order → ⊥ =
-    (λ e. let q : problemPlaced p s at C.Order ≡ true = rw e at (h .0) in omega (arith, eqb-true at (orderPlace s) q)) in (
-      stands s p at x (h .0) (h .1) (omega arith) (h .2) rule order,
-      rw (conditions-begun p x) at (body-in-place s (problemApplied p x) (at + length (problemBytes x)) xs (omega arith) (omega arith) (h .3)),
-    )
+    let next = body-in-place s (problemApplied p x) (at + length (problemBytes x)) xs (omega arith) (omega arith) (h .3) in
+    (stands s p at x (h .0) (h .1) (omega arith) (h .2) rule order, rw (conditions-begun p x) at next)
+  where
+    rule : commandOf x ≡ C.Rule → ⊥
+    rule e = let q : problemPlaced p s at C.Rule ≡ true = rw e at (h .0) in omega (arith, eqb-true at 2 q)
+
+    order : commandOf x ≡ C.Order → ⊥
+    order e =
+        let q : problemPlaced p s at C.Order ≡ true = rw e at (h .0) in omega (arith, eqb-true at (orderPlace s) q)
 
 -- the first of a body, where neither an 08 nor a 09 stands
-first-in-place : (s : List ℕ) (p : Problem) (at : ℕ) (x : Instruction) (xs : List Instruction) → 2 ≤ at → orderPlace s ≤ at
-    → (commandOf x ≡ C.Rule → ⊥) → (commandOf x ≡ C.Order → ⊥) → Chain s p at (x ∷ xs) → InPlace (length (p .conditions)) (x ∷ xs)
+first-in-place : (s : List ℕ) (p : Problem) (at : ℕ) (x : Instruction) (xs : List Instruction) → 2 ≤ at
+    → orderPlace s ≤ at → (commandOf x ≡ C.Rule → ⊥) → (commandOf x ≡ C.Order → ⊥) → Chain s p at (x ∷ xs)
+    → InPlace (length (p .conditions)) (x ∷ xs)
 unfolding Chain InPlace
 first-in-place s p at x xs b o r n h =
-    let z = bytes-some x in (
-      stands s p at x (h .0) (h .1) (omega arith) (h .2) r n,
-      rw (conditions-begun p x) at (body-in-place s (problemApplied p x) (at + length (problemBytes x)) xs (omega arith) (omega arith) (h .3)),
-    )
+    let z = bytes-some x in
+    let next = body-in-place s (problemApplied p x) (at + length (problemBytes x)) xs (omega arith) (omega arith) (h .3) in
+    (stands s p at x (h .0) (h .1) (omega arith) (h .2) r n, rw (conditions-begun p x) at next)
 
 -- ---- the head and the body
 record Split (xs : List Instruction) : Type 0 where
@@ -233,7 +248,8 @@ module _ (s : List ℕ) (n : ℕ) where
       → s ≡ problemBytes (I.Variables n) ++ (problemBytes x ++ back) → orderPlace s ≡ 2
   other-place x back h e =
       let two = bytes-length (I.Variables n) in
-      let c : problemCommandAt s 2 ≡ commandOf x = rw e (rw two at (command-is (problemBytes (I.Variables n)) back x)) in
+      let c : problemCommandAt s 2 ≡ commandOf x =
+      rw e (rw two at (command-is (problemBytes (I.Variables n)) back x)) in
       not-rule s (λ z. h (sym c ∙ (unfold problemCommand in rw z)))
 
   abbrev first : Problem
@@ -260,7 +276,13 @@ module _ (s : List ℕ) (n : ℕ) where
             is = refl;
           }
       go x (other _ a b) h =
-          record { head = _; body = x ∷ xs; headed = ruled n r; places = first-in-place s _ 4 x xs (omega arith) (omega arith) a b h; is = refl }
+          record {
+            head = _;
+            body = x ∷ xs;
+            headed = ruled n r;
+            places = first-in-place s _ 4 x xs (omega arith) (omega arith) a b h;
+            is = refl;
+          }
 
   -- behind 01
   second : (xs : List Instruction) → s ≡ problemStream (I.Variables n ∷ (xs ++ (I.End ∷ []))) → Chain s first 2 xs
@@ -272,8 +294,8 @@ module _ (s : List ℕ) (n : ℕ) where
       back : List ℕ
       back = flatMap problemBytes (xs ++ (I.End ∷ []))
 
-      go : (x : Instruction) → View x → s ≡ problemBytes (I.Variables n) ++ (problemBytes x ++ back) → Chain s first 2 (x ∷ xs)
-          → Split (I.Variables n ∷ x ∷ xs)
+      go : (x : Instruction) → View x → s ≡ problemBytes (I.Variables n) ++ (problemBytes x ++ back)
+          → Chain s first 2 (x ∷ xs) → Split (I.Variables n ∷ x ∷ xs)
       go x (rule r) e h =
           let z : 2 + length (problemBytes (I.Rule r)) ≡ 4 = omega (arith, bytes-length (I.Rule r)) in
           third r xs (rw e (place-third n back r)) (rw z at (h .3))
@@ -290,7 +312,13 @@ module _ (s : List ℕ) (n : ℕ) where
           }
       go x (other _ a b) e h =
           let o = other-place x back a e in
-          record { head = _; body = x ∷ xs; headed = plain n; places = first-in-place s _ 2 x xs (omega arith) (omega arith) a b h; is = refl }
+          record {
+            head = _;
+            body = x ∷ xs;
+            headed = plain n;
+            places = first-in-place s _ 2 x xs (omega arith) (omega arith) a b h;
+            is = refl;
+          }
 
 -- ---- every stream that reads
 pub record ReadAs (s : List ℕ) (p : Problem) : Type 0 where
@@ -347,5 +375,7 @@ module _ (s : List ℕ) (bounded : Bounded 255 s) (p : Problem) (read : readProb
   read-as =
       let r = all-commands s bounded p read in
       let some : r .commands ≡ [] → ⊥ =
-      (λ e. never-given p (sym read ∙ ap readProblem (r .is ∙ ap (λ (xs : List Instruction). problemStream (xs ++ (I.End ∷ []))) e) ∙ alone)) in
+      (λ e.
+      let only = r .is ∙ ap (λ (xs : List Instruction). problemStream (xs ++ (I.End ∷ []))) e in
+      never-given p (sym read ∙ ap readProblem only ∙ alone)) in
       as-split s p (r .commands) (begins-with s (r .commands) (r .is) (r .chain) some) (r .is) (r .gives)

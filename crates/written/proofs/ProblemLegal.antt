@@ -1,5 +1,5 @@
--- Every problem that a stream of bytes gives is legal: so nothing past the documents' numbers is read. And written again
--- it is read as the same problem.
+-- Every problem that a stream of bytes gives is legal: so nothing past the documents' numbers is read. And written
+-- again it is read as the same problem.
 use mathlib.Core.Path.{_≡_, refl}
 use mathlib.Core.Bool.{Bool, true, false}
 use mathlib.Core.List.{List, [], _∷_, _++_}
@@ -26,7 +26,7 @@ use Rattle.format.proofs.WithinLimits.{Terms}
 use Rattle.format.proofs.ProblemLimits.{all-more, all-set, all-at, read-limits}
 use Rattle.written.specs.Legal.{OfBits, Polynomial, Legal}
 use Rattle.written.specs.ProblemWritten.{encodeProblem}
-use Rattle.written.proofs.ProblemRoundTrip.{encode-read}
+use Rattle.written.proofs.ProblemRoundTrip.{encoded-problem-read}
 
 -- ---- a signed operand has its bits
 turned-bits : (b m x : ℕ) → x < m → m ≤ x + 2 ^ b → OfBits (suc b) (pos x -ℤ pos m)
@@ -69,11 +69,11 @@ module _ (s : List ℕ) (bytes : Bounded 255 s) where
       record { objective = w .objective; terms = all-more _ (p .conditions) _ (w .terms) tt }
   wide-applied p at C.Term w =
       let gs = p .conditions in
-      let last : Coefficients 16 (lastCondition gs .terms) = all-at (λ (g : Condition). Coefficients 16 (g .terms)) gs (length gs - 1) noCondition (w .terms) tt in
-      record {
-        objective = w .objective;
-        terms = all-set _ gs _ _ (w .terms) (all-more _ (lastCondition gs .terms) _ last (signed-bits 15 _ (number-low s bytes 2 (at + 9))));
-      }
+      let ts = lastCondition gs .terms in
+      let last : Coefficients 16 ts =
+      all-at (λ (g : Condition). Coefficients 16 (g .terms)) gs (length gs - 1) noCondition (w .terms) tt in
+      let new = signed-bits 15 _ (number-low s bytes 2 (at + 9)) in
+      record { objective = w .objective; terms = all-set _ gs _ _ (w .terms) (all-more _ ts _ last new) }
   wide-applied p at C.Member w = record { objective = w .objective; terms = w .terms }
   wide-applied p at C.End w = w
   wide-applied p at C.Unknown w = w
@@ -91,7 +91,8 @@ module _ (s : List ℕ) (bytes : Bounded 255 s) where
       noProblem p h (record { objective = tt; terms = tt })
 
 polynomials : (n d most b : ℕ) (gs : List Condition) → All (λ (g : Condition). Terms n d most (g .terms)) gs
-    → All (λ (g : Condition). Coefficients b (g .terms)) gs → All (λ (g : Condition). Polynomial n d most b (g .terms)) gs
+    → All (λ (g : Condition). Coefficients b (g .terms)) gs
+    → All (λ (g : Condition). Polynomial n d most b (g .terms)) gs
 unfolding All
 polynomials n d most b [] t w = tt
 polynomials n d most b (g ∷ gs) t w =
@@ -99,8 +100,8 @@ polynomials n d most b (g ∷ gs) t w =
 
 -- ---- the law, from the reader's side
 module _ (s : List ℕ) (bytes : Bounded 255 s) (p : Problem) (read : readProblem s ≡ given p) where
-  pub read-legal : Legal p
-  read-legal =
+  pub read-problem-legal : Legal p
+  read-problem-legal =
       let l = read-limits s p read in
       let w = read-wide s bytes p read in
       record {
@@ -115,5 +116,5 @@ module _ (s : List ℕ) (bytes : Bounded 255 s) (p : Problem) (read : readProble
         begun = l .begun;
       }
 
-  pub read-again : readProblem (encodeProblem p) ≡ given p
-  read-again = encode-read p read-legal
+  pub read-problem-again : readProblem (encodeProblem p) ≡ given p
+  read-problem-again = encoded-problem-read p read-problem-legal

@@ -56,8 +56,8 @@ module _ (s : List ℕ) (o : Outcome Problem) where
         unfold refusalOf firstRefusal in rw (eq-eqb (length front) 2 z, le-leb 1 r (h .0), le-leb r 2 (h .1)) in
         written-next s front back (I.Rule r) e (omega arith) o p l (λ z. clash (cc)) v
 
-    order-read : (k : ℕ) → s ≡ front ++ (problemBytes (I.Order k) ++ back) → length front ≡ orderPlace s → 1 ≤ k → k ≤ 255
-        → Left problemLanguage s o (problemApplied p (I.Order k)) (length (front ++ problemBytes (I.Order k)))
+    order-read : (k : ℕ) → s ≡ front ++ (problemBytes (I.Order k) ++ back) → length front ≡ orderPlace s → 1 ≤ k
+        → k ≤ 255 → Left problemLanguage s o (problemApplied p (I.Order k)) (length (front ++ problemBytes (I.Order k)))
     order-read k e z h m =
         let v : refusalOf p s (length front) (I.Order k) ≡ 0 =
         unfold refusalOf firstRefusal in rw (eq-eqb (length front) (orderPlace s) z, le-leb 1 k h, le-leb k 255 m) in
@@ -69,7 +69,8 @@ pub head-read : (s : List ℕ) {head : List Instruction} → Head head → (back
 unfolding problemStream flatMap after problemApplied readProblem
 head-read s (plain n) back e f =
     let a = problemBytes (I.Variables n) in
-    rw (append-nil a) (variables-read s _ n back (rw (append-nil a) at e) (f .variables) (left-start problemLanguage s noProblem))
+    rw (append-nil a)
+    (variables-read s _ n back (rw (append-nil a) at e) (f .variables) (left-start problemLanguage s noProblem))
 head-read s (ruled n r) back e f =
     let a = problemBytes (I.Variables n) in
     let b = problemBytes (I.Rule r) in
@@ -82,7 +83,8 @@ head-read s (ordered n k h) back e f =
     let b = problemBytes (I.Order k) in
     let d : s ≡ a ++ (b ++ back) = rw (append-nil b, append-assoc a b back) at e in
     rw (append-nil b)
-    (order-read s _ _ a back (variables-read s _ n (b ++ back) d (f .variables) (left-start problemLanguage s noProblem))
+    (order-read s _ _ a back
+    (variables-read s _ n (b ++ back) d (f .variables) (left-start problemLanguage s noProblem))
     k d (bytes-length (I.Variables n) ∙ sym (rw d (place-second n back k))) h (f .order))
 head-read s (both n r k h) back e f =
     let a = problemBytes (I.Variables n) in
@@ -147,7 +149,8 @@ stream-append (x ∷ xs) ys =
     ap (λ (l : List ℕ). problemBytes x ++ l) (stream-append xs ys) ∙ sym (append-assoc (problemBytes x) _ _)
 
 -- ---- head, body, and what stands behind them
-module _ (head body : List Instruction) (is : Head head) (places : InPlace 0 body) (legal : Legal (after (after noProblem head) body)) where
+module _ (head body : List Instruction) (is : Head head) (places : InPlace 0 body)
+    (legal : Legal (after (after noProblem head) body)) where
   abbrev start : Problem
   start = after noProblem head
 
@@ -169,8 +172,8 @@ module _ (head body : List Instruction) (is : Head head) (places : InPlace 0 bod
       let d : s ≡ problemStream head ++ (problemStream body ++ back) =
       e ∙ rw (stream-append head body, append-assoc (problemStream head) (problemStream body) back) in
       rw (stream-append head body)
-      (body-read s (readProblem s) start body (problemStream head) back d (head-some is) begun-here (legal-within _ legal)
-      (head-read s is (problemStream body ++ back) d fits))
+      (body-read s (readProblem s) start body (problemStream head) back d (head-some is) begun-here
+      (legal-within _ legal) (head-read s is (problemStream body ++ back) d fits))
 
   pub commands-some : 0 < length (problemStream (head ++ body))
   commands-some =

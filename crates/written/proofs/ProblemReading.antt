@@ -1,5 +1,5 @@
--- How written commands are read: a list of commands in their places is taken whole, if what they give together is within
--- the limits.
+-- How written commands are read: a list of commands in their places is taken whole, if what they give together is
+-- within the limits.
 use mathlib.Core.Path.{_≡_, refl, sym, ap, _∙_}
 use mathlib.Core.Bool.{Bool, true, false, cond, _&&_}
 use mathlib.Core.List.{List, [], _∷_, _++_, append-nil, append-assoc, flatMap}
@@ -37,7 +37,7 @@ pub record Within (p : Problem) : Type 0 where
 
 pub legal-within : (p : Problem) → Legal p → Within p
 legal-within p l = record {
-  variables = l .variables .1;
+  variables = let v = l .variables .1 in omega arith;
   objective = l .objective;
   conditions = l .conditions;
   terms = l .terms;
@@ -75,8 +75,8 @@ begun-before p k w =
       room = lt-leb 8 (length gs) (omega arith);
     }
 
-passed-before : (p : Problem) (x : Instruction) → mayStand (length (p .conditions)) x ≡ true → Within (problemApplied p x)
-    → Passed p x
+passed-before : (p : Problem) (x : Instruction) → mayStand (length (p .conditions)) x ≡ true
+    → Within (problemApplied p x) → Passed p x
 unfolding problemApplied appendAt
 passed-before p (I.Variables n) h w = clash (cc)
 passed-before p (I.Objective k c) h w =
@@ -146,7 +146,8 @@ passed-before p (I.Rule r) h w = clash (cc)
 passed-before p (I.Order k) h w = clash (cc)
 
 -- how many conditions are begun after it
-pub conditions-begun : (p : Problem) (x : Instruction) → length (problemApplied p x .conditions) ≡ begun (length (p .conditions)) x
+pub conditions-begun : (p : Problem) (x : Instruction)
+    → length (problemApplied p x .conditions) ≡ begun (length (p .conditions)) x
 unfolding problemApplied
 conditions-begun p (I.Variables n) = refl
 conditions-begun p (I.Objective k c) = refl
@@ -217,7 +218,8 @@ body-read s o p (x ∷ xs) front back e b h w l =
     let here : s ≡ front ++ (y ++ (ys ++ back)) = e ∙ ap (λ (t : List ℕ). front ++ t) (append-assoc y ys back) in
     let v : refusalOf p s (length front) x ≡ 0 =
     unfold refusalOf firstRefusal in rw (placed p s (length front) x b (h .0), q .fits, q .new, q .room) in
-    let next = written-next s front (ys ++ back) x here (q .sized) o p l (goes-on (length (p .conditions)) x (h .0)) v in
+    let goes = goes-on (length (p .conditions)) x (h .0) in
+    let next = written-next s front (ys ++ back) x here (q .sized) o p l goes v in
     let n = length-append front y in
     rw append-assoc at (body-read s o (problemApplied p x) xs (front ++ y) back
     (here ∙ sym (append-assoc front y (ys ++ back))) (omega arith) (further p x xs (h .1)) w next)

@@ -67,14 +67,16 @@ module _ (n r k : ℕ) where
 
   module _ (os : List Term) (bs : List (List ℕ)) where
     term-applied : (gs : List Condition) (kind : Kind) (ds : List Term) (t : Term)
-        → problemApplied (made n r k os (gs ++ (record { kind = kind; terms = ds } ∷ [])) bs) (I.Term (t .key) (t .coefficient))
+        → problemApplied (made n r k os (gs ++ (record { kind = kind; terms = ds } ∷ [])) bs)
+        (I.Term (t .key) (t .coefficient))
         ≡ made n r k os (gs ++ (record { kind = kind; terms = ds ++ (t ∷ []) } ∷ [])) bs
     unfolding problemApplied
     term-applied gs kind ds t =
         let g : Condition = record { kind = kind; terms = ds } in
         let e = length-append gs (g ∷ []) in
+        let more : Condition = record { kind = kind; terms = ds ++ (t ∷ []) } in
         let last : length (gs ++ (g ∷ [])) - 1 ≡ length gs = omega arith in
-        rw (last, getD-at gs g [] noCondition (length gs) refl, set-at gs g [] (record { kind = kind; terms = ds ++ (t ∷ []) }) (length gs) refl)
+        rw (last, getD-at gs g [] noCondition (length gs) refl, set-at gs g [] more (length gs) refl)
 
     terms-after : (gs : List Condition) (kind : Kind) (ds ts : List Term)
         → after (made n r k os (gs ++ (record { kind = kind; terms = ds } ∷ [])) bs) (termCommands ts)
@@ -108,8 +110,8 @@ module _ (n r k : ℕ) where
     unfolding problemApplied appendAt
     member-applied done ks rest j e m = rw (getD-at done ks rest [] j e, set-at done ks rest (ks ++ (m ∷ [])) j e)
 
-    members-after : (done : List (List ℕ)) (ks : List ℕ) (rest : List (List ℕ)) (j : ℕ) → length done ≡ j → (ms : List ℕ)
-        → after (made n r k os gs (done ++ (ks ∷ rest))) (map (I.Member j) ms)
+    members-after : (done : List (List ℕ)) (ks : List ℕ) (rest : List (List ℕ)) (j : ℕ) → length done ≡ j
+        → (ms : List ℕ) → after (made n r k os gs (done ++ (ks ∷ rest))) (map (I.Member j) ms)
         ≡ made n r k os gs (done ++ ((ks ++ ms) ∷ rest))
     unfolding after
     members-after done ks rest j e [] = rw (append-nil ks)
@@ -118,7 +120,8 @@ module _ (n r k : ℕ) where
         ∙ members-after done (ks ++ (m ∷ [])) rest j e ms ∙ rw (append-assoc ks (m ∷ []) ms)
 
     bases-after : (done bs : List (List ℕ)) (j : ℕ) → length done ≡ j
-        → after (made n r k os gs (done ++ replicate (length bs) [])) (basisCommands j bs) ≡ made n r k os gs (done ++ bs)
+        → after (made n r k os gs (done ++ replicate (length bs) [])) (basisCommands j bs)
+        ≡ made n r k os gs (done ++ bs)
     unfolding basisCommands
     bases-after done [] j e = unfold after in refl
     bases-after done (b ∷ bs) j e =
@@ -134,19 +137,24 @@ body-after p nine =
     let os = objectiveCommands (p .objective) in
     let gs = conditionCommands (p .conditions) in
     let empty : noProblem .bases ≡ replicate (length (p .bases)) [] = rw nine in
+    let n = p .variables in
+    let r = p .rule in
+    let k = p .order in
     after-append _ os (gs ++ basisCommands 0 (p .bases))
-    ∙ rw (objective-after (p .variables) (p .rule) (p .order) [] (p .objective) [] (noProblem .bases))
+    ∙ rw (objective-after n r k [] (p .objective) [] (noProblem .bases))
     (after-append _ gs (basisCommands 0 (p .bases))
-    ∙ rw (conditions-after (p .variables) (p .rule) (p .order) (p .objective) (noProblem .bases) [] (p .conditions), empty)
-    (bases-after (p .variables) (p .rule) (p .order) (p .objective) (p .conditions) [] (p .bases) 0 refl))
+    ∙ rw (conditions-after n r k (p .objective) (noProblem .bases) [] (p .conditions), empty)
+    (bases-after n r k (p .objective) (p .conditions) [] (p .bases) 0 refl))
 
 -- ---- each command is in its place
-objective-placed : (n : ℕ) (ts : List Term) (rest : List Instruction) → InPlace n rest → InPlace n (objectiveCommands ts ++ rest)
+objective-placed : (n : ℕ) (ts : List Term) (rest : List Instruction) → InPlace n rest
+    → InPlace n (objectiveCommands ts ++ rest)
 unfolding InPlace objectiveCommands
 objective-placed n [] rest h = h
 objective-placed n (t ∷ ts) rest h = (refl, objective-placed n ts rest h)
 
-terms-placed : (n : ℕ) (ts : List Term) (rest : List Instruction) → 1 ≤ n → InPlace n rest → InPlace n (termCommands ts ++ rest)
+terms-placed : (n : ℕ) (ts : List Term) (rest : List Instruction) → 1 ≤ n → InPlace n rest
+    → InPlace n (termCommands ts ++ rest)
 unfolding InPlace termCommands
 terms-placed n [] rest b h = h
 terms-placed n (t ∷ ts) rest b h = (le-leb 1 n b, terms-placed n ts rest b h)
@@ -176,7 +184,8 @@ members-placed n j (m ∷ ms) rest e h =
     (λ b. (le-leb j n b, members-placed n j ms rest (λ c. absurd (omega arith)) h))
     (lt-or-le n j)
 
-bases-placed : (n j : ℕ) (bs : List (List ℕ)) → ((x : ℕ) → n < j + x → getD bs x [] ≡ []) → InPlace n (basisCommands j bs)
+bases-placed : (n j : ℕ) (bs : List (List ℕ)) → ((x : ℕ) → n < j + x → getD bs x [] ≡ [])
+    → InPlace n (basisCommands j bs)
 unfolding basisCommands
 bases-placed n j [] e = unfold InPlace in tt
 bases-placed n j (b ∷ bs) e =
@@ -195,9 +204,9 @@ pub problem-commands : (p : Problem) → Legal p → after (after noProblem (hea
 problem-commands p l =
     rw (head-after (p .variables) (p .rule) (p .order)) (body-after p (l .bases))
 
-pub encode-read : (p : Problem) → Legal p → readProblem (encodeProblem p) ≡ given p
+pub encoded-problem-read : (p : Problem) → Legal p → readProblem (encodeProblem p) ≡ given p
 unfolding encodeProblem
-encode-read p l =
+encoded-problem-read p l =
     let e = problem-commands p l in
-    reads-in-order (headCommands p) (bodyCommands p) (head-is (p .variables) (p .rule) (p .order)) (body-placed p l) (rw e l)
-    ∙ ap given e
+    let head = head-is (p .variables) (p .rule) (p .order) in
+    reads-in-order (headCommands p) (bodyCommands p) head (body-placed p l) (rw e l) ∙ ap given e

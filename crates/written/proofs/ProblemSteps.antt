@@ -1,5 +1,5 @@
--- A command of the problem stream where it was written: the reader finds it again, with its operands, and takes it if the
--- checks pass.
+-- A command of the problem stream where it was written: the reader finds it again, with its operands, and takes it if
+-- the checks pass.
 use mathlib.Core.Path.{_≡_, refl, sym, ap, ap₂, subst, _∙_}
 use mathlib.Core.Bool.{Bool, true, false}
 use mathlib.Core.List.{List, [], _∷_, _++_}
@@ -131,7 +131,9 @@ module _ (s front back : List ℕ) (x : Instruction) (is : s ≡ front ++ (probl
 
   inside : at + problemSize (commandOf x) ≤ length s
   inside =
-      rw is (omega (arith, length-append front (problemBytes x ++ back), length-append (problemBytes x) back, bytes-length x))
+      let n = length-append front (problemBytes x ++ back) in
+      let m = length-append (problemBytes x) back in
+      rw is (omega (arith, bytes-length x))
 
   pub refusal-is : (p : Problem) → problemRefusalAt p s at ≡ refusalOf p s at x
   unfolding problemRefusalAt refusalOf
@@ -151,16 +153,18 @@ module _ (s front back : List ℕ) (x : Instruction) (is : s ≡ front ++ (probl
     unfolding problemNext
     written-next goes v =
         let k : 1 ≤ problemSize (problemCommandAt s at) = rw here (size-positive x) in
-        let n = left-next problemLanguage s o p at left some (refusal-is p ∙ v) (λ e. goes (sym here ∙ (unfold problemCommand in rw e))) k in
+        let no : getD s at 0 ≡ 6 → ⊥ = (λ e. goes (sym here ∙ (unfold problemCommand in rw e))) in
+        let n = left-next problemLanguage s o p at left some (refusal-is p ∙ v) no k in
         rw (length-append front (problemBytes x)) (rw (instruction-is, here, ← bytes-length x) at n)
 
 -- the end command, behind a command
-pub written-end : (s front : List ℕ) → s ≡ front ++ (problemBytes I.End ++ []) → 0 < length front → (o : Outcome Problem)
-    (p : Problem) → Left problemLanguage s o p (length front) → given p ≡ o
+pub written-end : (s front : List ℕ) → s ≡ front ++ (problemBytes I.End ++ []) → 0 < length front
+    → (o : Outcome Problem) (p : Problem) → Left problemLanguage s o p (length front) → given p ≡ o
 written-end s front is b o p l =
     let e : getD s (length front) 0 ≡ 6 = end-byte _ (here s front [] I.End is tt) in
     let v : refusalOf p s (length front) I.End ≡ 0 = unfold refusalOf firstRefusal in rw (lt-ltb 0 (length front) b) in
     let n = ap length is ∙ length-append front (problemBytes I.End ++ []) in
     let m = length-append (problemBytes I.End) [] in
     let d = bytes-length I.End in
-    left-given problemLanguage s o p (length front) l (omega arith) (refusal-is s front [] I.End is tt p ∙ v) e (omega arith)
+    left-given problemLanguage s o p (length front) l (omega arith) (refusal-is s front [] I.End is tt p ∙ v) e
+    (omega arith)

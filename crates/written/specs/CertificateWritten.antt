@@ -1,5 +1,5 @@
--- A certificate as a stream: its header, its rows one after another, each with its entries, and its end, each command by
--- the layout that the reader goes by; and where its entries then stand.
+-- A certificate as a stream: its header, its rows one after another, each with its entries, and its end, each command
+-- by the layout that the reader goes by; and where its entries then stand.
 use mathlib.Core.Bool.{Bool, cond}
 use mathlib.Core.List.{List, [], _∷_, _++_, map, flatMap}
 use Prim.Native.Nat.{ℕ, _+_, _^_}

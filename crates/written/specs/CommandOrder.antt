@@ -18,8 +18,8 @@ pub data Head : List Instruction → Type 0 where
   ordered : (n k : ℕ) → 1 ≤ k → Head (I.Variables n ∷ I.Order k ∷ [])
   both : (n r k : ℕ) → 1 ≤ k → Head (I.Variables n ∷ I.Rule r ∷ I.Order k ∷ [])
 
--- ---- the body: whether a command may stand behind n conditions begun. 04 "needs a 03 or 07 before it", and 05's "j is 0
--- or a constraint already begun"
+-- ---- the body: whether a command may stand behind n conditions begun. 04 "needs a 03 or 07 before it", and 05's "j is
+-- 0 or a constraint already begun"
 abbrev pub mayStand : ℕ → Instruction → Bool
 mayStand n (I.Variables m) = false
 mayStand n (I.Objective k c) = true
@@ -69,8 +69,8 @@ pub record OtherOrder (xs ys : List Instruction) : Type 0 where
   pub places : InPlace 0 ys
   pub parts : (q : ℕ) → ofPart q ys ≡ ofPart q xs
 
--- ---- what is promised of a stream that gives a problem: it is its commands, a head, a body and the end, and every other
--- order of the body's commands gives the same problem
+-- ---- what is promised of a stream that gives a problem: it is its commands, a head, a body and the end, and every
+-- other order of the body's commands gives the same problem
 pub record AnyOrder (s : List ℕ) (p : Problem) : Type 0 where
   pub head : List Instruction
   pub body : List Instruction

@@ -1,5 +1,6 @@
 -- The limits of the two streams as the documents state them: what may be written. The numbers stand here as the
--- documents have them, and not by the names that the readers go by; so proofs/ holds the readers to them from both sides.
+-- documents have them, and not by the names that the readers go by: so the theorems in proofs/ hold the readers to
+-- them, from both sides.
 use mathlib.Core.Path.{_≡_}
 use mathlib.Core.List.{List, []}
 use Prim.Native.Nat.{ℕ, _-_, _^_, _≤_, _<_}
@@ -52,8 +53,9 @@ WeightOf K.Inequality w = natAbs w < 2 ^ 16
 WeightOf K.Equality w = OfBits 16 w
 
 pub record LegalRow (p : Problem) (r : Row) : Type 0 where
-  -- "on basis j, 0 or a constraint of the problem, with weight w at least 1"; on an equality "negative or positive, never
-  -- 0"; entries "on basis index i, less than the basis's length", which "rise within a row"; "factors are never 0"
+  -- "on basis j, 0 or a constraint of the problem, with weight w at least 1"; on an equality "negative or positive,
+  -- never 0"; entries "on basis index i, less than the basis's length"; "Indices rise within a row"; "factors are
+  -- never 0"
   pub sound : SoundRow p r
   pub weight : WeightOf (kindOf p (r .basis)) (r .weight)
   -- "12 i(u8) l(i16)", and "15 i(u8) l(i32)"

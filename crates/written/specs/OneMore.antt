@@ -56,7 +56,8 @@ pub record OneMoreRefused (p : Problem) : Type 0 where
 -- ---- and a certificate's
 abbrev pub RefusesRow : Problem → Certificate → ℕ → CertificateInstruction → Type 0
 RefusesRow p c number x =
-    (rest : List ℕ) → readCertificate p (openCertificate p c ++ (certificateBytes x ++ rest)) ≡ refused number (length (openCertificate p c))
+    (rest : List ℕ) → readCertificate p (openCertificate p c ++ (certificateBytes x ++ rest))
+    ≡ refused number (length (openCertificate p c))
 
 pub record OneMoreRowRefused (p : Problem) (c : Certificate) : Type 0 where
   -- 6: "at most 128 rows"
