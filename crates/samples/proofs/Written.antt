@@ -4,7 +4,7 @@ use mathlib.Core.List.{List, [], _∷_, _++_, map, flatMap}
 use Prim.Native.Nat.{ℕ}
 use Rattle.format.specs.Commands.{Outcome, refused, given}
 use Rattle.format.specs.ProblemRules.{Problem, readProblem}
-use Rattle.format.specs.CertificateRules.{Certificate, readCertificate}
+use Rattle.format.specs.CertificateRules.{readCertificate}
 use Rattle.calls.specs.Report.{unsigned}
 use Rattle.written.specs.Bytes.{operandNumber, operandBytes, commandBytes}
 use Rattle.written.specs.ProblemWritten.{problemBytes, problemStream, objectiveCommands, termCommands, conditionCommands, basisCommands, inStream, encodeProblem}

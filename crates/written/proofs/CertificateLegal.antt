@@ -1,12 +1,12 @@
 -- Every certificate that a stream of bytes gives keeps to its problem's rules: so nothing past the documents' numbers
 -- is read. And written again it is read as the same certificate, but for the places.
-use mathlib.Core.Path.{_≡_, refl}
-use mathlib.Core.Bool.{Bool, true, false, not, _&&_}
-use mathlib.Core.List.{List, [], _∷_, _++_}
-use Prim.Native.Nat.{ℕ, _+_, _-_, _^_, _≤_, _<_}
+use mathlib.Core.Path.{_≡_}
+use mathlib.Core.Bool.{true, not}
+use mathlib.Core.List.{List, [], _∷_}
+use Prim.Native.Nat.{ℕ, _+_, _-_, _^_, _<_}
 use native.Mathlib.Omega.{arith}
-use lib.Dec.{leb, ltb}
-use lib.IntN.{ℤ, pos, negsuc, natAbs}
+use lib.Dec.{leb}
+use lib.IntN.{ℤ, pos, negsuc}
 use lib.ListN.{length}
 use Rattle.counting.specs.Counting.{Bounded}
 use Rattle.counting.proofs.Cases.{clash, and-left, and-right}
@@ -18,9 +18,9 @@ use Rattle.format.specs.declared.problem.Kind.the-variants as K
 use Rattle.format.specs.declared.certificate.Command.{Command}
 use Rattle.format.specs.declared.certificate.Command.the-variants as C
 use Rattle.format.specs.CertificateLayout.{certificateDecoded}
-use Rattle.format.specs.ProblemRules.{Problem, nonzero}
+use Rattle.format.specs.ProblemRules.{Problem}
 use Rattle.format.specs.ProblemBases.{isEquality, kindOf}
-use Rattle.format.specs.CertificateRules.{Entry, Row, Certificate, noCertificate, noRow, lastRow, withRow, withEntry, entered, certificateOperandsFit, certificateApplied, certificateCommandAt, certificateNext, certificateLanguage, readCertificate}
+use Rattle.format.specs.CertificateRules.{Entry, Row, Certificate, noCertificate, noRow, lastRow, withRow, entered, certificateOperandsFit, certificateApplied, certificateCommandAt, certificateNext, certificateLanguage, readCertificate}
 use Rattle.format.proofs.Numbers.{number-low}
 use Rattle.format.proofs.Run.{read-induction}
 use Rattle.format.proofs.ProblemLimits.{all-more, all-set, all-at}

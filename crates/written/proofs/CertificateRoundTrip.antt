@@ -1,12 +1,12 @@
 -- Every certificate that keeps to its problem's rules is read as it was written, with the places that its layout gives.
-use mathlib.Core.Path.{_≡_, refl, sym, ap, subst, _∙_}
-use mathlib.Core.Bool.{Bool, true, false, cond, not, _&&_}
+use mathlib.Core.Path.{_≡_, refl, sym, ap, _∙_}
+use mathlib.Core.Bool.{Bool, true, false, cond}
 use mathlib.Core.List.{List, [], _∷_, _++_, append-nil, append-assoc, flatMap}
 use Prim.Native.Nat.{ℕ, zero, suc, _+_, _-_, _^_, _≤_, _<_}
 use native.Mathlib.Omega.{arith}
 use lib.Dec.{leb, ltb}
 use lib.IntN.{ℤ, pos, negsuc, natAbs}
-use lib.ListN.{length, getD, set, length-append}
+use lib.ListN.{length, length-append}
 use lib.Seq.{set-at}
 use lib.Signed.{_≤ℤ_}
 use borrow.Author.Tests.{le-leb, lt-leb, lt-ltb, ltb-true}
@@ -15,23 +15,22 @@ use Rattle.format.specs.All.{All}
 use Rattle.format.specs.Commands.{Outcome, given, firstRefusal}
 use Rattle.format.specs.declared.problem.Kind.{Kind}
 use Rattle.format.specs.declared.problem.Kind.the-variants as K
-use Rattle.format.specs.declared.certificate.Command.{Command}
 use Rattle.format.specs.declared.certificate.Command.the-variants as C
 use Rattle.format.specs.declared.certificate.Instruction.{Instruction}
 use Rattle.format.specs.declared.certificate.Instruction.the-variants as I
 use Rattle.format.specs.declared.certificate.Header.{Header}
-use Rattle.format.specs.ProblemRules.{Problem, nonzero}
-use Rattle.format.specs.ProblemBases.{basisOf, isEquality, kindOf}
-use Rattle.format.specs.CertificateRules.{Entry, Row, Certificate, noCertificate, noRow, lastRow, rises, withRow, withEntry, entered, certificatePlaced, certificateOperandsFit, certificateRepeated, certificateFull, certificateApplied, certificateLanguage, readCertificate}
+use Rattle.format.specs.ProblemRules.{Problem}
+use Rattle.format.specs.ProblemBases.{basisOf, kindOf}
+use Rattle.format.specs.CertificateRules.{Entry, Row, Certificate, noCertificate, lastRow, rises, withRow, withEntry, entered, certificateApplied, certificateLanguage, readCertificate}
 use Rattle.format.proofs.WithinLimits.{Monomials}
 use Rattle.format.proofs.ProblemLimits.{all-at, monomials-none}
 use Rattle.format.proofs.CertificateChecks.{last-append}
-use Rattle.format.proofs.CertificateLimits.{IndicesRise, SoundRow}
+use Rattle.format.proofs.CertificateLimits.{IndicesRise}
 use Rattle.format.proofs.Run.{Left, left-start}
-use Rattle.written.specs.Legal.{OfBits, Legal, WeightOf, LegalRow, LegalCertificate}
+use Rattle.written.specs.Legal.{OfBits, Legal, LegalRow, LegalCertificate}
 use Rattle.written.specs.CertificateWritten.{certificateBytes, certificateStream, headerCommand, narrow, entryCommand, beginning, rowCommand, entryCommands, rowCommands, encodeCertificate, placedEntries, placedRows, placed}
 use Rattle.written.proofs.OneLess.{not-nonzero}
-use Rattle.written.proofs.CertificateSteps.{commandOf, Sized, bytes-length, bytes-some, refusalOf, written-next, written-end}
+use Rattle.written.proofs.CertificateSteps.{commandOf, Sized, bytes-some, refusalOf, written-next, written-end}
 
 -- what was read, with a row begun last
 abbrev begun : Header → List Row → Row → Certificate

@@ -1,15 +1,15 @@
 -- A command of the certificate stream where it was written: the reader finds it again, with its operands, and takes it
 -- if the checks pass.
 use mathlib.Core.Path.{_≡_, refl, sym, ap, ap₂, _∙_}
-use mathlib.Core.Bool.{Bool, true, false}
+use mathlib.Core.Bool.{true}
 use mathlib.Core.List.{List, [], _∷_, _++_}
 use Prim.Native.Nat.{ℕ, _+_, _^_, _≤_, _<_}
 use native.Mathlib.Omega.{arith}
-use lib.Dec.{leb, lit<}
+use lib.Dec.{lit<}
 use lib.ListN.{length, getD, length-append}
 use borrow.Author.Tests.{le-leb, lt-ltb, eqb-true}
 use Rattle.counting.proofs.Cases.{clash}
-use Rattle.format.specs.Commands.{Outcome, refused, given, firstRefusal, Language}
+use Rattle.format.specs.Commands.{Outcome, refused, given, firstRefusal}
 use Rattle.format.specs.Layouts.{u8, u16, i16, i32}
 use Rattle.format.specs.declared.certificate.Command.{Command}
 use Rattle.format.specs.declared.certificate.Command.the-variants as C

@@ -1,11 +1,9 @@
 -- The encoders write bytes. So a problem is legal exactly if some stream of bytes gives it.
-use mathlib.Core.Path.{_≡_, refl}
 use mathlib.Core.List.{List, [], _∷_, _++_, flatMap}
 use Prim.Native.Nat.{ℕ, zero, suc, _/_, _%_, _≤_}
 use native.Mathlib.Omega.{arith}
-use lib.ListN.{getD}
 use Rattle.counting.specs.Counting.{Bounded}
-use Rattle.format.specs.Layouts.{Layout, line, none}
+use Rattle.format.specs.Layouts.{line}
 use Rattle.format.specs.declared.problem.Instruction.{Instruction as ProblemInstruction}
 use Rattle.format.specs.declared.problem.Instruction.the-variants as P
 use Rattle.format.specs.declared.certificate.Instruction.{Instruction as CertificateInstruction}

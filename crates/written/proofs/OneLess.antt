@@ -1,21 +1,21 @@
 -- A list within a limit, without its last element: it is within the limit, and that element was new and had room. So a
 -- problem within the limits was so before its last command, and the command passed the checks.
-use mathlib.Core.Path.{_≡_, refl, sym, ap, _∙_}
+use mathlib.Core.Path.{_≡_, refl, sym, ap}
 use mathlib.Core.Bool.{Bool, true, false, cond, _&&_}
 use mathlib.Core.List.{List, [], _∷_, _++_}
-use Prim.Native.Nat.{ℕ, zero, suc, _+_, _-_, _*_, _^_, _≤_, _<_}
+use Prim.Native.Nat.{ℕ, zero, suc, _*_, _^_, _≤_, _<_}
 use native.Mathlib.Omega.{arith}
 use lib.Dec.{eqb, leb}
 use lib.IntN.{ℤ, pos, negsuc}
 use lib.ListN.{length, getD, set, length-append}
 use borrow.Author.Tests.{le-leb, lt-leb, lt-ltb, ne-eqb, eqb-false}
 use Rattle.counting.proofs.Cases.{clash}
-use Rattle.polynomial.specs.Monomial.{degree, within, among}
+use Rattle.polynomial.specs.Monomial.{degree, among}
 use Rattle.polynomial.specs.Terms.{Term, term, keysOf}
 use Rattle.polynomial.proofs.Monomials.{key-low}
 use Rattle.format.specs.All.{All}
 use Rattle.format.specs.ProblemRules.{nonzero, fitting}
-use Rattle.format.proofs.WithinLimits.{Distinct, Monomials, Terms}
+use Rattle.format.proofs.WithinLimits.{Distinct, Monomials}
 use Rattle.format.proofs.ProblemLimits.{length-keys}
 use Rattle.written.specs.Legal.{OfBits, Polynomial}
 

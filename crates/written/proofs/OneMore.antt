@@ -1,36 +1,34 @@
 -- One more than a count allows is refused with 6, and a monomial twice or an index that does not rise with 5, behind
 -- every legal problem and certificate.
 use mathlib.Core.Path.{_≡_, refl, sym, ap, _∙_}
-use mathlib.Core.Bool.{Bool, true, false, cond, not, _&&_}
+use mathlib.Core.Bool.{true, not}
 use mathlib.Core.List.{List, [], _∷_, _++_}
-use Prim.Native.Nat.{ℕ, zero, suc, _+_, _-_, _*_, _^_, _≤_, _<_}
+use Prim.Native.Nat.{ℕ, suc, _+_, _-_, _*_, _^_, _≤_, _<_}
 use native.Mathlib.Omega.{arith}
-use lib.Dec.{leb, ltb}
+use lib.Dec.{ltb}
 use lib.IntN.{ℤ, pos}
-use lib.ListN.{length, getD, length-append}
+use lib.ListN.{length, length-append}
 use lib.Seq.{getD-at}
 use borrow.Author.Tests.{le-leb, lt-ltb, le-ltb}
-use Rattle.polynomial.specs.Monomial.{degree, within, among}
-use Rattle.polynomial.specs.Terms.{Term, keysOf}
+use Rattle.polynomial.specs.Monomial.{degree}
+use Rattle.polynomial.specs.Terms.{Term}
 use Rattle.polynomial.proofs.Monomials.{key-low}
-use Rattle.format.specs.Commands.{refused, firstRefusal}
+use Rattle.format.specs.Commands.{firstRefusal}
 use Rattle.format.specs.declared.problem.Instruction.{Instruction as ProblemInstruction}
 use Rattle.format.specs.declared.problem.Instruction.the-variants as P
-use Rattle.format.specs.declared.problem.Kind.the-variants as K
 use Rattle.format.specs.declared.certificate.Instruction.{Instruction as CertificateInstruction}
 use Rattle.format.specs.declared.certificate.Instruction.the-variants as I
-use Rattle.format.specs.ProblemRules.{Condition, Problem, noProblem, noCondition, lastCondition, nonzero, fitting, problemPlaced, problemOperandsFit, problemRepeated, problemFull, readProblem}
-use Rattle.format.specs.ProblemBases.{basisOf, isEquality, kindOf}
-use Rattle.format.specs.CertificateRules.{Entry, Row, Certificate, noRow, lastRow, rises, readCertificate}
+use Rattle.format.specs.ProblemRules.{Condition, Problem, noCondition, lastCondition, nonzero, fitting, readProblem}
+use Rattle.format.specs.ProblemBases.{basisOf}
+use Rattle.format.specs.CertificateRules.{Entry, Row, Certificate, lastRow, rises, readCertificate}
 use Rattle.format.proofs.CertificateChecks.{last-append}
-use Rattle.written.specs.Legal.{OfBits, Legal, LegalCertificate}
+use Rattle.written.specs.Legal.{Legal, LegalCertificate}
 use Rattle.written.specs.ProblemWritten.{problemBytes, headCommands, bodyCommands, openProblem}
 use Rattle.written.specs.CertificateWritten.{certificateBytes, headerCommand, entryCommand, openCertificate, placedEntries, placedRow, rowEnd, placedRows, placed}
 use Rattle.written.specs.CommandOrder.{Head}
-use Rattle.written.specs.OneMore.{Monomial, OfTerm, Refuses, OneMoreRefused, RefusesRow, OneMoreRowRefused}
+use Rattle.written.specs.OneMore.{Monomial, Refuses, OneMoreRefused, RefusesRow, OneMoreRowRefused}
 use Rattle.written.proofs.OneLess.{not-nonzero}
 use Rattle.written.proofs.ProblemSteps as ProblemSteps
-use Rattle.written.proofs.ProblemReading.{after}
 use Rattle.written.proofs.ProblemOrders.{commands-read, commands-some}
 use Rattle.written.proofs.ProblemRoundTrip.{problem-commands, head-is, body-placed}
 use Rattle.written.proofs.CertificateSteps as CertificateSteps

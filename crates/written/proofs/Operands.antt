@@ -13,7 +13,7 @@ use lib.Seq.{getD-append-seam, take-add, drop-cons, drop-drop}
 use borrow.Author.Tests.{lt-ltb, le-ltb, ltb-true, ltb-false}
 use Rattle.counting.specs.Counting.{Bounded}
 use Rattle.format.specs.Operands.{number, signed}
-use Rattle.format.specs.Layouts.{Layout, line, total, lengthOf, unsignedOperand, signedOperand}
+use Rattle.format.specs.Layouts.{line, total, lengthOf, unsignedOperand, signedOperand}
 use Rattle.format.proofs.Numbers.{lower, upper}
 use Rattle.calls.specs.Report.{littleEndian, unsigned}
 use Rattle.calls.proofs.Records.{number-of, bytes-of}

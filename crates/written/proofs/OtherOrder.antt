@@ -3,12 +3,12 @@
 use mathlib.Core.Path.{_≡_, refl, sym, ap, _∙_}
 use mathlib.Core.Bool.{Bool, true, false, cond}
 use mathlib.Core.List.{List, [], _∷_, _++_}
-use Prim.Native.Nat.{ℕ, zero, suc, _-_, _<_}
+use Prim.Native.Nat.{ℕ, suc, _-_, _<_}
 use native.Mathlib.Omega.{arith}
 use lib.Dec.{eqb}
 use lib.ListN.{length, getD, set, length-set}
 use lib.Seq.{getD-set-same, getD-set-other, ext-getD}
-use borrow.Author.Tests.{eqb-true, eqb-false, eq-eqb, ne-eqb}
+use borrow.Author.Tests.{eqb-true, eqb-false, ne-eqb}
 use Rattle.counting.specs.Counting.{Bounded}
 use Rattle.counting.proofs.Cases.{clash}
 use Rattle.polynomial.specs.Terms.{Term, term}
@@ -17,7 +17,6 @@ use Rattle.format.specs.declared.problem.Instruction.{Instruction}
 use Rattle.format.specs.declared.problem.Instruction.the-variants as I
 use Rattle.format.specs.declared.problem.Kind.{Kind}
 use Rattle.format.specs.ProblemRules.{Condition, Problem, noProblem, lastCondition, appendAt, withTerm, problemApplied, readProblem}
-use Rattle.written.specs.Legal.{Legal}
 use Rattle.written.specs.ProblemWritten.{inStream}
 use Rattle.written.specs.CommandOrder.{InPlace, ofPart, OtherOrder, AnyOrder}
 use Rattle.written.proofs.ProblemReading.{after}

@@ -1,11 +1,11 @@
 -- Every problem stream that reads is its commands, as they are written: head, body and end, each in its place.
-use mathlib.Core.Path.{_≡_, refl, sym, ap, subst, _∙_}
-use mathlib.Core.Bool.{Bool, true, false, cond, _&&_}
-use mathlib.Core.List.{List, [], _∷_, _++_, append-nil, append-assoc, flatMap}
-use Prim.Native.Nat.{ℕ, zero, suc, _+_, _-_, _^_, _≤_, _<_}
+use mathlib.Core.Path.{_≡_, refl, sym, ap, _∙_}
+use mathlib.Core.Bool.{true}
+use mathlib.Core.List.{List, [], _∷_, _++_, append-assoc, flatMap}
+use Prim.Native.Nat.{ℕ, zero, suc, _+_, _≤_, _<_}
 use native.Mathlib.Omega.{arith}
-use lib.Dec.{eqb, leb, ltb}
-use lib.ListN.{length, getD, take, drop, length-append, take-append-drop, drop-of-length-le}
+use lib.Dec.{leb, ltb}
+use lib.ListN.{length, getD, take, drop, take-append-drop, drop-of-length-le}
 use lib.Seq.{drop-drop}
 use borrow.Author.Tests.{le-leb, leb-true, ltb-true, eqb-true, ne-eqb}
 use Rattle.counting.specs.Counting.{Bounded}
@@ -194,7 +194,8 @@ body-in-place : (s : List ℕ) (p : Problem) (at : ℕ) (xs : List Instruction) 
 unfolding Chain InPlace
 body-in-place s p at [] b o h = tt
 body-in-place s p at (x ∷ xs) b o h =
-    let next = body-in-place s (problemApplied p x) (at + length (problemBytes x)) xs (omega arith) (omega arith) (h .3) in
+    let to = at + length (problemBytes x) in
+    let next = body-in-place s (problemApplied p x) to xs (omega arith) (omega arith) (h .3) in
     (stands s p at x (h .0) (h .1) (omega arith) (h .2) rule order, rw (conditions-begun p x) at next)
   where
     rule : commandOf x ≡ C.Rule → ⊥
@@ -211,7 +212,8 @@ first-in-place : (s : List ℕ) (p : Problem) (at : ℕ) (x : Instruction) (xs :
 unfolding Chain InPlace
 first-in-place s p at x xs b o r n h =
     let z = bytes-some x in
-    let next = body-in-place s (problemApplied p x) (at + length (problemBytes x)) xs (omega arith) (omega arith) (h .3) in
+    let to = at + length (problemBytes x) in
+    let next = body-in-place s (problemApplied p x) to xs (omega arith) (omega arith) (h .3) in
     (stands s p at x (h .0) (h .1) (omega arith) (h .2) r n, rw (conditions-begun p x) at next)
 
 -- ---- the head and the body

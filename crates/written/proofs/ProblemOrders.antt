@@ -1,14 +1,13 @@
 -- Every order of a problem's commands in which each stands in its place is read, and gives the problem.
 use mathlib.Core.Path.{_≡_, refl, sym, ap, _∙_}
-use mathlib.Core.Bool.{Bool, true, false, cond, _&&_}
+use mathlib.Core.Bool.{true}
 use mathlib.Core.List.{List, [], _∷_, _++_, append-nil, append-assoc, flatMap}
-use Prim.Native.Nat.{ℕ, zero, suc, _+_, _-_, _^_, _≤_, _<_}
+use Prim.Native.Nat.{ℕ, _≤_, _<_}
 use native.Mathlib.Omega.{arith}
-use lib.ListN.{length, getD, length-append}
+use lib.ListN.{length, length-append}
 use borrow.Author.Tests.{le-leb, eq-eqb}
 use Rattle.counting.proofs.Cases.{clash}
 use Rattle.format.specs.Commands.{Outcome, given, firstRefusal}
-use Rattle.format.specs.declared.problem.Command.the-variants as C
 use Rattle.format.specs.declared.problem.Instruction.{Instruction}
 use Rattle.format.specs.declared.problem.Instruction.the-variants as I
 use Rattle.format.specs.ProblemRules.{Problem, noProblem, orderPlace, problemApplied, problemLanguage, readProblem}
@@ -17,8 +16,8 @@ use Rattle.written.specs.Bytes.{operandBytes, commandBytes}
 use Rattle.written.specs.Legal.{Legal}
 use Rattle.written.specs.ProblemWritten.{problemBytes, problemStream, inStream}
 use Rattle.written.specs.CommandOrder.{Head, plain, ruled, ordered, both, mayStand, InPlace}
-use Rattle.written.proofs.ProblemSteps.{commandOf, bytes-length, bytes-some, refusalOf, written-next, written-end}
-use Rattle.written.proofs.ProblemReading.{legal-within, after, after-append, further, body-read}
+use Rattle.written.proofs.ProblemSteps.{bytes-length, bytes-some, refusalOf, written-next, written-end}
+use Rattle.written.proofs.ProblemReading.{legal-within, after, further, body-read}
 
 -- ---- the head
 -- what it names is within the limits

@@ -1,18 +1,16 @@
 -- How written commands are read: a list of commands in their places is taken whole, if what they give together is
 -- within the limits.
 use mathlib.Core.Path.{_≡_, refl, sym, ap, _∙_}
-use mathlib.Core.Bool.{Bool, true, false, cond, _&&_}
+use mathlib.Core.Bool.{true, false}
 use mathlib.Core.List.{List, [], _∷_, _++_, append-nil, append-assoc, flatMap}
-use Prim.Native.Nat.{ℕ, zero, suc, _+_, _-_, _^_, _≤_, _<_}
+use Prim.Native.Nat.{ℕ, _-_, _≤_, _<_}
 use native.Mathlib.Omega.{arith}
-use lib.Dec.{leb, ltb}
-use lib.ListN.{length, getD, set, length-append, length-set}
-use borrow.Author.Tests.{le-leb, lt-leb, lt-ltb, leb-true}
-use Rattle.counting.proofs.Cases.{clash, never}
+use lib.ListN.{length, getD, length-append, length-set}
+use borrow.Author.Tests.{lt-leb, lt-ltb, leb-true}
+use Rattle.counting.proofs.Cases.{clash}
 use Rattle.polynomial.specs.Terms.{Term, term}
 use Rattle.format.specs.All.{All}
 use Rattle.format.specs.Commands.{Outcome, firstRefusal}
-use Rattle.format.specs.declared.problem.Command.{Command}
 use Rattle.format.specs.declared.problem.Command.the-variants as C
 use Rattle.format.specs.declared.problem.Instruction.{Instruction}
 use Rattle.format.specs.declared.problem.Instruction.the-variants as I
@@ -24,7 +22,7 @@ use Rattle.written.specs.Legal.{Polynomial, Legal}
 use Rattle.written.specs.ProblemWritten.{problemBytes, problemStream}
 use Rattle.written.specs.CommandOrder.{mayStand, begun, InPlace}
 use Rattle.written.proofs.OneLess.{all-less, all-unset, monomials-less, terms-less}
-use Rattle.written.proofs.ProblemSteps.{commandOf, Sized, bytes-some, refusalOf, written-next}
+use Rattle.written.proofs.ProblemSteps.{commandOf, Sized, refusalOf, written-next}
 
 -- ---- the limits that hold at every command
 pub record Within (p : Problem) : Type 0 where

@@ -1,12 +1,12 @@
 -- Every legal problem is read as it was written.
-use mathlib.Core.Path.{_≡_, refl, sym, ap, subst, _∙_}
+use mathlib.Core.Path.{_≡_, refl, ap, _∙_}
 use mathlib.Core.Bool.{Bool, true, false, cond}
 use mathlib.Core.List.{List, [], _∷_, _++_, map, append-nil, append-assoc}
 use mathlib.Core.Logic.{⊎-elim}
 use Prim.Native.Nat.{ℕ, zero, suc, _+_, _-_, _≤_, _<_}
 use native.Mathlib.Omega.{arith}
 use lib.Dec.{eqb}
-use lib.ListN.{length, getD, set, replicate, length-append}
+use lib.ListN.{length, getD, replicate, length-append}
 use lib.Seq.{getD-at, set-at}
 use borrow.Author.Tests.{le-leb, eqb-true}
 use Rattle.counting.proofs.Cases.{clash, lt-or-le}
@@ -18,7 +18,7 @@ use Rattle.format.specs.declared.problem.Kind.{Kind}
 use Rattle.format.specs.declared.problem.Kind.the-variants as K
 use Rattle.format.specs.ProblemRules.{Condition, Problem, noProblem, noCondition, appendAt, problemApplied, readProblem}
 use Rattle.written.specs.Legal.{Legal}
-use Rattle.written.specs.ProblemWritten.{ruleCommands, orderCommands, headCommands, objectiveCommands, begins, termCommands, conditionCommands, basisCommands, bodyCommands, inStream, encodeProblem}
+use Rattle.written.specs.ProblemWritten.{ruleCommands, orderCommands, headCommands, objectiveCommands, begins, termCommands, conditionCommands, basisCommands, bodyCommands, encodeProblem}
 use Rattle.written.specs.CommandOrder.{Head, plain, ruled, ordered, both, InPlace}
 use Rattle.written.proofs.ProblemReading.{after, after-append}
 use Rattle.written.proofs.ProblemOrders.{reads-in-order}

@@ -1,15 +1,14 @@
 -- A command of the problem stream where it was written: the reader finds it again, with its operands, and takes it if
 -- the checks pass.
-use mathlib.Core.Path.{_≡_, refl, sym, ap, ap₂, subst, _∙_}
-use mathlib.Core.Bool.{Bool, true, false}
+use mathlib.Core.Path.{_≡_, refl, sym, ap, ap₂, _∙_}
+use mathlib.Core.Bool.{true}
 use mathlib.Core.List.{List, [], _∷_, _++_}
 use Prim.Native.Nat.{ℕ, _+_, _^_, _≤_, _<_}
 use native.Mathlib.Omega.{arith}
-use lib.Dec.{leb, lit<}
+use lib.Dec.{lit<}
 use lib.ListN.{length, getD, length-append}
 use borrow.Author.Tests.{le-leb, lt-ltb}
-use Rattle.counting.proofs.Cases.{clash}
-use Rattle.format.specs.Commands.{Outcome, refused, given, firstRefusal, Language}
+use Rattle.format.specs.Commands.{Outcome, refused, given, firstRefusal}
 use Rattle.format.specs.Layouts.{E, u8, i16, i32}
 use Rattle.format.specs.declared.problem.Command.{Command}
 use Rattle.format.specs.declared.problem.Command.the-variants as C

@@ -4,7 +4,7 @@ use mathlib.Core.Bool.{true, false}
 use mathlib.Core.List.{List, [], _∷_, _++_}
 use Prim.Native.Nat.{ℕ, _^_, _≤_, _<_}
 use lib.IntN.{ℤ, pos}
-use lib.ListN.{length, getD}
+use lib.ListN.{length}
 use Rattle.polynomial.specs.Monomial.{degree, within, among}
 use Rattle.polynomial.specs.Terms.{keysOf}
 use Rattle.format.specs.Commands.{refused}
