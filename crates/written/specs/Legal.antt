@@ -22,7 +22,8 @@ OfBits b (pos n) = n < 2 ^ (b - 1)
 OfBits b (negsuc n) = n < 2 ^ (b - 1)
 
 -- a polynomial in n variables, of total degree at most d, with at most `most` terms of different monomials, and with
--- coefficients of b bits that "are never 0". It "may be empty"
+-- coefficients of b bits that "are never 0". It "may be empty". That a key has the 8 bytes of E follows: n is at most
+-- 8, and "Exponents of variables above n are 0"
 pub record Polynomial (n d most b : ℕ) (ts : List Term) : Type 0 where
   pub terms : Terms n d most ts
   pub coefficients : All (λ (t : Term). OfBits b (t .coefficient)) ts
