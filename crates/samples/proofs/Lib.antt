@@ -14,3 +14,4 @@ pub mod Sums
 pub mod Adjusted
 pub mod Printed
 pub mod Orders
+pub mod Written

@@ -1,0 +1,14 @@
+pub mod Operands
+pub mod ProblemSteps
+pub mod OneLess
+pub mod ProblemReading
+pub mod ProblemOrders
+pub mod ProblemRoundTrip
+pub mod ProblemLegal
+pub mod CertificateSteps
+pub mod CertificateRoundTrip
+pub mod CertificateLegal
+pub mod OneMore
+pub mod ProblemCommands
+pub mod OtherOrder
+pub mod EncodedBytes
