@@ -309,9 +309,17 @@ impl Climber {
         Some((counted, best))
     }
 
-    /// A basis and terms on a lattice of some directions.
+    /// A basis and terms on a lattice of some directions, or those that were kept, in other variables.
     fn begun(&mut self) -> Shape {
         let passed = self.rng.below(self.passing.len()) as u64;
+        if self.rng.once_in(2) {
+            let mut shape = read(if self.rng.once_in(2) { BEST } else { STAGED }).expect("it is a shape");
+            let mut order: [usize; 8] = std::array::from_fn(|i| i);
+            self.rng.shuffle(&mut order);
+            let lists = shape.basis.iter_mut().chain(&mut shape.terms);
+            lists.for_each(|m| *m = Monomial(order.map(|i| m.0[i])));
+            return Shape { passed, ..shape };
+        }
         let directions: Vec<[i16; 8]> = match self.rng.below(3) {
             // Some variables, each a direction.
             0 => {
