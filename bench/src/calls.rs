@@ -226,7 +226,9 @@ macro_rules! call {
     };
 }
 
-/// Answers a record: the number of the refusal, or 0.
+/// Answers a record: the number of the refusal, or 0. It is a function of its own in the machine code, by whose name its
+/// instructions are counted.
+#[inline(never)]
 pub fn answer(record: &Record, lent: &mut Lent) -> u64 {
     let [problem, first, second, others @ ..] = &record.runs[..] else {
         panic!("a record has three runs at least");

@@ -1,5 +1,5 @@
-//! Runs the proved calls from outside: `bench numbers`, `bench time` and `bench stack` on the records of the standard input,
-//! `bench week` on pairs, by themselves and in reports, and `bench short` with tables that are too short.
+//! Runs the proved calls from outside: `bench numbers`, `bench time`, `bench once` and `bench stack` on the records of the
+//! standard input, `bench week` on pairs, by themselves and in reports, and `bench short` with tables that are too short.
 
 mod calls;
 mod short;
@@ -11,11 +11,12 @@ fn main() {
     match command.as_deref() {
         Some("numbers") => numbers(),
         Some("time") => time::run(),
+        Some("once") => time::once(),
         Some("week") => time::week(),
         Some("stack") => stack::run(),
         Some("short") => short::run(),
         _ => {
-            eprintln!("usage: bench numbers | time | week | stack | short");
+            eprintln!("usage: bench numbers | time | once | week | stack | short");
             std::process::exit(2);
         }
     }

@@ -17,6 +17,15 @@ pub fn run() {
     println!("{best:.1}");
 }
 
+/// Answers the records of the standard input once and prints how many there are and how many of them are refused: for a tool
+/// that counts the instructions of `calls::answer`.
+pub fn once() {
+    let records = records();
+    let mut lent = Lent::new(b'b');
+    let refused = records.iter().filter(|record| answer(record, &mut lent) != 0);
+    println!("{} {}", records.len(), refused.count());
+}
+
 /// The nanoseconds in which all these records are answered once.
 fn turn(records: &[Record], lent: &mut Lent) -> f64 {
     let mut refused = 0;

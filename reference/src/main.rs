@@ -15,7 +15,7 @@ use std::process::ExitCode;
 
 const USAGE: &str = "usage: reference replay | baseline | generate KINDS SEED COUNT | corpus KINDS
                  | changes NAME | refusals | folders DIR | vectors DIR
-                 | workload NAME | time";
+                 | workload NAME | search SECONDS SEED | time";
 
 fn main() -> ExitCode {
     let arguments: Vec<String> = std::env::args().skip(1).collect();
@@ -61,6 +61,12 @@ fn run(arguments: &[&str]) -> io::Result<ExitCode> {
         }
         ["folders", directory] => vectors::write(Path::new(directory))?,
         ["refusals"] => generate::refusals::print(),
+        ["search", seconds, seed] => {
+            let (Ok(seconds), Ok(seed)) = (seconds.parse(), seed.parse()) else {
+                return Ok(usage());
+            };
+            generate::search(seconds, seed);
+        }
         ["time"] => baseline::timing::run(),
         _ => return Ok(usage()),
     }

@@ -167,7 +167,7 @@ fn settle(
     if 2048 < n {
         return too_many();
     }
-    let len = key_set::put(table, index, n, 0);
+    let len = key_set::put_last(table, index, n, 0);
     if 2048 < len {
         return too_many();
     }

@@ -10,9 +10,9 @@ use lib.Dec.{eqb}
 use lib.ListN.{length, getD, take, set, replicate, length-set, length-replicate, getD-replicate}
 use lib.Seq.{getD-set-same, getD-set-other, getD-take, length-take-le}
 use Rattle.hash_chain.specs.Chain.{Chain}
-use Rattle.hash_chain.proofs.Chain.{Search, chain-start, chain-as, chain-next, search-start, search-here, search-less, search-step}
+use Rattle.hash_chain.proofs.Chain.{last-le, Search, chain-start, chain-as, chain-next, search-start, search-here, search-less, search-step}
 use Rattle.joining_rule.specs.Sets.{member, insert}
-use Rattle.key_set.specs.Table.{first, divisorIn, keysIn, Holds, hasRest, Indexed, noted, BesideMark, Stored}
+use Rattle.key_set.specs.Table.{first, divisorIn, keysIn, Holds, hasRest, Indexed, Linked, noted, BesideMark, Stored}
 use Rattle.key_set.proofs.Keys.{inside, stored-new}
 
 -- ---- a search: from place v - 1 down may be the key, and after it it is not
@@ -110,6 +110,24 @@ pub indexed-start : (t : List ℕ) → Indexed (replicate 6144 0) t 0
 indexed-start t =
     indexed-none (replicate 6144 0) t (length-replicate {A = ℕ} 6144 0) (omega (arith, getD-replicate {A = ℕ} 6144 4095 0 0 (omega arith)))
     (λ q b. getD-replicate {A = ℕ} 6144 q 0 0 (omega arith))
+
+-- ---- every link leads back
+pub linked : {idx t : List ℕ} {n : ℕ} → Holds t n → Indexed idx t n → Linked idx n
+unfolding hasRest
+linked {idx} {t} {n} h x = record {
+  few = h .few;
+  long = x .long;
+  back = λ p b.
+      let r = getD t p 0 % divisorIn idx in
+      omega (arith, x .chain .before r p b (eq-eqb r r refl), last-le (hasRest (divisorIn idx) t r) p);
+}
+
+pub linked-upto : {idx : List ℕ} {n : ℕ} → Linked idx n → (p : ℕ) → p < n → Linked idx (p + 1)
+linked-upto l p b = record {
+  few = omega (arith, l .few);
+  long = l .long;
+  back = λ q u. l .back q (omega arith);
+}
 
 -- ---- the mark stands beside the keys and the divisor
 module _ {idx idx′ : List ℕ} (m : BesideMark idx idx′) where

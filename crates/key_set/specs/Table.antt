@@ -52,6 +52,12 @@ pub record Indexed (idx t : List ℕ) (n : ℕ) : Type 0 where
   pub some : getD idx 4095 0 < first
   pub chain : Chain 4096 (divisorIn idx) (hasRest (divisorIn idx) t) n idx
 
+-- every link of the first n numbers leads back
+pub record Linked (idx : List ℕ) (n : ℕ) : Type 0 where
+  pub few : n ≤ 2048
+  pub long : length idx ≡ 6144
+  pub back : (p : ℕ) → p < n → getD idx (4096 + p) 0 ≤ p
+
 -- the index of n numbers, with one more of remainder h
 unfoldable pub noted : List ℕ → ℕ → ℕ → List ℕ
 noted idx n h = set (set idx (4096 + n) (getD idx h 0)) h (n + 1)

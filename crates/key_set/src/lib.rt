@@ -11,7 +11,7 @@ ghost use mathlib.Core.Path.{_≡_};
 ghost use Prim.Native.Nat.{ℕ, _+_, _%_, _≤_, _<_};
 ghost use lib.ListN.{length, getD, take};
 ghost use Rattle.joining_rule.specs.Sets.{member, insert};
-ghost use Rattle.key_set.specs.Table.{first, divisorIn, keysIn, Holds, Divided, Indexed, noted, Finds, Stored, BesideMark};
+ghost use Rattle.key_set.specs.Table.{first, divisorIn, keysIn, Holds, Divided, Indexed, Linked, noted, Finds, Stored, BesideMark};
 
 // A divisor with which few keys share a place. Any number up to 4,094 would do.
 pub const FIRST: usize = 3821;
@@ -23,10 +23,11 @@ const MARK: usize = 4094;
 // A search among more than so many keys of one remainder is long.
 const LONG: usize = 16;
 
-// The next divisor is so much lower; none is below 1,931. All of them are prime to 2, 3, 5 and 7.
-const STEP: u16 = 210;
+// The next divisor is so much lower; none is below 3,405. With each of these, as with the first, the keys of up to four
+// variables are spread well: one of them is found in at most 2.4 steps on average.
+const STEP: u16 = 26;
 
-const LEAST: u16 = 1890;
+const LAST: u16 = 416;
 
 // The divisor of an index.
 pub fn divisor(index: &[u16]) -> usize
@@ -230,9 +231,82 @@ pub fn shorten(table: &[u64], index: &mut [u16], len: usize)
     ensures { λ _. ⌜ Indexed (now (index .exit)) (now (table .entry)) len ⌝ }
 {
     let below = index[BELOW];
-    if below < LEAST {
-        if LONG + below as usize / 16 < index[MARK] as usize {
+    if below < LAST {
+        if LONG + below as usize / 2 < index[MARK] as usize {
             renew(table, index, len, below + STEP);
         }
     }
+}
+
+// How many keys stand before the one at place p with its remainder; `most` where there are as many or more.
+fn depth(index: &[u16], p: usize, most: usize) -> usize
+    requires { ⌜ Linked (now index) (p + 1) × (most ≤ 4097) ⌝ }
+    ensures { λ r. ⌜ r ≤ most ⌝ }
+{
+    let mut v = index[4096 + p] as usize;
+    let mut n = 0;
+    while n < most {
+        if v == 0 {
+            return n;
+        }
+        let q = v - 1;
+        v = index[4096 + q] as usize;
+        n += 1;
+    }
+    n
+}
+
+// Whether few keys share a remainder: at most two stand before a key, on average.
+fn is_spread(index: &[u16], len: usize) -> bool
+    requires { ⌜ Linked (now index) len ⌝ }
+{
+    let mut left = 2 * len;
+    let mut p = 0;
+    while p < len {
+        let n = depth(index, p, left + 1);
+        if left < n {
+            return false;
+        }
+        left -= n;
+        p += 1;
+    }
+    true
+}
+
+// The index made anew with the first divisor that spreads the keys, or with the last one.
+fn spread(table: &[u64], index: &mut [u16], len: usize)
+    requires { ⌜ Holds (now table) len × (length (now index) ≡ 6144) ⌝ }
+    ensures { λ _. ⌜ Indexed (now (index .exit)) (now (table .entry)) len ⌝ }
+{
+    let mut below = 0;
+    renew(table, index, len, 0);
+    while below < LAST {
+        if is_spread(index, len) {
+            return;
+        }
+        below += STEP;
+        renew(table, index, len, below);
+    }
+}
+
+// The set with its last key put in, as by `put`. From then on it is only looked at, so the keys are spread anew where
+// many of them shared a remainder with any of the divisors so far.
+pub fn put_last(table: &mut [u64], index: &mut [u16], len: usize, key: u64) -> usize
+    requires { ⌜ Holds (now table) len × Indexed (now index) (now table) len ⌝ }
+    ensures { λ r. ⌜
+        Stored len (insert key (keysIn len (now (table .entry)))) (now (table .entry)) r (now (table .exit))
+        (now (index .exit))
+        ⌝ }
+{
+    let n = put(table, index, len, key);
+    if 2048 < n {
+        return n;
+    }
+    if index[BELOW] == 0 {
+        if index[MARK] == 0 {
+            return n;
+        }
+    }
+    spread(table, index, n);
+    n
 }

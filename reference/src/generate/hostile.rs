@@ -13,8 +13,9 @@ use crate::generate::draft::{
 };
 use crate::generate::problems::all_monomials;
 use crate::generate::rng::Rng;
+use crate::generate::search::kept;
 use crate::monomial::Monomial;
-use crate::records::{Record, PAIR};
+use crate::records::{Record, PAIR, REPORT, RUN, SUM};
 
 /// The divisor that the index of the support has as a rule, and that of the index of pairs.
 const SUPPORT: u64 = 3_821;
@@ -38,11 +39,44 @@ struct Kind {
 }
 
 /// The hostile pair of a name: `colliding`, `chained` or `sums`, and then nothing, `-wide` or `-wide-equal`;
-/// and the hostile problem `pairs`.
+/// those that the search has, `searched` and `staged`, each also `-wide`; any of these with `-sum` or `-report`
+/// behind, the same pair for two problems or as often as a report's run has room; and the hostile problem
+/// `pairs`.
 pub fn hostile(rng: &mut Rng, name: &str) -> Option<Vec<Record>> {
+    if let Some(name) = name.strip_suffix("-sum") {
+        return Some(hostile(rng, name)?.iter().map(twice).collect());
+    }
+    if let Some(name) = name.strip_suffix("-report") {
+        return Some(hostile(rng, name)?.iter().map(reported).collect());
+    }
     if name == "pairs" {
         return Some(vec![Record::blocks(pairs(rng))]);
     }
+    let record = kept(rng, name).or_else(|| pair(rng, name))?;
+    Some(vec![record])
+}
+
+/// Two problems over one region, with this pair for each.
+fn twice(pair: &Record) -> Record {
+    Record {
+        kind: SUM,
+        runs: [&pair.runs[..], &pair.runs[..]].concat(),
+    }
+}
+
+/// A report on this pair, as often as its run has room.
+fn reported(pair: &Record) -> Record {
+    let lengths = pair.runs.iter().flat_map(|run| (run.len() as u16).to_le_bytes());
+    let one: Vec<u8> = lengths.chain(pair.runs.concat()).collect();
+    let count = RUN / one.len();
+    Record {
+        kind: REPORT,
+        runs: vec![one.repeat(count), vec![0; 32 * count], Vec::new()],
+    }
+}
+
+/// A pair of the shapes that are made by hand.
+fn pair(rng: &mut Rng, name: &str) -> Option<Record> {
     let (shape, kind) = name.split_once('-').unwrap_or((name, ""));
     let kind = match kind {
         "" => (false, false),
@@ -60,7 +94,7 @@ pub fn hostile(rng: &mut Rng, name: &str) -> Option<Vec<Record>> {
         "sums" => sums(rng),
         _ => return None,
     };
-    Some(vec![shape.record(rng, kind)])
+    Some(shape.record(rng, kind))
 }
 
 /// Every product has one of two remainders in the index of the support, and nearly all the same one.
@@ -276,6 +310,15 @@ mod tests {
                 assert!(line.starts_with("pair "), "{name}: {line}");
             }
         }
+        for name in ["searched", "searched-wide", "staged", "staged-wide"] {
+            let records = hostile(&mut Rng::new(2), name).expect("it is a name");
+            let line = line(&records[0]);
+            assert!(line.starts_with("pair "), "{name}: {line}");
+        }
+        let sum = hostile(&mut Rng::new(2), "colliding-sum").expect("it is a name");
+        assert!(line(&sum[0]).starts_with("sum "), "{}", line(&sum[0]));
+        let report = hostile(&mut Rng::new(2), "colliding-report").expect("it is a name");
+        assert!(line(&report[0]).starts_with("report 4 "), "{}", line(&report[0]));
         let blocks = hostile(&mut Rng::new(2), "pairs").expect("it is a name");
         assert!(line(&blocks[0]).starts_with("blocks "), "{}", line(&blocks[0]));
         assert!(hostile(&mut Rng::new(2), "colliding-narrow").is_none());

@@ -19,14 +19,17 @@ mod requests;
 mod rng;
 mod rules;
 mod samples;
+mod search;
 mod series;
 mod support;
+mod walks;
 mod workloads;
 mod worst;
 
 use crate::records::{run_count, Record, BLOCKS, CHECK, PAIR};
 pub use neighbours::neighbours;
 use rng::Rng;
+pub use search::search;
 pub use workloads::workload;
 
 /// How many records of the generator the corpus has of each kind, after the special cases.

@@ -37,8 +37,8 @@ returns-2 c =
     let e = labels-held (s .args .support .rule) (s .args .support .most) (s .args .keys .now) (s .args .sizes .now) (s .pre .held .arrays) (keysIn (s .args .support .len) (s .args .table .now)) _ (w .labels few) in
     left-full _ _ _ _ _ _ _ (c .too-many2 .ensures) (products-large _ _ _ _ _ _ _ _ w few _ e _ _ _ k (c .before .if2 .taken)) (products-long _ _ _ _ _ _ _ _ w few _ e _ _ _ k) (products-rest _ _ _ _ _ _ _ _ w few _ e _ _ _ k)
 
-put-requires : tie.Need-put-requires
-put-requires c κs =
+put-last-requires : tie.Need-put-last-requires
+put-last-requires c κs =
     let s = c .before .before .before .before .before .before .before .before .before .before .before .before .before .before .before .before .before .before .before .before .before .before .before .before .before in
     let w = c .before .before .before .before .before .before .before .before .before .before .before .before .before .before .before .before .before .close .ensures .stored in
     let k = c .before .before .before .before .before .before .before .put-missing .ensures in
@@ -56,7 +56,7 @@ returns-3 c =
     let k = c .before .before .before .before .before .before .before .before .before .before .before .before .before .before .put-missing .ensures in
     let e = labels-held (s .args .support .rule) (s .args .support .most) (s .args .keys .now) (s .args .sizes .now) (s .pre .held .arrays) (keysIn (s .args .support .len) (s .args .table .now)) _ (w .labels few) in
     let some = c .before .before .before .before .before .before .before .before .before .if2 .left in
-    let p = c .before .before .before .before .before .before .put .ensures in
+    let p = c .before .before .before .before .before .before .put-last .ensures in
     left-full _ _ _ _ _ _ _ (c .too-many3 .ensures) (put-large _ _ _ _ _ _ _ _ w few _ e _ _ _ k some _ _ _ p (c .before .if3 .taken)) (put-long _ _ _ _ _ _ _ _ w few _ e _ _ _ k some _ _ _ p) (put-rest _ _ _ _ _ _ _ _ w few _ e _ _ _ k some _ _ _ p)
 
 returns-4 : tie.Need-returns-4
@@ -67,7 +67,7 @@ returns-4 c =
     let k = c .before .before .before .before .before .before .before .before .before .before .before .before .before .put-missing .ensures in
     let e = labels-held (s .args .support .rule) (s .args .support .most) (s .args .keys .now) (s .args .sizes .now) (s .pre .held .arrays) (keysIn (s .args .support .len) (s .args .table .now)) _ (w .labels few) in
     let some = c .before .before .before .before .before .before .before .before .if2 .left in
-    let p = c .before .before .before .before .before .put .ensures in
+    let p = c .before .before .before .before .before .put-last .ensures in
     let fits = c .if3 .left in
     record {
       full = put-small _ _ _ _ _ _ _ _ w few _ e _ _ _ k some _ _ _ p fits;
@@ -95,7 +95,7 @@ settle-spec =
     (λ c. search needs)
     (λ c. search needs)
     returns-2
-    put-requires
+    put-last-requires
     too-many-requires-3
     (λ c. search needs)
     (λ c. search needs)
