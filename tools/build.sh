@@ -14,16 +14,16 @@ quietly() {
     fi
 }
 
-# build_program NAME: proves and builds a program of crates/, to target/bin/NAME. Crates that have not changed are not proved again;
+# build_program NAME..: proves and builds programs of crates/, to target/bin/NAME. Crates that have not changed are not proved again;
 # the others are named as they are proved, which takes minutes for all of them.
 build_program() {
-    local status=0
-    echo "building $1: proving the crates that have changed" >&2
-    rt check "$1" 2>&1 | sed '/(unchanged since it was last proved)$/d' >&2 || status=$?
-    if [ "$status" -ne 0 ]; then
-        echo "$1 is not built: 'rt check $1' ended with status $status" >&2
-        exit "$status"
-    fi
+    tools/prove "$@" || exit $?
+}
+
+# build_library: the C functions as an archive, target/staticlib/libc_calls.a.
+build_library() {
+    tools/prove c_calls || exit $?
+    quietly "the C functions" rt staticlib c_calls
 }
 
 # build_reference: the second implementation, to reference/target/release/reference.
@@ -33,6 +33,6 @@ build_reference() {
 
 # build_bench: the C functions as a library, and the program that calls them, to bench/target/release/bench.
 build_bench() {
-    quietly "the C functions, proving the crates that have changed" rt staticlib c_calls
+    build_library
     quietly "the bench" cargo build --release --quiet --manifest-path bench/Cargo.toml
 }
