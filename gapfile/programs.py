@@ -19,9 +19,11 @@ from typing import Optional
 from .reading import Refusal
 from .writing import STREAMS, scratch
 
-ROOT = Path(__file__).resolve().parent.parent
+ROOT = Path(__file__).resolve().parent.parent    # the repository, or the folder that ./install made for this package
 PUBLISHED = ROOT / "docs" / "HASHES.md"          # where the project lists the SHA-256 of its builds
+MADE_OF = ROOT / "BUILD"                         # of an installed package: version, commit and kit
 BUILT = "built in this repository"
+INSTALLED = "installed with gapfile"
 PATIENCE = 300.0                                 # seconds; gapcheck answers within one
 REFUSAL = re.compile(r"refused (\d{1,3}) ([012]) (\d{1,10}) (\d{1,20})")
 PAIR = re.compile(r"lower (-?\d{1,10}/\d{1,5})\nupper (-?\d{1,10}/\d{1,5})\n"
@@ -85,11 +87,11 @@ class Build:
 
 def program(name: str) -> tuple[Path, str]:
     """Where a program is, and how it was found: by the variable of its name in capitals, in the repository's
-    target/bin, or on the PATH."""
+    target/bin, beside an installed gapfile, or on the PATH."""
     variable = name.upper()
-    built, wanted = ROOT / "target" / "bin" / name, os.environ.get(variable)
+    built, beside, wanted = ROOT / "target" / "bin" / name, ROOT / "bin" / name, os.environ.get(variable)
     for found, how in ((wanted, variable), (built if built.exists() else None, BUILT),
-                       (shutil.which(name), "PATH")):
+                       (beside.resolve() if beside.exists() else None, INSTALLED), (shutil.which(name), "PATH")):
         if found:
             if not Path(found).is_file():
                 raise ProgramError(f"{found} is no file; {variable} must name a {name}")
@@ -108,8 +110,10 @@ def build(name: str) -> Build:
 
 
 def commit() -> str:
-    """The commit of the repository, where this is one."""
+    """The commit of the repository, where this is one, or of what was installed."""
     git = ROOT / ".git"
+    if MADE_OF.exists():
+        return made_of("commit")
     try:
         head = (git / "HEAD").read_text("ascii").strip()
         if head.startswith("ref: "):
@@ -124,13 +128,22 @@ def commit() -> str:
 
 
 def kit() -> str:
-    """The identity of the Rattle kit that builds gapcheck, where it is there."""
+    """The identity of the Rattle kit that builds gapcheck, where it is there, or of that which built what was
+    installed."""
+    if MADE_OF.exists():
+        return made_of("kit")
     rt = shutil.which("rt")
     try:
         said = run_program([rt, "--version"]) if rt else ""
     except ProgramError:
         return ""
     return " ".join(said.split())[:80] if said.isprintable() else ""
+
+
+def made_of(name: str) -> str:
+    """What the installation noted under a name."""
+    found = re.search(rf"^{name} (\S.*)$", MADE_OF.read_text("utf-8", "replace"), re.MULTILINE)
+    return found[1] if found else ""
 
 
 def reference() -> Optional[Path]:

@@ -16,6 +16,8 @@ from typing import Optional, Sequence
 from .writing import STREAMS
 
 ROOT = Path(__file__).resolve().parent.parent
+MODULES = (ROOT / "target/wasm/zamiachisel.wasm", ROOT / "zamiachisel.wasm")    # in the repository; installed
+PAGES = (ROOT / "page", Path(__file__).resolve().parent / "page")               # the same; by pip
 SCRIPTS = ("checker.js", "numbers.js", "sheet.js")
 LARGEST = 120_000                # bytes of a sheet; one that would have more is written without the checker
 STYLE = """
@@ -46,8 +48,9 @@ MODULE = re.compile(r'<script type="text/plain" id="module">([A-Za-z0-9+/=]*)</s
 
 def built() -> Optional[bytes]:
     """The module, where it is built."""
-    path = Path(os.environ.get("ZAMIACHISEL_WASM", ROOT / "target/wasm/zamiachisel.wasm"))
-    return path.read_bytes() if path.exists() else None
+    named = os.environ.get("ZAMIACHISEL_WASM")
+    paths = (Path(named),) if named is not None else MODULES
+    return next((path.read_bytes() for path in paths if path.exists()), None)
 
 
 def module_in(sheet: str) -> Optional[bytes]:
@@ -70,7 +73,8 @@ def checking(sheet: str, streams: Sequence[bytes], module: Optional[bytes]) -> s
     """The sheet with the checker and the streams inside; as it is where there is no module."""
     if module is None:
         return sheet
-    script = "\n".join((ROOT / "page" / name).read_text(encoding="utf-8") for name in SCRIPTS)
+    pages = next(folder for folder in PAGES if folder.is_dir())
+    script = "\n".join((pages / name).read_text(encoding="utf-8") for name in SCRIPTS)
     links = ", ".join(f'<a id="{name}" download="{name}" href="{DATA}{_text(stream)}">{name}</a>'
                       for name, stream in zip(STREAMS, streams))
     head = (f'<meta http-equiv="Content-Security-Policy" content="{policy(script)}">'

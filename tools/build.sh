@@ -14,16 +14,44 @@ quietly() {
     fi
 }
 
-# build_program NAME: proves and builds a program of crates/, to target/bin/NAME. Crates that have not changed are not proved again;
+# build_program NAME..: proves and builds programs of crates/, to target/bin/NAME. Crates that have not changed are not proved again;
 # the others are named as they are proved, which takes minutes for all of them.
 build_program() {
-    local status=0
-    echo "building $1: proving the crates that have changed" >&2
-    rt check "$1" 2>&1 | sed '/(unchanged since it was last proved)$/d' >&2 || status=$?
-    if [ "$status" -ne 0 ]; then
-        echo "$1 is not built: 'rt check $1' ended with status $status" >&2
-        exit "$status"
+    tools/prove "$@" || exit $?
+}
+
+# kit_home: the kit's folder for this machine, with its compiler and its linker.
+kit_home() {
+    local home=${RATTLE_HOME:-}
+    [ -n "$home" ] || home=$(cd "$(dirname "$(readlink -f "$(command -v rt)")")/.." && pwd -P)
+    echo "$home/on/$(uname -m)"
+}
+
+# made_of CRATE FILE: what a file was made of: the stamp of the crate's proof, and its own bytes.
+made_of() {
+    cat "target/stamp/$1" && sha256sum <"$2"
+}
+
+# build_once CRATE FILE WHAT COMMAND..: proves the crate, and makes the file of it by the command unless the file is the one that was
+# made of this very proof.
+build_once() {
+    local crate=$1 file=$2 what=$3
+    shift 3
+    tools/prove "$crate" || exit $?
+    if [ ! -e "$file.of" ] || [ "$(made_of "$crate" "$file" 2>/dev/null)" != "$(cat "$file.of")" ]; then
+        quietly "$what" "$@"
+        made_of "$crate" "$file" >"$file.of"
     fi
+}
+
+# build_library: the C functions as an archive, target/staticlib/libc_calls.a.
+build_library() {
+    build_once c_calls target/staticlib/libc_calls.a "the C functions" rt staticlib c_calls
+}
+
+# build_module: the same for WebAssembly, target/wasm/zamiachisel.wasm.
+build_module() {
+    build_once c_calls target/wasm/zamiachisel.wasm "the module for WebAssembly" tools/wasm
 }
 
 # build_reference: the second implementation, to reference/target/release/reference.
@@ -33,6 +61,6 @@ build_reference() {
 
 # build_bench: the C functions as a library, and the program that calls them, to bench/target/release/bench.
 build_bench() {
-    quietly "the C functions, proving the crates that have changed" rt staticlib c_calls
+    build_library
     quietly "the bench" cargo build --release --quiet --manifest-path bench/Cargo.toml
 }

@@ -10,13 +10,34 @@ fn speak_of(program: &[u8], path: &[u8]) {
     names::write(path);
 }
 
-// A file that cannot be opened: it is missing, or there and not to be read.
-pub(crate) fn not_opened(program: &[u8], path: &[u8], result: &[u8]) {
-    if os::errno() == libc::ENOENT {
-        speak_of(program, path);
+// Whether a name looks like an option, which the programs take only as their first and only argument.
+fn is_dashed(path: &[u8]) -> bool {
+    if path.len() == 0 {
+        return false;
+    }
+    path[0] == b'-'
+}
+
+// A file that is not there. Who mistyped an option is told that it is none: the answer is that for a missing file.
+fn missing(program: &[u8], path: &[u8], result: &[u8]) {
+    speak_of(program, path);
+    if is_dashed(path) {
+        io::write_all(STDERR_FILENO, b": no option here, and no file of this name, so ");
+        io::write_all(STDERR_FILENO, result);
+        io::write_all(STDERR_FILENO, b"; options: ");
+        io::write_all(STDERR_FILENO, program);
+        io::write_all(STDERR_FILENO, b" --help\n");
+    } else {
         io::write_all(STDERR_FILENO, b": missing, so ");
         io::write_all(STDERR_FILENO, result);
         io::write_all(STDERR_FILENO, b"\n");
+    }
+}
+
+// A file that cannot be opened: it is missing, or there and not to be read.
+pub(crate) fn not_opened(program: &[u8], path: &[u8], result: &[u8]) {
+    if os::errno() == libc::ENOENT {
+        missing(program, path, result);
     } else {
         not_read(program, path, result);
     }

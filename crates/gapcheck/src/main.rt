@@ -2,20 +2,27 @@
 // of document 01.
 use libc::STDOUT_FILENO;
 
-fn asks_help() -> bool {
+// Whether the first argument is this word.
+fn asks(word: &[u8]) -> bool {
     let mut first = io::buffer();
     let n = os::arg(1, &mut first);
-    check::same(&first[..n], b"--help")
+    check::same(&first[..n], word)
 }
 
-// What `--help` asks for; whether it was written.
+// What `--version` asks for; whether it was written.
+fn write_version() -> bool {
+    io::write_all(STDOUT_FILENO, b"gapcheck 0.20.0\n")
+}
+
+// What `--help` and `-h` ask for; whether it was written.
 fn write_help() -> bool {
     io::write_all(
         STDOUT_FILENO,
         b"gapcheck: whether a lower and an upper bound of a polynomial hold, by two certificates.
 
 usage: gapcheck [PROBLEM [LOW [HIGH]]]
-       gapcheck --help
+       gapcheck --help | -h
+       gapcheck --version
 
 Three files are read, each to at most 65,536 bytes. Where one is not named, the file in
 brackets of the current folder is. A missing file is an empty stream.
@@ -60,8 +67,10 @@ fn write_answer() -> bool {
 }
 
 fn main() {
-    let written = if asks_help() {
+    let written = if asks(b"--help") || asks(b"-h") {
         write_help()
+    } else if asks(b"--version") {
+        write_version()
     } else {
         write_answer()
     };

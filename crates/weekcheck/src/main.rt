@@ -1,20 +1,27 @@
 // weekcheck: a week's pairs in one report, a line for each and one for all. Its run is a week of five pairs.
 use libc::STDOUT_FILENO;
 
-fn asks_help() -> bool {
+// Whether the first argument is this word.
+fn asks(word: &[u8]) -> bool {
     let mut first = io::buffer();
     let n = os::arg(1, &mut first);
-    check::same(&first[..n], b"--help")
+    check::same(&first[..n], word)
 }
 
-// What `--help` asks for; whether it was written.
+// What `--version` asks for; whether it was written.
+fn write_version() -> bool {
+    io::write_all(STDOUT_FILENO, b"weekcheck 0.20.0\n")
+}
+
+// What `--help` and `-h` ask for; whether it was written.
 fn write_help() -> bool {
     io::write_all(
         STDOUT_FILENO,
         b"weekcheck: whether the bounds of up to 64 pairs hold, in one report.
 
 usage: weekcheck [WEEK]
-       weekcheck --help
+       weekcheck --help | -h
+       weekcheck --version
 
 One file is read, to at most 7,340,032 bytes: WEEK, or week.bin of the current folder. A
 missing file is a week without records.
@@ -49,8 +56,10 @@ fn write_answer() -> bool {
 }
 
 fn main() {
-    let written = if asks_help() {
+    let written = if asks(b"--help") || asks(b"-h") {
         write_help()
+    } else if asks(b"--version") {
+        write_version()
     } else {
         write_answer()
     };
