@@ -112,8 +112,8 @@ def bound_lines(verdict: programs.Verdict) -> list[str]:
 
 def ask(problem: bytes, low: bytes, high: Optional[bytes], say: Say) -> programs.Verdict:
     """The checker's verdict: of gapcheck on a pair, of replay on one certificate."""
-    say("asking gapcheck")
-    return programs.check_one(problem, low) if high is None else programs.gapcheck(problem, low, high)
+    say("asking gapcheck" if high is not None else "asking replay")
+    return programs.judge([problem, low] if high is None else [problem, low, high])
 
 
 def run_check(arguments: argparse.Namespace, say: Say) -> Outcome:
@@ -122,8 +122,8 @@ def run_check(arguments: argparse.Namespace, say: Say) -> Outcome:
     out = Outcome(DONE if verdict.accepted else REFUSED, list(verdict.lines),
                   data={"accepted": verdict.accepted, "stream": {"lines": verdict.lines}})
     if verdict.accepted:
-        figures = high and filed_figures([problem, low, high], verdict, *(beside(arguments.paths, name)
-                                                                           for name in (NAME_OF_FILE, MODEL)))
+        streams = [problem, low] if high is None else [problem, low, high]
+        figures = filed_figures(streams, verdict, *(beside(arguments.paths, name) for name in (NAME_OF_FILE, MODEL)))
         if figures:
             out.lines, out.data = quoted_lines(figures) + stream_lines(figures), figures_data(figures)
         else:
@@ -146,7 +146,7 @@ def run_explain(arguments: argparse.Namespace, say: Say) -> Outcome:
     names = names_of(arguments.names) or recorded_names(arguments.paths) or DEFAULT_NAMES
     say("looking for the reason")
     if verdict.refusal:
-        lines = explain(verdict.refusal, problem, low, high or b"", names, beside(arguments.paths, "SUMS"))
+        lines = explain(verdict.refusal, problem, low, high, names, beside(arguments.paths, "SUMS"))
     elif verdict.empty:
         lines = verdict.lines + explain_empty(verdict, problem, [low, high or b""], names)
     else:

@@ -18,7 +18,8 @@ from .text import NAME
 NAME_OF_FILE = "manifest.json"
 MOST_BYTES = 1 << 20
 NUMBER = re.compile(r"-?[0-9]{1,2000}(/[0-9]{1,2000})?")
-MADE = ("date", "gapfile", "Python", "solver", "gapcheck", "found", "SHA-256", "published", "commit", "kit")
+MADE = ("date", "gapfile", "Python", "solver", "gapcheck", "replay", "found", "SHA-256", "published", "commit", "kit")
+SIDES = ("lower", "upper")
 
 
 class ManifestError(Exception):
@@ -27,14 +28,15 @@ class ManifestError(Exception):
 
 @dataclass(frozen=True)
 class Manifest:
-    """What is read of a manifest."""
+    """What is read of a manifest. Lists by side have nothing at one that is not claimed."""
     factor: int
     variables: list[Scaled]
-    points: list[Optional[list[Fraction]]]                   # for each side, in the stream's variables
+    points: list[Optional[list[Fraction]]]                   # by side, in the stream's variables
     values: list[Optional[Fraction]]                         # what is said to be attained there, in the model's units
     filed: list[Optional[Fraction]]                          # the bounds that are said to be filed, likewise
     relaxations: list[str]
     made: dict[str, str]                                     # how, when and with what it was made
+    sides: tuple[int, ...] = (0, 1)                          # those that are claimed
 
 
 def read_manifest(data: bytes) -> Manifest:
@@ -47,7 +49,7 @@ def read_manifest(data: bytes) -> Manifest:
         raise ManifestError(f"{NAME_OF_FILE} is no JSON") from None
     top = _Entry(NAME_OF_FILE, found)
     variables = top.get("variables").items(1, 8)
-    sides = top.get("sides").items(2, 2)
+    claimed, sides = _sides(top.get("sides"))
     points = [side.get("attained", True) for side in sides]
     made = top.get("made", True)
     return Manifest(
@@ -58,8 +60,22 @@ def read_manifest(data: bytes) -> Manifest:
                 for p in points],
         values=[p.get("value").number() if p.there else None for p in points],
         filed=[side.get("filed").number() if side.get("filed", True).there else None for side in sides],
-        relaxations=[side.get("relaxation").decimal() for side in sides],
-        made={word: made.get(word).words() for word in MADE if made.there and made.get(word, True).there})
+        relaxations=[side.get("relaxation").decimal() if k in claimed else "" for k, side in enumerate(sides)],
+        made={word: made.get(word).words() for word in MADE if made.there and made.get(word, True).there},
+        sides=claimed)
+
+
+def _sides(entry: "_Entry") -> tuple[tuple[int, ...], list["_Entry"]]:
+    """Which sides are there, and both in their order; one that is not there has no entries."""
+    found = entry.items(1, 2)
+    if len(found) == 2:
+        return (0, 1), found
+    word = found[0].get("side")
+    if word.value not in SIDES:
+        raise ManifestError(f"{word.name} is neither lower nor upper")
+    side = SIDES.index(word.value)
+    other = _Entry(f"{entry.name} not claimed", {})
+    return (side,), [found[0], other] if side == 0 else [other, found[0]]
 
 
 @dataclass(frozen=True)

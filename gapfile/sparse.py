@@ -78,7 +78,7 @@ RULES: tuple[tuple[str, Rule], ...] = (
     ("all", everything))
 
 
-def give_bases(problem: Problem, total: int, rule: Rule) -> None:
+def give_bases(problem: Problem, total: int, rule: Rule, sides: tuple[int, ...] = (0, 1)) -> None:
     """Gives the problem its bases: basis 0 by the rule; a condition gets those whose squares, times each of its terms,
     are products of basis 0, as basis 0 must take what is left of them. Raises LimitError."""
     if total < least_degree(problem):
@@ -87,16 +87,18 @@ def give_bases(problem: Problem, total: int, rule: Rule) -> None:
     first = [b for b in monomials(problem.variables, total // 2) if allowed(b)]
     if len(first) > MOST_TO_DROP:
         raise too_large(0, total, len(first))                # before the products are made: there can be millions
-    reached = {add(a, b) for a in first for b in first}
-    problem.bases = [first]
-    for condition in problem.conditions:
-        upto = (total - degree(condition.terms)) // 2
-        problem.bases.append([m for m in monomials(problem.variables, upto)
-                              if all(add(add(m, m), t) in reached for t in condition.terms)])
-    problem.bases[0] = drop(problem)
+    problem.bases = [first, *condition_bases(problem, first, total)]
+    problem.bases[0] = drop(problem, sides)
     for j, basis in enumerate(problem.bases):
         if len(basis) > LIMITS["basis"]:
             raise too_large(j, total, len(basis))
+
+
+def condition_bases(problem: Problem, first: list[Monomial], total: int) -> list[list[Monomial]]:
+    """For each condition the monomials whose squares, times each of its terms, are products of basis 0."""
+    reached = {add(a, b) for a in first for b in first}
+    return [[m for m in monomials(problem.variables, (total - degree(condition.terms)) // 2)
+             if all(add(add(m, m), t) in reached for t in condition.terms)] for condition in problem.conditions]
 
 
 def too_large(j: int, total: int, size: int) -> LimitError:

@@ -26,10 +26,10 @@ class UsageError(Exception):
 
 
 class NotAccepted(Exception):
-    """gapcheck refused the bytes: nothing is filed."""
+    """gapcheck, or replay for one side, refused the bytes: nothing is filed."""
 
-    def __init__(self, verdict: Verdict) -> None:
-        super().__init__("gapcheck refused what was made, and nothing is written: " + "; ".join(verdict.lines))
+    def __init__(self, verdict: Verdict, judge: str = "gapcheck") -> None:
+        super().__init__(f"{judge} refused what was made, and nothing is written: " + "; ".join(verdict.lines))
 
 
 TABLE: tuple[tuple[type[BaseException], int], ...] = (
