@@ -3,10 +3,11 @@ from __future__ import annotations
 
 from dataclasses import replace
 
-from .commands import Monomial, add, monomial_text
+from .commands import monomial_text
 from .problem import LimitError, Posed
+from .progress import Say
 from .reading import LIMITS
-from .sparse import condition_bases
+from .sparse import Parts, condition_bases, unreachable
 
 
 def with_given(posed: Posed) -> tuple[int, Posed]:
@@ -23,22 +24,13 @@ def with_given(posed: Posed) -> tuple[int, Posed]:
     return total, replace(posed, problem=replace(posed.problem, bases=bases))
 
 
-def kept(posed: Posed) -> None:
-    """Raises LimitError where a monomial had to be taken from a basis that was given: its products are beyond basis 0,
-    and no rounding could make them exact."""
+def used(posed: Posed, parts: Parts, say: Say) -> Parts:
+    """The blocks without what makes products that basis 0 does not have in its blocks: no rounding could make these
+    exact. A basis that was given keeps such a monomial, but no row uses it, which is said."""
+    lost = unreachable(posed.problem, parts)
     for j, basis in posed.given.items():
-        lost = [b for b in basis.monomials if b not in posed.problem.bases[j]]
-        if lost:
-            shown = monomial_text(lost[0], posed.names)
-            raise LimitError(f"line {basis.line}, column {basis.column}: basis {j} has {shown}, {_why(posed, j, lost[0])}"
-                             f"; add to basis 0 what makes it, or take {shown} from basis {j}")
-
-
-def _why(posed: Posed, j: int, lost: Monomial) -> str:
-    """A product of a monomial that basis 0 does not have, in words."""
-    first = posed.given[0].monomials
-    reached = {add(a, b) for a in first for b in first}
-    made = (add(add(lost, b), t) for b in posed.given[j].monomials for t in posed.problem.multiplier(j))
-    missing = next((monomial_text(e, posed.names) for e in made if e not in reached), "")
-    return f"which makes {missing}, and no product of basis 0 is that" if missing else \
-        "whose products basis 0 does not have in one block"
+        shown = [monomial_text(basis.monomials[i], posed.names) for i in sorted(lost.get(j, ()))]
+        if shown:
+            say(f"basis {j}: no row uses {', '.join(shown)}, whose products basis 0 does not have in its blocks")
+    left = [[[i for i in part if i not in lost.get(j, ())] for part in pieces] for j, pieces in enumerate(parts)]
+    return [[part for part in pieces if part] for pieces in left]

@@ -6,12 +6,12 @@ smallest that is close to the best is rounded.
 from __future__ import annotations
 
 from dataclasses import dataclass, field, replace
-from typing import Iterator, Optional
+from typing import Container, Iterator, Optional
 
 from . import basis
 from .blocks import by_basis
 from .budget import RELAXING, Budget
-from .given import kept, with_given
+from .given import used, with_given
 from .peeling import rows_least
 from .points import Reached
 from .problem import LARGEST_DEGREE, LimitError, Posed
@@ -21,9 +21,8 @@ from .progress import Say
 from .reading import LIMITS, Problem
 from .sdp import Program, Solution, Unreachable, pose_program, solve
 from .solver import STATUS, USABLE, Solver
-from .sparse import RULES, Rule, by_variables, give_bases, prune
+from .sparse import RULES, Parts, Rule, by_variables, give_bases, prune
 
-Parts = list[list[list[int]]]    # for each basis its blocks, as lists of indices
 WORDS = ("lower", "upper")
 ANY_BOUND = 2                    # csdp's status where the program is unbounded
 CLOSE = 1e-6                     # relaxations this close to an attained value need no more monomials
@@ -91,10 +90,11 @@ def best_bounds(relaxed: list[Relaxed], reached: Reached) -> dict[int, float]:
     return {side: max(r.bound(side, reached) for r in relaxed) for side in relaxed[0].posed.sides}
 
 
-def fitting_blocks(problem: Problem) -> Blocks:
-    """The blocks, with the conditions' bases pruned to them. Raises LimitError where basis 0 needs too many rows."""
+def fitting_blocks(problem: Problem, kept: Container[int] = ()) -> Blocks:
+    """The blocks, with the conditions' bases pruned to them, but for those to be kept. Raises LimitError where basis 0
+    needs too many rows."""
     found = basis.find_blocks(problem)
-    while prune(problem, by_basis(problem, found)):
+    while prune(problem, by_basis(problem, found), kept):
         found = basis.find_blocks(problem)
     rows = rows_least(problem.bases[0], by_basis(problem, found)[0])
     if rows > LIMITS["rows"]:
@@ -122,8 +122,9 @@ def relax(posed: Posed, total: int, name: str, solver: Solver, reached: Reached,
     """The best bounds with the bases that the problem has; what is attained is looked for where it is not yet close.
     Raises LimitError or NoCertificate."""
     problem = posed.problem
-    found = fitting_blocks(problem)
-    out = Relaxed(posed, total, name, found, by_basis(problem, found))
+    found = fitting_blocks(problem, posed.given)
+    parts = by_basis(problem, found)
+    out = Relaxed(posed, total, name, found, used(posed, parts, say) if posed.given else parts)
     for side in posed.sides:
         none = f"no {WORDS[side]} certificate of degree {total}"
         try:
@@ -178,8 +179,6 @@ class Ladder:
     def _by_hand(self) -> Relaxed:
         """The relaxation with the bases that were given. Raises LimitError or NoCertificate."""
         total, posed = with_given(self.posed)
-        fitting_blocks(posed.problem)
-        kept(posed)
         return relax(posed, total, "hand", self.solver, self.reached, self.say)
 
     def _degree(self, total: int) -> None:

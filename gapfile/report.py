@@ -42,8 +42,9 @@ def report_lines(solved: Solved, model: Model) -> list[str]:
     for side in solved.sides:
         lines += _remarks(solved, model, side)
     if far(solved):
-        lines.append(f"either better points were not found, or degree {solved.degree} gives no more; "
-                     f"{higher(solved.posed, solved.degree + 2)}")
+        given = "the bases that the model gives prove no more; with more monomials, or none given, they may"
+        lines.append("either better points were not found, or " + (given if solved.posed.given else (
+            f"degree {solved.degree} gives no more; {higher(solved.posed, solved.degree + 2)}")))
     return lines
 
 

@@ -248,8 +248,9 @@ def _exact(figures: Figures) -> str:
                     f'<td class="mono" data-figure="{word} exact">{fraction(value)}</td></tr>'
                     for word, said, value in rows)
     lines = escape("\n".join(figures.verdict.lines))
+    pre = '<pre class="written">' if figures.not_claimed else "<pre>"       # the one line of replay may be longer
     return (f'<div class="columns"><div><h2>Exact fractions</h2><table>{_heads(heads)}{table}</table></div>'
-            f'<div class="narrow"><h2>What {figures.judge} printed</h2><pre>{lines}</pre></div></div>')
+            f'<div class="narrow"><h2>What {figures.judge} printed</h2>{pre}{lines}</pre></div></div>')
 
 
 def _heads(words: tuple[str, ...]) -> str:

@@ -5,7 +5,7 @@ import traceback
 from pathlib import Path
 
 from .expressions import ModelError
-from .manifest import ManifestError
+from .entries import EntryError
 from .problem import LimitError
 from .programs import ProgramError, Verdict
 from .reading import Refused
@@ -34,7 +34,7 @@ class NotAccepted(Exception):
 
 TABLE: tuple[tuple[type[BaseException], int], ...] = (
     (NotAccepted, REFUSED),
-    (UsageError, USAGE), (ModelError, USAGE), (LimitError, USAGE), (ManifestError, USAGE), (TextError, USAGE),
+    (UsageError, USAGE), (ModelError, USAGE), (LimitError, USAGE), (EntryError, USAGE), (TextError, USAGE),
     (OutputError, USAGE), (ProgramError, USAGE), (NoSolver, USAGE), (OSError, USAGE),
     (NoCertificate, NOT_FOUND),
     (Mismatch, DIFFERS),
