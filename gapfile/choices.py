@@ -67,8 +67,8 @@ class Choices:
     def _basis(self, line: Line) -> None:
         """`NUMBER: MONOMIAL ..`"""
         token = line.next()
-        if token.text not in [str(k) for k in range(LIMITS["conditions"] + 1)]:
-            raise line.error(token.column, f"expected the number of a basis, 0 to {LIMITS['conditions']}")
+        if token.kind != "number" or not token.text.isdigit() or len(token.text) > 2:
+            raise line.error(token.column, "expected the number of a basis: 0, or that of a condition")
         number = int(token.text)
         if number in self.bases:
             raise line.error(token.column, f"basis {number} stands a second time, first in line "

@@ -123,10 +123,12 @@ class _Solving:
 
     def _if_unbounded(self) -> None:
         """Raises NoCertificate with the direction where the polynomial has no bound on the region."""
-        for side in self.model.sides:
-            if said := unbounded(self.model, side):
+        found = {side: unbounded(self.model, side) for side in self.model.sides}
+        for side, said in found.items():
+            if said:
                 other = WORDS[1 - side]
-                help_ = f"; the line `only {other}` files the {other} bound alone" if len(self.model.sides) == 2 else ""
+                help_ = f"; the line `only {other}` files the {other} bound alone" if found.get(1 - side, said) is None \
+                    else ""
                 raise NoCertificate(f"the polynomial has no {WORDS[side]} bound on the region: {said}{help_}", False)
 
 
