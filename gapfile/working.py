@@ -17,7 +17,7 @@ from .progress import Say
 from .reading import Refused, read_certificate, read_problem
 from .statuses import DISAGREE, DONE, REFUSED, UsageError
 from .text import DEFAULT_NAMES, monomial_of
-from .worksheet import (WIDEST, Worksheet, aligned, column_table, given_lines, summary, table, verdict_line, worksheet)
+from .worksheet import (WHY, WIDEST, Worksheet, aligned, column_table, given_lines, summary, table, verdict_line, worksheet)
 from .writing import STREAMS, write_file
 
 SIDES = {"low": 1, "high": 2}
@@ -108,8 +108,8 @@ def _lines(sheet: Worksheet, name: str, column: Optional[Monomial], whole: bool)
         return [*head, f"the column of {shown}:", *aligned(column_table(sheet, column), 2), said]
     lines = aligned(table(sheet))
     if whole or max(map(len, lines)) <= WIDEST:
-        return [*head, *lines, verdict_line(sheet)]
-    return [*head, *aligned(summary(sheet)), verdict_line(sheet),
+        return [*head, *lines, verdict_line(sheet), *([] if sheet.wrong else [WHY])]
+    return [*head, *aligned(summary(sheet)), verdict_line(sheet), *([] if sheet.wrong else [WHY]),
             f"a column by its products: --column '{monomial_text(sheet.columns[-1], sheet.names)}'; the whole table, "
             f"{max(map(len, lines))} letters wide: --all; as a page: --html FILE"]
 
@@ -134,13 +134,17 @@ def as_html(sheet: Worksheet, name: str, verdict: Verdict, column: Optional[Mono
     given = "".join(f'<p class="given">{pretty(line)}</p>' for line in given_lines(sheet))
     checker = escape("; ".join(verdict.lines))
     return (f'<!DOCTYPE html>\n<html lang="en"><head><meta charset="utf-8"><title>{name}, worksheet</title>'
-            f"<style>{STYLE}</style></head>\n<body><h1>Worksheet of {name}</h1><p>{escape(_title(sheet))}</p>{given}\n"
+            f"<style>{STYLE}</style></head>\n<body><h1>Worksheet of {name}</h1><p>{_sentence(pretty(_title(sheet)))}</p>{given}\n"
             f"{_table(cells, left, last)}\n<p>{said}</p><p>replay printed: {checker}</p></body></html>\n")
 
 
 def _verdict(sheet: Worksheet) -> str:
     said = escape(verdict_line(sheet))
-    return f'<b class="differs">{said}</b>' if sheet.wrong else f"{said[0].upper()}{said[1:]}."
+    return f'<b class="differs">{said}</b>' if sheet.wrong else f"{_sentence(said)} {_sentence(WHY)}"
+
+
+def _sentence(text: str) -> str:
+    return f"{text[0].upper()}{text[1:]}."
 
 
 def _table(cells: list[list[str]], left: tuple[int, ...], last: int) -> str:

@@ -15,6 +15,8 @@ from .polynomials import ordered
 from .reading import Certificate, Problem, Row
 
 WIDEST = 150                     # letters of a table in text; of a wider one the columns are listed
+WHY = ("a row is a square times a weight above 0 times a g that is at least 0 on the region (a weight may be below 0 where g "
+       "is 0 there), so the sum is at least 0 there, and with it the claim: the bound holds")
 
 
 @dataclass(frozen=True)
@@ -130,7 +132,7 @@ def summary(sheet: Worksheet) -> list[list[str]]:
 def column_table(sheet: Worksheet, column: Monomial) -> list[list[str]]:
     """One column, for a pencil: for each row that reaches it the weight times the sum of the products, what that is, and
     the sum so far."""
-    cells, so_far = [["row", "weight x products", "gives", "sum so far"]], 0
+    cells, so_far = [["row", "weight * products", "gives", "sum so far"]], 0
     for number, row in enumerate(sheet.certificate.rows, 1):
         made = [product for product in products(sheet.problem, row) if product.monomial == column]
         if made:
@@ -174,6 +176,6 @@ def verdict_line(sheet: Worksheet) -> str:
     """Whether all columns add up."""
     wrong, count = sheet.wrong, counted(len(sheet.columns), "column")
     if not wrong:
-        return f"all of it adds up, in {count}" if len(sheet.columns) > 1 else "it adds up, in 1 column"
+        return f"all of it adds up, in {count}"
     shown = ", ".join(monomial_text(e, sheet.names) for e in wrong[:8])
     return f"{len(wrong)} of {count} do not add up: {shown}{' ..' if len(wrong) > 8 else ''}"

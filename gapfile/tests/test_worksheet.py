@@ -17,7 +17,7 @@ from gapfile.reading import read_certificate, read_problem
 from gapfile.tests.support import CASE_F, EXAMPLES, folder_of, needs_programs, run
 from gapfile.tests.test_filing import Page
 from gapfile.text import DEFAULT_NAMES
-from gapfile.worksheet import worksheet
+from gapfile.worksheet import WHY, worksheet
 from gapfile.working import pretty
 
 Point = dict[str, int]
@@ -38,7 +38,7 @@ def printed(out: str) -> tuple[dict[str, str], list[str], list[list[str]]]:
     ends = [match.end() for match in re.finditer(r"\S+", lines[start])]
     cells = []
     for line in lines[start + 1:]:
-        if line.startswith(("all of it", "it adds up")) or "do not add up" in line:
+        if line.startswith("all of it") or "do not add up" in line:
             break
         words = line[:line.find("  ") if "  " in line else len(line)]
         place, row = len(words), [words]
@@ -64,13 +64,14 @@ g1 = 1 - x1^2, which is >= 0 on the region
 sum of the rows  2   2     0
 2*(1*f + 1)      2   2     0
 all of it adds up, in 3 columns
+""" + WHY + """
 replay: check 0 -1/1 rounds 2 rule 1
 """))
         status, out, _ = run("work", CASE_F, "high", "--column", "x1", "--names", "a")
         self.assertEqual(status, 2)                              # with another name it is no column
         status, out, _ = run("work", CASE_F, "high", "--column", " a ", "--names", "a")
         self.assertEqual((status, out.splitlines()[3:]), (0, [
-            "the column of a:", "row  weight x products         gives  sum so far",
+            "the column of a:", "row  weight * products         gives  sum so far",
             "1    1*(2*1*(-1))                 -2          -2",
             "     2*(1 - 1*f): 2*(0 - 1*1)                 -2",
             "the last two sums are equal: the column adds up", "replay: check 1 1/1 rounds 2 rule 1"]))
