@@ -12,10 +12,11 @@ from .points import Attained, Reached
 from .problem import Posed, encode_problem
 from .programs import Blocks, check_one
 from .progress import Say
-from .relaxing import ANY_BOUND, CLOSE, WORDS, NoCertificate, Parts, Relaxed
+from .relaxing import ANY_BOUND, CLOSE, WORDS, NoCertificate, Relaxed
 from .rounding import EFFORTS, Rounded, denominator_for, encode_certificate, round_solution, wide_entries
 from .sdp import Program, Solution, solve
 from .solver import STATUS, USABLE, Solver
+from .sparse import Parts
 from .squares import RoundingError, TooManyRows
 
 # of the objective's largest coefficient; factors of 16 bits have less room, so their steps are finer
@@ -96,8 +97,8 @@ class Certifier:
         self.say(f"rounding at degree {relaxed.degree}: {sizes}")
         solved = Solved(relaxed.posed, relaxed.degree, encode_problem(problem), relaxed.blocks, sizes)
         if relaxed.empty and len(relaxed.posed.sides) == 1:
-            raise NoCertificate(f"{STATUS[ANY_BOUND]}; one side alone cannot show that: without `only` bounds that cross "
-                                "are looked for", False)
+            raise NoCertificate(f"{STATUS[ANY_BOUND]}; one side alone cannot show that: without `only` bounds that "
+                                "cross are looked for", False)
         for side in relaxed.posed.sides:
             solved.sides.append(self._side(solved.problem, relaxed, side, reached.on(relaxed.posed, side)))
         if relaxed.empty and solved.sides[0].bound <= solved.sides[1].bound:

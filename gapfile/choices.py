@@ -1,5 +1,5 @@
-"""What a model may choose of the format beside polynomial and region: the joining rule, the sparse order, bases given by
-hand, and one side alone.
+"""What a model may choose of the format beside polynomial and region: the joining rule, the sparse order, bases given
+by hand, and one side alone.
 
     rule  2                         # request 08
     order 1                         # request 09

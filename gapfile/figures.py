@@ -121,8 +121,8 @@ def figures_of(streams: list[bytes], verdict: Verdict, manifest: Manifest, model
                     for number, (side, stream) in enumerate(zip(model.sides, streams[1:], strict=True), 1)}
     for side, certificate in certificates.items():
         if certificate.side != side:
-            raise Mismatch(f"{STREAMS[1 + side]} states the {SIDES[certificate.side]} bound, where the model claims the "
-                           f"{SIDES[side]} one")
+            raise Mismatch(f"{STREAMS[1 + side]} states the {SIDES[certificate.side]} bound, where the model claims "
+                           f"the {SIDES[side]} one")
     if manifest.sides != model.sides:
         raise Mismatch(f"the manifest has {_named(manifest.sides)}, the model claims {_named(model.sides)}")
     restated = faithful(model, manifest.variables, manifest.factor, problem)
@@ -173,4 +173,5 @@ def quoted_lines(figures: Figures) -> list[str]:
 def stream_lines(figures: Figures) -> list[str]:
     """What the program that decided printed, named as the stream's."""
     of = "the model's" if figures.factor == 1 else f"{figures.factor} times the model's"
-    return [f"{figures.judge} on the stream, whose polynomial is {of}:", *(f"  {line}" for line in figures.verdict.lines)]
+    said = [f"  {line}" for line in figures.verdict.lines]
+    return [f"{figures.judge} on the stream, whose polynomial is {of}:", *said]

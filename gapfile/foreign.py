@@ -1,7 +1,8 @@
 """`gapfile round PROBLEM GRAM.json -o DIR`: certificates from the Gram matrices of any solver.
 
-They are rounded as csdp's are. csdp can be asked again with more room inside the cone; another solver's answer is all there
-is, so room is made with the bound alone: it is given up by rising steps, which adds to the diagonal at the monomial 1.
+They are rounded as csdp's are. csdp can be asked again with more room inside the cone; another solver's answer is all
+there is, so room is made with the bound alone: it is given up by rising steps, which adds to the diagonal at the
+monomial 1.
 """
 from __future__ import annotations
 
@@ -22,9 +23,10 @@ from .outcome import Outcome
 from .programs import check_one, judge
 from .progress import Say
 from .reading import Problem, Refused, read_problem
-from .relaxing import NoCertificate, Parts
+from .relaxing import NoCertificate
 from .rounding import EFFORTS, Rounded, encode_certificate, round_solution
 from .sdp import Program, Solution, Unreachable, pose_program
+from .sparse import Parts
 from .squares import RoundingError
 from .statuses import DONE, NotAccepted, UsageError
 from .writing import STREAMS, check_folder, streams_for, write_folder
@@ -74,8 +76,8 @@ def rounded(stream: bytes, problem: Problem, parts: Parts, grams: Grams, wide: b
     try:
         program = pose_program(problem, parts, grams.side)
     except Unreachable:
-        raise NoCertificate(f"no {word} certificate: the objective has a monomial that no product of the bases has; add "
-                            "to basis 0 what makes it", False) from None
+        raise NoCertificate(f"no {word} certificate: the objective has a monomial that no product of the bases has; "
+                            "add to basis 0 what makes it", False) from None
     solution = as_solution(program, parts, grams)
     scale, failure = float(program.scale), RoundingError("nothing was tried")
     for loss in LOSSES:
@@ -86,11 +88,16 @@ def rounded(stream: bytes, problem: Problem, parts: Parts, grams: Grams, wide: b
         except RoundingError as error:
             failure = error
             continue
-        bound = Fraction(found[0].p, found[0].q)
-        lost = abs(float(bound) - grams.bound)
-        return found[1], (f"{word} {fraction(bound)} = {decimal(bound, grams.side == 1, digits_for(Fraction(0), bound))}"
-                          f", {lost:.2g} from the given {grams.bound:.9g}; {counted(len(found[0].rows), 'row')}")
+        return found[1], _said(found[0], grams)
     raise NoCertificate(f"no {word} certificate could be rounded ({failure}); {_advice(program, solution)}", False)
+
+
+def _said(found: Rounded, grams: Grams) -> str:
+    """The bound, and how far it is from the one that was given."""
+    bound = Fraction(found.p, found.q)
+    shown = decimal(bound, grams.side == 1, digits_for(Fraction(0), bound))
+    return (f"{SIDES[grams.side]} {fraction(bound)} = {shown}, {abs(float(bound) - grams.bound):.2g} from the given "
+            f"{grams.bound:.9g}; {counted(len(found.rows), 'row')}")
 
 
 def _tried(stream: bytes, program: Program, parts: Parts, solution: Solution, slack: float,
@@ -111,8 +118,9 @@ def _tried(stream: bytes, program: Program, parts: Parts, solution: Solution, sl
 
 
 def as_solution(program: Program, parts: Parts, grams: Grams) -> Solution:
-    """The matrices as csdp's answer: by the checker's blocks, and for an equality the polynomial that its matrix is. What
-    lies outside the blocks reaches no monomial of the identity where the rounds go to their end, and is left out."""
+    """The matrices as csdp's answer: by the checker's blocks, and for an equality the polynomial that its matrix is.
+    What lies outside the blocks reaches no monomial of the identity where the rounds go to their end, and is left
+    out."""
     blocks = [[[grams.matrices[j][a][b] for b in ix] for a in ix] for j, ix in program.blocks]
     free: dict[tuple[int, Monomial], float] = {}
     for j, pieces in enumerate(parts):
@@ -142,9 +150,9 @@ def room(program: Program, solution: Solution) -> float:
 
 
 def smallest(matrix: list[list[float]]) -> float:
-    """The smallest eigenvalue of a symmetric matrix, to about a thousandth of it: the largest shift after which Cholesky's
+    """The smallest eigenvalue of a symmetric matrix, about: the largest shift of the diagonal after which Cholesky's
     method still goes through."""
-    largest = max((sum(map(abs, row)) for row in matrix), default=0.0)
+    largest = max((sum(abs(x) for x in row) for row in matrix), default=0.0)
     low, high = -largest, min((row[a] for a, row in enumerate(matrix)), default=0.0)
     for _ in range(HALVINGS):
         middle = (low + high) / 2
@@ -172,14 +180,15 @@ def _definite(matrix: list[list[float]], shift: float) -> bool:
 def _advice(program: Program, solution: Solution) -> str:
     """How much room the matrices leave, and what to do."""
     least = min((smallest(matrix) for (j, _), matrix in zip(program.blocks, solution.grams) if j == 0), default=0.0)
-    return (f"the smallest eigenvalue of basis 0 is about {least:.1e}: ask the solver for a bound a little worse than its "
-            "best, with matrices inside the cone, and for more digits")
+    return (f"the smallest eigenvalue of basis 0 is about {least:.1e}: ask the solver for a bound a little worse than "
+            "its best, with matrices inside the cone, and for more digits")
 
 
 def add_round(command: Callable[[str, str], argparse.ArgumentParser]) -> None:
     made = command("round", "make certificates from the Gram matrices of any solver")
     made.add_argument("problem", metavar="PROBLEM", help=f"a problem, as {STREAMS[0]}; - reads standard input")
-    made.add_argument("grams", metavar="GRAM.json", help='bounds and matrices by basis: docs/FORMAT.md, "Gram matrices"')
+    made.add_argument("grams", metavar="GRAM.json",
+                      help='bounds and matrices by basis: docs/FORMAT.md, "Gram matrices"')
     made.add_argument("-o", "--output", metavar="DIR", required=True, help="the folder to write")
     made.add_argument("--replace", action="store_true", help="put it in the place of a filing that stands there")
     made.add_argument("--narrow", action="store_true", help="factors of 16 bits only")

@@ -4,6 +4,7 @@ from __future__ import annotations
 from dataclasses import replace
 
 from .commands import monomial_text
+from .polynomials import degree
 from .problem import LimitError, Posed
 from .progress import Say
 from .reading import LIMITS
@@ -13,7 +14,7 @@ from .sparse import Parts, condition_bases, unreachable
 def with_given(posed: Posed) -> tuple[int, Posed]:
     """The degree of the squares of basis 0, and the problem with its bases. Raises LimitError."""
     first = list(posed.given[0].monomials)
-    total = 2 * max(map(sum, first))
+    total = 2 * degree(dict.fromkeys(first))
     bases = [first, *condition_bases(posed.problem, first, total)]
     for j, basis in posed.given.items():
         bases[j] = list(basis.monomials)

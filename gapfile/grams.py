@@ -1,8 +1,8 @@
 """Gram matrices of any solver, as JSON with floats (docs/FORMAT.md, "Gram matrices"). The file is untrusted input.
 
 Each side has its bound and a list of matrices, each over monomials of one basis of the problem: together they say, in
-floats, that f - bound (bound - f for the upper one) is the sum over j of g_j x (m' M m). Matrices of one basis add up, so
-a solver's blocks can stand one by one.
+floats, that f - bound (bound - f for the upper one) is the sum over j of g_j x (m' M m). Matrices of one basis add up,
+so a solver's blocks can stand one by one.
 """
 from __future__ import annotations
 

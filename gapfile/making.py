@@ -74,7 +74,8 @@ def _make(arguments: argparse.Namespace, say: Say, filed: bool) -> Outcome:
 def figures_data(figures: Figures) -> dict[str, Any]:
     """The figures as plain data, for JSON."""
     return {
-        "accepted": True, "empty": figures.verdict.empty, "not claimed": figures.not_claimed or None, "unit": figures.model.head.get("unit", ""),
+        "accepted": True, "empty": figures.verdict.empty, "not claimed": figures.not_claimed or None,
+        "unit": figures.model.head.get("unit", ""),
         "figures": {q.name: {"decimal": q.decimal, "exact": str(q.exact), "rounded": not q.is_exact}
                     for q in figures.quoted},
         "stream": {"lines": figures.verdict.lines, "factor": figures.factor},

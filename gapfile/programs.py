@@ -222,7 +222,7 @@ def check_one(problem: bytes, certificate: bytes, command: Optional[list[str]] =
 
 def judge(streams: Sequence[bytes]) -> Verdict:
     """A problem with two certificates by gapcheck, one with a single certificate by replay."""
-    return gapcheck(*streams) if len(streams) == 3 else check_one(*streams)
+    return gapcheck(*streams) if len(streams) == 3 else check_one(streams[0], streams[1])
 
 
 def check_pair(problem: bytes, low: bytes, high: bytes, command: Optional[list[str]] = None) -> list[str]:

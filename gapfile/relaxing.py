@@ -160,8 +160,8 @@ class Ladder:
         self.fits = False            # whether some bases of the degree that is tried are within the limits
 
     def climb(self, only: Optional[int]) -> list[Relaxed]:
-        """All relaxations, at one degree or from the least one on; one alone where the bases are given. Raises LimitError
-        or NoCertificate if none is."""
+        """All relaxations, at one degree or from the least one on; one alone where the bases are given. Raises
+        LimitError or NoCertificate if none is."""
         if self.posed.given:
             return [self._by_hand()]
         for total in [only] if only else range(self.least, LARGEST_DEGREE + 1, 2):

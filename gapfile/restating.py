@@ -109,7 +109,8 @@ def _chosen(model: Model, variables: Sequence[Scaled], out: Restated, sent: Prob
                            f"{f'{word} {wanted}' if wanted else 'none'}")
     given = model.choices.bases
     if given and any(v.middle for v in variables):
-        raise Mismatch("the model gives its bases by hand, and a range was shifted, so that they are others in the stream")
+        raise Mismatch("the model gives its bases by hand, and a range was shifted, so that they are others in the "
+                       "stream")
     kept = [k for k, words in enumerate(out.sources, 1) if words not in out.left_out]
     for number, basis in given.items():
         if number and number not in kept:

@@ -38,8 +38,9 @@ NOT_YET = "Not checked again in this page: its script did not run."
 TOO_LARGE = "This sheet does not check itself: the files are too large to stand in it. Use {}."
 PAIR = "the three files: {links}. <code>gapcheck problem.bin low.bin high.bin</code>\nchecks"
 ONE = "the two files: {links}. <code>gapfile check {names}</code>\nasks replay, which checks"
-INSIDE = """<div class="inside"><p>Save {saved} them without this page.</p><p>The checker in this page is proved code, compiled for browsers; the last step of
-the compiler, the browser and the script that compares are not proved. Its SHA-256, as <code>tools/wasm</code> tells it:
+INSIDE = """<div class="inside"><p>Save {saved} them without this page.</p><p>The
+checker in this page is proved code, compiled for browsers; the last step of the compiler, the browser and the script
+that compares are not proved. Its SHA-256, as <code>tools/wasm</code> tells it:
 <span class="mono" id="digest">{digest}</span></p></div>
 """
 MODULE = re.compile(r'<script type="text/plain" id="module">([A-Za-z0-9+/=]*)</script>')

@@ -58,7 +58,7 @@ pre.written { white-space: pre-wrap }
 .dense .sums td { padding-top: 0; padding-bottom: 0; line-height: 1.25 } .dense p { margin: .2mm 0 }
 ul { margin: .4mm 0; padding-left: 4mm } li { margin: .2mm 0 }
 """
-WIDER, TOOLS, UNIT, NOTE = 130, 280, 12, 230             # letters of room
+WIDER, TOOLS, UNIT = 130, 280, 12                        # letters of room
 PROVED = """<h2>What was proved, and what was computed</h2>
 <p class="small">gapcheck, a program with a proof, accepted the bounds of the polynomial of problem.bin over its
 conditions, for all real points (docs/MAP.md, part 5). That this is the model's polynomial times the factor, what the
@@ -67,8 +67,8 @@ variables stand for, that every condition sent follows from the model's, and the
 PROVED_ONE = PROVED.replace("gapcheck, a program with a proof, accepted the bounds", "The proved check of one "
                             "certificate, which the program replay asks, accepted the bound")
 AGAIN = """<h2>To check it again</h2>
-<p class="small">In the folder of the files <code>sha256sum -c SUMS</code>, then <code>{command}</code>: it must print the
-{lines} above. Then <code>gapfile verify</code> and this folder's name.{coq}</p>
+<p class="small">In the folder of the files <code>sha256sum -c SUMS</code>, then <code>{command}</code>: it must print
+the {lines} above. Then <code>gapfile verify</code> and this folder's name.{coq}</p>
 <h2>What is not claimed</h2>
 <ul class="small"><li>That the model is the bid: compare it.</li>{other}
 <li>{best}: what is attained stands above.</li>
@@ -89,9 +89,10 @@ class Room:
     conditions: int
     meant: int
     place: int
+    note: int
 
 
-WIDE, TIGHT = Room(12, 520, 360, 480, 420, 300, 200), Room(8, 300, 220, 340, 220, 200, 130)
+WIDE, TIGHT = Room(12, 520, 360, 480, 420, 300, 200, 230), Room(8, 300, 220, 340, 220, 200, 130, 80)
 
 
 def page(figures: Figures, sums: list[tuple[str, str]]) -> str:
@@ -114,7 +115,7 @@ def _accepted(figures: Figures) -> str:
 
 def _body(figures: Figures, room: Room) -> list[str]:
     """The parts whose length depends on the model."""
-    return [_written(figures, room), _sent(figures, room) + _chosen(figures) + _notes(figures), _exact(figures),
+    return [_written(figures, room), _sent(figures, room) + _besides(figures, room), _exact(figures),
             _points(figures, room)]
 
 
@@ -218,21 +219,22 @@ def _sent(figures: Figures, room: Room) -> str:
             + (f'<p class="formula small">with &ensp;{meant}</p>' if meant else ""))
 
 
+def _besides(figures: Figures, room: Room) -> str:
+    """What the model chose of the format, and its notes, as far as there is room."""
+    notes = "; ".join(note for note in figures.model.notes if note)
+    said = [_chosen(figures), f"Note: {escape(_cut(notes, room.note))}" if notes else ""]
+    return f'<p class="small">{" ".join(filter(None, said))}</p>' if any(said) else ""
+
+
 def _chosen(figures: Figures) -> str:
-    """What the model chose of the format: it decides how a certificate is found, not what is claimed."""
+    """What the model chose of the format, in a sentence: it decides how a certificate is found, not what is claimed."""
     chosen = figures.model.choices
     said = [f"joining rule {chosen.rule}"] if chosen.rule != 1 else []
     said += [f"sparse order {chosen.order}"] if chosen.order is not None else []
     numbers = sorted(chosen.bases)
     said += [f"{'basis' if len(numbers) == 1 else 'bases'} {', '.join(map(str, numbers))} as the model gives "
              f"{'it' if len(numbers) == 1 else 'them'}"] if numbers else []
-    return f'<p class="small">Of the format the model chooses {"; ".join(said)}.</p>' if said else ""
-
-
-def _notes(figures: Figures) -> str:
-    """The notes of the model, as far as there is room."""
-    said = "; ".join(note for note in figures.model.notes if note)
-    return f'<p class="small">Note: {escape(_cut(said, NOTE))}</p>' if said else ""
+    return f"Of the format the model chooses {'; '.join(said)}." if said else ""
 
 
 def _exact(figures: Figures) -> str:

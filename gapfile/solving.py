@@ -126,9 +126,8 @@ class _Solving:
         found = {side: unbounded(self.model, side) for side in self.model.sides}
         for side, said in found.items():
             if said:
-                other = WORDS[1 - side]
-                help_ = f"; the line `only {other}` files the {other} bound alone" if found.get(1 - side, said) is None \
-                    else ""
+                other, none = WORDS[1 - side], found.get(1 - side, said) is not None
+                help_ = "" if none else f"; the line `only {other}` files the {other} bound alone"
                 raise NoCertificate(f"the polynomial has no {WORDS[side]} bound on the region: {said}{help_}", False)
 
 

@@ -108,8 +108,8 @@ def too_large(j: int, total: int, size: int) -> LimitError:
 
 
 def prune(problem: Problem, parts: Parts, kept: Container[int] = ()) -> bool:
-    """Takes from the conditions' bases, but for those to be kept, what makes products that basis 0 does not reach in its
-    blocks; says whether."""
+    """Takes from the conditions' bases, but for those to be kept, what makes products that basis 0 does not reach in
+    its blocks; says whether."""
     lost = {j: found for j, found in unreachable(problem, parts).items() if j not in kept}
     for j, found in lost.items():
         problem.bases[j] = [b for i, b in enumerate(problem.bases[j]) if i not in found]

@@ -59,14 +59,15 @@ def verify(folder: Path, say: Say) -> Checks:
     if not all(name in files for name in (*streams_for(sides), MODEL, NAME_OF_FILE)):
         return checks
     streams = [files[name] for name in streams_for(sides)]
-    asked, what = ("gapcheck", "the three streams") if len(sides) == 2 else ("replay", "the problem and its certificate")
+    both = len(sides) == 2
+    asked, what = ("gapcheck", "the three streams") if both else ("replay", "the problem and its certificate")
     say(f"asking {asked}")
     verdict = judge(streams)
     checker = build(asked)
     who = f"{asked} ({checker.shown}, SHA-256 {checker.digest[:16]}..)"
     checks.check(verdict.accepted, f"{who} accepts {what}", f"{who}: {'; '.join(verdict.lines)}", REFUSED)
     say("asking a second implementation")
-    holds, said = second_opinion(streams[0], streams[1], streams[2] if len(sides) == 2 else None, verdict)
+    holds, said = second_opinion(streams[0], streams[1], streams[2] if both else None, verdict)
     checks.check(holds, said, said, DISAGREE)
     read = read_words(files, checks)
     if not verdict.accepted or not read:
@@ -93,8 +94,8 @@ def claimed(files: dict[str, bytes]) -> tuple[int, ...]:
 
 def needed(sides: tuple[int, ...]) -> tuple[str, ...]:
     """The files of a filing with these sides."""
-    record = (RECORD,) if len(sides) == 1 else ()
-    return tuple(name for name in FILES if name not in (*STREAMS, RECORD, THEOREM) or name in streams_for(sides) + record)
+    own = (*streams_for(sides), *((RECORD,) if len(sides) == 1 else ()))
+    return tuple(name for name in FILES if name in own or name not in (*STREAMS, RECORD, THEOREM))
 
 
 def read_files(folder: Path, checks: Checks) -> dict[str, bytes]:
@@ -189,7 +190,8 @@ def compare(figures: Figures, manifest: Manifest, files: dict[str, bytes], check
 
 
 def remade(figures: Figures, files: dict[str, bytes], more: dict[str, bytes]) -> dict[str, bytes]:
-    """All files of a filing, made from its streams, model and manifest, from further files, and with the sheet's checker."""
+    """All files of a filing, made from its streams, model and manifest, from further files, and with the sheet's
+    checker."""
     solved = {name: files[name] for name in (*streams_for(figures.sides), MODEL, NAME_OF_FILE)}
     return filed_files(figures, _blocks(files[STREAMS[0]]), solved, more, _module(files))
 

@@ -17,7 +17,8 @@ from .progress import Say
 from .reading import Refused, read_certificate, read_problem
 from .statuses import DISAGREE, DONE, REFUSED, UsageError
 from .text import DEFAULT_NAMES, monomial_of
-from .worksheet import (WHY, WIDEST, Worksheet, aligned, column_table, given_lines, summary, table, verdict_line, worksheet)
+from .worksheet import (WHY, WIDEST, Worksheet, aligned, column_table, given_lines, summary, table, verdict_line,
+                        worksheet)
 from .writing import STREAMS, write_file
 
 SIDES = {"low": 1, "high": 2}
@@ -68,7 +69,7 @@ def run_work(arguments: argparse.Namespace, say: Say) -> Outcome:
 
 
 def status(verdict: Verdict, sheet: Worksheet) -> int:
-    """0 where the checker accepts and all columns add up; 4 where one says that the identity holds and the other not."""
+    """0 where the checker accepts and all columns add up; 4 where one says that the identity holds, the other not."""
     false = verdict.refusal is not None and verdict.refusal.number == 9
     if verdict.accepted and sheet.wrong or false and not sheet.wrong:
         return DISAGREE
@@ -134,7 +135,8 @@ def as_html(sheet: Worksheet, name: str, verdict: Verdict, column: Optional[Mono
     given = "".join(f'<p class="given">{pretty(line)}</p>' for line in given_lines(sheet))
     checker = escape("; ".join(verdict.lines))
     return (f'<!DOCTYPE html>\n<html lang="en"><head><meta charset="utf-8"><title>{name}, worksheet</title>'
-            f"<style>{STYLE}</style></head>\n<body><h1>Worksheet of {name}</h1><p>{_sentence(pretty(_title(sheet)))}</p>{given}\n"
+            f"<style>{STYLE}</style></head>\n<body><h1>Worksheet of {name}</h1>"
+            f"<p>{_sentence(pretty(_title(sheet)))}</p>{given}\n"
             f"{_table(cells, left, last)}\n<p>{said}</p><p>replay printed: {checker}</p></body></html>\n")
 
 
@@ -167,8 +169,8 @@ def add_work(command: Callable[[str, str], argparse.ArgumentParser]) -> None:
     made = command("work", "print a certificate as a table whose columns add up")
     made.add_argument("folder", metavar="DIR", help="a folder with a problem and certificates")
     made.add_argument("side", choices=list(SIDES), help="which certificate")
-    made.add_argument("--column", metavar="MONOMIAL", help="one column, with the products that it is the sum of: 1, a or "
-                                                           "'a^2*b'")
+    made.add_argument("--column", metavar="MONOMIAL",
+                      help="one column, with the products that it is the sum of: 1, a or 'a^2*b'")
     made.add_argument("--all", action="store_true", help="the whole table, however wide")
     made.add_argument("--html", metavar="FILE", help="write it as a page too; - prints it in the text's place")
     made.add_argument("--names", help="names for the variables, with commas between them")

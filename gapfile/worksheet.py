@@ -1,8 +1,8 @@
 """A certificate as a table whose columns add up: a line for each row of the certificate, a column for each monomial.
 
-Line k holds the coefficients of w x (sum of l x b)^2 x g_j, multiplied out. Below stand the sum of the lines and what the
-certificate claims of it, D x (q x f - p), turned around for an upper bound. A bound holds where the two are equal in every
-column, weights are above 0 but on an equality, and the g_j are at least 0: all of it can be followed with a pencil.
+Line k holds the coefficients of w x (sum of l x b)^2 x g_j, multiplied out. Below stand the sum of the lines and what
+the certificate claims of it, D x (q x f - p), turned around for an upper bound. A bound holds where the two are equal
+in every column, weights are above 0 but on an equality, and the g_j are at least 0: a pencil is enough to follow it.
 """
 from __future__ import annotations
 
@@ -15,8 +15,8 @@ from .polynomials import ordered
 from .reading import Certificate, Problem, Row
 
 WIDEST = 150                     # letters of a table in text; of a wider one the columns are listed
-WHY = ("a row is a square times a weight above 0 times a g that is at least 0 on the region (a weight may be below 0 where g "
-       "is 0 there), so the sum is at least 0 there, and with it the claim: the bound holds")
+WHY = ("a row is a square times a weight above 0 times a g that is at least 0 on the region (a weight may be below 0 "
+       "where g is 0 there), so the sum is at least 0 there, and with it the claim: the bound holds")
 
 
 @dataclass(frozen=True)
@@ -108,7 +108,8 @@ def given_lines(sheet: Worksheet) -> list[str]:
     lines = [f"f = {polynomial_text(sheet.problem.objective, sheet.names)}"]
     for j in used:
         sign = "= 0" if sheet.problem.is_equality(j) else ">= 0"
-        lines.append(f"g{j} = {polynomial_text(sheet.problem.multiplier(j), sheet.names)}, which is {sign} on the region")
+        shown = polynomial_text(sheet.problem.multiplier(j), sheet.names)
+        lines.append(f"g{j} = {shown}, which is {sign} on the region")
     return lines
 
 
@@ -130,8 +131,8 @@ def summary(sheet: Worksheet) -> list[list[str]]:
 
 
 def column_table(sheet: Worksheet, column: Monomial) -> list[list[str]]:
-    """One column, for a pencil: for each row that reaches it the weight times the sum of the products, what that is, and
-    the sum so far."""
+    """One column, for a pencil: for each row that reaches it the weight times the sum of the products, what that is,
+    and the sum so far."""
     cells, so_far = [["row", "weight * products", "gives", "sum so far"]], 0
     for number, row in enumerate(sheet.certificate.rows, 1):
         made = [product for product in products(sheet.problem, row) if product.monomial == column]

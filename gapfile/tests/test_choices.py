@@ -6,7 +6,8 @@ from pathlib import Path
 
 from gapfile import exact
 from gapfile.choices import Basis
-from gapfile.model import ModelError, parse
+from gapfile.expressions import ModelError
+from gapfile.model import parse
 from gapfile.problem import encode_problem, poses
 from gapfile.reading import Problem, read_problem
 from gapfile.tests.support import EXAMPLES, RECORDED, needs_programs, run
@@ -140,11 +141,12 @@ class Filing(unittest.TestCase):
         return folder
 
     def test_against_the_examples(self) -> None:
-        for name, blocks, rounds, low, high in (
-                ("two_decks_rule2", 21, 2, (Fraction(-2665013, 65000), -41),
-                 (Fraction(5899999999, 200000000), Fraction(1921842, 65000))),
-                ("ring_order1", 11, 1, (Fraction(-1648639, 65000), Fraction(-634090909, 25000000)),
-                 (47, Fraction(3055001, 65000)))):
+        told: list[tuple[str, int, int, list[Fraction]]] = [
+            ("two_decks_rule2", 21, 2, [Fraction(-2665013, 65000), Fraction(-41), Fraction(5899999999, 200000000),
+                                        Fraction(1921842, 65000)]),
+            ("ring_order1", 11, 1, [Fraction(-1648639, 65000), Fraction(-634090909, 25000000), Fraction(47),
+                                    Fraction(3055001, 65000)])]
+        for name, blocks, rounds, ends in told:
             with self.subTest(model=name):
                 folder = self.filed(name)
                 made = read_problem((folder / "problem.bin").read_bytes())
@@ -156,15 +158,16 @@ class Filing(unittest.TestCase):
                 self.assertEqual((sum(len(set(b)) for b in closed.blocks), closed.rounds), (blocks, rounds))
                 lines = (folder / "verdict.txt").read_text().split()
                 lower, upper = Fraction(lines[1]) / factor, Fraction(lines[3]) / factor
-                self.assertTrue(low[0] <= lower <= low[1], lower)        # as tight as stored, and below what is attained
-                self.assertTrue(high[0] <= upper <= high[1], upper)
+                self.assertTrue(ends[0] <= lower <= ends[1], lower)      # as tight as stored, below what is attained
+                self.assertTrue(ends[2] <= upper <= ends[3], upper)
                 status, out, _ = run("verify", folder)
                 self.assertEqual(status, 0, out)
                 self.assertIn("agrees", out)
 
     def test_the_sheet_says_it(self) -> None:
         text = (self.filed("two_decks_rule2") / "sheet.html").read_text(encoding="utf-8")
-        self.assertIn("Of the format the model chooses joining rule 2; bases 0, 1, 2, 3, 4 as the model gives them.", text)
+        self.assertIn("Of the format the model chooses joining rule 2; bases 0, 1, 2, 3, 4 as the model gives them.",
+                      text)
         text = (self.filed("ring_order1") / "sheet.html").read_text(encoding="utf-8")
         self.assertIn("chooses sparse order 1; bases", text)
 

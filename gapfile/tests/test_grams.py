@@ -88,13 +88,14 @@ class Rounding(unittest.TestCase):
         streams = [(self.out / name).read_bytes() for name in ("problem.bin", "low.bin", "high.bin")]
         self.assertEqual(streams[0], PROBLEM.read_bytes())
         self.assertEqual([Fraction(*header(stream)) for stream in streams[1:]], [Fraction(-1, 5), Fraction(3)])
-        status, said, _ = run("check", self.out, "--second")
+        status, out, _ = run("check", self.out, "--second")
         self.assertEqual(status, 0)
-        self.assertIn("agrees", said)
+        self.assertIn("agrees", out)
         built = reference()
         if built:
             p, q = header(streams[1])
-            self.assertEqual(check_pair(streams[0], streams[1], streams[2], [str(built), "replay"])[0], f"lower {p}/{q}")
+            said = check_pair(streams[0], streams[1], streams[2], [str(built), "replay"])
+            self.assertEqual(said[0], f"lower {p}/{q}")
         status, _, err = run("round", PROBLEM, GRAM, "-o", self.out)
         self.assertEqual(status, 2)
         self.assertIn("holds another model's files; name another folder, or say --replace", err)
@@ -102,7 +103,7 @@ class Rounding(unittest.TestCase):
         self.assertNotIn(b"\x15", {stream[0:1] for stream in streams})
 
     def test_forms_of_the_same(self) -> None:
-        """Whole matrices without monomials, halves that add up, a matrix that is not symmetric, other names, one side."""
+        """Whole matrices without monomials, halves that add up, one that is not symmetric, other names, one side."""
         data = json.loads(GRAM.read_text())["lower"]
         even, odd = data["grams"]
         whole = [[0.0] * 6 for _ in range(6)]
@@ -134,22 +135,23 @@ class Rounding(unittest.TestCase):
         self.assertIn("check 0 ", out)
 
     def test_no_room(self) -> None:
-        """A bound beyond the optimum -1/8, which nothing proves, matrices far from any that do, and a bound of more than
-        32 bits: status 3, nothing written, and what to do."""
+        """A bound beyond the optimum -1/8, which nothing proves, matrices far from any that do, and a bound of more
+        than 32 bits: status 3, nothing written, and what to do."""
         data = json.loads(GRAM.read_text())["lower"]
         even, odd = data["grams"]
-        for grams, bound in (([even, odd], -0.12), ([even, odd], 0.5), ([{**even, "matrix": [[-1] * 4] * 4}, odd], -0.2),
+        for grams, bound in (([even, odd], -0.12), ([even, odd], 0.5),
+                             ([{**even, "matrix": [[-1] * 4] * 4}, odd], -0.2),
                              ([{**even, "matrix": [[1e15] * 4] * 4}, odd], -1e15)):
             status, out, err = self.rounded({"lower": {"bound": bound, "grams": grams}})
             self.assertEqual((status, out), (3, ""), err)
-            self.assertRegex(err, r"no lower certificate could be rounded \(.*\); the smallest eigenvalue of basis 0 is "
-                                  r"about -?[\d.e+-]+: ask the solver for a bound a little worse than its best")
+            self.assertRegex(err, r"no lower certificate could be rounded \(.*\); the smallest eigenvalue of basis 0 "
+                                  r"is about -?[\d.e+-]+: ask the solver for a bound a little worse than its best")
             self.assertFalse(self.out.exists())
 
     def test_files_that_are_none(self) -> None:
         """Each error names the file and the entry, the status is 2, and nothing is written."""
         good = json.loads(GRAM.read_text())
-        for path, value, said in (
+        wrong: list[tuple[list[Any], Any, str]] = [
                 (["lower", "bound"], "1", "lower bound is no number from -1e+15 to 1e+15"),
                 (["lower", "bound"], True, "lower bound is no number"), (["lower", "bound"], 1e16, "is no number"),
                 (["lower", "bound"], None, "lower has no `bound`"), (["lower", "grams"], [], "is no list of 1 to 1024"),
@@ -163,13 +165,14 @@ class Rounding(unittest.TestCase):
                 (["lower", "grams", 0, "basis"], True, "is no number of a basis"),
                 (["lower", "grams", 0, "more"], 1, "has `more`; expected basis, monomials or matrix"),
                 (["lower", "grams", 0, "monomials", 1], "x1^3", "is x1^3, which basis 0 of the problem does not have"),
-                (["lower", "grams", 0, "monomials", 1], "x3", "grams 1 monomials 2 is no monomial: expected a monomial of"),
+                (["lower", "grams", 0, "monomials", 1], "x3", "grams 1 monomials 2 is no monomial: expected a"),
                 (["lower", "grams", 0, "monomials", 1], 7, "is no monomial: expected a monomial as text"),
                 (["lower", "grams", 0, "monomials", 1], "1", "monomials 2 stands a second time"),
                 (["lower", "grams", 0, "monomials"], ["1"], "matrix is no list of 1"),
                 (["lower", "grams", 0, "matrix", 2], [1], "grams 1 matrix 3 is no list of 4"),
                 (["lower", "grams", 0, "matrix", 2, 0], "x", "matrix 3 1 is no number"),
-                (["lower", "grams", 0, "matrix", 2, 0], None, "matrix 3 1 is no number")):
+                (["lower", "grams", 0, "matrix", 2, 0], None, "matrix 3 1 is no number")]
+        for path, value, said in wrong:
             data = json.loads(json.dumps(good))
             place = data
             for step in path[:-1]:

@@ -1,4 +1,4 @@
-"""A filing of one side: what is claimed and what not, by the proved check of one certificate, and whatever is forged."""
+"""A filing of one side: what is claimed and what not, by the proved check of one certificate; and what is forged."""
 import html
 import json
 import os
@@ -57,7 +57,8 @@ class OneSide(unittest.TestCase):
     def bound(self, name: str) -> Fraction:
         """The bound in the model's units, from the bytes."""
         p, q = header((self.folder(name) / CERTIFICATE[name]).read_bytes())
-        return Fraction(p, q) / json.loads((self.folder(name) / "manifest.json").read_text())["factor"]
+        factor: int = json.loads((self.folder(name) / "manifest.json").read_text())["factor"]
+        return Fraction(p, q) / factor
 
     def test_the_bounds(self) -> None:
         """Against the paper's optimum, and against one that is known as a root: at a = 4 and b^3 = 30 the moment is
@@ -109,8 +110,8 @@ class OneSide(unittest.TestCase):
         for name, certificate in CERTIFICATE.items():
             status, out, err = run("verify", self.folder(name))
             self.assertEqual((status, err), (0, ""), out)
-            self.assertIn(f"ok: all 10 files of a filing of the {'lower' if name == 'quartic' else 'upper'} bound alone "
-                          "are there", out)
+            word = "lower" if certificate == "low.bin" else "upper"
+            self.assertIn(f"ok: all 10 files of a filing of the {word} bound alone are there", out)
             self.assertRegex(out, r"ok: replay \(.*\) accepts the problem and its certificate")
             self.assertTrue(out.rstrip().endswith("bound is claimed"))
 
@@ -146,20 +147,25 @@ class OneSide(unittest.TestCase):
 
     def test_forged(self) -> None:
         """The other side, both sides, a certificate of the other side, words of the sheet: each is told."""
-        def renamed(old: str, new: str) -> Callable[[Path], None]:
-            return lambda folder: (folder / old).rename(folder / new) and None
+        def renamed(folder: Path) -> None:
+            (folder / "high.bin").rename(folder / "low.bin")
+
+        def copied(folder: Path) -> None:
+            shutil.copy(folder / "high.bin", folder / "low.bin")
+
+        def emptied(folder: Path) -> None:
+            (folder / "check.record").write_bytes(b"c" + bytes(12))
         other = text("model.gap", "only   upper", "only   lower")
         for name, edit, status, said in (
                 ("axle", text("model.gap", "only   upper", ""), 5, "missing: low.bin"),
                 ("axle", other, 5, "missing: low.bin"),
-                ("axle", both(other, renamed("high.bin", "low.bin")), 5,
+                ("axle", both(other, renamed), 5,
                  "the model, the manifest and problem.bin: low.bin states the upper bound, where the model claims the "
                  "lower one"),
-                ("axle", lambda folder: shutil.copy(folder / "high.bin", folder / "low.bin") and None, 5,
+                ("axle", copied, 5,
                  "low.bin is there, and is no file of a filing of the upper bound alone"),
                 ("axle", lambda folder: (folder / "check.record").unlink(), 5, "missing: check.record"),
-                ("axle", lambda folder: (folder / "check.record").write_bytes(b"c" + bytes(12)) and None, 5,
-                 "check.record is not what gapfile writes"),
+                ("axle", emptied, 5, "check.record is not what gapfile writes"),
                 ("axle", text("manifest.json", '"side": "upper"', '"side": "lower"'), 5,
                  "the model, the manifest and problem.bin: the manifest has the lower side alone, the model claims the "
                  "upper side alone"),
@@ -260,7 +266,7 @@ class OneSide(unittest.TestCase):
             self.assertEqual(run("check", folder)[1].splitlines()[0], "at most 11.96509256 kNm")
             self.assertEqual(run("theorem", folder)[0], 0)
             (folder / "model.gap").unlink()
-            status, out, _ = run("check", folder)                # without a model the stream's figures, of what is there
+            status, out, _ = run("check", folder)                # without a model the figures of what is there
             self.assertEqual(status, 0)
             self.assertIn(f"upper  {self.bound('axle') * 10 ** 7} = 119650925.6\n", out)
             self.assertIn("there is no model.gap", out)

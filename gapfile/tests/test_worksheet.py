@@ -20,7 +20,7 @@ from gapfile.text import DEFAULT_NAMES
 from gapfile.worksheet import WHY, worksheet
 from gapfile.working import pretty
 
-Point = dict[str, int]
+Point = dict[str, Fraction]
 
 
 def value(formula: str, point: Point) -> Fraction:
@@ -77,8 +77,8 @@ replay: check 0 -1/1 rounds 2 rule 1
             "the last two sums are equal: the column adds up", "replay: check 1 1/1 rounds 2 rule 1"]))
 
     def test_every_cell(self) -> None:
-        """At points of whole numbers each row's formula is the sum of its cells times their monomials; so are the sum and
-        the claim. Equalities, wide factors, both rules and an order are among them."""
+        """At points of whole numbers each row's formula is the sum of its cells times their monomials; so are the sum
+        and the claim. Equalities, wide factors, both rules and an order are among them."""
         chance = random.Random(7)
         for name in ("ex5_5", "contradictory", "bolted_decks", "two_decks_wide", "two_decks_rule2", "ring_order1"):
             for side in ("low", "high"):
@@ -95,7 +95,7 @@ replay: check 0 -1/1 rounds 2 rule 1
         self.assertEqual(total[1:], claim[1:])
         for k in range(1, len(heads) + 1):
             self.assertEqual(sum(int(row[k] or 0) for row in rows), int(total[k]))
-        point = {name: chance.randrange(-4, 5) for name in names}
+        point = {name: Fraction(chance.randrange(-4, 5)) for name in names}
         at = {**point, **{word: value(formula, point) for word, formula in given.items()}}
         for row in (*rows, claim):
             spread = sum(int(cell or 0) * value(head, point) for head, cell in zip(heads, row[1:], strict=True))
@@ -127,7 +127,7 @@ replay: check 0 -1/1 rounds 2 rule 1
         self.assertEqual(status, 0)
         self.assertIn("\nall of it adds up, in 70 columns\n", out)
         self.assertIn("a column by its products: --column 'x4^4'; the whole table, 1066 letters wide: --all", out)
-        self.assertRegex(out, r"\nx1\*x2\*x3\*x4 +\d+ +24390000000 +24390000000\n")       # 30 x D x q: 30 x 16260 x 50000
+        self.assertRegex(out, r"\nx1\*x2\*x3\*x4 +\d+ +24390000000 +24390000000\n")       # 30 x 16260 x 50000
 
     def test_names_of_the_manifest(self) -> None:
         with tempfile.TemporaryDirectory() as place:
@@ -198,7 +198,8 @@ class Wrong(unittest.TestCase):
 
     def test_disagreement(self) -> None:
         """Where the checker accepts what does not add up, the status is that of a disagreement."""
-        good = check_one(*((EXAMPLES / f"ex5_5/{name}.bin").read_bytes() for name in ("problem", "low")))
+        problem, low = ((EXAMPLES / f"ex5_5/{name}.bin").read_bytes() for name in ("problem", "low"))
+        good = check_one(problem, low)
 
         def edit(data: bytearray) -> None:
             data[4] ^= 1

@@ -2,8 +2,8 @@
 
 Over the streams `figure` and `gap`. Where there is a model: `model` with the exact bounds in its words,
 `attained_lower` and `attained_upper`, and at the end what a person compares: `differ` and `quoted`, with the decimals
-of the sheet. A filing of one side has its bound in each, and neither `gap` nor `differ`. Nobody has to believe what is written here, only that the statements are those that are meant: Coq checks
-the rest.
+of the sheet. A filing of one side has its bound in each, and neither `gap` nor `differ`. Nobody has to believe what is
+written here, only that the statements are those that are meant: Coq checks the rest.
 """
 from __future__ import annotations
 
