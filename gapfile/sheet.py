@@ -221,7 +221,7 @@ def _sent(figures: Figures, room: Room) -> str:
 
 def _besides(figures: Figures, room: Room) -> str:
     """What the model chose of the format, and its notes, as far as there is room."""
-    notes = "; ".join(note for note in figures.model.notes if note)
+    notes = " · ".join(note for note in figures.model.notes if note)
     said = [_chosen(figures), f"Note: {escape(_cut(notes, room.note))}" if notes else ""]
     return f'<p class="small">{" ".join(filter(None, said))}</p>' if any(said) else ""
 

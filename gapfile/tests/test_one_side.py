@@ -127,7 +127,7 @@ class OneSide(unittest.TestCase):
                 self.assertIn(said, sheet)
             self.assertNotIn("gapcheck", sheet.replace("gapcheck_", ""))
             self.assertNotIn("differ by at most", sheet)
-        self.assertIn("Note: Loads as in drawing 12.; From below it is not asked for: the axle is held there.",
+        self.assertIn("Note: Loads as in drawing 12. · From below it is not asked for: the axle is held there.",
                       html.unescape(sheet))
 
     def changed(self, name: str, edit: Callable[[Path], None]) -> tuple[int, str]:
