@@ -1,13 +1,11 @@
 """`gapfile round PROBLEM GRAM.json -o DIR`: certificates from the Gram matrices of any solver.
 
 They are rounded as csdp's are. csdp can be asked again with more room inside the cone; another solver's answer is all
-there is, so room is made with the bound alone: it is given up by rising steps, which adds to the diagonal at the
-monomial 1.
+there is, so room is bought with the bound: it is given up by rising steps.
 """
 from __future__ import annotations
 
 import argparse
-from dataclasses import replace
 from fractions import Fraction
 from math import sqrt
 from pathlib import Path
@@ -15,10 +13,11 @@ from typing import Callable, Optional
 
 from .basis import find_blocks
 from .blocks import by_basis
-from .commands import Monomial, ONE, add
+from .commands import Monomial, add
 from .decimals import counted, decimal, digits_for, fraction
 from .grams import SIDES, Grams, read_grams
 from .inputs import read
+from .interior import buy, given_up
 from .outcome import Outcome
 from .programs import check_one, judge
 from .progress import Say
@@ -79,9 +78,9 @@ def rounded(stream: bytes, problem: Problem, parts: Parts, grams: Grams, wide: b
         raise NoCertificate(f"no {word} certificate: the objective has a monomial that no product of the bases has; "
                             "add to basis 0 what makes it", False) from None
     solution = as_solution(program, parts, grams)
-    scale, failure = float(program.scale), RoundingError("nothing was tried")
+    scale, bought, failure = float(program.scale), buy(program), RoundingError("nothing was tried")
     for loss in LOSSES:
-        lowered = given_up(program, solution, loss * scale)
+        lowered = given_up(program, solution, loss * scale, bought)
         slack = max(room(program, lowered), LEAST_SLACK * scale)
         try:
             found = _tried(stream, program, parts, lowered, slack, wide)
@@ -130,17 +129,6 @@ def as_solution(program: Program, parts: Parts, grams: Grams) -> Solution:
                 at = j, add(basis[a], basis[b])
                 free[at] = free.get(at, 0.0) + grams.matrices[j][a][b]
     return Solution(0, program.sign * grams.bound, blocks, free, [])
-
-
-def given_up(program: Program, solution: Solution, loss: float) -> Solution:
-    """The same with so much less of the bound, which the square of 1 takes."""
-    matrices = [[list(row) for row in matrix] for matrix in solution.grams]
-    for (j, ix), matrix in zip(program.blocks, matrices):
-        for a, i in enumerate(ix):
-            if j == 0 and program.problem.bases[0][i] == ONE:
-                matrix[a][a] += loss
-                return replace(solution, bound=solution.bound - loss, grams=matrices)
-    return solution
 
 
 def room(program: Program, solution: Solution) -> float:

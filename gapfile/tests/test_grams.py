@@ -1,15 +1,20 @@
 """`round`: the example made by hand, files that are none, matrices without room, and an equality."""
 import json
+import random
 import tempfile
 import unittest
 from fractions import Fraction
 from pathlib import Path
 from typing import Any
 
+from gapfile.basis import find_blocks
+from gapfile.blocks import by_basis
 from gapfile.foreign import smallest
+from gapfile.interior import buy
 from gapfile.programs import check_pair, reference
-from gapfile.reading import Problem, read_problem
 from gapfile.polynomials import evaluate
+from gapfile.reading import Problem, read_problem
+from gapfile.sdp import pose_program
 from gapfile.tests.support import EXAMPLES, ROOT, needs_programs, run
 from gapfile.tests.test_filing import header
 from gapfile.text import DEFAULT_NAMES, encode, monomial_of
@@ -124,6 +129,38 @@ class Rounding(unittest.TestCase):
             self.assertEqual(Fraction(*header((self.out / "low.bin").read_bytes())), Fraction(-1, 5))
             status, out, _ = run("check", self.out)
             self.assertEqual((status, out.splitlines()[1]), (0, "lower  -1/5 = -0.2"))
+
+    def test_at_the_edge(self) -> None:
+        """The optimum itself, by hand: f + 1/8 = (x1^2 - x2^2)^2 + 2 x (x1*x2 - 1/4)^2, at two points 0. Four of six
+        eigenvalues are 0, and the room comes from the ellipse."""
+        grams = [{"basis": 0, "monomials": ["1", "x1*x2"], "matrix": [[0.125, -0.5], [-0.5, 2]]},
+                 {"basis": 0, "monomials": ["x1^2", "x2^2"], "matrix": [[1, -1], [-1, 1]]}]
+        status, out, err = self.rounded({"lower": {"bound": -0.125, "grams": grams}})
+        self.assertEqual(status, 0, err)
+        bound = Fraction(*header((self.out / "low.bin").read_bytes()))
+        self.assertTrue(Fraction(-126, 1000) < bound <= Fraction(-125, 1000), bound)
+        self.assertEqual(run("check", self.out, "--second")[0], 0)
+
+    def test_what_is_bought(self) -> None:
+        """More of the squares and of the multipliers is 1 in all, as a polynomial; in a box or an ellipse every square
+        gets some, but where no condition's basis has what it would be paid with: x1*x3 in the ring of five decks."""
+        for name, whole in (("ex5_5", True), ("two_decks", True), ("bolted_decks", True), ("ring_order1", False)):
+            problem = read_problem((EXAMPLES / name / "problem.bin").read_bytes())
+            program = pose_program(problem, by_basis(problem, find_blocks(problem)), 0)
+            bought = buy(program)
+            first = {problem.bases[0][i] for j, ix in program.blocks if j == 0 for i in ix}
+            self.assertEqual(set(bought.squares) == first, whole)
+            self.assertGreater(min(bought.squares.values()), 0)
+            self.assertGreater(min(bought.multipliers.values()), 0)
+            chance = random.Random(3)
+            for _ in range(20):
+                point = [Fraction(chance.randrange(-8, 9), 4) for _ in range(problem.variables)]
+                total = sum(Fraction(c) * evaluate({e: Fraction(1)}, point) ** 2 for e, c in bought.squares.items())
+                for (j, i), k in bought.multipliers.items():
+                    m = evaluate({problem.bases[j][i]: Fraction(1)}, point)
+                    g = evaluate({e: Fraction(c) for e, c in problem.multiplier(j).items()}, point)
+                    total += Fraction(k) * m ** 2 * g
+                self.assertAlmostEqual(float(total), 1.0, 9)
 
     def test_an_equality(self) -> None:
         """Its matrix may be one of any sign, and becomes rows of both."""
