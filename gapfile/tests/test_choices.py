@@ -1,4 +1,5 @@
 """What a model chooses of the format: rule, order and bases, read with line and column, and found in the bytes."""
+import shutil
 import tempfile
 import unittest
 from fractions import Fraction
@@ -11,6 +12,7 @@ from gapfile.model import parse
 from gapfile.problem import encode_problem, poses
 from gapfile.reading import Problem, read_problem
 from gapfile.tests.support import EXAMPLES, RECORDED, needs_programs, run
+from gapfile.tests.test_theorem import needs_coq
 from gapfile.tests.test_verify import resum
 
 START = "var a b in [-1, 1]\nbound a^4 + b\nwhere a >= b\n"      # three conditions; the next line is line 4
@@ -170,6 +172,17 @@ class Filing(unittest.TestCase):
                       text)
         text = (self.filed("ring_order1") / "sheet.html").read_text(encoding="utf-8")
         self.assertIn("chooses sparse order 1; bases", text)
+
+    @needs_coq
+    def test_coq(self) -> None:
+        """The theorems know nothing of rules, orders and blocks, and are proved all the same."""
+        for name in ("two_decks_rule2", "ring_order1"):
+            with self.subTest(model=name), tempfile.TemporaryDirectory() as place:
+                folder = Path(place) / "filed"
+                shutil.copytree(self.filed(name), folder)
+                status, out, err = run("theorem", folder, "--check")
+                self.assertEqual(status, 0, out + err)
+                self.assertIn("coqc proves figure, gap, model, attained_lower, attained_upper, differ, quoted", out)
 
     def test_another_choice_is_another_problem(self) -> None:
         """A model that chooses otherwise than problem.bin has it is told, with SUMS made to fit."""
