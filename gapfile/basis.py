@@ -29,10 +29,10 @@ def least_degree(problem: Problem) -> int:
     return max(2, highest + highest % 2)
 
 
-def drop(problem: Problem) -> list[Monomial]:
-    """Basis 0 without the monomials that neither side can use."""
+def drop(problem: Problem, sides: tuple[int, ...] = (0, 1)) -> list[Monomial]:
+    """Basis 0 without the monomials that none of the sides can use."""
     whole = [[list(range(len(basis)))] for basis in problem.bases]
-    lost = inconsistent(problem, whole, 1) & inconsistent(problem, whole, -1)
+    lost = set.intersection(*(inconsistent(problem, whole, -1 if side else 1) for side in sides))
     return [b for i, b in enumerate(problem.bases[0]) if (0, i) not in lost]
 
 

@@ -12,10 +12,11 @@ from .points import Attained, Reached
 from .problem import Posed, encode_problem
 from .programs import Blocks, check_one
 from .progress import Say
-from .relaxing import ANY_BOUND, CLOSE, WORDS, NoCertificate, Parts, Relaxed
+from .relaxing import ANY_BOUND, CLOSE, WORDS, NoCertificate, Relaxed
 from .rounding import EFFORTS, Rounded, denominator_for, encode_certificate, round_solution, wide_entries
 from .sdp import Program, Solution, solve
 from .solver import STATUS, USABLE, Solver
+from .sparse import Parts
 from .squares import RoundingError, TooManyRows
 
 # of the objective's largest coefficient; factors of 16 bits have less room, so their steps are finer
@@ -51,7 +52,7 @@ class Side:
 
 @dataclass
 class Solved:
-    """A problem with both certificates."""
+    """A problem with the certificates of the sides that are claimed."""
     posed: Posed
     degree: int
     problem: bytes
@@ -60,10 +61,11 @@ class Solved:
     sides: list[Side] = field(default_factory=list)
 
     def distance(self, reached: Reached) -> float:
-        """How far the bounds are from what is attained; where nothing is, more than 1 and from each other."""
-        values = [reached.value(side) for side in (0, 1)]
+        """How far the bounds are from what is attained; where nothing is, more than 1 and from each other, and a lone
+        bound from 0, with a sign: less is better."""
+        values = [reached.value(s.side) for s in self.sides]
         if None in values:
-            return 1.0 + float((self.sides[1].bound - self.sides[0].bound) / self.posed.factor)
+            return 1.0 + float(sum(s.bound if s.side else -s.bound for s in self.sides) / self.posed.factor)
         return max(s.distance(v, self.posed.factor) for s, v in zip(self.sides, values) if v is not None)
 
     def lossy(self, reached: Reached) -> bool:
@@ -89,15 +91,17 @@ class Certifier:
     say: Say
 
     def certify(self, relaxed: Relaxed, reached: Reached) -> Solved:
-        """Both certificates with the bases of a relaxation. Raises NoCertificate."""
+        """The certificates of all sides with the bases of a relaxation. Raises NoCertificate."""
         problem = relaxed.posed.problem
         sizes = basis.sizes(problem, relaxed.blocks)
         self.say(f"rounding at degree {relaxed.degree}: {sizes}")
         solved = Solved(relaxed.posed, relaxed.degree, encode_problem(problem), relaxed.blocks, sizes)
-        for side in (0, 1):
+        if relaxed.empty and len(relaxed.posed.sides) == 1:
+            raise NoCertificate(f"{STATUS[ANY_BOUND]}; one side alone cannot show that: without `only` bounds that "
+                                "cross are looked for", False)
+        for side in relaxed.posed.sides:
             solved.sides.append(self._side(solved.problem, relaxed, side, reached.on(relaxed.posed, side)))
-        low, high = solved.sides
-        if relaxed.empty and low.bound <= high.bound:
+        if relaxed.empty and solved.sides[0].bound <= solved.sides[1].bound:
             raise NoCertificate(f"{STATUS[ANY_BOUND]}, and no proof of that of degree {relaxed.degree} was found",
                                 False)
         return solved

@@ -18,6 +18,7 @@ from .commands import Kind, kind_of
 from .decimals import decimal, digits_for, fraction, is_exact
 from .explain import explain, explain_empty
 from .figures import filed_figures, quoted_lines, stream_lines
+from .foreign import add_round
 from .inputs import PATHS, beside, names_of, read, streams_of
 from .making import add_commands, figures_data
 from .manifest import NAME_OF_FILE, read_manifest
@@ -28,6 +29,7 @@ from .statuses import DISAGREE, DONE, REFUSED, STATUSES, UsageError, status_of
 from .text import DEFAULT_NAMES, TextError, decode, encode, refusal_of
 from .theorem.command import add_theorem
 from .verifying import second_opinion, verify
+from .working import add_work
 from .writing import MODEL, write_file
 
 EXAMPLES = {
@@ -40,6 +42,8 @@ EXAMPLES = {
     "file": "gapfile file examples/two_decks.gap -o two_decks",
     "verify": "gapfile verify two_decks",
     "theorem": "gapfile theorem two_decks --check",
+    "round": "gapfile round examples/ex5_5/problem.bin examples/gram/ex5_5.json -o rounded",
+    "work": "gapfile work examples/ex5_5 low --column 'x1*x2'",
 }
 
 
@@ -112,8 +116,8 @@ def bound_lines(verdict: programs.Verdict) -> list[str]:
 
 def ask(problem: bytes, low: bytes, high: Optional[bytes], say: Say) -> programs.Verdict:
     """The checker's verdict: of gapcheck on a pair, of replay on one certificate."""
-    say("asking gapcheck")
-    return programs.check_one(problem, low) if high is None else programs.gapcheck(problem, low, high)
+    say("asking gapcheck" if high is not None else "asking replay")
+    return programs.judge([problem, low] if high is None else [problem, low, high])
 
 
 def run_check(arguments: argparse.Namespace, say: Say) -> Outcome:
@@ -122,8 +126,8 @@ def run_check(arguments: argparse.Namespace, say: Say) -> Outcome:
     out = Outcome(DONE if verdict.accepted else REFUSED, list(verdict.lines),
                   data={"accepted": verdict.accepted, "stream": {"lines": verdict.lines}})
     if verdict.accepted:
-        figures = high and filed_figures([problem, low, high], verdict, *(beside(arguments.paths, name)
-                                                                           for name in (NAME_OF_FILE, MODEL)))
+        streams = [problem, low] if high is None else [problem, low, high]
+        figures = filed_figures(streams, verdict, *(beside(arguments.paths, name) for name in (NAME_OF_FILE, MODEL)))
         if figures:
             out.lines, out.data = quoted_lines(figures) + stream_lines(figures), figures_data(figures)
         else:
@@ -146,7 +150,7 @@ def run_explain(arguments: argparse.Namespace, say: Say) -> Outcome:
     names = names_of(arguments.names) or recorded_names(arguments.paths) or DEFAULT_NAMES
     say("looking for the reason")
     if verdict.refusal:
-        lines = explain(verdict.refusal, problem, low, high or b"", names, beside(arguments.paths, "SUMS"))
+        lines = explain(verdict.refusal, problem, low, high, names, beside(arguments.paths, "SUMS"))
     elif verdict.empty:
         lines = verdict.lines + explain_empty(verdict, problem, [low, high or b""], names)
     else:
@@ -199,7 +203,7 @@ def parser() -> argparse.ArgumentParser:
         made.add_argument("-q", "--quiet", action="store_true", help="print nothing but errors")
         made.add_argument("-v", "--verbose", action="store_true", help="say every step at once, and at a fault of "
                                                                        "gapfile where it happened")
-        if name in ("check", "explain", "file", "verify", "theorem"):
+        if name in ("check", "explain", "file", "verify", "theorem", "round", "work"):
             made.add_argument("--json", action="store_true", help="print JSON in the place of lines")
         return made
 
@@ -209,6 +213,8 @@ def parser() -> argparse.ArgumentParser:
     made.add_argument("folder", metavar="DIR", help="a folder that `file` wrote")
     made.set_defaults(run=run_verify)
     add_theorem(command)
+    add_round(command)
+    add_work(command)
     return top
 
 

@@ -4,7 +4,7 @@ from __future__ import annotations
 
 import hashlib
 from fractions import Fraction
-from typing import Optional
+from typing import Mapping, Optional
 
 from .commands import (ONE, TABLE, Kind, Monomial, fits, key, kind_of, monomial_of_key, monomial_text,
                        polynomial_text)
@@ -49,13 +49,15 @@ ADVICE = {
 OTHER = 0.5                      # where more of the monomials differ, the certificate is likely one of another problem
 
 
-def explain(refusal: Refusal, problem_stream: bytes, low: bytes, high: bytes, names: Optional[list[str]] = None,
-            sums: Optional[bytes] = None) -> list[str]:
-    """Lines on a refusal that the checker gave for these bytes; the last one says what to do."""
+def explain(refusal: Refusal, problem_stream: bytes, low: bytes, high: Optional[bytes],
+            names: Optional[list[str]] = None, sums: Optional[bytes] = None) -> list[str]:
+    """Lines on a refusal that the checker gave for these bytes, of a pair or of one certificate; the last one says what
+    to do."""
     names = names or DEFAULT_NAMES
-    streams = (problem_stream, low, high)
+    streams = (problem_stream, low, high or b"")
     lines = [refusal.line(), f"{RULES.get(refusal.number, 'unknown refusal')}, in {STREAMS[refusal.stream]}"]
-    lines += _seen(refusal, streams, names) + exchanged(streams) + changed(streams, sums)
+    files = FILES if high is not None else (FILES[0], "the certificate")
+    lines += _seen(refusal, streams, names) + exchanged(streams) + changed(dict(zip(files, streams)), sums)
     return lines + [ADVICE.get(refusal.number, "what to do: ask for the gapfile of this gapcheck")]
 
 
@@ -97,14 +99,14 @@ def exchanged(streams: tuple[bytes, bytes, bytes]) -> list[str]:
     return []
 
 
-def changed(streams: tuple[bytes, bytes, bytes], sums: Optional[bytes]) -> list[str]:
+def changed(streams: Mapping[str, bytes], sums: Optional[bytes]) -> list[str]:
     """Which of the files are not those that SUMS beside them lists."""
     if sums is None:
         return []
     listed = sums.decode("utf-8", "replace").split()
-    wrong = [name for name, stream in zip(FILES, streams) if hashlib.sha256(stream).hexdigest() not in listed]
+    wrong = [name for name, stream in streams.items() if hashlib.sha256(stream).hexdigest() not in listed]
     if not wrong:
-        return ["all three files are those that SUMS lists"]
+        return [f"{'all three' if len(streams) == 3 else 'both'} files are those that SUMS lists"]
     return [f"{name} is not the file that SUMS lists: it was changed, or is of another filing" for name in wrong]
 
 

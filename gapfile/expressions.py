@@ -16,7 +16,7 @@ from .polynomials import Polynomial, constant, increase, power, times, variable
 
 TOKEN = re.compile(r"(?P<number>(?:[0-9]+(?:\.[0-9]+)?|\.[0-9]+)(?:[eE][-+]?[0-9]+(?![A-Za-z_0-9]))?)"
                    r"|(?P<name>[A-Za-z_][A-Za-z_0-9]*)|(?P<raised>[⁰¹²³⁴⁵⁶⁷⁸⁹]+)"
-                   r"|(?P<sign><=|>=|==|\*\*|[-−+*·×^/()\[\],=<>≤≥])")
+                   r"|(?P<sign><=|>=|==|\*\*|[-−+*·×^/()\[\],:=<>≤≥])")
 SPACE = re.compile(r"\s*")
 SAME = {"−": "-", "·": "*", "×": "*", "≤": "<=", "≥": ">=", "=": "=="}       # as the sheet prints them
 RAISED = str.maketrans("⁰¹²³⁴⁵⁶⁷⁸⁹", "0123456789")

@@ -17,6 +17,7 @@ from .problem import encode_problem
 from .programs import Verdict
 from .reading import Certificate, Problem, read_certificate, read_problem
 from .restating import Mismatch, Restated, Scaled, faithful
+from .writing import STREAMS
 
 
 @dataclass(frozen=True)
@@ -44,17 +45,20 @@ class Reached:
     value: Fraction
 
 
+SIDES = ("lower", "upper")
+
+
 @dataclass(frozen=True)
 class Figures:
     """All that a filing says."""
     model: Model
     problem: Problem
-    certificates: tuple[Certificate, Certificate]
+    certificates: dict[int, Certificate]                     # by side, those that are claimed
     verdict: Verdict
     factor: int
     variables: list[Scaled]
     restated: Restated
-    reached: list[Optional[Reached]]                         # for each side
+    reached: list[Optional[Reached]]                         # by side, none at one that is not claimed
     relaxations: list[str]
     made: dict[str, str]                                     # how, when and with what
 
@@ -64,24 +68,45 @@ class Figures:
         return self.factor == 1 and all(v.same for v in self.variables)
 
     @property
-    def bounds(self) -> tuple[Fraction, Fraction]:
-        """The bounds in the model's units."""
-        assert self.verdict.lower is not None and self.verdict.upper is not None
-        return self.verdict.lower / self.factor, self.verdict.upper / self.factor
+    def sides(self) -> tuple[int, ...]:
+        """The sides that are claimed."""
+        return self.model.sides
+
+    @property
+    def not_claimed(self) -> str:
+        """The side for which there is no certificate, in a word; empty where there are two."""
+        return SIDES[1 - self.sides[0]] if len(self.sides) == 1 else ""
+
+    @property
+    def judge(self) -> str:
+        """The program that decided: gapcheck on a pair, replay on one certificate."""
+        return "replay" if self.not_claimed else "gapcheck"
+
+    @property
+    def bounds(self) -> dict[int, Fraction]:
+        """The bounds in the model's units, by side, those that are claimed."""
+        found = {side: (self.verdict.lower, self.verdict.upper)[side] for side in self.sides}
+        return {side: bound / self.factor for side, bound in found.items() if bound is not None}
+
+    @property
+    def gap(self) -> Optional[Fraction]:
+        """The gap in the model's units; none where the bounds cross or one is not claimed."""
+        return None if self.verdict.gap is None else self.verdict.gap / self.factor
 
     @property
     def digits(self) -> int:
-        return digits_for(self.bounds[1] - self.bounds[0], *self.bounds)
+        low, high = self.bounds.get(0, Fraction(0)), self.bounds.get(1, Fraction(0))
+        return digits_for(Fraction(0) if self.not_claimed else high - low, *self.bounds.values())
 
     @property
     def quoted(self) -> list[Quoted]:
         """What is quoted; nothing where the bounds cross."""
         if self.verdict.empty:
             return []
-        low, high = self.bounds
-        return [Quoted("lower", "at least", low, False, self.digits),
-                Quoted("upper", "at most", high, True, self.digits),
-                Quoted("gap", "two values differ by at most", high - low, True, self.digits)]
+        words = {"lower": "at least", "upper": "at most", "gap": "two values differ by at most"}
+        values = {**{SIDES[side]: bound for side, bound in self.bounds.items()}, "gap": self.gap}
+        return [Quoted(name, words[name], value, name != "lower", self.digits) for name, value in values.items()
+                if value is not None]
 
     @property
     def date(self) -> str:
@@ -89,15 +114,27 @@ class Figures:
 
 
 def figures_of(streams: list[bytes], verdict: Verdict, manifest: Manifest, model: Model) -> Figures:
-    """The figures of three streams that gapcheck accepted. Raises Mismatch where they are not the model's."""
+    """The figures of a problem and of the certificates of the model's sides, which were accepted. Raises Mismatch where
+    they are not the model's."""
     problem = read_problem(streams[0])
+    certificates = {side: read_certificate(stream, problem, number)
+                    for number, (side, stream) in enumerate(zip(model.sides, streams[1:], strict=True), 1)}
+    for side, certificate in certificates.items():
+        if certificate.side != side:
+            raise Mismatch(f"{STREAMS[1 + side]} states the {SIDES[certificate.side]} bound, where the model claims "
+                           f"the {SIDES[side]} one")
+    if manifest.sides != model.sides:
+        raise Mismatch(f"the manifest has {_named(manifest.sides)}, the model claims {_named(model.sides)}")
     restated = faithful(model, manifest.variables, manifest.factor, problem)
     if encode_problem(restated.problem) != streams[0]:
         raise Mismatch("problem.bin is not written in the order in which gapfile writes the model's problem")
-    low, high = read_certificate(streams[1], problem, 1), read_certificate(streams[2], problem, 2)
     reached = [None if point is None else _reached(model, manifest, point) for point in manifest.points]
-    return Figures(model, problem, (low, high), verdict, manifest.factor, manifest.variables, restated, reached,
+    return Figures(model, problem, certificates, verdict, manifest.factor, manifest.variables, restated, reached,
                    manifest.relaxations, manifest.made)
+
+
+def _named(sides: tuple[int, ...]) -> str:
+    return "both sides" if len(sides) == 2 else f"the {SIDES[sides[0]]} side alone"
 
 
 def filed_figures(streams: list[bytes], verdict: Verdict, manifest: Optional[bytes],
@@ -128,11 +165,13 @@ def quoted_lines(figures: Figures) -> list[str]:
     if figures.verdict.empty:
         return ["no point meets all the conditions: the bounds cross, so there is no figure to quote"]
     unit = figures.model.head.get("unit", "")
-    return [f"{q.words} {q.decimal}{' ' + unit if unit else ''}{'' if q.is_exact else ' (rounded outward)'}"
-            for q in figures.quoted]
+    lines = [f"{q.words} {q.decimal}{' ' + unit if unit else ''}{'' if q.is_exact else ' (rounded outward)'}"
+             for q in figures.quoted]
+    return lines + ([f"no {figures.not_claimed} bound is claimed"] if figures.not_claimed else [])
 
 
 def stream_lines(figures: Figures) -> list[str]:
-    """What gapcheck printed, named as the stream's."""
+    """What the program that decided printed, named as the stream's."""
     of = "the model's" if figures.factor == 1 else f"{figures.factor} times the model's"
-    return [f"gapcheck on the stream, whose polynomial is {of}:", *(f"  {line}" for line in figures.verdict.lines)]
+    said = [f"  {line}" for line in figures.verdict.lines]
+    return [f"{figures.judge} on the stream, whose polynomial is {of}:", *said]

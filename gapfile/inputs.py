@@ -5,9 +5,11 @@ import sys
 from pathlib import Path
 from typing import Optional, Sequence
 
+from .expressions import ModelError
+from .model import parse, read_text
 from .statuses import UsageError
 from .text import NAME
-from .writing import STREAMS
+from .writing import MODEL, STREAMS, streams_for
 
 PATHS = "a folder, three files, or a problem and one certificate"
 MOST_BYTES = 1 << 26
@@ -37,12 +39,24 @@ def names_of(text: Optional[str]) -> Optional[list[str]]:
     return names
 
 
+def names_in(folder: Path) -> tuple[str, ...]:
+    """The streams of a folder: those of the sides that its model claims; where it has no model, of those that are
+    there. Raises UsageError or ModelError."""
+    if (folder / MODEL).exists():
+        try:
+            return streams_for(parse(read_text(read(str(folder / MODEL)))).sides)
+        except ModelError as error:
+            raise UsageError(f"{folder / MODEL}: {error}") from None
+    there = [side for side in (0, 1) if (folder / STREAMS[1 + side]).exists()]
+    return streams_for(there or (0, 1))
+
+
 def streams_of(paths: Sequence[str]) -> tuple[bytes, bytes, Optional[bytes]]:
     """Problem, first and second certificate from a folder, from three files, or from a problem and one certificate."""
     if len(paths) == 1:
         if not Path(paths[0]).is_dir():
             raise UsageError(f"{paths[0]} is no folder; give {PATHS}")
-        paths = [str(Path(paths[0]) / name) for name in STREAMS]
+        paths = [str(Path(paths[0]) / name) for name in names_in(Path(paths[0]))]
     if len(paths) not in (2, 3):
         raise UsageError(f"give {PATHS}")
     if list(paths).count("-") > 1:

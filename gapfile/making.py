@@ -13,14 +13,14 @@ from .inputs import read
 from .manifest import read_manifest
 from .model import parse, read_text
 from .outcome import Outcome
-from .programs import gapcheck
+from .programs import judge
 from .progress import Say
 from .report import made_with, manifest, report_lines
 from .solver import Csdp, Recorded, Solver, TIME, version
 from .solving import Options, solve_model
 from .statuses import DONE, NotAccepted, UsageError
 from .theorem.statements import figure_file
-from .writing import STREAMS, THEOREM, check_folder, write_folder
+from .writing import THEOREM, check_folder, streams_for, write_folder
 
 
 def solver_of(arguments: argparse.Namespace) -> tuple[Solver, str]:
@@ -39,7 +39,7 @@ def run_file(arguments: argparse.Namespace, say: Say) -> Outcome:
 
 
 def _make(arguments: argparse.Namespace, say: Say, filed: bool) -> Outcome:
-    """Solves the model, has the streams judged, and puts the folder in place. Nothing is written unless gapcheck
+    """Solves the model, has the streams judged, and puts the folder in place. Nothing is written unless the checker
     accepted these bytes and the figures were computed again from them."""
     folder, given = Path(arguments.output), read(arguments.model)
     try:
@@ -50,13 +50,14 @@ def _make(arguments: argparse.Namespace, say: Say, filed: bool) -> Outcome:
     solver, name = solver_of(arguments)
     solved = solve_model(model, solver, Options(arguments.narrow, arguments.widen or model.widen, arguments.time), say)
     streams = [solved.problem] + [side.certificate for side in solved.sides]
-    say("asking gapcheck")
-    verdict = gapcheck(*streams)
+    asked = "gapcheck" if len(streams) == 3 else "replay"
+    say(f"asking {asked}")
+    verdict = judge(streams)
     if not verdict.accepted:
-        raise NotAccepted(verdict)
-    recorded = manifest(solved, model, made_with(name))
+        raise NotAccepted(verdict, asked)
+    recorded = manifest(solved, model, made_with(name, asked))
     figures = figures_of(streams, verdict, read_manifest(recorded), model)
-    files = solved_files(streams, recorded, given)
+    files = solved_files(dict(zip(streams_for(model.sides), streams)), recorded, given)
     if filed:
         more = {THEOREM: figure_file(streams, figures).encode()} if arguments.theorem else {}
         files = filed_files(figures, solved.blocks, files, more, selfcheck.built())
@@ -64,15 +65,17 @@ def _make(arguments: argparse.Namespace, say: Say, filed: bool) -> Outcome:
     check_folder(folder, given, arguments.replace)           # again: a minute may have passed
     write_folder(folder, files)
     lines = quoted_lines(figures) + stream_lines(figures) + report_lines(solved, model)
-    made = ", ".join(name for name in files if name not in STREAMS)
-    lines.append(f"{'filed' if filed else 'written'}: {folder}/{', '.join(STREAMS)}, {made}")
+    first = streams_for(model.sides)
+    made = ", ".join(name for name in files if name not in first)
+    lines.append(f"{'filed' if filed else 'written'}: {folder}/{', '.join(first)}, {made}")
     return Outcome(DONE, lines, data={**figures_data(figures), "folder": str(folder), "files": list(files)})
 
 
 def figures_data(figures: Figures) -> dict[str, Any]:
     """The figures as plain data, for JSON."""
     return {
-        "accepted": True, "empty": figures.verdict.empty, "unit": figures.model.head.get("unit", ""),
+        "accepted": True, "empty": figures.verdict.empty, "not claimed": figures.not_claimed or None,
+        "unit": figures.model.head.get("unit", ""),
         "figures": {q.name: {"decimal": q.decimal, "exact": str(q.exact), "rounded": not q.is_exact}
                     for q in figures.quoted},
         "stream": {"lines": figures.verdict.lines, "factor": figures.factor},

@@ -9,6 +9,9 @@
     where  a + b <= 60
     where  a == 2*b                 # an equality
     degree auto
+    note   Loads as in drawing 12
+
+The lines rule, order, basis and only are those of choices.py.
 """
 from __future__ import annotations
 
@@ -17,13 +20,16 @@ from dataclasses import dataclass, field
 from fractions import Fraction
 from typing import Optional
 
+from . import choices
+from .choices import Choices
 from .expressions import Line, ModelError, Token, Work
 from .polynomials import Polynomial, plus
 from .text import NAME
 
 HEAD = ("title", "number", "by", "unit", "date")             # words for the head of the sheet, taken to the letter
-WORDS = (*HEAD, "var", "bound", "where", "degree", "widen")
-MOST_BYTES, MOST_CONDITIONS, LONGEST_WORDS = 1 << 20, 64, 1000
+WORDS = (*HEAD, "note", "var", "bound", "where", "degree", *choices.WORDS, "widen")
+REPEATED = ("var", "where", "basis", "note")
+MOST_BYTES, MOST_CONDITIONS, MOST_NOTES, LONGEST_WORDS = 1 << 20, 64, 64, 1000
 BREAK = re.compile(r"\r\n|\n|\r")
 CONTROL = re.compile(r"[\x00-\x08\x0b-\x1f\x7f-\x9f\u2028\u2029\u202a-\u202e\u2066-\u2069]")
 
@@ -53,6 +59,8 @@ class Model:
     conditions: list[Where] = field(default_factory=list)
     degree: Optional[int] = None
     widen: bool = False                                      # whether the region may be made larger
+    notes: list[str] = field(default_factory=list)           # for the sheet, to the letter
+    choices: Choices = field(default_factory=Choices)
     written: list[str] = field(default_factory=list)         # the lines var, bound and where, as written
 
     @property
@@ -62,6 +70,16 @@ class Model:
     @property
     def names(self) -> list[str]:
         return [v.name for v in self.variables]
+
+    @property
+    def sides(self) -> tuple[int, ...]:
+        """The sides that are claimed: both, or one alone."""
+        return self.choices.sides
+
+    @property
+    def ranges(self) -> int:
+        """How many variables have a range; in a stream these conditions come first."""
+        return sum(v.range is not None for v in self.variables)
 
 
 def read_text(data: bytes) -> str:
@@ -97,14 +115,12 @@ def parse(text: str) -> Model:
         if word not in WORDS:
             raise ModelError(number, column + 1, f"expected {', '.join(WORDS[:-1])} or {WORDS[-1]}, found "
                                                  f"`{word[:40]}`")
-        if word in seen and word not in ("var", "where"):
+        if word in seen and word not in REPEATED:
             raise ModelError(number, column + 1, f"`{word}` stands a second time, first in line {seen[word]}")
         seen.setdefault(word, number)
         start = column + len(word)
-        if word in HEAD:
-            model.head[word] = raw[start:].strip()
-            if len(model.head[word]) > LONGEST_WORDS:
-                raise ModelError(number, start + LONGEST_WORDS, f"more than {LONGEST_WORDS:,} letters")
+        if word in HEAD or word == "note":
+            _words(model, word, raw[start:].strip(), number, start)
             continue
         _statement(model, word, Line(number, content, start, model.names, work), content[start:].strip())
         if word in ("var", "bound", "where"):
@@ -113,7 +129,20 @@ def parse(text: str) -> Model:
         raise ModelError(end, 1, "expected a var line")
     if model.bound is None:
         raise ModelError(end, 1, "expected a bound line")
+    model.choices.whole(model.ranges + len(model.conditions), seen.get("degree") if model.degree else None)
     return model
+
+
+def _words(model: Model, word: str, text: str, number: int, start: int) -> None:
+    """A line that is taken to the letter."""
+    if len(text) > LONGEST_WORDS:
+        raise ModelError(number, start + LONGEST_WORDS, f"more than {LONGEST_WORDS:,} letters")
+    if word != "note":
+        model.head[word] = text
+        return
+    if len(model.notes) == MOST_NOTES:
+        raise ModelError(number, 1, f"more than {MOST_NOTES} notes")
+    model.notes.append(text)
 
 
 def _statement(model: Model, word: str, line: Line, text: str) -> None:
@@ -127,6 +156,8 @@ def _statement(model: Model, word: str, line: Line, text: str) -> None:
     elif word == "widen":
         model.widen = True
         line.done("the end of the line")
+    elif word in choices.WORDS:
+        model.choices.take(word, line)
     else:
         token = line.next()
         if token.text not in ("auto", "2", "4", "6", "8", "10", "12", "14", "16"):

@@ -5,11 +5,12 @@ from dataclasses import dataclass, field
 from fractions import Fraction
 from itertools import combinations
 
+from .choices import Basis
 from .commands import PROBLEM, Monomial, WidthError, write_command
 from .model import Model, Where
 from .polynomials import (Polynomial, cleared, constant, degree, evaluate, ordered, plus, substitute, substitution_work,
                           times, variable, whole)
-from .ranges import MAPS, NOT_MAPPED, Map
+from .ranges import MAPS, NOT_MAPPED, Map, centred
 from .reading import LIMITS, Condition, Problem
 from .widening import LEFT_OUT, ROUNDED, can_be_rounded, rounded_outward
 
@@ -39,6 +40,9 @@ class Posed:
     linear: list[list[Polynomial]] = field(default_factory=list)     # linear ones that are at least 0, by origin
     omitted: list[Condition] = field(default_factory=list)       # the model's conditions that were left out or rounded
     widened: list[str] = field(default_factory=list)             # what was done to the region, in words
+    sides: tuple[int, ...] = (0, 1)                              # those that the model claims
+    given: dict[int, Basis] = field(default_factory=dict)        # bases by hand, by their numbers in the problem
+    names: list[str] = field(default_factory=list)               # the model's
 
     def model_point(self, point: list[Fraction]) -> list[Fraction]:
         return [m + h * x for m, h, x in zip(self.middle, self.half, point)]
@@ -72,7 +76,7 @@ def poses(model: Model, widen: bool = False, left_out: tuple[int, ...] = (), nar
     _affordable(model)
     failure: LimitError | None = None
     out: list[Posed] = []
-    for way in MAPS:
+    for way in map(centred, MAPS) if model.choices.bases else MAPS:
         maps = [way(*v.range) if v.range else NOT_MAPPED for v in model.variables]
         try:
             made = _Posing(model, maps, widen, narrow).made(left_out)
@@ -104,7 +108,7 @@ def _affordable(model: Model) -> None:
 def omissions(model: Model, widen: bool) -> list[tuple[int, ...]]:
     """Which conditions can be left out, ranges counted first, so that the others are no more than the checker allows.
     Raises LimitError where none may be, or too many would have to."""
-    ranges = sum(v.range is not None for v in model.variables)
+    ranges = model.ranges
     count = ranges + len(model.conditions)
     extra = max(0, count - LIMITS["conditions"])
     if extra and not widen or extra > MOST_LEFT_OUT:
@@ -125,7 +129,9 @@ class _Posing:
         self.reach = [max(abs(end - m) / h for end in v.range) if v.range else UNBOUNDED_REACH
                       for v, m, h in zip(model.variables, middle, half)]
         objective, factor = self.objective()
-        self.posed = Posed(Problem(len(maps), {e: objective[e] for e in ordered(objective)}), factor, middle, half)
+        problem = Problem(len(maps), {e: objective[e] for e in ordered(objective)}, rule=model.choices.rule,
+                          order=model.choices.order)
+        self.posed = Posed(problem, factor, middle, half, sides=model.sides, names=model.names)
 
     def made(self, left_out: tuple[int, ...]) -> Posed:
         """The whole problem, without the conditions that are left out."""
@@ -137,6 +143,8 @@ class _Posing:
             posed.omitted.append(problem.conditions.pop(k))
             posed.widened.insert(0, LEFT_OUT.format(posed.origins.pop(k)))
         problem.bases = [[] for _ in range(len(problem.conditions) + 1)]
+        posed.given = {j - sum(k < j - 1 for k in left_out): basis for j, basis in self.model.choices.bases.items()
+                       if j - 1 not in left_out}
         return posed
 
     def objective(self) -> tuple[dict[Monomial, int], int]:

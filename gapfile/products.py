@@ -9,7 +9,7 @@ from typing import Optional
 from .commands import ONE
 from .polynomials import Polynomial, ordered, times, whole
 from .problem import Posed
-from .reading import LIMITS, Condition, Problem
+from .reading import LIMITS, Condition
 from .sdp import Unreachable, pose_program, solve
 from .solver import USABLE, Solver
 from .sparse import by_variables, give_bases
@@ -43,7 +43,7 @@ def with_products(posed: Posed, total: int, solver: Solver) -> Optional[Posed]:
     there is no room, no candidate, or none is used. Raises LimitError."""
     room = LIMITS["conditions"] - len(posed.problem.conditions)
     found = candidates(posed) if room > 0 else []
-    used = _multipliers(posed.problem, total, [c for c, _ in found], solver) if found else []
+    used = _multipliers(posed, total, [c for c, _ in found], solver) if found else []
     best = sorted((k for k, size in enumerate(used) if size > USED), key=lambda k: -used[k])[:room]
     if not best:
         return None
@@ -52,16 +52,16 @@ def with_products(posed: Posed, total: int, solver: Solver) -> Optional[Posed]:
     return replace(posed, problem=more, origins=posed.origins + [words for _, words in chosen])
 
 
-def _multipliers(problem: Problem, total: int, products: list[Condition], solver: Solver) -> list[float]:
-    """How large the multiplier of each product is in the best bounds, of both sides, with a number as multiplier."""
-    wider = replace(problem)
-    give_bases(wider, total, by_variables)
+def _multipliers(posed: Posed, total: int, products: list[Condition], solver: Solver) -> list[float]:
+    """How large the multiplier of each product is in the best bounds, of all sides, with a number as multiplier."""
+    wider = replace(posed.problem)
+    give_bases(wider, total, by_variables, posed.sides)
     count = len(wider.conditions)
     wider.conditions = wider.conditions + products
     wider.bases = wider.bases + [[ONE] for _ in products]
     parts = [[list(range(len(b)))] if b else [] for b in wider.bases]
     used = [0.0] * len(products)
-    for side in (0, 1):
+    for side in posed.sides:
         try:
             program = pose_program(wider, parts, side)
         except Unreachable:

@@ -14,7 +14,7 @@ import subprocess
 from dataclasses import dataclass
 from fractions import Fraction
 from pathlib import Path
-from typing import Optional
+from typing import Optional, Sequence
 
 from .reading import Refusal
 from .writing import STREAMS, scratch
@@ -231,6 +231,11 @@ def check_one(problem: bytes, certificate: bytes, command: Optional[list[str]] =
         raise no_answer(who, said)
     bound, upper = Fraction(match[2]), match[1] == "1"
     return Verdict([said], None, None if upper else bound, bound if upper else None, False, int(match[3]))
+
+
+def judge(streams: Sequence[bytes]) -> Verdict:
+    """A problem with two certificates by gapcheck, one with a single certificate by replay."""
+    return gapcheck(*streams) if len(streams) == 3 else check_one(streams[0], streams[1])
 
 
 def check_pair(problem: bytes, low: bytes, high: bytes, command: Optional[list[str]] = None) -> list[str]:

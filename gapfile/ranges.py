@@ -38,7 +38,17 @@ def as_given(_low: Fraction, _high: Fraction) -> Map:
     return NOT_MAPPED
 
 
-MAPS: tuple[Callable[[Fraction, Fraction], Map], ...] = (to_unit, by_ten, as_given)
+Way = Callable[[Fraction, Fraction], Map]
+MAPS: tuple[Way, ...] = (to_unit, by_ten, as_given)
+
+
+def centred(way: Way) -> Way:
+    """The same where it keeps 0 in its place, and else a power of ten: a monomial of the model's variables is then one
+    of the stream's, which a basis given by hand needs."""
+    def chosen(low: Fraction, high: Fraction) -> Map:
+        found = way(low, high)
+        return by_ten(low, high) if found[0] else found
+    return chosen
 
 
 def _quadratic(condition: Condition) -> Optional[tuple[int, int, int, int]]:

@@ -6,11 +6,12 @@ smallest that is close to the best is rounded.
 from __future__ import annotations
 
 from dataclasses import dataclass, field, replace
-from typing import Iterator, Optional
+from typing import Container, Iterator, Optional
 
 from . import basis
 from .blocks import by_basis
 from .budget import RELAXING, Budget
+from .given import used, with_given
 from .peeling import rows_least
 from .points import Reached
 from .problem import LARGEST_DEGREE, LimitError, Posed
@@ -20,9 +21,8 @@ from .progress import Say
 from .reading import LIMITS, Problem
 from .sdp import Program, Solution, Unreachable, pose_program, solve
 from .solver import STATUS, USABLE, Solver
-from .sparse import RULES, Rule, by_variables, give_bases, prune
+from .sparse import RULES, Parts, Rule, by_variables, give_bases, prune
 
-Parts = list[list[list[int]]]    # for each basis its blocks, as lists of indices
 WORDS = ("lower", "upper")
 ANY_BOUND = 2                    # csdp's status where the program is unbounded
 CLOSE = 1e-6                     # relaxations this close to an attained value need no more monomials
@@ -40,14 +40,15 @@ class NoCertificate(Exception):
 
 @dataclass
 class Relaxed:
-    """A problem with its bases, and the best bound of each side in floats; upper bounds with their sign turned."""
+    """A problem with its bases, and the best bound of each of its sides in floats; upper bounds with their sign
+    turned."""
     posed: Posed
     degree: int
     name: str
     blocks: Blocks
     parts: Parts
-    programs: list[Program] = field(default_factory=list)
-    best: list[Solution] = field(default_factory=list)
+    programs: dict[int, Program] = field(default_factory=dict)
+    best: dict[int, Solution] = field(default_factory=dict)
 
     @property
     def rows(self) -> int:
@@ -56,18 +57,18 @@ class Relaxed:
     @property
     def empty(self) -> bool:
         """Whether csdp says that any bound can be proved."""
-        return any(s.status == ANY_BOUND for s in self.best)
+        return any(s.status == ANY_BOUND for s in self.best.values())
 
     def bound(self, side: int, reached: Reached) -> float:
         """The bound of a side; what is beyond an attained value is csdp's error."""
         value, found = reached.value(side), self.best[side].bound
         return found if value is None else min(found, self.programs[side].sign * self.posed.factor * float(value))
 
-    def loss(self, best: list[float], reached: Reached) -> float:
+    def loss(self, best: dict[int, float], reached: Reached) -> float:
         """How much worse than the best bounds that are known, relative to them or to 1 in the model's units."""
-        blur = BLUR * abs(sum(best))
+        blur = BLUR * abs(sum(best.values()))
         return max((b - self.bound(side, reached) - blur) / max(self.posed.factor, abs(b))
-                   for side, b in enumerate(best))
+                   for side, b in best.items())
 
     def gap(self, reached: Reached, side: int) -> float:
         """How far the relaxation of a side is from what is attained, likewise, less what csdp cannot tell."""
@@ -75,23 +76,25 @@ class Relaxed:
         if value is None:
             return 1.0
         factor, sign = self.posed.factor, self.programs[side].sign
-        blur = BLUR * abs(sum(s.bound for s in self.best)) if len(self.best) == 2 else 0.0
+        whole = len(self.best) == len(self.posed.sides)
+        blur = BLUR * abs(sum(s.bound for s in self.best.values())) if whole else 0.0
         return (sign * factor * float(value) - self.best[side].bound - blur) / (factor * max(1.0, abs(float(value))))
 
     def close(self, reached: Reached) -> bool:
         """Whether more monomials can gain nothing."""
-        return self.empty or max(self.gap(reached, side) for side in (0, 1)) < CLOSE
+        return self.empty or max(self.gap(reached, side) for side in self.posed.sides) < CLOSE
 
 
-def best_bounds(relaxed: list[Relaxed], reached: Reached) -> list[float]:
-    """The best bound of each side."""
-    return [max(r.bound(side, reached) for r in relaxed) for side in (0, 1)]
+def best_bounds(relaxed: list[Relaxed], reached: Reached) -> dict[int, float]:
+    """The best bound of each side that is claimed."""
+    return {side: max(r.bound(side, reached) for r in relaxed) for side in relaxed[0].posed.sides}
 
 
-def fitting_blocks(problem: Problem) -> Blocks:
-    """The blocks, with the conditions' bases pruned to them. Raises LimitError where basis 0 needs too many rows."""
+def fitting_blocks(problem: Problem, kept: Container[int] = ()) -> Blocks:
+    """The blocks, with the conditions' bases pruned to them, but for those to be kept. Raises LimitError where basis 0
+    needs too many rows."""
     found = basis.find_blocks(problem)
-    while prune(problem, by_basis(problem, found)):
+    while prune(problem, by_basis(problem, found), kept):
         found = basis.find_blocks(problem)
     rows = rows_least(problem.bases[0], by_basis(problem, found)[0])
     if rows > LIMITS["rows"]:
@@ -107,7 +110,7 @@ def higher(posed: Posed, total: int) -> str:
     for _, rule in RULES:
         problem = replace(posed.problem)
         try:
-            give_bases(problem, total, rule)
+            give_bases(problem, total, rule, posed.sides)
             fitting_blocks(problem)
             return f"try degree {total}"
         except LimitError as error:
@@ -119,26 +122,27 @@ def relax(posed: Posed, total: int, name: str, solver: Solver, reached: Reached,
     """The best bounds with the bases that the problem has; what is attained is looked for where it is not yet close.
     Raises LimitError or NoCertificate."""
     problem = posed.problem
-    found = fitting_blocks(problem)
-    out = Relaxed(posed, total, name, found, by_basis(problem, found))
-    for side in (0, 1):
+    found = fitting_blocks(problem, posed.given)
+    parts = by_basis(problem, found)
+    out = Relaxed(posed, total, name, found, used(posed, parts, say) if posed.given else parts)
+    for side in posed.sides:
         none = f"no {WORDS[side]} certificate of degree {total}"
         try:
             program = pose_program(problem, out.parts, side)
         except Unreachable:
-            raise NoCertificate(f"{none}: the objective has a monomial that no product of the bases has; give every "
-                                "variable a range", bool(problem.conditions)) from None
+            what = "add to basis 0 what makes it" if posed.given else "give every variable a range"
+            raise NoCertificate(f"{none}: the objective has a monomial that no product of the bases has; {what}",
+                                bool(problem.conditions)) from None
         best = solve(program, solver)
         if best.status not in USABLE and best.status != ANY_BOUND:
             raise NoCertificate(f"{none}: {STATUS[best.status]}")
-        out.programs.append(program)
-        out.best.append(best)
-    for side in (0, 1):
+        out.programs[side], out.best[side] = program, best
+    for side in posed.sides:
         if not out.empty and out.gap(reached, side) > CLOSE:
             reached.look(side, posed, out.best[side].moments)
-    low, high = (p.sign * s.bound / posed.factor for p, s in zip(out.programs, out.best))
     sizes = ", ".join(str(len(b)) for b in problem.bases)
-    say(f"degree {total}, bases by {name} ({sizes}): from {low:.9g} to {high:.9g}")
+    bounds = " to ".join(f"{out.programs[side].sign * s.bound / posed.factor:.9g}" for side, s in out.best.items())
+    say(f"degree {total}, bases by {name} ({sizes}): {'from ' if len(out.best) > 1 else ''}{bounds}")
     return out
 
 
@@ -156,7 +160,10 @@ class Ladder:
         self.fits = False            # whether some bases of the degree that is tried are within the limits
 
     def climb(self, only: Optional[int]) -> list[Relaxed]:
-        """All relaxations, at one degree or from the least one on. Raises LimitError or NoCertificate if none is."""
+        """All relaxations, at one degree or from the least one on; one alone where the bases are given. Raises
+        LimitError or NoCertificate if none is."""
+        if self.posed.given:
+            return [self._by_hand()]
         for total in [only] if only else range(self.least, LARGEST_DEGREE + 1, 2):
             self._degree(total)
             hopeless = total > self.least + 2 and not self.found
@@ -168,6 +175,11 @@ class Ladder:
         if only and isinstance(self.failure, NoCertificate) and self.failure.higher:
             raise NoCertificate(f"{self.failure}; {higher(self.posed, only + 2)}")
         raise self.failure
+
+    def _by_hand(self) -> Relaxed:
+        """The relaxation with the bases that were given. Raises LimitError or NoCertificate."""
+        total, posed = with_given(self.posed)
+        return relax(posed, total, "hand", self.solver, self.reached, self.say)
 
     def _degree(self, total: int) -> None:
         """The relaxations of one degree."""
@@ -208,7 +220,7 @@ class Ladder:
         """None where the rule gives the bases of an earlier one, or too many monomials."""
         problem = replace(posed.problem)
         try:
-            give_bases(problem, total, rule)
+            give_bases(problem, total, rule, posed.sides)
         except LimitError as error:
             self._failed(total, name, error)
             return None
@@ -238,8 +250,8 @@ def width(posed: Posed, solver: Solver, reached: Reached, say: Say) -> float:
     """How far relaxations of the second degree are from what is attained: what leaving a condition out costs."""
     total, problem = basis.least_degree(posed.problem) + 2, replace(posed.problem)
     try:
-        give_bases(problem, total, by_variables)
+        give_bases(problem, total, by_variables, posed.sides)
         found = relax(replace(posed, problem=problem), total, "variables", solver, reached, say)
     except (LimitError, NoCertificate):
         return float("inf")
-    return max(found.gap(reached, side) for side in (0, 1))
+    return max(found.gap(reached, side) for side in posed.sides)

@@ -5,6 +5,7 @@ import json
 import os
 import platform
 import time
+from fractions import Fraction
 from typing import Any, Optional
 
 from . import VERSION
@@ -26,22 +27,24 @@ def point_text(solved: Solved, model: Model, attained: Attained) -> str:
 
 
 def report_lines(solved: Solved, model: Model) -> list[str]:
-    """Relaxation, filed, lost and attained for both sides, in the model's units; rows and blocks."""
+    """Relaxation, filed, lost and attained for each side, in the model's units; rows and blocks."""
     factor = solved.posed.factor
     blocks, rounds = counted(solved.blocks.count, "block"), counted(solved.blocks.rounds, "round")
     lines = [f"degree {solved.degree}; {blocks}, {rounds}; {solved.sizes}"]
     lines += solved.posed.widened
     if factor != 1:
         lines.append(f"the objective was multiplied by {factor} to whole numbers; the figures below are divided by it")
-    digits = max(digits_for((solved.sides[1].bound - solved.sides[0].bound) / factor), 9)
+    gap = solved.sides[1].bound - solved.sides[0].bound if len(solved.sides) == 2 else Fraction(0)
+    digits = max(digits_for(gap / factor), 9)
     table = [HEADS] + [_row(side, factor, digits) for side in solved.sides]
     wide = [max(len(row[k]) for row in table) for k in range(len(HEADS))]
     lines += ["  ".join(f"{cell:<{width}}" for cell, width in zip(row, wide)).rstrip() for row in table]
     for side in solved.sides:
         lines += _remarks(solved, model, side)
     if far(solved):
-        lines.append(f"either better points were not found, or degree {solved.degree} gives no more; "
-                     f"{higher(solved.posed, solved.degree + 2)}")
+        given = "the bases that the model gives prove no more; with more monomials, or none given, they may"
+        lines.append("either better points were not found, or " + (given if solved.posed.given else (
+            f"degree {solved.degree} gives no more; {higher(solved.posed, solved.degree + 2)}")))
     return lines
 
 
@@ -69,11 +72,12 @@ def _lost(side: Side, factor: int) -> float:
     return abs(float(side.bound) - side.relaxation) / factor
 
 
-def made_with(solver: str) -> dict[str, str]:
-    """When and with what a filing is made: date, versions, and which gapcheck is asked, with its hash."""
-    checker = build("gapcheck")
+def made_with(solver: str, judge: str = "gapcheck") -> dict[str, str]:
+    """When and with what a filing is made: date, versions, and which gapcheck (or replay, for one side) is asked, with
+    its hash."""
+    checker = build(judge)
     made = {"date": today(), "gapfile": VERSION, "Python": platform.python_version(), "solver": solver,
-            "gapcheck": checker.shown, "found": checker.found, "SHA-256": checker.digest,
+            judge: checker.shown, "found": checker.found, "SHA-256": checker.digest,
             "published": "a published one" if checker.published else "none of the published ones"}
     if checker.found == BUILT:
         made.update({word: said for word, said in (("commit", commit()), ("kit", kit())) if said})
@@ -100,6 +104,9 @@ def manifest(solved: Solved, model: Model, made: dict[str, str]) -> bytes:
         "conditions": posed.origins,
         "widened": posed.widened,
         "degree": solved.degree,
+        "rule": posed.problem.rule,
+        "order": posed.problem.order,
+        "bases by hand": sorted(posed.given),
         "blocks": solved.blocks.count,
         "rounds": solved.blocks.rounds,
         "made": made,

@@ -57,6 +57,7 @@ class Restated:
     origins: list[str] = field(default_factory=list)
     widened: list[str] = field(default_factory=list)
     left_out: list[str] = field(default_factory=list)
+    sources: list[str] = field(default_factory=list)         # the model's own conditions, ranges first
 
 
 @dataclass(frozen=True)
@@ -80,8 +81,9 @@ def restate(model: Model, variables: Sequence[Scaled], factor: int, sent: Proble
     objective = {e: factor * c for e, c in changed(model.bound, values).items()}
     if any(c.denominator != 1 for c in objective.values()):
         raise Mismatch(f"{factor} times the model's polynomial has coefficients that are not whole")
+    chosen = model.choices
     out = Restated(Problem(sent.variables, {e: int(objective[e]) for e in ordered(objective)}, bases=sent.bases,
-                           rule=sent.rule, order=sent.order))
+                           rule=chosen.rule, order=chosen.order))
     _conditions(model, variables, values, sent, out)
     return out
 
@@ -95,7 +97,27 @@ def faithful(model: Model, variables: Sequence[Scaled], factor: int, sent: Probl
     for k, (a, b) in enumerate(zip(out.problem.conditions, sent.conditions), 1):
         if a != b:
             raise Mismatch(f"condition {k} of problem.bin is not written as the model's is")
+    _chosen(model, variables, out, sent)
     return out
+
+
+def _chosen(model: Model, variables: Sequence[Scaled], out: Restated, sent: Problem) -> None:
+    """Rule, order and bases are those that the model chooses. Raises Mismatch."""
+    for word, wanted, found in (("rule", out.problem.rule, sent.rule), ("order", out.problem.order, sent.order)):
+        if wanted != found:
+            raise Mismatch(f"problem.bin has {f'the {word} {found}' if found else f'no {word}'}, the model "
+                           f"{f'{word} {wanted}' if wanted else 'none'}")
+    given = model.choices.bases
+    if given and any(v.middle for v in variables):
+        raise Mismatch("the model gives its bases by hand, and a range was shifted, so that they are others in the "
+                       "stream")
+    kept = [k for k, words in enumerate(out.sources, 1) if words not in out.left_out]
+    for number, basis in given.items():
+        if number and number not in kept:
+            continue
+        j = kept.index(number) + 1 if number else 0
+        if j >= len(sent.bases) or tuple(sent.bases[j]) != basis.monomials:
+            raise Mismatch(f"basis {j} of problem.bin is not the one that line {basis.line} of the model gives")
 
 
 def changed(polynomial: Polynomial, values: list[Polynomial]) -> Polynomial:
@@ -139,6 +161,7 @@ def _conditions(model: Model, variables: Sequence[Scaled], values: list[Polynomi
         out.problem.conditions.append(Condition(condition.equality, dict(form[0])))
     kept = {*out.origins, *out.widened}
     out.left_out = [s.words for s in sources if s.words not in kept]
+    out.sources = [s.words for s in sources]
 
 
 def _wider(k: int, condition: Condition, sources: list[Source], variables: Sequence[Scaled],

@@ -37,10 +37,12 @@ STYLE = """
 """
 DATA = "data:application/octet-stream;base64,"
 NOT_YET = "Not checked again in this page: its script did not run."
-TOO_LARGE = "This sheet does not check itself: the files are too large to stand in it. Use gapcheck."
-INSIDE = """<div class="inside"><p>Save the three files: {links}. <code>gapcheck problem.bin low.bin high.bin</code>
-checks them without this page.</p><p>The checker in this page is proved code, compiled for browsers; the last step of
-the compiler, the browser and the script that compares are not proved. Its SHA-256, as <code>tools/wasm</code> tells it:
+TOO_LARGE = "This sheet does not check itself: the files are too large to stand in it. Use {}."
+PAIR = "the three files: {links}. <code>gapcheck problem.bin low.bin high.bin</code>\nchecks"
+ONE = "the two files: {links}. <code>gapfile check {names}</code>\nasks replay, which checks"
+INSIDE = """<div class="inside"><p>Save {saved} them without this page.</p><p>The
+checker in this page is proved code, compiled for browsers; the last step of the compiler, the browser and the script
+that compares are not proved. Its SHA-256, as <code>tools/wasm</code> tells it:
 <span class="mono" id="digest">{digest}</span></p></div>
 """
 MODULE = re.compile(r'<script type="text/plain" id="module">([A-Za-z0-9+/=]*)</script>')
@@ -69,22 +71,24 @@ def policy(script: str) -> str:
             "base-uri 'none'; form-action 'none'")
 
 
-def checking(sheet: str, streams: Sequence[bytes], module: Optional[bytes]) -> str:
+def checking(sheet: str, streams: Sequence[bytes], module: Optional[bytes], names: Sequence[str] = STREAMS) -> str:
     """The sheet with the checker and the streams inside; as it is where there is no module."""
     if module is None:
         return sheet
     pages = next(folder for folder in PAGES if folder.is_dir())
     script = "\n".join((pages / name).read_text(encoding="utf-8") for name in SCRIPTS)
     links = ", ".join(f'<a id="{name}" download="{name}" href="{DATA}{_text(stream)}">{name}</a>'
-                      for name, stream in zip(STREAMS, streams))
+                      for name, stream in zip(names, streams, strict=True))
     head = (f'<meta http-equiv="Content-Security-Policy" content="{policy(script)}">'
             '<meta name="viewport" content="width=device-width, initial-scale=1"><style>')
-    end = (INSIDE.format(links=links, digest=hashlib.sha256(module).hexdigest())
+    saved = (PAIR if len(names) == 3 else ONE).format(links=links, names=" ".join(names))
+    end = (INSIDE.format(saved=saved, digest=hashlib.sha256(module).hexdigest())
            + f'<script type="text/plain" id="module">{_text(module)}</script>\n<script>{script}</script>\n'
            "</body></html>")
     whole = _put(sheet, {"<style>": head, "</style>": f"{STYLE}</style>", "</body></html>": end,
                          '<div class="figure">': _line(NOT_YET)})
-    return whole if len(whole.encode()) <= LARGEST else _put(sheet, {'<div class="figure">': _line(TOO_LARGE)})
+    return whole if len(whole.encode()) <= LARGEST else _put(sheet, {
+        '<div class="figure">': _line(TOO_LARGE.format("gapcheck" if len(names) == 3 else "replay"))})
 
 
 def _line(text: str) -> str:

@@ -10,10 +10,10 @@ from fractions import Fraction
 from html import escape
 
 from .decimals import decimal, fraction
-from .figures import Figures, Quoted, Reached
+from .figures import SIDES, Figures, Quoted, Reached
 from .formulas import formula, in_the_model, joined, letters, minus, number, point_html, region, standing
 from .ranges import range_of
-from .writing import THEOREM
+from .writing import RECORD, THEOREM
 
 STYLE = """
 @page { size: A4; margin: 11mm 12mm }
@@ -64,12 +64,14 @@ PROVED = """<h2>What was proved, and what was computed</h2>
 conditions, for all real points (docs/MAP.md, part 5). That this is the model's polynomial times the factor, what the
 variables stand for, that every condition sent follows from the model's, and the decimals are gapfile's arithmetic:
 <code>gapfile verify</code> computes it again from the files and compares every figure here.</p>"""
+PROVED_ONE = PROVED.replace("gapcheck, a program with a proof, accepted the bounds", "The proved check of one "
+                            "certificate, which the program replay asks, accepted the bound")
 AGAIN = """<h2>To check it again</h2>
-<p class="small">In the folder of the files <code>sha256sum -c SUMS</code>, then <code>gapcheck problem.bin low.bin
-high.bin</code>: it must print the lines above. Then <code>gapfile verify</code> and this folder's name.{}</p>
+<p class="small">In the folder of the files <code>sha256sum -c SUMS</code>, then <code>{command}</code>: it must print
+the {lines} above. Then <code>gapfile verify</code> and this folder's name.{coq}</p>
 <h2>What is not claimed</h2>
-<ul class="small"><li>That the model is the bid: compare it.</li>
-<li>That the bounds are the best: what is attained stands above.</li>
+<ul class="small"><li>That the model is the bid: compare it.</li>{other}
+<li>{best}: what is attained stands above.</li>
 <li>Anything about points outside the region.</li></ul>"""
 IN_COQ = " In another prover, Coq: <code>coqc figure.v</code>."
 DENSE, CROWDED = 1100, 1900     # more letters than these are set smaller, and are cut
@@ -87,9 +89,10 @@ class Room:
     conditions: int
     meant: int
     place: int
+    note: int
 
 
-WIDE, TIGHT = Room(12, 520, 360, 480, 420, 300, 200), Room(8, 300, 220, 340, 220, 200, 130)
+WIDE, TIGHT = Room(12, 520, 360, 480, 420, 300, 200, 230), Room(8, 300, 220, 340, 220, 200, 130, 80)
 
 
 def page(figures: Figures, sums: list[tuple[str, str]]) -> str:
@@ -102,13 +105,18 @@ def page(figures: Figures, sums: list[tuple[str, str]]) -> str:
     kind = "sheet dense" if letters("".join(body)) > DENSE else "sheet"
     return (f'<!DOCTYPE html>\n<html lang="en"><head><meta charset="utf-8"><title>{title}</title>'
             f'<style>{STYLE}</style></head>\n<body><div class="{kind}">'
-            '<div class="above"><span>Filing sheet</span><span>accepted by gapcheck</span></div>'
+            f'<div class="above"><span>Filing sheet</span><span>accepted by {_accepted(figures)}</span></div>'
             f"<h1>{title}</h1>{_head(figures)}\n" + "\n".join(parts) + "\n</div></body></html>\n")
+
+
+def _accepted(figures: Figures) -> str:
+    return "the proved check of one certificate" if figures.not_claimed else "gapcheck"
 
 
 def _body(figures: Figures, room: Room) -> list[str]:
     """The parts whose length depends on the model."""
-    return [_written(figures, room), _sent(figures, room), _exact(figures), _points(figures, room)]
+    return [_written(figures, room), _sent(figures, room) + _besides(figures, room), _exact(figures),
+            _points(figures, room)]
 
 
 def _cut(text: str, room: int) -> str:
@@ -131,12 +139,28 @@ def _figure(figures: Figures) -> str:
                 f"region. So there is no figure to quote.</p>{_wider(figures)}</div>")
     unit = escape(_cut(figures.model.head.get("unit", ""), UNIT))
     unit = f" <small>{unit}</small>" if unit else ""
-    shown = "".join(f"<div><span>{'and ' if q.name == 'upper' else ''}{q.words}</span> {_quoted(q)}{unit}</div>"
+    second = "and " if not figures.not_claimed else ""
+    shown = "".join(f"<div><span>{second if q.name == 'upper' else ''}{q.words}</span> {_quoted(q)}{unit}</div>"
                     for q in figures.quoted)
-    note = ("These decimals are exact." if all(q.is_exact for q in figures.quoted) else
-            f"Rounded outward to {figures.digits} digits: the lower bound down, the upper bound and the difference up.")
     return ('<div class="figure"><p>At every point of the region the value of the polynomial is</p>'
-            f'<div class="three">{shown}</div><p class="note">{note}</p>{_wider(figures)}</div>')
+            f'<div class="three">{shown}</div>{_one_side(figures)}<p class="note">{_rounded(figures)}</p>'
+            f"{_wider(figures)}</div>")
+
+
+def _rounded(figures: Figures) -> str:
+    """Whether the decimals are exact, and else how they were rounded."""
+    if all(q.is_exact for q in figures.quoted):
+        return "These decimals are exact." if len(figures.quoted) > 1 else "This decimal is exact."
+    ways = {"": "the lower bound down, the upper bound and the difference up", "upper": "down", "lower": "up"}
+    return f"Rounded outward to {figures.digits} digits: {ways[figures.not_claimed]}."
+
+
+def _one_side(figures: Figures) -> str:
+    """In words, where one side alone is claimed."""
+    if not figures.not_claimed:
+        return ""
+    return (f'<p class="wider" data-side="{figures.not_claimed}">One side alone: no {figures.not_claimed} bound is '
+            "claimed, and none of the difference of two values.</p>")
 
 
 def _quoted(q: Quoted) -> str:
@@ -195,13 +219,30 @@ def _sent(figures: Figures, room: Room) -> str:
             + (f'<p class="formula small">with &ensp;{meant}</p>' if meant else ""))
 
 
+def _besides(figures: Figures, room: Room) -> str:
+    """What the model chose of the format, and its notes, as far as there is room."""
+    notes = " · ".join(note for note in figures.model.notes if note)
+    said = [_chosen(figures), f"Note: {escape(_cut(notes, room.note))}" if notes else ""]
+    return f'<p class="small">{" ".join(filter(None, said))}</p>' if any(said) else ""
+
+
+def _chosen(figures: Figures) -> str:
+    """What the model chose of the format, in a sentence: it decides how a certificate is found, not what is claimed."""
+    chosen = figures.model.choices
+    said = [f"joining rule {chosen.rule}"] if chosen.rule != 1 else []
+    said += [f"sparse order {chosen.order}"] if chosen.order is not None else []
+    numbers = sorted(chosen.bases)
+    said += [f"{'basis' if len(numbers) == 1 else 'bases'} {', '.join(map(str, numbers))} as the model gives "
+             f"{'it' if len(numbers) == 1 else 'them'}"] if numbers else []
+    return f"Of the format the model chooses {'; '.join(said)}." if said else ""
+
+
 def _exact(figures: Figures) -> str:
-    """Exact fractions, and the lines of gapcheck to the letter."""
-    low, high = figures.certificates
-    a, b = figures.bounds
-    rows = [("lower", f"{low.p}/{low.q}", a), ("upper", f"{high.p}/{high.q}", b)]
-    if not figures.verdict.empty:
-        rows.append(("gap", figures.verdict.lines[2].split()[1], b - a))
+    """Exact fractions, and what the checker printed, to the letter."""
+    rows = [(SIDES[side], f"{figures.certificates[side].p}/{figures.certificates[side].q}", bound)
+            for side, bound in figures.bounds.items()]
+    if figures.gap is not None:
+        rows.append(("gap", figures.verdict.lines[2].split()[1], figures.gap))
     heads = ("", "as filed", "reduced")
     if figures.factor != 1:
         heads = ("", "of f, as filed", f"divided by {figures.factor}, reduced")
@@ -209,8 +250,9 @@ def _exact(figures: Figures) -> str:
                     f'<td class="mono" data-figure="{word} exact">{fraction(value)}</td></tr>'
                     for word, said, value in rows)
     lines = escape("\n".join(figures.verdict.lines))
+    pre = '<pre class="written">' if figures.not_claimed else "<pre>"       # the one line of replay may be longer
     return (f'<div class="columns"><div><h2>Exact fractions</h2><table>{_heads(heads)}{table}</table></div>'
-            f'<div class="narrow"><h2>What gapcheck printed</h2><pre>{lines}</pre></div></div>')
+            f'<div class="narrow"><h2>What {figures.judge} printed</h2>{pre}{lines}</pre></div></div>')
 
 
 def _heads(words: tuple[str, ...]) -> str:
@@ -223,7 +265,8 @@ def _points(figures: Figures, room: Room) -> str:
     if figures.verdict.empty:
         return ""
     rows, places = [], []
-    for side, word in enumerate(("lower", "upper")):
+    for side in figures.sides:
+        word = SIDES[side]
         found, off, reached = "none was found", "how tight is not known", figures.reached[side]
         if reached:
             found = minus(_value(reached.value))
@@ -234,7 +277,8 @@ def _points(figures: Figures, room: Room) -> str:
                     f'<td data-figure="{word} off by">{off}</td><td>{relaxation}</td>'
                     f"<td>{len(figures.certificates[side].rows)}</td></tr>")
     heads = ("", "attained at a point of the region", "the bound is off by at most", "the solver's relaxation", "rows")
-    return (f"<h2>How tight the bounds are</h2><table>{_heads(heads)}{''.join(rows)}</table>"
+    title = "How tight the bound is" if figures.not_claimed else "How tight the bounds are"
+    return (f"<h2>{title}</h2><table>{_heads(heads)}{''.join(rows)}</table>"
             + "".join(f'<p class="formula small">{place}</p>' for place in places))
 
 
@@ -257,12 +301,24 @@ def _end(figures: Figures, sums: list[tuple[str, str]]) -> str:
     made = figures.made
     digest = made.get("SHA-256", "")
     table = "".join(f'<tr><td class="mono">{escape(name)}</td><td class="mono">{escape(value)}</td></tr>'
-                    for name, value in [*sums, ("gapcheck", digest)])
-    asked = (f"gapcheck is {made.get('gapcheck', '')} ({made.get('found', '')}), whose hash is "
+                    for name, value in [*sums, (figures.judge, digest)])
+    asked = (f"{figures.judge} is {made.get(figures.judge, '')} ({made.get('found', '')}), whose hash is "
              f"{made.get('published', '')}. ") if digest else ""
     tools = ", ".join(f"{word} {made[word]}" for word in ("gapfile", "Python", "solver", "kit", "commit")
                       if made.get(word))
-    return ('<div class="columns end"><div class="wide"><h2>SHA-256 of the files and of gapcheck</h2>'
+    return (f'<div class="columns end"><div class="wide"><h2>SHA-256 of the files and of {figures.judge}</h2>'
             f'<table class="sums">{table}</table><p class="small">'
             f'{escape(_cut(f"{asked}Made with {tools}.", TOOLS))}</p></div>'
-            f'<div>{AGAIN.format(IN_COQ if THEOREM in dict(sums) else "")}</div></div>{PROVED}')
+            f"<div>{_again(figures, THEOREM in dict(sums))}</div></div>"
+            f"{PROVED_ONE if figures.not_claimed else PROVED}")
+
+
+def _again(figures: Figures, in_coq: bool) -> str:
+    """How to check it again, and what is not claimed."""
+    coq = IN_COQ if in_coq else ""
+    if not figures.not_claimed:
+        return AGAIN.format(command="gapcheck problem.bin low.bin high.bin", lines="lines", coq=coq, other="",
+                            best="That the bounds are the best")
+    other = f"\n<li>Any {figures.not_claimed} bound.</li>"
+    return AGAIN.format(command=f"replay &lt;{RECORD}", lines="line", coq=coq, other=other,
+                        best="That the bound is the best")

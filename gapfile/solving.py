@@ -38,7 +38,7 @@ class Unfaithful(AssertionError):
 
 
 def solve_model(model: Model, solver: Solver, options: Options, say: Say) -> Solved:
-    """Both certificates of a model: posed in the first way that is not lossy, or in the best one. Raises LimitError,
+    """The certificates of a model: posed in the first way that is not lossy, or in the best one. Raises LimitError,
     NoCertificate or NoSolver."""
     return _Solving(model, solver, options, say).solved()
 
@@ -94,7 +94,7 @@ class _Solving:
             raise Unfaithful(str(error)) from error
 
     def _one_way(self, posed: Posed) -> Solved:
-        """Both certificates of a problem. Of the relaxations the smallest of the best is rounded, and the next where
+        """The certificates of a problem. Of the relaxations the smallest of the best is rounded, and the next where
         that fails or loses much. Raises LimitError, NoCertificate or NoSolver."""
         relaxed = Ladder(posed, self.solver, self.budget, self.reached, self.say).climb(self.model.degree)
         certifier = Certifier(self.solver, self.options.narrow, self.budget, self.say)
@@ -118,14 +118,17 @@ class _Solving:
     def _worth(self, relaxed: Relaxed, found: list[Solved]) -> bool:
         """Whether another relaxation may give certificates that are clearly closer to what is attained."""
         best = min(solved.distance(self.reached) for solved in found)
-        possible = max(relaxed.gap(self.reached, side) for side in (0, 1))
+        possible = max(relaxed.gap(self.reached, side) for side in self.model.sides)
         return len(found) < TRIED_AGAIN and best > ROUNDED_WELL and possible < best / 10
 
     def _if_unbounded(self) -> None:
         """Raises NoCertificate with the direction where the polynomial has no bound on the region."""
-        for side in (0, 1):
-            if said := unbounded(self.model, side):
-                raise NoCertificate(f"the polynomial has no {WORDS[side]} bound on the region: {said}", False)
+        found = {side: unbounded(self.model, side) for side in self.model.sides}
+        for side, said in found.items():
+            if said:
+                other, none = WORDS[1 - side], found.get(1 - side, said) is not None
+                help_ = "" if none else f"; the line `only {other}` files the {other} bound alone"
+                raise NoCertificate(f"the polynomial has no {WORDS[side]} bound on the region: {said}{help_}", False)
 
 
 def in_order(relaxed: list[Relaxed], reached: Reached) -> list[Relaxed]:

@@ -6,7 +6,7 @@ order, and a larger basis is taken only where it gives a better bound.
 from __future__ import annotations
 
 from itertools import combinations
-from typing import Callable
+from typing import Callable, Container
 
 from .basis import drop, least_degree, monomials
 from .commands import Monomial, add
@@ -14,6 +14,7 @@ from .polynomials import degree
 from .problem import LimitError
 from .reading import LIMITS, Problem
 
+Parts = list[list[list[int]]]    # for each basis its blocks, as lists of indices
 Allowed = Callable[[Monomial], bool]
 Rule = Callable[[Problem], Allowed]
 MOST_TO_DROP = 150               # of more monomials diagonal consistency seldom leaves as few as the checker allows
@@ -78,7 +79,7 @@ RULES: tuple[tuple[str, Rule], ...] = (
     ("all", everything))
 
 
-def give_bases(problem: Problem, total: int, rule: Rule) -> None:
+def give_bases(problem: Problem, total: int, rule: Rule, sides: tuple[int, ...] = (0, 1)) -> None:
     """Gives the problem its bases: basis 0 by the rule; a condition gets those whose squares, times each of its terms,
     are products of basis 0, as basis 0 must take what is left of them. Raises LimitError."""
     if total < least_degree(problem):
@@ -87,16 +88,18 @@ def give_bases(problem: Problem, total: int, rule: Rule) -> None:
     first = [b for b in monomials(problem.variables, total // 2) if allowed(b)]
     if len(first) > MOST_TO_DROP:
         raise too_large(0, total, len(first))                # before the products are made: there can be millions
-    reached = {add(a, b) for a in first for b in first}
-    problem.bases = [first]
-    for condition in problem.conditions:
-        upto = (total - degree(condition.terms)) // 2
-        problem.bases.append([m for m in monomials(problem.variables, upto)
-                              if all(add(add(m, m), t) in reached for t in condition.terms)])
-    problem.bases[0] = drop(problem)
+    problem.bases = [first, *condition_bases(problem, first, total)]
+    problem.bases[0] = drop(problem, sides)
     for j, basis in enumerate(problem.bases):
         if len(basis) > LIMITS["basis"]:
             raise too_large(j, total, len(basis))
+
+
+def condition_bases(problem: Problem, first: list[Monomial], total: int) -> list[list[Monomial]]:
+    """For each condition the monomials whose squares, times each of its terms, are products of basis 0."""
+    reached = {add(a, b) for a in first for b in first}
+    return [[m for m in monomials(problem.variables, (total - degree(condition.terms)) // 2)
+             if all(add(add(m, m), t) in reached for t in condition.terms)] for condition in problem.conditions]
 
 
 def too_large(j: int, total: int, size: int) -> LimitError:
@@ -104,16 +107,22 @@ def too_large(j: int, total: int, size: int) -> LimitError:
                       "variables or a lower degree")
 
 
-def prune(problem: Problem, parts: list[list[list[int]]]) -> bool:
-    """Takes from the conditions' bases what makes products that basis 0 does not reach in its blocks; says whether."""
+def prune(problem: Problem, parts: Parts, kept: Container[int] = ()) -> bool:
+    """Takes from the conditions' bases, but for those to be kept, what makes products that basis 0 does not reach in
+    its blocks; says whether."""
+    lost = {j: found for j, found in unreachable(problem, parts).items() if j not in kept}
+    for j, found in lost.items():
+        problem.bases[j] = [b for i, b in enumerate(problem.bases[j]) if i not in found]
+    return bool(lost)
+
+
+def unreachable(problem: Problem, parts: Parts) -> dict[int, set[int]]:
+    """For each condition the indices of its basis that make products which basis 0 does not reach in its blocks."""
     first = problem.bases[0]
     reached = {add(first[a], first[b]) for part in parts[0] for a in part for b in part}
-    changed = False
-    for j in range(1, len(problem.bases)):
-        lost = {i for part in parts[j] for i in _unreachable(problem, j, part, reached)}
-        problem.bases[j] = [b for i, b in enumerate(problem.bases[j]) if i not in lost]
-        changed = changed or bool(lost)
-    return changed
+    found = {j: {i for part in parts[j] for i in _unreachable(problem, j, part, reached)}
+             for j in range(1, len(problem.bases))}
+    return {j: lost for j, lost in found.items() if lost}
 
 
 def _unreachable(problem: Problem, j: int, part: list[int], reached: set[Monomial]) -> set[int]:

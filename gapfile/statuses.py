@@ -5,7 +5,7 @@ import traceback
 from pathlib import Path
 
 from .expressions import ModelError
-from .manifest import ManifestError
+from .entries import EntryError
 from .problem import LimitError
 from .programs import ProgramError, Verdict
 from .reading import Refused
@@ -26,15 +26,15 @@ class UsageError(Exception):
 
 
 class NotAccepted(Exception):
-    """gapcheck refused the bytes: nothing is filed."""
+    """gapcheck, or replay for one side, refused the bytes: nothing is filed."""
 
-    def __init__(self, verdict: Verdict) -> None:
-        super().__init__("gapcheck refused what was made, and nothing is written: " + "; ".join(verdict.lines))
+    def __init__(self, verdict: Verdict, judge: str = "gapcheck") -> None:
+        super().__init__(f"{judge} refused what was made, and nothing is written: " + "; ".join(verdict.lines))
 
 
 TABLE: tuple[tuple[type[BaseException], int], ...] = (
     (NotAccepted, REFUSED),
-    (UsageError, USAGE), (ModelError, USAGE), (LimitError, USAGE), (ManifestError, USAGE), (TextError, USAGE),
+    (UsageError, USAGE), (ModelError, USAGE), (LimitError, USAGE), (EntryError, USAGE), (TextError, USAGE),
     (OutputError, USAGE), (ProgramError, USAGE), (NoSolver, USAGE), (OSError, USAGE),
     (NoCertificate, NOT_FOUND),
     (Mismatch, DIFFERS),

@@ -214,7 +214,7 @@ def _line(line: str, names: tuple[str, ...]) -> tuple[bytes, tuple[str, ...]]:
     if len(rest) != len(layout.widths):
         raise ValueError(f"expected `{FORMS.get(word, word)}`")
     if layout.exponents is not None:
-        return _written(layout, rest[:1], _monomial(rest[1], names)), names
+        return _written(layout, rest[:1], monomial_of(rest[1], names)), names
     return _written(layout, rest), names
 
 
@@ -247,7 +247,8 @@ def _hexadecimal(words: list[str], count: Optional[int]) -> bytes:
     return run
 
 
-def _monomial(word: str, names: tuple[str, ...]) -> Monomial:
+def monomial_of(word: str, names: tuple[str, ...]) -> Monomial:
+    """The monomial of a word, as `1` or `a^2*b`. Raises ValueError."""
     exponents = [0] * 8
     if word == "1":
         return tuple(exponents)

@@ -18,18 +18,17 @@ from .figures import Figures, figures_of, quoted_lines
 from .filing import digest, filed_files
 from .manifest import NAME_OF_FILE, Manifest, ManifestError, read_manifest
 from .model import Model, parse, read_text
-from .programs import Blocks, ProgramError, Verdict, blocks_call, build, check_one, check_pair, gapcheck, reference
+from .programs import Blocks, ProgramError, Verdict, blocks_call, build, check_one, check_pair, judge, reference
 from .progress import Say
 from .reading import Refusal, read_problem
 from .restating import Mismatch
 from .statuses import DIFFERS, DISAGREE, DONE, REFUSED, UsageError
 from .theorem.statements import figure_file, quoted_in
-from .writing import FILES, MODEL, SHEET, STREAMS, SUMS, THEOREM, is_plain
+from .writing import FILES, MODEL, RECORD, SHEET, STREAMS, SUMS, THEOREM, is_plain, streams_for
 
 SUM = re.compile(r"([0-9a-f]{64})  ([A-Za-z0-9_.-]{1,80})")
 FIGURE = re.compile(r'data-figure="([a-z ]+)">([^<]*)<')
 MOST_BYTES = 1 << 24
-NEEDED = tuple(name for name in FILES if name != THEOREM)
 
 
 @dataclass
@@ -56,16 +55,19 @@ def verify(folder: Path, say: Say) -> Checks:
     say("reading the files")
     files = checks.files = read_files(folder, checks)
     sums_hold(files, checks)
-    if not all(name in files for name in (*STREAMS, MODEL, NAME_OF_FILE)):
+    sides = claimed(files)
+    if not all(name in files for name in (*streams_for(sides), MODEL, NAME_OF_FILE)):
         return checks
-    streams = [files[name] for name in STREAMS]
-    say("asking gapcheck")
-    verdict = gapcheck(*streams)
-    checker = build("gapcheck")
-    who = f"gapcheck ({checker.shown}, SHA-256 {checker.digest[:16]}..)"
-    checks.check(verdict.accepted, f"{who} accepts the three streams", f"{who}: {'; '.join(verdict.lines)}", REFUSED)
+    streams = [files[name] for name in streams_for(sides)]
+    both = len(sides) == 2
+    asked, what = ("gapcheck", "the three streams") if both else ("replay", "the problem and its certificate")
+    say(f"asking {asked}")
+    verdict = judge(streams)
+    checker = build(asked)
+    who = f"{asked} ({checker.shown}, SHA-256 {checker.digest[:16]}..)"
+    checks.check(verdict.accepted, f"{who} accepts {what}", f"{who}: {'; '.join(verdict.lines)}", REFUSED)
     say("asking a second implementation")
-    holds, said = second_opinion(streams[0], streams[1], streams[2], verdict)
+    holds, said = second_opinion(streams[0], streams[1], streams[2] if both else None, verdict)
     checks.check(holds, said, said, DISAGREE)
     read = read_words(files, checks)
     if not verdict.accepted or not read:
@@ -82,6 +84,20 @@ def verify(folder: Path, say: Say) -> Checks:
     return checks
 
 
+def claimed(files: dict[str, bytes]) -> tuple[int, ...]:
+    """The sides that the model claims; both where there is none that can be read, which is said elsewhere."""
+    try:
+        return parse(read_text(files.get(MODEL, b""))).sides
+    except ModelError:
+        return 0, 1
+
+
+def needed(sides: tuple[int, ...]) -> tuple[str, ...]:
+    """The files of a filing with these sides."""
+    own = (*streams_for(sides), *((RECORD,) if len(sides) == 1 else ()))
+    return tuple(name for name in FILES if name in own or name not in (*STREAMS, RECORD, THEOREM))
+
+
 def read_files(folder: Path, checks: Checks) -> dict[str, bytes]:
     """The files of the folder, none through a link, each to a size that no filing has."""
     files: dict[str, bytes] = {}
@@ -91,8 +107,13 @@ def read_files(folder: Path, checks: Checks) -> dict[str, bytes]:
             continue
         with open(path, "rb") as file:
             files[path.name] = file.read(MOST_BYTES)
-    missing = [name for name in NEEDED if name not in files]
-    checks.check(not missing, f"all {len(NEEDED)} files of a filing are there", f"missing: {', '.join(missing)}")
+    sides = claimed(files)
+    missing = [name for name in needed(sides) if name not in files]
+    of = "a filing" if len(sides) == 2 else f"a filing of the {('lower', 'upper')[sides[0]]} bound alone"
+    checks.check(not missing, f"all {len(needed(sides))} files of {of} are there", f"missing: {', '.join(missing)}")
+    for name in (*STREAMS, RECORD):
+        if name in files and name not in needed(sides):
+            checks.check(False, "", f"{name} is there, and is no file of {of}")
     return files
 
 
@@ -149,7 +170,8 @@ def compare(figures: Figures, manifest: Manifest, files: dict[str, bytes], check
         if them:
             checks.check(True, f"{words}, so that the region is larger and the bounds hold all the more: "
                                f"{'; '.join(them)}", "")
-    for word, bound, filed in zip(("lower", "upper"), figures.bounds, manifest.filed):
+    for side, bound in figures.bounds.items():
+        word, filed = ("lower", "upper")[side], manifest.filed[side]
         checks.check(filed in (None, bound), f"the manifest's {word} bound is {fraction(bound)}",
                      f"the manifest has {filed} as {word} bound, where {fraction(bound)} was accepted")
     for word, reached, said, point in zip(("lower", "upper"), figures.reached, manifest.values, manifest.points):
@@ -157,10 +179,10 @@ def compare(figures: Figures, manifest: Manifest, files: dict[str, bytes], check
             checks.check(reached is not None and reached.value == said,
                          f"{said} is attained, near the {word} bound, at a point that meets the model's conditions",
                          f"the manifest's point near the {word} bound does not have the value {said} in the region")
-    again = remade(figures, files, {name: files[name] for name in files if name not in NEEDED})
+    again = remade(figures, files, {name: files[name] for name in files if name not in needed(figures.sides)})
     _compare_module(_module(files), checks)
     _compare_sheet(again[SHEET].decode(), files.get(SHEET, b"").decode("utf-8", "replace"), figures, checks)
-    for name in ("problem.txt", "verdict.txt", "blocks.svg", SUMS):
+    for name in ("problem.txt", "verdict.txt", "blocks.svg", *((RECORD,) if figures.not_claimed else ()), SUMS):
         checks.check(files.get(name) == again[name], f"{name} is what is written of it",
                      f"{name} is not what gapfile writes")
     if THEOREM in files:
@@ -168,8 +190,9 @@ def compare(figures: Figures, manifest: Manifest, files: dict[str, bytes], check
 
 
 def remade(figures: Figures, files: dict[str, bytes], more: dict[str, bytes]) -> dict[str, bytes]:
-    """All files of a filing, made from its streams, model and manifest, from further files, and with the sheet's checker."""
-    solved = {name: files[name] for name in (*STREAMS, MODEL, NAME_OF_FILE)}
+    """All files of a filing, made from its streams, model and manifest, from further files, and with the sheet's
+    checker."""
+    solved = {name: files[name] for name in (*streams_for(figures.sides), MODEL, NAME_OF_FILE)}
     return filed_files(figures, _blocks(files[STREAMS[0]]), solved, more, _module(files))
 
 
@@ -184,7 +207,7 @@ def _compare_theorem(figures: Figures, files: dict[str, bytes], checks: Checks) 
     checks.check(quoted_in(found) == wanted, f"{THEOREM} quotes {', '.join(wanted) or 'no figure'}, as the sheet does",
                  f"{THEOREM} quotes {', '.join(quoted_in(found)) or 'nothing'}, where {', '.join(wanted) or 'nothing'} "
                  "comes of the files")
-    checks.check(found == figure_file([files[name] for name in STREAMS], figures),
+    checks.check(found == figure_file([files[name] for name in streams_for(figures.sides)], figures),
                  f"{THEOREM} is, to the letter, what is written of these files; `gapfile theorem --check` asks Coq",
                  f"{THEOREM} is not, to the letter, what gapfile writes of these files")
 
@@ -204,8 +227,8 @@ def _blocks(problem: bytes) -> Blocks:
         found = blocks_call(problem)
     except ProgramError:
         closed = exact.closure(read_problem(problem))
-        found = Blocks(len({(j, n) for j, numbers in enumerate(closed.blocks) for n in numbers}), closed.rounds, 1,
-                       closed.blocks)
+        found = Blocks(len({(j, n) for j, numbers in enumerate(closed.blocks) for n in numbers}), closed.rounds,
+                       read_problem(problem).rule, closed.blocks)
     assert not isinstance(found, Refusal)                    # gapcheck accepted the problem
     return found
 

@@ -14,16 +14,22 @@ import stat
 import tempfile
 from contextlib import contextmanager
 from pathlib import Path
-from typing import Iterator, Mapping
+from typing import Iterator, Mapping, Sequence
 
 STREAMS = ("problem.bin", "low.bin", "high.bin")
 SHEET = "sheet.html"
 SUMS = "SUMS"
 MODEL = "model.gap"
 THEOREM = "figure.v"
+RECORD = "check.record"                                      # of a filing with one side: what `replay` reads
 # all that a folder of gapfile may hold; a command that adds a file names it here
-FILES = (*STREAMS, MODEL, "manifest.json", "problem.txt", "verdict.txt", "blocks.svg", THEOREM, SHEET, SUMS)
+FILES = (*STREAMS, MODEL, "manifest.json", "problem.txt", "verdict.txt", "blocks.svg", RECORD, THEOREM, SHEET, SUMS)
 EXCHANGE, HERE = 2, -100                                     # RENAME_EXCHANGE and AT_FDCWD of Linux
+
+
+def streams_for(sides: Sequence[int]) -> tuple[str, ...]:
+    """The problem, and the certificates of these sides."""
+    return (STREAMS[0], *(STREAMS[1 + side] for side in sides))
 
 
 class OutputError(Exception):

@@ -51,3 +51,8 @@ function recordOf(exports, problem, low, high) {
   if (number !== fields.refusal) throw new Error(`the call returned ${number}, and its record says ${fields.refusal}`);
   return fields;
 }
+
+// The number of the refusal of one certificate, 0 where it is accepted, by `zamiachisel_check`.
+function checkOf(exports, problem, certificate) {
+  return call(exports, "zamiachisel_check", [problem, certificate], 0, true).number;
+}

@@ -16,7 +16,7 @@ from pathlib import Path
 from typing import Optional
 from unittest import mock
 
-from gapfile import making, selfcheck
+from gapfile import programs, selfcheck
 from gapfile.figures import Figures, figures_of
 from gapfile.filing import filed_files
 from gapfile.manifest import Manifest, read_manifest
@@ -219,7 +219,7 @@ class Filing(unittest.TestCase):
 
     def test_solve_writes_nothing_that_was_not_accepted(self) -> None:
         with tempfile.TemporaryDirectory() as kept, \
-                mock.patch.object(making, "gapcheck", lambda *_: pair_verdict(["refused 9 1 0 0"])):
+                mock.patch.object(programs, "gapcheck", lambda *_: pair_verdict(["refused 9 1 0 0"])):
             folder = Path(kept) / "none"
             status, _, err = run("file", EXAMPLES / "crosstalk.gap", "-o", folder, "--answers", RECORDED / "crosstalk")
             self.assertEqual(status, 1)

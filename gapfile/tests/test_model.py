@@ -67,8 +67,8 @@ class Reading(unittest.TestCase):
                 ("var x\nwhere x\nbound x", 2, 8, "expected an operator, `<=`, `>=` or `==`"),
                 ("var x\nwhere x - x <= 1\nbound x", 2, 13, "the condition has no variable that is left"),
                 ("var x\nwhere 1 == 2\nbound x", 2, 9, "the condition has no variable that is left"),
-                ("var x\n  bond x", 2, 3, "expected title, number, by, unit, date, var, bound, where, "
-                 "degree or widen, found `bond`"),
+                ("var x\n  bond x", 2, 3, "expected title, number, by, unit, date, note, var, bound, "
+                 "where, degree, rule, order, basis, only or widen, found `bond`"),
                 ("var x\nbound x\ndegree 3", 3, 8, "expected auto or an even degree"),
                 ("var a b c d e f g h i\nbound a", 1, 21, "more than 8 variables"),
                 ("var x\nbound x\nwiden yes", 3, 7, "expected the end of the line, found `yes`"),

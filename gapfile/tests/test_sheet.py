@@ -13,6 +13,7 @@ from fractions import Fraction
 from pathlib import Path
 
 from gapfile import selfcheck
+from gapfile.choices import Basis, Choices
 from gapfile.commands import Monomial, ONE
 from gapfile.figures import Figures, Reached
 from gapfile.formulas import formula, in_the_model, joined, letters, point_html, region, standing
@@ -105,13 +106,23 @@ def fullest(chance: random.Random, variables: list[Scaled], factor: int) -> Figu
     points = [[Fraction(chance.randrange(-10 ** 14, 10 ** 14), 10 ** 14 + 7) for _ in range(8)] for _ in range(2)]
     long = "A bid with many decks, on many footings, at many positions, and words far too long for a line " * 3
     model = Model(dict.fromkeys(("title", "number", "by", "unit", "date"), long),
-                  written=["bound " + "position_of_the_deck_number_1*" * 90, *["where " + "a*b + " * 40] * 30])
+                  written=["bound " + "position_of_the_deck_number_1*" * 90, *["where " + "a*b + " * 40] * 30],
+                  notes=[long] * 3, choices=Choices(2, 255, None, {k: Basis(k, (), 1, 1) for k in range(9)}))
     restated = Restated(problem, [], [long] * 4, [long] * 4)
     made = dict.fromkeys(("date", "gapfile", "Python", "solver", "gapcheck", "found", "published", "commit", "kit"),
                          long[:120])
-    return Figures(model, problem, (low, high), Verdict(lines, None, lower, upper, False, 576), factor, variables,
+    return Figures(model, problem, {0: low, 1: high}, Verdict(lines, None, lower, upper, False, 576), factor, variables,
                    restated, [Reached(point, Fraction(chance.randrange(-10 ** 14, 10 ** 14), 10 ** 14 + 7))
                               for point in points], ["-1.23456789e-05"] * 2, {**made, "SHA-256": "f" * 64})
+
+
+def one_sided(figures: Figures) -> Figures:
+    """The same with the upper side alone."""
+    verdict = figures.verdict
+    lines = [f"check 1 {figures.certificates[1].p}/{figures.certificates[1].q} rounds 576 rule 2"]
+    return replace(figures, model=replace(figures.model, choices=replace(figures.model.choices, only=1)),
+                   certificates={1: figures.certificates[1]}, reached=[None, figures.reached[1]],
+                   verdict=replace(verdict, lines=lines, lower=None))
 
 
 def pixels(png: bytes) -> list[list[tuple[int, ...]]]:
@@ -182,9 +193,14 @@ class Browser(unittest.TestCase):
                        half=Fraction(123456789, 999983)) for k, v in enumerate(plain)]
         sums = [(name, "f" * 64) for name in FILES]
         for variables, factor in ((plain, 3), (odd, 999999937)):
-            text = page(fullest(chance, variables, factor), sums)
+            figures = fullest(chance, variables, factor)
+            text = page(figures, sums)
             self.assertEqual(self.pages(text), 1)
             self.assertEqual(self.pages(checking(text, [b"\1"] * 3, selfcheck.built())), 1)   # with all that can differ
+            text = page(one_sided(figures), [*sums[:2], ("check.record", "f" * 64), *sums[3:]])
+            self.assertEqual(self.pages(text), 1)
+            inside = checking(text, [b"\1"] * 2, selfcheck.built(), ("problem.bin", "high.bin"))
+            self.assertEqual(self.pages(inside), 1)
 
 
 if __name__ == "__main__":

@@ -6,14 +6,14 @@ from pathlib import Path
 from typing import Callable
 
 from ..figures import filed_figures
-from ..inputs import beside, read
+from ..inputs import beside, names_in, read
 from ..manifest import NAME_OF_FILE
 from ..outcome import Outcome
-from ..programs import gapcheck
+from ..programs import judge
 from ..progress import Say
 from ..statuses import DONE, REFUSED
 from ..verifying import remade, verify
-from ..writing import MODEL, SHEET, STREAMS, THEOREM, check_folder, write_file, write_folder
+from ..writing import MODEL, SHEET, THEOREM, check_folder, streams_for, write_file, write_folder
 from .checking import ask_coqc, proved
 from .statements import figure_file
 
@@ -27,14 +27,14 @@ def run_theorem(arguments: argparse.Namespace, say: Say) -> Outcome:
         if checks.status != DONE or not checks.figures:
             return Outcome(checks.status, [line for line in checks.lines if not line.startswith("ok: ")]
                            + [f"{THEOREM} is not written, as the files of {folder} disagree"])
-        text = figure_file([checks.files[name] for name in STREAMS], checks.figures)
+        text = figure_file([checks.files[name] for name in streams_for(checks.figures.sides)], checks.figures)
         if THEOREM not in checks.files:
             check_folder(folder, b"", True)
             write_folder(folder, remade(checks.figures, checks.files, {THEOREM: text.encode()}))
     else:
-        streams = [read(str(folder / name)) for name in STREAMS]
-        say("asking gapcheck")
-        verdict = gapcheck(*streams)
+        streams = [read(str(folder / name)) for name in names_in(folder)]
+        say("asking gapcheck" if len(streams) == 3 else "asking replay")
+        verdict = judge(streams)
         if not verdict.accepted:
             return Outcome(REFUSED, verdict.lines)
         found = [beside([str(folder)], name) for name in (NAME_OF_FILE, MODEL)]

@@ -1,4 +1,4 @@
-"""The three streams as data of Coq, with a reader of its own, from docs/FORMAT.md: nothing of the filing part is used.
+"""The streams as data of Coq, with a reader of its own, from docs/FORMAT.md: nothing of the filing part is used.
 
 It looks neither at blocks, rounds and limits nor at the order of refusals: no bound needs them, and Coq refuses what is
 wrong. The streams are those that gapcheck accepted.
@@ -30,7 +30,9 @@ class Given:
 
 @dataclass
 class Claim:
-    """What a certificate says: D x (q x f - p) is the sum of the rows, by condition: weight, and index with factor."""
+    """What a certificate says: D x (q x f - p), turned around for an upper bound, is the sum of the rows, by condition:
+    weight, and index with factor."""
+    side: int
     D: int
     p: int
     q: int
@@ -70,11 +72,11 @@ def read_problem(stream: bytes) -> Given:
 
 
 def read_certificate(stream: bytes) -> Claim:
-    out = Claim(1, 0, 1, {})
+    out = Claim(0, 1, 0, 1, {})
     row: list[tuple[int, int]] = []
     for byte, operands in commands(stream, CERTIFICATE):
         if byte == 0x10:
-            _, out.D, out.p, out.q = operands
+            out.side, out.D, out.p, out.q = operands
         elif byte in (0x11, 0x14):
             row = []
             out.rows.setdefault(operands[0], []).append((operands[1], row))

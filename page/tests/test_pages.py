@@ -99,6 +99,7 @@ class Pages(unittest.TestCase):
     kept: tempfile.TemporaryDirectory[str]
     folder: Path
     sheet: Path
+    one: Path                            # a sheet of one side
 
     @classmethod
     def setUpClass(cls) -> None:
@@ -111,6 +112,10 @@ class Pages(unittest.TestCase):
                              RECORDED / "crosstalk")
         assert status == 0, err
         cls.sheet = cls.folder / "filed/sheet.html"
+        status, _, err = run("file", EXAMPLES / "choices/axle.gap", "-o", cls.folder / "one", "--answers",
+                             RECORDED / "axle")
+        assert status == 0, err
+        cls.one = cls.folder / "one/sheet.html"
 
     @classmethod
     def tearDownClass(cls) -> None:
@@ -155,7 +160,7 @@ class Made(Pages):
     def test_too_large_a_sheet_says_so(self) -> None:
         page = '<style></style></head><body><div class="figure"></div></body></html>'
         text = selfcheck.checking(page, [bytes(11919), bytes(49675), bytes(49675)], MODULE)
-        self.assertIn(selfcheck.TOO_LARGE, text)
+        self.assertIn(selfcheck.TOO_LARGE.format("gapcheck"), text)
         self.assertLess(len(text), 1000)
         self.assertEqual(selfcheck.checking(page, [b""] * 3, None), page)
 
@@ -175,9 +180,10 @@ class Made(Pages):
 
     @unittest.skipUnless(shutil.which("node"), "no node")
     def test_every_byte_changed(self) -> None:
-        ran = subprocess.run(["node", ROOT / "page/damage.mjs", self.sheet], capture_output=True, text=True)
-        self.assertEqual(ran.returncode, 0, ran.stdout + ran.stderr)
-        self.assertIn("0 not told", ran.stdout)
+        for sheet in (self.sheet, self.one):
+            ran = subprocess.run(["node", ROOT / "page/damage.mjs", sheet], capture_output=True, text=True)
+            self.assertEqual(ran.returncode, 0, ran.stdout + ran.stderr)
+            self.assertIn("0 not told", ran.stdout)
 
 
 @needs_programs
@@ -404,6 +410,46 @@ class InChromium(Pages):
         self.picture("sheet_empty")
         self.browser.open(self.changed(text.replace('class="empty"', 'class="some"')))
         self.assertEqual(self.again()[0], "differs")
+
+    def test_the_sheet_of_one_side(self) -> None:
+        """One certificate by the check of one; what is forged, with the hashes made to fit, is told."""
+        text = self.one.read_text(encoding="utf-8")
+        self.browser.open(self.one)
+        kind, said = self.again()
+        self.assertEqual(kind, "holds", said)
+        self.assertIn("accepted, upper 1196509256/10, one certificate; no lower bound is claimed; hashes as printed.",
+                      said)
+        self.assertEqual(self.browser.run("document.querySelectorAll('.inside a').length"), 2)
+        self.picture("sheet_one_side")
+        certificate = (self.one.parent / "high.bin").read_bytes()
+        less = int.from_bytes(certificate[4:8], "little") - 1
+        better = certificate[:4] + less.to_bytes(4, "little") + certificate[8:]
+        other = certificate[:1] + b"\0" + certificate[2:]
+        before, mark, after = text.partition('<script type="text/plain"')
+        renamed = before.replace("high.bin", "low.bin") + mark + after
+
+        def swapped(stream: bytes) -> str:
+            """The sheet with another certificate, and its hash."""
+            return text.replace(base64.b64encode(certificate).decode(), base64.b64encode(stream).decode()).replace(
+                digest(certificate), digest(stream))
+        for changed, told in (
+                (damaged(text, "high.bin", 20), "the SHA-256 of high.bin is not the printed one"),
+                (swapped(better), "the checker says: refused 9"), (swapped(other), "the checker says: refused 9"),
+                (renamed, "the certificate states the upper bound"),
+                (text.replace("check 1 1196509256/10", "check 1 1196509255/10"), "have “check 1 1196509256/10 "),
+                (text.replace('"upper">11.96509256', '"upper">11.96509255'), "the printed upper figure is not above"),
+                (text.replace(' data-side="lower"', ""), "it is not printed that no lower bound is claimed"),
+                (text.replace('data-side="lower"', 'data-side="upper"'), "it is not printed that no lower bound"),
+                (text.replace('<div class="three">', '<div class="three"><b data-figure="lower">0</b>'),
+                 "the figure “lower” is printed, and nothing here proves it"),
+                (text.replace('<div class="three">', '<div class="three"><b data-figure="gap">9</b>'),
+                 "the figure “gap” is printed")):
+            self.assertNotEqual(changed, text)
+            self.browser.open(self.changed(changed))
+            kind, said = self.again()
+            self.assertEqual(kind, "differs", told)
+            self.assertIn(told, said)
+            self.assertNotIn("accepted", said)
 
     def test_a_changed_sheet_says_so(self) -> None:
         """A byte of a stream, a printed hash, a printed line, a figure, the factor, the checker's hash: each is told."""
