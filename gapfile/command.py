@@ -13,7 +13,7 @@ from fractions import Fraction
 from pathlib import Path
 from typing import Callable, Optional, Sequence
 
-from . import VERSION, blocks, picture, programs
+from . import VERSION, asking, blocks, picture, programs, proved
 from .commands import Kind, kind_of
 from .decimals import decimal, digits_for, fraction, is_exact
 from .explain import explain, explain_empty
@@ -40,6 +40,7 @@ EXAMPLES = {
     "file": "gapfile file examples/two_decks.gap -o two_decks",
     "verify": "gapfile verify two_decks",
     "theorem": "gapfile theorem two_decks --check",
+    **asking.EXAMPLES,
 }
 
 
@@ -174,11 +175,14 @@ def run_blocks(arguments: argparse.Namespace, say: Say) -> Outcome:
     if isinstance(found, Refusal):
         say("looking for the reason")
         return Outcome(REFUSED, explain(found, stream, b"", b"", names))
+    masks = proved.symmetries(stream)
+    if isinstance(masks, Refusal):
+        raise programs.ProgramError(f"the blocks of {arguments.problem} are told, and its symmetries {masks.line()}")
     problem = read_problem(stream)
     if len(names) < problem.variables:
         raise UsageError(f"{arguments.problem} has {problem.variables} variables, --names has {len(names)}")
-    text = blocks.as_text(problem, found, names)
-    for path, form in ((arguments.json_file, blocks.as_json(problem, found, names)),
+    text = blocks.as_text(problem, found, masks, names)
+    for path, form in ((arguments.json_file, blocks.as_json(problem, found, masks, names)),
                        (arguments.svg, picture.as_svg(problem, found, names))):
         if path == "-":
             text = form
@@ -199,7 +203,7 @@ def parser() -> argparse.ArgumentParser:
         made.add_argument("-q", "--quiet", action="store_true", help="print nothing but errors")
         made.add_argument("-v", "--verbose", action="store_true", help="say every step at once, and at a fault of "
                                                                        "gapfile where it happened")
-        if name in ("check", "explain", "file", "verify", "theorem"):
+        if name in ("check", "explain", "file", "verify", "theorem", *asking.EXAMPLES):
             made.add_argument("--json", action="store_true", help="print JSON in the place of lines")
         return made
 
@@ -209,6 +213,7 @@ def parser() -> argparse.ArgumentParser:
     made.add_argument("folder", metavar="DIR", help="a folder that `file` wrote")
     made.set_defaults(run=run_verify)
     add_theorem(command)
+    asking.add_asking(command)
     return top
 
 
@@ -262,10 +267,11 @@ def tell(outcome: Outcome, options: argparse.Namespace) -> int:
     """Prints what a command has to say. Its work is done: a reader who closes the pipe does not change its status."""
     for line in outcome.errors:
         complain(line)
-    if options.quiet or not sys.stdout:
+    as_json = getattr(options, "json", False)
+    if options.quiet or not sys.stdout or not outcome.lines and not as_json:
         return outcome.status
     text = "\n".join(outcome.lines)
-    if getattr(options, "json", False):
+    if as_json:
         text = json.dumps({"gapfile": VERSION, "command": options.command, "status": outcome.status, **outcome.data},
                           indent=2, ensure_ascii=False)
     try:

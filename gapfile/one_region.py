@@ -1,0 +1,75 @@
+"""Two filings of one region whose streams have different conditions, stated with the same ones.
+
+Finding a certificate may add products of conditions to a stream, or leave a condition out; so two models with the same
+ranges and conditions can be sent with different ones. Each condition that was sent follows from the models', which
+`restating` has checked. With all of them, in one order, the two problems have one region for the proved call, which
+judges both pairs again: a condition more, without rows, changes no row, and its basis is empty.
+"""
+from __future__ import annotations
+
+from typing import Optional
+
+from .commands import CERTIFICATE, Kind, write_command
+from .figures import Figures
+from .polynomials import Polynomial, ordered, whole
+from .problem import encode_problem
+from .reading import LIMITS, Condition, Problem, read_problem, walk
+
+
+def same_models(first: Figures, second: Figures) -> bool:
+    """Whether two models have the same variables, ranges and conditions, the last in any order."""
+    return ([(v.name, v.range) for v in first.model.variables] == [(v.name, v.range) for v in second.model.variables]
+            and _forms(first) == _forms(second))
+
+
+def _forms(figures: Figures) -> set[tuple[bool, tuple[tuple[object, int], ...]]]:
+    """The conditions of a model, each by its kind and its whole coefficients without a common factor."""
+    return {(where.equality, _form(where.polynomial)) for where in figures.model.conditions}
+
+
+def _form(polynomial: Polynomial) -> tuple[tuple[object, int], ...]:
+    terms = whole(polynomial)[0]
+    return tuple((e, terms[e]) for e in ordered(terms))
+
+
+def with_all_conditions(first: list[bytes], second: list[bytes]) -> Optional[tuple[list[bytes], list[bytes]]]:
+    """The streams of both with the conditions of both, each once; None where there would be more than are allowed, or a
+    stream has one twice, whose two bases would have one place."""
+    problems = [read_problem(first[0]), read_problem(second[0])]
+    together: list[Condition] = []
+    for condition in problems[0].conditions + problems[1].conditions:
+        if condition not in together:
+            together.append(condition)
+    repeats = any(problem.conditions.count(c) > 1 for problem in problems for c in problem.conditions)
+    if len(together) > LIMITS["conditions"] or repeats:
+        return None
+    one, other = (_restated(streams, problem, together) for streams, problem in zip((first, second), problems))
+    return one, other
+
+
+def _restated(streams: list[bytes], problem: Problem, together: list[Condition]) -> list[bytes]:
+    """Three streams with these conditions, among which are their own; bases and rows follow their conditions."""
+    places = _places(problem, together)
+    bases = [problem.bases[0]] + [[] for _ in together]
+    for number, basis in enumerate(problem.bases[1:], 1):
+        bases[places[number]] = basis
+    made = Problem(problem.variables, problem.objective, together, bases, problem.rule, problem.order)
+    return [encode_problem(made), *(_renumbered(stream, places) for stream in streams[1:])]
+
+
+def _places(problem: Problem, together: list[Condition]) -> dict[int, int]:
+    """For each basis of the problem its number among all conditions."""
+    return {0: 0, **{number: together.index(condition) + 1 for number, condition in enumerate(problem.conditions, 1)}}
+
+
+def _renumbered(stream: bytes, places: dict[int, int]) -> bytes:
+    """The certificate with its rows on the conditions' new numbers."""
+    out = bytearray()
+    for command in walk(stream, Kind.CERTIFICATE, 1, lambda _: None):
+        byte = command.layout.byte
+        if byte in (0x11, 0x14):
+            basis, weight = command.numbers
+            out += write_command(CERTIFICATE[byte], (places[basis], weight))
+        else:
+            out += stream[command.place:command.place + command.layout.length]
+    return bytes(out)
