@@ -54,6 +54,9 @@ def read_change(text: str, number: int, names: list[str], work: Work) -> Change:
         raise ModelError(number, 1, "the change has too many terms where the ranges are mapped")
     if not either:
         return Change(text.strip(), polynomial)
+    again = EITHER_WAY.search(text, either.end())
+    if again:
+        raise ModelError(number, again.start() + 1, f"`{again.group()}` stands a second time; a line has one tolerance")
     right = Line(number, text, either.end(), names, work)
     column = right.peek().column
     tolerance = right.rational()

@@ -12,10 +12,10 @@ STYLE = ("text{font:10px 'DejaVu Sans',Helvetica,Arial,sans-serif;fill:#222}.t{f
          ".axis{stroke:#9aa0a8;stroke-width:.8}.gap{fill:#1f5a86}.widest{fill:#b0601a}.a{text-anchor:end}")
 
 
-def as_svg(gaps: list[Fraction]) -> str:
-    """The whole plot; the newest gap stands at the right. The widest is the newest of the largest."""
-    largest = max(gaps, default=Fraction(0))
-    at = max((k for k, gap in enumerate(gaps) if gap == largest), default=0)
+def as_svg(gaps: list[Fraction], age: int) -> str:
+    """The whole plot; the newest gap stands at the right. The widest is the one of this age, as the call told it."""
+    at = len(gaps) - 1 - age
+    largest = gaps[at] if gaps else Fraction(0)
     step = (WIDTH - LEFT - 10) / PLACES
     room = HEIGHT - TOP - BOTTOM
     out = []
@@ -25,7 +25,7 @@ def as_svg(gaps: list[Fraction]) -> str:
         kind = "widest" if k == at else "gap"
         out.append(f'<rect class="{kind}" x="{x + 1:.1f}" y="{HEIGHT - BOTTOM - high:.1f}" width="{step - 2:.1f}" '
                    f'height="{max(high, 0.8):.1f}"><title>{_said(gap)}, age {len(gaps) - 1 - k}</title></rect>')
-    title = f"widest {_said(largest)}, age {len(gaps) - 1 - at}" if gaps else "no gap is held"
+    title = f"widest {_said(largest)}, age {age}" if gaps else "no gap is held"
     axis = (f'<path class="axis" fill="none" d="M{LEFT} {TOP}V{HEIGHT - BOTTOM}H{WIDTH - 8}"/>'
             f'<text class="a" x="{LEFT - 4}" y="{TOP + 4}">{_said(largest)}</text>'
             f'<text class="a" x="{LEFT - 4}" y="{HEIGHT - BOTTOM + 3}">0</text>'

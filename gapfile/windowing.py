@@ -112,9 +112,9 @@ def run_window(arguments: argparse.Namespace, say: Say) -> Outcome:
         lines = take(line, texts, state)
         if show and lines:
             show = _print(lines, line)
-    if plot:
-        write_file(plot, as_svg([Fraction(a, b) for a, b in line.held]).encode())
     widest = arrived(line.held[:-1], line.held[-1:])[1][0] if line.held else None
+    if plot:
+        write_file(plot, as_svg([Fraction(a, b) for a, b in line.held], widest.age if widest else 0).encode())
     return Outcome(line.status, [], data={
         "outcomes": line.told, "held": [f"{a}/{b}" for a, b in line.held], "state": str(state),
         "widest": widest and {"gap": widest.gap, "age": widest.age}, "plot": arguments.svg})
