@@ -15,7 +15,7 @@ EXAMPLES = {
     "tighter": "gapfile tighter examples/two_decks/problem.bin examples/two_decks/low.bin examples/two_decks_wide/low.bin "
                "-o low.bin",
     "sum": "gapfile sum examples/commands/sum/first examples/commands/sum/second -o sum.html",
-    "adjust": "gapfile adjust examples/commands/adjust/lane '0.02*a*b' 'a^2 +- 0.001'",
+    "adjust": "gapfile adjust examples/commands/sum/first '0.002*a*b' 'b +- 0.002'",
     "note": "gapfile note two_decks 'seen by A. Weber' --on upper",
     "notes": "gapfile notes examples/commands/notes/noted",
     "week": "gapfile week examples/two_decks examples/bolted_decks -o week.bin",

@@ -1,0 +1,104 @@
+"""The commands on the calls of the requests: their help, and the folders of examples/commands, run as they are typed, by the
+proved programs and with the plain reference in the place of `replay`."""
+import os
+import re
+import subprocess
+import tempfile
+import unittest
+from pathlib import Path
+from typing import Optional
+
+from gapfile import asking
+from gapfile.tests.support import EXAMPLES, REFERENCE, ROOT, needs_programs, needs_reference, needs_weekcheck, run
+
+COMMANDS = EXAMPLES / "commands"
+GAPFILE = ROOT / "gapfile"
+
+
+def ran(script: Path, replay: Optional[Path]) -> tuple[int, str, str]:
+    """A script of an example, run in an empty folder beside the examples."""
+    with tempfile.TemporaryDirectory() as name:
+        (Path(name) / "examples").symlink_to(EXAMPLES)
+        environment = {**os.environ, "PATH": f"{GAPFILE}:{os.environ['PATH']}", **({"REPLAY": str(replay)} if replay else {})}
+        done = subprocess.run(["bash", "-e", str(script)], cwd=name, capture_output=True, text=True, env=environment,
+                              timeout=600, check=False)
+    said = [line for line in done.stderr.splitlines() if not re.match(r"gapfile: \d+\.\d s: ", line)]
+    return done.returncode, done.stdout, "\n".join(said)
+
+
+class Help(unittest.TestCase):
+    def test_every_command(self) -> None:
+        for command, example in asking.EXAMPLES.items():
+            status, out, _ = run(command, "--help")
+            self.assertEqual(status, 0)
+            self.assertIn(f"example: {example}\n", out)
+            self.assertTrue(example.startswith(f"gapfile {command} "))
+            for words in ("Exit status: 0 accepted or done, 1 refused, 2 usage", "--json", "--quiet", "--verbose"):
+                self.assertIn(words, out)
+
+    def test_files_of_the_examples(self) -> None:
+        """What an example names below examples/ is there."""
+        for example in asking.EXAMPLES.values():
+            for path in re.findall(r"examples/\S+", example):
+                self.assertTrue((ROOT / path).exists(), path)
+
+    def test_every_command_has_a_folder(self) -> None:
+        typed = "".join(file.read_text() for file in COMMANDS.glob("*/run"))
+        for command in (*asking.EXAMPLES, "blocks"):
+            self.assertIn(f"gapfile {command} ", typed)
+        listed = (COMMANDS / "README.md").read_text()
+        for folder in COMMANDS.iterdir():
+            self.assertTrue(folder.name == "README.md" or f"| `{folder.name}` |" in listed, folder.name)
+
+
+@needs_programs
+@needs_weekcheck
+class Examples(unittest.TestCase):
+    def test_as_proved(self) -> None:
+        for folder in sorted(file.parent for file in COMMANDS.glob("*/run")):
+            self.assertEqual(ran(folder / "run", None), (0, (folder / "expected").read_text(), ""), folder.name)
+
+    @needs_reference
+    def test_as_the_reference(self) -> None:
+        """`expected` holds the reference's answers: it stands in the place of `replay` here."""
+        with tempfile.TemporaryDirectory() as name:
+            replay = Path(name) / "replay"
+            replay.write_text(f"#!/bin/sh\nexec {REFERENCE} replay\n")
+            replay.chmod(0o755)
+            for folder in sorted(file.parent for file in COMMANDS.glob("*/run")):
+                if folder.name != "week":                        # by weekcheck; test_weekly compares its report
+                    self.assertEqual(ran(folder / "run", replay), (0, (folder / "expected").read_text(), ""), folder.name)
+
+
+@needs_programs
+class Pipes(unittest.TestCase):
+    """In a process of its own, with its output closed, full, or read by one who leaves."""
+
+    def shell(self, place: str, line: str) -> tuple[int, str]:
+        done = subprocess.run(["bash", "-c", f"set -o pipefail; {line}"], cwd=place, capture_output=True, text=True, timeout=600,
+                              env={**os.environ, "PATH": f"{GAPFILE}:{os.environ['PATH']}"}, check=False)
+        said = [text for text in done.stderr.splitlines() if not re.match(r"gapfile: \d+\.\d s: ", text)]
+        return done.returncode, "\n".join(said)
+
+    def test_files_are_written_before_anything_is_printed(self) -> None:
+        first = EXAMPLES / "commands/sum/first"
+        lines = {
+            f"gapfile tighter {EXAMPLES}/two_decks/problem.bin {EXAMPLES}/two_decks/low.bin {EXAMPLES}/two_decks/low.bin -o out":
+                "out",
+            f"gapfile sum {first} {first} -o sum.html": "sum.html",
+            f"gapfile adjust {first} a -o changes": "changes",
+            f"rm -rf d d.notes && cp -r {first} d && gapfile note d seen": "d.notes/low.bin",
+            f"gapfile notes {EXAMPLES}/commands/notes/noted --strict strict": "strict/high.bin",
+        }
+        for line, file in lines.items():
+            for end, status in (("| true", 0), (">&-", 0), (">/dev/full", 2)):
+                with tempfile.TemporaryDirectory() as place:
+                    found, err = self.shell(place, f"{line} {end}")
+                    self.assertEqual(found, status, (line, end, err))
+                    self.assertEqual(err, "" if not status else "gapfile: standard output: No space left on device; what was to "
+                                                                "be written is written")
+                    self.assertTrue((Path(place) / file).exists(), (line, end))
+
+
+if __name__ == "__main__":
+    unittest.main()
