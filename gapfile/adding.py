@@ -15,7 +15,7 @@ from .commands import polynomial_text
 from .decimals import fraction
 from .explain import ADVICE, RULES, explain
 from .judged import Judged, judged, streams_in
-from .one_region import same_models, with_all_conditions
+from .one_region import on_one_region, same_models
 from .outcome import Outcome
 from .progress import Say
 from .reading import Condition, Problem, Refusal, read_problem
@@ -46,18 +46,20 @@ def run_sum(arguments: argparse.Namespace, say: Say) -> Outcome:
 
 def _summed(first: Judged, second: Judged, call: proved.Added | Refusal) -> Summed | Refusal:
     """The sum of two accepted pairs. Where the conditions that were sent differ, and the models' do not, the call is asked
-    again with all of them. Raises UsageError where the models have no sum."""
+    again with the same ones in both. Raises UsageError where the models have no sum."""
     if isinstance(call, Refusal):
         figures = first.figures, second.figures
         if figures[0] is None or figures[1] is None or not same_models(figures[0], figures[1]) or why_not(first, second):
             return call
-        streams = with_all_conditions(first.streams, second.streams)
-        again = proved.added(streams[0], streams[1]) if streams else call
-        return again if isinstance(again, Refusal) else Summed((first, second), again, True)
+        for streams in on_one_region(first.streams, second.streams):
+            again = proved.added(streams[0], streams[1])
+            if not isinstance(again, Refusal):
+                return Summed((first, second), streams, again)
+        return call
     why = why_not(first, second)
     if why:
         raise UsageError(f"{first.folder} and {second.folder} cannot be added: {why}")
-    return Summed((first, second), call)
+    return Summed((first, second), (first.streams, second.streams), call)
 
 
 def _refused(refusal: Refusal, folders: list[str], streams: list[list[bytes]]) -> list[str]:
@@ -111,7 +113,7 @@ def _data(summed: Summed, written: Optional[str]) -> dict[str, Any]:
                     for q in summed.quoted},
         "parts": [{"folder": part.folder, "factor": part.factor, "lower": str(part.verdict.lower),
                    "upper": str(part.verdict.upper)} for part in summed.parts],
-        "stream": {"line": summed.call.line, "rules": summed.call.rules, "with all conditions": summed.together},
+        "stream": {"line": summed.call.line, "rules": summed.call.rules, "conditions exchanged": summed.together},
         "written": written,
     }
 

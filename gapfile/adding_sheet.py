@@ -5,7 +5,6 @@ from fractions import Fraction
 from html import escape
 
 from .decimals import fraction
-from .figures import Figures
 from .filing import digest
 from .formulas import formula, in_the_model, joined, letters, minus, region, standing
 from .judged import Judged
@@ -21,8 +20,8 @@ from .writing import STREAMS
 WORDS = ("first", "second")
 ROOM, TITLE, FOLDER = 330, 60, 70        # letters
 PROVED = """<h2>What was proved, and what was computed</h2>
-<p class="small">One proved call judged both pairs and found the two regions to be the same, term by term as sent; it adds the
-bounds of the two streams. That a stream has its factor times the model's polynomial, that names and maps of the
+<p class="small">One proved call judged both pairs and found the two regions to be the same, term by term; it adds the bounds of
+the two streams. That a stream has its factor times the model's polynomial, that names and maps of the
 variables are the same in both, the division by the factors, the sums in the models' units and the decimals are gapfile's
 arithmetic, in exact fractions. <code>gapfile verify</code> on each folder computes its part again.</p>"""
 AGAIN = """<h2>To check it again</h2>
@@ -76,9 +75,8 @@ def _polynomials(summed: Summed) -> str:
     columns = "".join(f'<div><h2>The {word}: {escape(_title(part))}</h2><p class="formula">'
                       f"{formula(terms, names, ROOM)}</p>{_sent(part)}</div>"
                       for word, part, terms in zip(WORDS, summed.parts, both))
-    figures = first.figures
-    where = region(figures.problem.conditions, figures.variables, ROOM) if figures else \
-        joined([], read_problem(first.streams[0]).conditions, names, ROOM)
+    where = region(summed.conditions, first.figures.variables, ROOM) if first.figures else \
+        joined([], summed.conditions, names, ROOM)
     return (f'<div class="columns">{columns}</div><h2>Their sum, and the region of both</h2><p class="formula">'
             f"{formula({e: total[e] for e in ordered(total)}, names, ROOM)}</p>"
             f'<p class="formula">where &ensp;{where}</p>{_wider(summed)}')
@@ -103,14 +101,11 @@ def _sent(part: Judged) -> str:
 
 
 def _wider(summed: Summed) -> str:
-    """In words, where a region that was sent is larger than its model's."""
-    found: list[Figures] = [part.figures for part in summed.parts if part.figures]
-    said = {f"without {words}" for figures in found for words in figures.restated.left_out}
-    said |= {f"with {words} widened" for figures in found for words in figures.restated.widened}
-    if not said:
+    """In words, where the region is larger than a model's."""
+    if not summed.wider:
         return ""
     return ('<p class="small">This region is larger than a model\'s, so that the sum holds on the models\' too: '
-            f"{escape('; '.join(sorted(said))[:160])}.</p>")
+            f"{escape('; '.join(summed.wider)[:160])}.</p>")
 
 
 def _exact(summed: Summed) -> str:

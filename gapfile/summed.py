@@ -15,17 +15,35 @@ from .figures import Quoted
 from .judged import Judged, affine_text
 from .programs import ProgramError
 from .proved import Added
+from .reading import Condition, read_problem
 
-TOGETHER = ("the models have one region, and the conditions sent for it differ; the call was asked with all of them in both "
+TOGETHER = ("the models have one region, and the conditions sent for it differ; the call was asked with the same ones in both "
             "problems")
 
 
 @dataclass(frozen=True)
 class Summed:
-    """Two filings whose bounds were added: what the call said, and the sums in the models' units."""
+    """Two filings whose bounds were added: the streams that the call was asked about, what it said, and the sums in the
+    models' units."""
     parts: tuple[Judged, Judged]
+    asked: tuple[list[bytes], list[bytes]]
     call: Added
-    together: bool = False                                   # whether the streams were asked about with all conditions
+
+    @property
+    def together(self) -> bool:
+        """Whether the call was asked with other conditions than were filed, the same in both."""
+        return self.asked != tuple(part.streams for part in self.parts)
+
+    @property
+    def conditions(self) -> list[Condition]:
+        """The region of the sum, in the streams' variables."""
+        return read_problem(self.asked[0][0]).conditions
+
+    @property
+    def wider(self) -> list[str]:
+        """Which conditions of the models the region does not have, or has wider."""
+        found = [_wider(part) for part in self.parts]
+        return sorted(found[0] & found[1] if self.together else found[0] | found[1])
 
     @property
     def empty(self) -> bool:
@@ -51,6 +69,14 @@ class Summed:
         low, high = self.bounds
         return [Quoted("lower", "at least", low, False, self.digits), Quoted("upper", "at most", high, True, self.digits),
                 Quoted("gap", "two values differ by at most", high - low, True, self.digits)]
+
+
+def _wider(part: Judged) -> set[str]:
+    """What of a model's region was not sent, or was sent wider."""
+    if part.figures is None:
+        return set()
+    restated = part.figures.restated
+    return {f"without {words}" for words in restated.left_out} | {f"with {words} widened" for words in restated.widened}
 
 
 def why_not(first: Judged, second: Judged) -> Optional[str]:

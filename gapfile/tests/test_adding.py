@@ -9,7 +9,7 @@ from pathlib import Path
 
 from gapfile import proved
 from gapfile.commands import ONE
-from gapfile.one_region import with_all_conditions
+from gapfile.one_region import on_one_region
 from gapfile.reading import Condition, Refusal, read_problem
 from gapfile.tests.filings import Linear, monomial
 from gapfile.tests.support import EXAMPLES, by_reference, case_f, folder_of, needs_programs, needs_reference, run, streams_of
@@ -157,10 +157,25 @@ class OneRegion(unittest.TestCase):
             second = replace(B, sent=[OTHER]).write(Path(name) / "b")
             refused = proved.added(streams_of(first), streams_of(second))
             self.assertTrue(isinstance(refused, Refusal) and refused.number == 15)
-            status, out, err = run("sum", first, second)
+            sheet = Path(name) / "sum.html"
+            status, out, err = run("sum", first, second, "-o", sheet)
+            page = sheet.read_text(encoding="utf-8")
         self.assertEqual((status, err), (0, ""))
+        # both products in the models' variables: a x (20 - b) and (40 - a) x (20 - b)
+        self.assertIn("20·<i>a</i> − <i>a</i>·<i>b</i> ≥ 0", page)
+        self.assertIn("800 − 20·<i>a</i> − 40·<i>b</i> + <i>a</i>·<i>b</i> ≥ 0", page)
         self.assertEqual(out.splitlines()[3], "exactly at least -37/3 and at most 22")
         self.assertIn("the conditions sent for it differ", out)
+
+    def test_models_that_differ(self) -> None:
+        """Another range is another region, and 15 stands, also where one has a condition more that was left out."""
+        with tempfile.TemporaryDirectory() as name:
+            first = replace(A, sent=[PRODUCT]).write(Path(name) / "a")
+            second = replace(B, sent=[OTHER]).write(Path(name) / "b")
+            (second / "model.gap").write_text(B.model() + "where a + b <= 50\n")
+            status, out, _ = run("sum", first, second)
+        self.assertEqual((status, out.splitlines()[0]), (1, "refused 15 0 0 0"))
+        self.assertIn("condition 3 is 1 + x1 - x2 - x1*x2 >= 0", out)
 
     def test_rows_follow_their_conditions(self) -> None:
         """(1 + u1)(1 - u2) is at least 0 by a row on the product, and at most 4: 2 x (4 - g) = (u1 + u2)^2 + (1 - u1)^2
@@ -176,21 +191,23 @@ class OneRegion(unittest.TestCase):
         first = [encode("variables u1 u2\n" + box + other + "basis 0 1\nbasis 3 1\nend")[0],
                  *(encode(f"{word} 0/1 scale 1\ndone")[0] for word in ("lower", "upper"))]
         second = [encode(names + box + product + basis)[0], low, high]
-        made = with_all_conditions(first, second)
-        assert made is not None
+        made, used = on_one_region(first, second)
         self.assertEqual(len(read_problem(made[0][0]).conditions), 4)
+        self.assertEqual([c.terms for c in read_problem(used[0][0]).conditions],       # no row is on the other product
+                         [c.terms for c in read_problem(second[0]).conditions])
         self.assertEqual(made[1][1], encode("lower 0/1 scale 1\nrow 4 weight 1\nentry 0 1\ndone")[0])
         found = proved.added(made[0], made[1])
         self.assertEqual(found if isinstance(found, Refusal) else (found.lower, found.upper), ("0/1", "4/1"))
 
     def test_too_many(self) -> None:
-        """More than eight together, or one twice: then the call's refusal stands."""
+        """More than eight together: those without rows are left out. One twice: then the call's refusal stands."""
         text = "variables x\n" + "".join(f"constraint\nterm {k} 1\nterm -1 x^2\n" for k in range(1, 6)) + "end"
         more = "variables x\n" + "".join(f"constraint\nterm {k} 1\nterm -1 x^2\n" for k in range(5, 10)) + "end"
         low, high = (encode(f"{word} 0/1 scale 1\ndone")[0] for word in ("lower", "upper"))
-        self.assertIsNone(with_all_conditions([encode(text)[0], low, high], [encode(more)[0], low, high]))
+        made, = on_one_region([encode(text)[0], low, high], [encode(more)[0], low, high])
+        self.assertEqual(made[0], [encode("variables x\nend")[0], low, high])
         twice = encode("variables x\n" + "constraint\nterm 1 1\nterm -1 x^2\n" * 2 + "end")[0]
-        self.assertIsNone(with_all_conditions([twice, low, high], [twice, low, high]))
+        self.assertEqual(list(on_one_region([twice, low, high], [twice, low, high])), [])
 
 
 @needs_programs
