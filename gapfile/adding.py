@@ -45,11 +45,10 @@ def run_sum(arguments: argparse.Namespace, say: Say) -> Outcome:
 
 
 def _summed(first: Judged, second: Judged, call: proved.Added | Refusal) -> Summed | Refusal:
-    """The sum of two accepted pairs. Where the conditions that were sent differ, and the models' do not, the call is asked
-    again with the same ones in both. Raises UsageError where the models have no sum."""
+    """The sum of two accepted pairs. Where the conditions that were sent differ, and the models' do not, the call is
+    asked again with the same ones in both. Raises UsageError where the models have no sum."""
     if isinstance(call, Refusal):
-        figures = first.figures, second.figures
-        if figures[0] is None or figures[1] is None or not same_models(figures[0], figures[1]) or why_not(first, second):
+        if why_not(first, second) or not same_models(first.figures, second.figures):
             return call
         for streams in on_one_region(first.streams, second.streams):
             again = proved.added(streams[0], streams[1])

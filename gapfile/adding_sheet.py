@@ -20,10 +20,10 @@ from .writing import STREAMS
 WORDS = ("first", "second")
 ROOM, TITLE, FOLDER = 330, 60, 70        # letters
 PROVED = """<h2>What was proved, and what was computed</h2>
-<p class="small">One proved call judged both pairs and found the two regions to be the same, term by term; it adds the bounds of
-the two streams. That a stream has its factor times the model's polynomial, that names and maps of the
-variables are the same in both, the division by the factors, the sums in the models' units and the decimals are gapfile's
-arithmetic, in exact fractions. <code>gapfile verify</code> on each folder computes its part again.</p>"""
+<p class="small">One proved call judged both pairs and found the two regions to be the same, term by term; it adds the
+bounds of the two streams. That a stream has its factor times the model's polynomial, that names and maps of the
+variables are the same in both, the division by the factors, the sums in the models' units and the decimals are
+gapfile's arithmetic, in exact fractions. <code>gapfile verify</code> on each folder computes its part again.</p>"""
 AGAIN = """<h2>To check it again</h2>
 <p class="small"><code>sha256sum</code> of the six files, <code>gapfile verify</code> and <code>gapcheck</code> on
 each folder, and <code>gapfile sum</code> on both: it must print the line above.</p>
@@ -131,7 +131,8 @@ def _end(summed: Summed) -> str:
     sums = [(f"{word} {name}", digest(stream)) for word, part in zip(WORDS, summed.parts)
             for name, stream in zip(STREAMS, part.streams)]
     sums += [(name, build(name).digest) for name in ("gapcheck", "replay")]
-    table = "".join(f'<tr><td class="mono">{escape(name)}</td><td class="mono">{value}</td></tr>' for name, value in sums)
+    table = "".join(f'<tr><td class="mono">{escape(name)}</td><td class="mono">{value}</td></tr>'
+                    for name, value in sums)
     where = "; ".join(f"the {word} is {part.folder[:FOLDER]}" for word, part in zip(WORDS, summed.parts))
     return (f'<div class="columns end"><div class="wide"><h2>SHA-256 of the files and of the programs asked</h2>'
             f'<table class="sums">{table}</table><p class="small">{escape(where)}.</p></div><div>{AGAIN}</div></div>'

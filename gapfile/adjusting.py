@@ -126,8 +126,8 @@ def _refused(refusal: Refusal, problem: Problem, variables: list[Scaled], count:
         missing = [v for i, v in enumerate(variables) if not _has_box(problem, i)]
         return [refusal.line(), RULES[16], *(f"{v.name}: no inequality of problem.bin is 1 - {v.inner}^2 >= 0"
                                              for v in missing), ADVICE[16]]
-    return [refusal.line(), f"{counted(count, 'change')} of the stream, where {MOST_CHANGES} are allowed and each has a "
-                            "degree of at most 32", "what to do: change fewer coefficients at a time"]
+    return [refusal.line(), f"{counted(count, 'change')} of the stream, where {MOST_CHANGES} are allowed, each of "
+                            "degree 32 at most", "what to do: change fewer coefficients at a time"]
 
 
 def _has_box(problem: Problem, index: int) -> bool:
@@ -163,7 +163,7 @@ def shown_changes(made: Adjusted) -> list[str]:
     lines = [f"in the stream, which has {of}{' with ' + maps if maps else ''}:"]
     for change in made.changes:
         terms = polynomial_text(change.in_stream(made.variables, made.of.factor), inner)
-        lines.append(f"  {change.text} is {terms}" + ("" if change.tolerance is None else ", each term up to that size"))
+        lines.append(f"  {change.text} is {terms}{'' if change.tolerance is None else ', each term up to that size'}")
     found = made.sent
     if found.constant:
         lines.append(f"  the constant {fraction(found.constant)} moves both bounds by itself, and is not sent")
@@ -197,5 +197,5 @@ def add_adjust(command: Callable[[str, str], argparse.ArgumentParser]) -> None:
                       "tolerance, as 'a^2 +- 0.001'; one that begins with a minus sign stands behind --")
     made.add_argument("--table", metavar="FILE", help="changes and tolerances, one a line; - reads standard input")
     made.add_argument("--blank", action="store_true", help="print a table with all coefficients, to be filled in")
-    made.add_argument("-o", "--output", metavar="FILE", help="write the changes as the C function takes them, 12 bytes each")
+    made.add_argument("-o", "--output", metavar="FILE", help="write what was sent, 12 bytes a change, as C takes it")
     made.set_defaults(run=run_adjust)

@@ -12,8 +12,8 @@ from .weekly import add_week
 from .windowing import add_window
 
 EXAMPLES = {
-    "tighter": "gapfile tighter examples/two_decks/problem.bin examples/two_decks/low.bin examples/two_decks_wide/low.bin "
-               "-o low.bin",
+    "tighter": "gapfile tighter examples/two_decks/problem.bin examples/two_decks/low.bin "
+               "examples/two_decks_wide/low.bin -o low.bin",
     "sum": "gapfile sum examples/commands/sum/first examples/commands/sum/second -o sum.html",
     "adjust": "gapfile adjust examples/commands/sum/first '0.002*a*b' 'b +- 0.002'",
     "note": "gapfile note two_decks 'seen by A. Weber' --on upper",

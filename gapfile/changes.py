@@ -4,10 +4,10 @@
     a^2 +- 0.001        the factor of a^2 is off by up to 0.001, either way
 
 A change is written in the model's variables and units. In the stream's it is the same polynomial with the map of the
-ranges put in, times the factor, exactly. Its constant moves every value alike, so it is added to the bounds and not sent,
-where it would be counted as a loss. The call takes whole numbers: where one is not whole, the next larger size is sent.
-That is no less than what is asked for, as the moved bound depends on sizes alone and the value at a point is linear in a
-change: it lies between those of the two changes of the larger size.
+ranges put in, times the factor, exactly. Its constant moves every value alike, so it is added to the bounds and not
+sent, where it would be counted as a loss. The call takes whole numbers: where one is not whole, the next larger size is
+sent. That is no less than what is asked for, as the moved bound depends on sizes alone and the value at a point is
+linear in a change: it lies between those of the two changes of the larger size.
 """
 from __future__ import annotations
 
@@ -66,8 +66,8 @@ def read_change(text: str, number: int, names: list[str], work: Work) -> Change:
     factor = whole(polynomial)[1]
     if not polynomial or factor != 1:
         said = "is 0" if not polynomial else f"has the factor {1 / factor}"
-        raise ModelError(number, 1, f"what stands before `{either.group()}` {said}; a tolerance is that of the factor of "
-                                    "what stands before it, as in `a^2 +- 0.001`")
+        raise ModelError(number, 1, f"what stands before `{either.group()}` {said}; a tolerance is that of the factor "
+                                    "of what stands before it, as in `a^2 +- 0.001`")
     return Change(text.strip(), polynomial, tolerance)
 
 

@@ -11,7 +11,7 @@ import sys
 import traceback
 from fractions import Fraction
 from pathlib import Path
-from typing import Callable, Optional, Sequence
+from typing import Any, Callable, Optional, Sequence
 
 from . import VERSION, asking, blocks, picture, programs, proved
 from .commands import Kind, kind_of
@@ -191,10 +191,24 @@ def run_blocks(arguments: argparse.Namespace, say: Say) -> Outcome:
     return Outcome(DONE, text.splitlines())
 
 
+class _Mixed(argparse.ArgumentParser):
+    """A parser that takes options between the other arguments too, as `adjust DIR --json CHANGE`."""
+    mixing = False
+
+    def parse_known_args(self, args: Any = None, namespace: Any = None) -> Any:
+        if self.mixing:                                      # this is asked for again, once for each kind of argument
+            return super().parse_known_args(args, namespace)
+        self.mixing = True
+        try:
+            return self.parse_known_intermixed_args(args, namespace)
+        finally:
+            self.mixing = False
+
+
 def parser() -> argparse.ArgumentParser:
     top = argparse.ArgumentParser(prog="gapfile", description="From a polynomial to a filed figure.", epilog=STATUSES)
     top.add_argument("--version", action="version", version=f"gapfile {VERSION}")
-    commands = top.add_subparsers(dest="command", required=True, metavar="COMMAND")
+    commands = top.add_subparsers(dest="command", required=True, metavar="COMMAND", parser_class=_Mixed)
 
     def command(name: str, said: str) -> argparse.ArgumentParser:
         made = commands.add_parser(name, help=said, description=said[0].upper() + said[1:] + ".",

@@ -1,8 +1,8 @@
 """Notes in a certificate, as bytes: put in between commands, found again, and taken out.
 
 A note of document 02 has 8 bytes. A text is its letters in UTF-8 and a 0, filled up with 0 to a multiple of 8, and
-stands in as many notes, one behind another; so of several texts each ends where it ends. Notes of another hand are shown
-as what they are: text where they have such a form, else bytes.
+stands in as many notes, one behind another; so of several texts each ends where it ends. Notes of another hand are
+shown as what they are: text where they have such a form, else bytes.
 """
 from __future__ import annotations
 
@@ -47,7 +47,8 @@ def put_in(certificate: bytes, line: int | None, notes: list[bytes]) -> bytes:
     strict = [c for c in walk(certificate, Kind.CERTIFICATE, 1, lambda _: None) if c.layout != NOTE]
     wanted = len(strict) if line is None else line
     if not 2 <= wanted <= len(strict):
-        raise NoteError(f"a note may stand before the lines 2 to {len(strict)} of `gapfile decode`, not before {wanted}")
+        raise NoteError(f"a note may stand before the lines 2 to {len(strict)} of `gapfile decode`, and not before "
+                        f"{wanted}")
     at = strict[wanted - 1].place
     return certificate[:at] + b"".join(write_command(NOTE, note=note) for note in notes) + certificate[at:]
 

@@ -149,10 +149,10 @@ def add_notes(command: Callable[[str, str], argparse.ArgumentParser]) -> None:
     made.add_argument("folder", metavar="DIR", help="a folder with three streams; it stays as it is")
     made.add_argument("text", metavar="TEXT", help="a line of text")
     made.add_argument("--on", choices=tuple(SIDES), default="lower", help="on which certificate (lower)")
-    made.add_argument("--before", metavar="LINE", type=int, help="before which line of `gapfile decode` of the certificate "
-                                                                 "without notes; the last one is meant where none is named")
+    made.add_argument("--before", metavar="LINE", type=int, help="before which line of `gapfile decode` of the strict "
+                                                                 "certificate; the last one where none is named")
     made.set_defaults(run=run_note)
     made = command("notes", "read the office's notes back from the certificates of a folder")
-    made.add_argument("folder", metavar="DIR", help="a folder with three streams, with DIR.notes beside it or notes in it")
+    made.add_argument("folder", metavar="DIR", help="a folder with streams, and DIR.notes beside it or notes within")
     made.add_argument("--strict", metavar="OUT", help="write a folder with the three streams without notes")
     made.set_defaults(run=run_notes)

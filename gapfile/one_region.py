@@ -3,12 +3,12 @@
 Finding a certificate may add products of conditions to a stream, or leave a condition out; so two models with the same
 ranges and conditions can be sent with different ones. Each condition that was sent follows from the models', which
 `restating` has checked. With all of them, in one order, the two problems have one region for the proved call, which
-judges both pairs again: a condition more, without rows, changes no row, and its basis is empty. Where these are too many,
-those that no row is on are left out: the region is larger then, and the bounds hold on it all the more.
+judges both pairs again: a condition more, without rows, changes no row, and its basis is empty. Where these are too
+many, those that no row is on are left out: the region is larger then, and the bounds hold on it all the more.
 """
 from __future__ import annotations
 
-from typing import Iterator
+from typing import Iterator, Optional
 
 from .commands import CERTIFICATE, Kind, write_command
 from .figures import Figures
@@ -19,8 +19,10 @@ from .reading import LIMITS, Condition, Problem, read_certificate, read_problem,
 Both = tuple[list[bytes], list[bytes]]           # the three streams of each
 
 
-def same_models(first: Figures, second: Figures) -> bool:
-    """Whether two models have the same variables, ranges and conditions, the last in any order."""
+def same_models(first: Optional[Figures], second: Optional[Figures]) -> bool:
+    """Whether both have a model, with the same variables, ranges and conditions, the last in any order."""
+    if first is None or second is None:
+        return False
     return ([(v.name, v.range) for v in first.model.variables] == [(v.name, v.range) for v in second.model.variables]
             and _forms(first) == _forms(second))
 
@@ -53,12 +55,12 @@ def on_one_region(first: list[bytes], second: list[bytes]) -> Iterator[Both]:
 
 def _used(streams: list[bytes], problem: Problem) -> list[Condition]:
     """The conditions that a row of either certificate is on."""
-    numbers = {row.basis for k, stream in enumerate(streams[1:], 1) for row in read_certificate(stream, problem, k).rows}
+    numbers = {row.basis for stream in streams[1:] for row in read_certificate(stream, problem).rows}
     return [condition for number, condition in enumerate(problem.conditions, 1) if number in numbers]
 
 
 def _restated(streams: list[bytes], problem: Problem, together: list[Condition]) -> list[bytes]:
-    """Three streams with these conditions, among which are all that have rows; bases and rows follow their conditions."""
+    """Three streams with these conditions, among which are all that have rows; bases and rows follow their own."""
     places = {0: 0}
     bases = [problem.bases[0]] + [[] for _ in together]
     for number, condition in enumerate(problem.conditions, 1):

@@ -1,7 +1,7 @@
 """The proved calls of the requests, one function a call; what is asked here is decided nowhere else.
 
-`replay` answers a record by the call that is proved, and `weekcheck` a file of records by the report. What they print is
-read strictly, as in programs: an answer has one form, and a refusal is one of the call's own.
+`replay` answers a record by the call that is proved, and `weekcheck` a file of records by the report. What they print
+is read strictly, as in programs: an answer has one form, and a refusal is one of the call's own.
 """
 from __future__ import annotations
 
@@ -23,7 +23,8 @@ BOUND = r"-?[0-9]{1,20}/[1-9][0-9]{0,19}"
 REFUSED = re.compile(r"refused ([0-9]{1,2}) ([0-5]) ([0-9]{1,10}) ([0-9]{1,20})")
 SYMMETRIES = re.compile(r"symmetries ([0-9]{1,3}) ([0-9a-f]{512})")
 TIGHTER = re.compile(r"tighter ((?:[0-9a-f]{2})*)")
-OFFICE = re.compile(rf"office ([01]) ({BOUND}) rounds ([0-9]{{1,10}}) rule ([12]) notes ([0-9]{{1,5}}) ((?:[0-9a-f]{{2}})*)")
+OFFICE = re.compile(rf"office ([01]) ({BOUND}) rounds ([0-9]{{1,10}}) rule ([12]) notes ([0-9]{{1,5}}) "
+                    "((?:[0-9a-f]{2})*)")
 OUTCOME = re.compile(r"([0-9]{1,20}/[1-9][0-9]{0,19}) ([0-9]{1,2})|14")
 SUM = re.compile(rf"sum ({BOUND}) ({BOUND}) rules ([12]) ([12])")
 ADJUSTED = re.compile(rf"adjusted ({BOUND})")
@@ -159,7 +160,7 @@ def office(problem: bytes, certificate: bytes, command: Optional[list[str]] = No
 
 
 def window(arrivals: Sequence[tuple[int, int]], command: Optional[list[str]] = None) -> list[Optional[Widest]]:
-    """Request 11: for each arrival, from an empty state on, the widest of the last 32 accepted, or None at refusal 14."""
+    """Request 11: for each arrival, from an empty state on, the widest of the last 32 accepted; None at refusal 14."""
     who, said = _ask("w", (b"".join(ARRIVAL.pack(*one) for one in arrivals), b"", b""), command)
     outcomes = said.removeprefix("window").strip().split("; ") if arrivals else []
     found = [OUTCOME.fullmatch(outcome) for outcome in outcomes]
@@ -202,7 +203,7 @@ def refusal_of(said: str) -> Optional[Refusal]:
 
 
 def _ask(kind: str, runs: Sequence[bytes], command: Optional[list[str]]) -> tuple[str, str]:
-    """Who answers the record, and its line. A run that is too long for a record would not be read, so it is not sent."""
+    """Who answers the record, and its line. A run that is too long for a record would not be read: it is not sent."""
     longest = max(map(len, runs))
     if longest > LONGEST:
         raise ProgramError(f"a file of {longest:,} bytes is longer than any stream that can be accepted; "

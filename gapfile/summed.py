@@ -1,8 +1,8 @@
 """Two filings over one region whose bounds were added: the sums in the models' units, and when there are none.
 
-The proved call adds the streams' bounds. A stream's polynomial is its factor times the model's, so each bound is divided
-by its own factor before the two are added here. A point of the streams is one point of both models only where names and
-maps agree.
+The proved call adds the streams' bounds. A stream's polynomial is its factor times the model's, so each bound is
+divided by its own factor before the two are added here. A point of the streams is one point of both models only where
+names and maps agree.
 """
 from __future__ import annotations
 
@@ -17,8 +17,8 @@ from .programs import ProgramError
 from .proved import Added
 from .reading import Condition, read_problem
 
-TOGETHER = ("the models have one region, and the conditions sent for it differ; the call was asked with the same ones in both "
-            "problems")
+TOGETHER = ("the models have one region, and the conditions sent for it differ; the call was asked with the same ones "
+            "in both problems")
 
 
 @dataclass(frozen=True)
@@ -66,9 +66,9 @@ class Summed:
         """What is quoted of the sum; nothing where bounds cross."""
         if self.empty:
             return []
-        low, high = self.bounds
-        return [Quoted("lower", "at least", low, False, self.digits), Quoted("upper", "at most", high, True, self.digits),
-                Quoted("gap", "two values differ by at most", high - low, True, self.digits)]
+        (low, high), digits = self.bounds, self.digits
+        return [Quoted("lower", "at least", low, False, digits), Quoted("upper", "at most", high, True, digits),
+                Quoted("gap", "two values differ by at most", high - low, True, digits)]
 
 
 def _wider(part: Judged) -> set[str]:
@@ -90,8 +90,8 @@ def why_not(first: Judged, second: Judged) -> Optional[str]:
         if a.name != b.name:
             return f"a variable is called {a.name} in the one and {b.name} in the other"
         if (a.middle, a.half) != (b.middle, b.half):
-            return (f"{affine_text(a)} in the one and {affine_text(b)} in the other, so that one point of the streams is "
-                    "two points of the models; give both models the same ranges")
+            return (f"{affine_text(a)} in the one and {affine_text(b)} in the other, so that one point of the streams "
+                    "is two points of the models; give both models the same ranges")
     if first.unit != second.unit:
         return f"the unit is {first.unit or 'not named'} in the one and {second.unit or 'not named'} in the other"
     return None
@@ -112,5 +112,5 @@ def how_added(summed: Summed) -> str:
         return "the streams' polynomials are the models', so these are the sums above"
     if a == b:
         return f"the streams' polynomials are {a} times the models', so the sums above are these divided by {a}"
-    return (f"the streams' polynomials are {a} and {b} times the models', so each bound is divided by its own factor before "
-            "the two are added")
+    return (f"the streams' polynomials are {a} and {b} times the models', so each bound is divided by its own factor "
+            "before the two are added")

@@ -119,8 +119,8 @@ def _reported(week: bytes, names: Names, say: Say, path: Optional[str]) -> Outco
     say("asking for the report")
     report = proved.report(week)
     if isinstance(report, Refusal):
-        return Outcome(REFUSED, [report.line(), f"{RULES[12]}, at byte {report.place}" + (f" of {path}" if path else ""),
-                                 ADVICE[12]], data={"accepted": False, "refusal": report.line()})
+        where = f"{RULES[12]}, at byte {report.place}" + (f" of {path}" if path else "")
+        return Outcome(REFUSED, [report.line(), where, ADVICE[12]], data={"accepted": 0, "refusal": report.line()})
     named = _named(split(week), names)
     rows = [_row(number, name, one) for number, (name, one) in enumerate(zip(named, report.records), 1)]
     table = [HEADS, *rows]
@@ -131,8 +131,8 @@ def _reported(week: bytes, names: Names, say: Say, path: Optional[str]) -> Outco
     lines.append(f"{counted(report.accepted, 'pair')} accepted, {refused} refused"
                  + (f"; {empty} of the accepted empty: no point meets all of its conditions" if empty else ""))
     if report.accepted:
-        lines.append(f"every accepted polynomial is at least {report.lower} and at most {report.upper} wherever its own "
-                     "conditions hold, in the streams' units")
+        lines.append(f"every accepted polynomial is at least {report.lower} and at most {report.upper} wherever its "
+                     "own conditions hold, in the streams' units")
     return Outcome(REFUSED if refused else DONE, lines, data=_data(report, named))
 
 
@@ -154,7 +154,7 @@ def _data(report: proved.Report, names: list[str]) -> dict[str, Any]:
 
 def add_week(command: Callable[[str, str], argparse.ArgumentParser]) -> None:
     made = command("week", "pack up to 64 filed pairs into one file, and report on it")
-    made.add_argument("folders", metavar="DIR", nargs="*", help="folders with three streams, in the order of the report")
+    made.add_argument("folders", metavar="DIR", nargs="*", help="folders with three streams, in their order")
     made.add_argument("-o", "--output", metavar="FILE", help="the file to write, week.bin; the names go to week.names")
     made.add_argument("--check", metavar="FILE", help="report on a file that was packed before; - reads standard input")
     made.set_defaults(run=run_week)

@@ -1,4 +1,4 @@
-"""`gapfile window`: gaps of a test line from standard input, one a line; after each the widest of the last 32 and its age.
+"""`gapfile window`: gaps of a test line from standard input; after each the widest of the last 32 and its age.
 
 The gaps held stand in a file, oldest first. What the proved call says of a list of arrivals depends on the last 32
 accepted alone, so it is asked about those of the file and the new ones behind them. The file is written before anything
@@ -44,8 +44,8 @@ class Line:
 
 
 def read_gap(text: str) -> Optional[Gap]:
-    """A gap as gapcheck prints it, a fraction, a whole number or a decimal; `empty` is 0 over 0. None for other text, and
-    for numbers that no arrival can carry."""
+    """A gap as gapcheck prints it, a fraction, a whole number or a decimal; `empty` is 0 over 0. None for other text,
+    and for numbers that no arrival can carry."""
     if EMPTY.fullmatch(text):
         return 0, 0
     match = GAP.fullmatch(text)
@@ -129,8 +129,8 @@ def take(line: Line, texts: list[str], state: Path) -> list[str]:
         if gap is not None:
             numbered.append((line.read, text, gap))
         elif text:
-            complain(f"gapfile: line {line.read}: `{text[:60]}` is no gap; expected one as 73/50, 146.005 or `gap 73/50`, "
-                     "and it is passed over")
+            complain(f"gapfile: line {line.read}: `{text[:60]}` is no gap and is passed over; expected one as 73/50, "
+                     "146.005 or `gap 73/50`")
             line.status = USAGE
     if not numbered:
         return []
@@ -139,17 +139,15 @@ def take(line: Line, texts: list[str], state: Path) -> list[str]:
     out = []
     for (number, text, _), outcome in zip(numbered, outcomes):
         if outcome is None:
-            complain(f"gapfile: line {number}: `{text[:60]}` is refused with 14: a gap is from 0 to below 2^48, over 1 to "
-                     "below 2^32")
+            complain(f"gapfile: line {number}: `{text[:60]}` is refused with 14: a gap is from 0 to below 2^48, over 1 "
+                     "to below 2^32")
             line.status = line.status or REFUSED
-        out.append("refused 14" if outcome is None else f"widest {outcome.gap} = {_shown(outcome.gap)} age {outcome.age}")
-        line.told.append({"line": number, "refusal": 14} if outcome is None else
-                         {"line": number, "widest": outcome.gap, "age": outcome.age})
+            out.append("refused 14")
+            line.told.append({"line": number, "refusal": 14})
+        else:
+            out.append(f"widest {outcome.gap} = {decimal(Fraction(outcome.gap), True)} age {outcome.age}")
+            line.told.append({"line": number, "widest": outcome.gap, "age": outcome.age})
     return out
-
-
-def _shown(gap: str) -> str:
-    return decimal(Fraction(gap), True)
 
 
 def _print(lines: list[str], line: Line) -> bool:
@@ -167,7 +165,7 @@ def _print(lines: list[str], line: Line) -> bool:
 
 def add_window(command: Callable[[str, str], argparse.ArgumentParser]) -> None:
     made = command("window", "tell the widest of the last 32 gaps and its age, after each gap of standard input")
-    made.add_argument("--state", metavar="FILE", default=STATE, help=f"where the gaps held are kept ({STATE}); one run at a "
-                                                                     "time may use it")
+    made.add_argument("--state", metavar="FILE", default=STATE, help=f"where the gaps held are kept ({STATE}); one run "
+                                                                     "at a time may use it")
     made.add_argument("--svg", metavar="FILE", help="write a plot of the gaps held at the end")
     made.set_defaults(run=run_window)

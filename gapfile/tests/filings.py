@@ -1,4 +1,4 @@
-"""Filings made by hand, for tests that need a model and no solver: linear polynomials over a box, whose bounds are exact.
+"""Filings made by hand, for tests that need a model and no solver: linear polynomials over a box, with exact bounds.
 
 With u between -1 and 1, 2 x (1 + u) = (1 + u)^2 + (1 - u^2), so C x u >= -|C| has two rows of weight |C| for D = 2."""
 from __future__ import annotations

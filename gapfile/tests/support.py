@@ -25,8 +25,10 @@ LENGTHS = {"d": 6, "x": 4}          # how many runs a record has, where they are
 REFERENCE = ROOT / "reference/target/release/reference"
 
 needs_programs = unittest.skipUnless(BUILT, "gapcheck and replay are not built (rt check gapcheck replay)")
-needs_weekcheck = unittest.skipUnless((ROOT / "target/bin/weekcheck").exists(), "weekcheck is not built (rt check weekcheck)")
-needs_reference = unittest.skipUnless(REFERENCE.exists(), "the reference is not built (cargo build --release in reference)")
+needs_weekcheck = unittest.skipUnless((ROOT / "target/bin/weekcheck").exists(),
+                                      "weekcheck is not built (rt check weekcheck)")
+needs_reference = unittest.skipUnless(REFERENCE.exists(),
+                                      "the reference is not built (cargo build --release in reference)")
 needs_vectors = unittest.skipUnless(SHARED, "there is no folder ../shared with vectors beside the repository")
 
 

@@ -1,4 +1,5 @@
-"""`gapfile sum`: sums in the models' units, exactly; what cannot be added and why; the sheet; answers of the reference."""
+"""`gapfile sum`: sums in the models' units, exactly; what cannot be added and why; the sheet; answers of the
+reference."""
 import json
 import re
 import tempfile
@@ -12,7 +13,8 @@ from gapfile.commands import ONE
 from gapfile.one_region import on_one_region
 from gapfile.reading import Condition, Refusal, read_problem
 from gapfile.tests.filings import Linear, monomial
-from gapfile.tests.support import EXAMPLES, by_reference, case_f, folder_of, needs_programs, needs_reference, run, streams_of
+from gapfile.tests.support import (EXAMPLES, by_reference, case_f, folder_of, needs_programs, needs_reference, run,
+                                   streams_of)
 from gapfile.tests.test_sheet import BROWSER, Browser
 from gapfile.text import encode
 
@@ -40,7 +42,8 @@ class Sums(unittest.TestCase):
 
     def test_factors_of_both_kinds(self) -> None:
         """The bounds are attained at corners, so the sums are known: -6 + 7 - 40/3 and 5 + 7 + 10."""
-        for first, second in ((A, B), (replace(A, factor=120), replace(B, factor=120)), (replace(A, factor=400), B), (B, A)):
+        for first, second in ((A, B), (replace(A, factor=120), replace(B, factor=120)), (replace(A, factor=400), B),
+                              (B, A)):
             status, out, err = self.summed(first, second, "--json")
             self.assertEqual((status, err), (0, ""))
             data = json.loads(out)
@@ -62,11 +65,11 @@ class Sums(unittest.TestCase):
         self.assertEqual(out[:4], ["at least -12.333334 kg (rounded outward)", "at most 22 kg",
                                    "two values differ by at most 34.333334 kg (rounded outward)",
                                    "exactly at least -37/3 and at most 22"])
-        self.assertEqual(out[-1], "the streams' polynomials are 40 and 6 times the models', so each bound is divided by its own "
-                                  "factor before the two are added")
+        self.assertEqual(out[-1], "the streams' polynomials are 40 and 6 times the models', so each bound is divided "
+                                  "by its own factor before the two are added")
         same = self.summed(replace(A, factor=120), replace(B, factor=120))[1].splitlines()
-        self.assertEqual(same[-1], "the streams' polynomials are 120 times the models', so the sums above are these divided by "
-                                   "120")
+        self.assertEqual(same[-1], "the streams' polynomials are 120 times the models', so the sums above are these "
+                                   "divided by 120")
 
     @needs_reference
     def test_as_the_reference(self) -> None:
@@ -119,9 +122,10 @@ class Sums(unittest.TestCase):
 
     def test_regions_that_differ(self) -> None:
         problem, low, high = case_f()
-        wider = encode("variables x\nobjective 1 x\nconstraint\nterm 4 1\nterm -1 x^2\nbasis 0 1\nbasis 0 x\nbasis 1 1\nend")[0]
-        low4, high4 = (encode(f"{word} {p}/1 scale 4\nrow 0 weight 1\nentry 0 2\nentry 1 {sign}\nrow 1 weight 1\nentry 0 1\n"
-                              "done")[0] for word, p, sign in (("lower", -2, 1), ("upper", 2, -1)))
+        wider = encode("variables x\nobjective 1 x\nconstraint\nterm 4 1\nterm -1 x^2\nbasis 0 1\nbasis 0 x\n"
+                       "basis 1 1\nend")[0]
+        low4, high4 = (encode(f"{word} {p}/1 scale 4\nrow 0 weight 1\nentry 0 2\nentry 1 {sign}\nrow 1 weight 1\n"
+                              "entry 0 1\ndone")[0] for word, p, sign in (("lower", -2, 1), ("upper", 2, -1)))
         with folder_of(problem, low, high) as one, folder_of(wider, low4, high4) as other:
             status, out, _ = run("sum", one, other)
             self.assertEqual(status, 1)
@@ -151,7 +155,7 @@ class OneRegion(unittest.TestCase):
     """Two models of one region whose streams have different conditions."""
 
     def test_with_products(self) -> None:
-        """Each has a product that the other has not; the call refuses that with 15, and with both in both it accepts."""
+        """Each has a product that the other has not: the call refuses that with 15, and accepts both in both."""
         with tempfile.TemporaryDirectory() as name:
             first = replace(A, sent=[PRODUCT]).write(Path(name) / "a")
             second = replace(B, sent=[OTHER]).write(Path(name) / "b")
@@ -186,8 +190,9 @@ class OneRegion(unittest.TestCase):
         other = "constraint\nterm 1 1\nterm -1 u1\nterm -1 u2\nterm 1 u1*u2\n"
         basis = "basis 0 1\nbasis 0 u1\nbasis 0 u2\nbasis 1 1\nbasis 2 1\nbasis 3 1\nend"
         low = encode("lower 0/1 scale 1\nrow 3 weight 1\nentry 0 1\ndone")[0]
-        high = encode("upper 4/1 scale 2\nrow 0 weight 1\nentry 1 1\nentry 2 1\nrow 0 weight 1\nentry 0 1\nentry 1 -1\n"
-                      "row 0 weight 1\nentry 0 1\nentry 2 1\nrow 1 weight 2\nentry 0 1\nrow 2 weight 2\nentry 0 1\ndone")[0]
+        high = encode("upper 4/1 scale 2\nrow 0 weight 1\nentry 1 1\nentry 2 1\nrow 0 weight 1\nentry 0 1\n"
+                      "entry 1 -1\nrow 0 weight 1\nentry 0 1\nentry 2 1\nrow 1 weight 2\nentry 0 1\nrow 2 weight 2\n"
+                      "entry 0 1\ndone")[0]
         first = [encode("variables u1 u2\n" + box + other + "basis 0 1\nbasis 3 1\nend")[0],
                  *(encode(f"{word} 0/1 scale 1\ndone")[0] for word in ("lower", "upper"))]
         second = [encode(names + box + product + basis)[0], low, high]
@@ -240,8 +245,8 @@ class Sheet(unittest.TestCase):
         with tempfile.TemporaryDirectory() as name:
             place = Path(name)
             long = [f"position_of_the_deck_number_{k}" for k in range(1, 8)]
-            full = Linear(long, [(k, 100 + k) for k in range(7)], [Fraction(1, 3 + k) for k in range(7)], Fraction(1, 7), 2520,
-                          "kilograms of stone in the lane", "A lane with many decks, on many footings, " * 4)
+            full = Linear(long, [(k, 100 + k) for k in range(7)], [Fraction(1, 3 + k) for k in range(7)],
+                          Fraction(1, 7), 2520, "kilograms of stone in the lane", "A lane with many decks, on many footings, " * 4)
             run("sum", full.write(place / "a"), replace(full, constant=Fraction(2, 9)).write(place / "b"),
                 "-o", place / "sum.html")
             self.assertEqual(Browser().pages((place / "sum.html").read_text(encoding="utf-8")), 1)

@@ -1,5 +1,5 @@
-"""`gapfile adjust`: changes read and mapped exactly, bounds that hold at points, both sides by the proved call; refusals;
-answers of the reference."""
+"""`gapfile adjust`: changes read and mapped exactly, bounds that hold at points, both sides by the proved call;
+refusals; answers of the reference."""
 import json
 import random
 import struct
@@ -19,8 +19,8 @@ from gapfile.mirroring import turned_certificate, turned_problem
 from gapfile.reading import Refusal
 from gapfile.restating import Scaled
 from gapfile.tests.filings import Linear, monomial
-from gapfile.tests.support import (EXAMPLES, RECORDED, by_reference, case_f, folder_of, needs_programs, needs_reference, run,
-                                   streams_of)
+from gapfile.tests.support import (EXAMPLES, RECORDED, by_reference, case_f, folder_of, needs_programs,
+                                   needs_reference, run, streams_of)
 from gapfile.text import encode
 
 Value = Callable[[Fraction, Fraction], Fraction]
@@ -47,10 +47,11 @@ class Words(unittest.TestCase):
 
     def test_wrong(self) -> None:
         """With the column; a factor before +- is asked about, as it could be the coefficient itself."""
-        for text, said in (("0.1*a^2 +- 0.001", "has the factor 1/10"), ("3 +- 1", "has the factor 3"), ("0 +- 1", "is 0"),
-                           ("a +- b", "expected a number"), ("a +- -1", "below 0"), ("a +- 1 +- 2", "column 8"),
-                           ("a +-", "column 5"), ("+- 1", "column 1"), ("c", "`c` is no variable"), ("", "expected a number"),
-                           ("a b", "a product has a sign"), ("a^33", "up to 32"), ("((a^32)^2", "comes of this")):
+        for text, said in (("0.1*a^2 +- 0.001", "has the factor 1/10"), ("3 +- 1", "has the factor 3"),
+                           ("0 +- 1", "is 0"), ("a +- b", "expected a number"), ("a +- -1", "below 0"),
+                           ("a +- 1 +- 2", "column 8"), ("a +-", "column 5"), ("+- 1", "column 1"),
+                           ("c", "`c` is no variable"), ("", "expected a number"), ("a b", "a product has a sign"),
+                           ("a^33", "up to 32"), ("((a^32)^2", "comes of this")):
             with self.assertRaises(ModelError) as caught:
                 change(text)
             self.assertIn(said, str(caught.exception), text)
@@ -157,7 +158,8 @@ class Bounds(unittest.TestCase):
             "  0.02*a*b is 1600 + 1600*u1 + 800*u2 + 800*u1*u2",
             "  the constant 1600 moves both bounds by itself, and is not sent",
             "  sent: 3 changes whose sizes add up to 3200",
-            "the proved call on the stream: adjusted -2200/1; with its sign turned, for the upper bound: adjusted -7400/1"])
+            "the proved call on the stream: adjusted -2200/1; with its sign turned, for the upper bound: adjusted "
+            "-7400/1"])
 
     def test_exact_changes_hold_at_points(self) -> None:
         points = [(Fraction(x), Fraction(y)) for x, y in product(range(0, 41, 4), range(5, 16))]
@@ -182,7 +184,8 @@ class Bounds(unittest.TestCase):
             changed = A.value([a, b]) + sum(s * t * m for s, t, m in zip(signs, ends, (Fraction(1), a, b, a * b)))
             self.assertTrue(found["lower"] <= changed <= found["upper"])
         # 0.25 + 0.003 x (20 + 20) + 0.01 x (10 + 5) + 0.0001 x (200 + 200 + 100 + 100), at a corner
-        self.assertEqual((found["lower"], found["upper"]), (Fraction(5, 2) - Fraction(58, 100), Fraction(21, 2) + Fraction(58, 100)))
+        moved = Fraction(58, 100)
+        self.assertEqual((found["lower"], found["upper"]), (Fraction(5, 2) - moved, Fraction(21, 2) + moved))
 
     def test_no_change(self) -> None:
         self.assertEqual(self.adjusted("0"), {"lower": Fraction(5, 2), "upper": Fraction(21, 2)})
@@ -211,7 +214,8 @@ class Bounds(unittest.TestCase):
     def test_a_filing_of_a_model(self) -> None:
         """crosstalk with 0.02*a*b more: at points of its region, which has an equality, the changed value is within."""
         filed = self.place / "crosstalk"
-        self.assertEqual(run("solve", EXAMPLES / "crosstalk.gap", "-o", filed, "--answers", RECORDED / "crosstalk")[0], 0)
+        answers = RECORDED / "crosstalk"
+        self.assertEqual(run("solve", EXAMPLES / "crosstalk.gap", "-o", filed, "--answers", answers)[0], 0)
         exact, within = self.adjusted("0.02*a*b", folder=filed), self.adjusted("a*b +- 0.02", folder=filed)
         for k in range(0, 81):
             b = Fraction(k, 4)
@@ -250,7 +254,8 @@ class Bounds(unittest.TestCase):
     def test_wrong(self) -> None:
         for arguments, said in (((), "give changes"), (("c",), "`c`: column 1: `c` is no variable"),
                                 (("--table", self.place / "none"), "No such file"), (("a^32*b^32",), "degree 64"),
-                                (("a^9",), "beyond 32 bits; give smaller changes"), (("2*a +- 1",), "has the factor 2")):
+                                (("a^9",), "beyond 32 bits; give smaller changes"),
+                                (("2*a +- 1",), "has the factor 2")):
             status, out, err = run("adjust", self.folder, *arguments)
             self.assertEqual((status, out), (2, ""))
             self.assertIn(said, err)
@@ -268,12 +273,13 @@ class Bounds(unittest.TestCase):
         with folder_of(problem, low, high) as folder:
             status, _, err = run("adjust", folder, "x1")
         self.assertEqual(status, 2)
-        self.assertIn("the upper bound cannot be asked for: with its sign turned the coefficient 2147483648 does not fit", err)
+        self.assertIn("the upper bound cannot be asked for: with its sign turned the coefficient 2147483648 does not "
+                      "fit", err)
 
     def test_empty(self) -> None:
         """Bounds that cross give no figure."""
-        text = "variables x\nconstraint\nterm 1 1\nterm -1 x^2\nconstraint\nterm -2 1\nterm 1 x\nbasis 0 1\nbasis 0 x\n" \
-               "basis 1 1\nbasis 2 1\nend"
+        text = ("variables x\nconstraint\nterm 1 1\nterm -1 x^2\nconstraint\nterm -2 1\nterm 1 x\nbasis 0 1\n"
+                "basis 0 x\nbasis 1 1\nbasis 2 1\nend")
         rows = "row 0 weight 1\nentry 0 1\nentry 1 -1\nrow 1 weight 1\nentry 0 1\nrow 2 weight 2\nentry 0 1\ndone"
         # (1 - x)^2 + (1 - x^2) + 2 (x - 2) = -2: so 0 - 1 = -1 has half of these rows, and 1 too with the other sign
         low, high = (encode(f"{word} {p}/1 scale 2\n{rows}")[0] for word, p in (("lower", 1), ("upper", -1)))

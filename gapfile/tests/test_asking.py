@@ -1,5 +1,5 @@
-"""The commands on the calls of the requests: their help, and the folders of examples/commands, run as they are typed, by the
-proved programs and with the plain reference in the place of `replay`."""
+"""The commands on the calls of the requests: their help, and the folders of examples/commands, run as they are typed,
+by the proved programs and with the plain reference in the place of `replay`."""
 import os
 import re
 import subprocess
@@ -19,7 +19,8 @@ def ran(script: Path, replay: Optional[Path]) -> tuple[int, str, str]:
     """A script of an example, run in an empty folder beside the examples."""
     with tempfile.TemporaryDirectory() as name:
         (Path(name) / "examples").symlink_to(EXAMPLES)
-        environment = {**os.environ, "PATH": f"{GAPFILE}:{os.environ['PATH']}", **({"REPLAY": str(replay)} if replay else {})}
+        asked = {"REPLAY": str(replay)} if replay else {}
+        environment = {**os.environ, "PATH": f"{GAPFILE}:{os.environ['PATH']}", **asked}
         done = subprocess.run(["bash", "-e", str(script)], cwd=name, capture_output=True, text=True, env=environment,
                               timeout=600, check=False)
     said = [line for line in done.stderr.splitlines() if not re.match(r"gapfile: \d+\.\d s: ", line)]
@@ -65,9 +66,10 @@ class Examples(unittest.TestCase):
             replay = Path(name) / "replay"
             replay.write_text(f"#!/bin/sh\nexec {REFERENCE} replay\n")
             replay.chmod(0o755)
-            for folder in sorted(file.parent for file in COMMANDS.glob("*/run")):
-                if folder.name != "week":                        # by weekcheck; test_weekly compares its report
-                    self.assertEqual(ran(folder / "run", replay), (0, (folder / "expected").read_text(), ""), folder.name)
+            for file in sorted(COMMANDS.glob("*/run")):
+                if file.parent.name != "week":                   # by weekcheck; test_weekly compares its report
+                    expected = file.with_name("expected").read_text()
+                    self.assertEqual(ran(file, replay), (0, expected, ""), file.parent.name)
 
 
 @needs_programs
@@ -75,16 +77,15 @@ class Pipes(unittest.TestCase):
     """In a process of its own, with its output closed, full, or read by one who leaves."""
 
     def shell(self, place: str, line: str) -> tuple[int, str]:
-        done = subprocess.run(["bash", "-c", f"set -o pipefail; {line}"], cwd=place, capture_output=True, text=True, timeout=600,
-                              env={**os.environ, "PATH": f"{GAPFILE}:{os.environ['PATH']}"}, check=False)
+        done = subprocess.run(["bash", "-c", f"set -o pipefail; {line}"], cwd=place, capture_output=True, text=True,
+                              timeout=600, env={**os.environ, "PATH": f"{GAPFILE}:{os.environ['PATH']}"}, check=False)
         said = [text for text in done.stderr.splitlines() if not re.match(r"gapfile: \d+\.\d s: ", text)]
         return done.returncode, "\n".join(said)
 
     def test_files_are_written_before_anything_is_printed(self) -> None:
-        first = EXAMPLES / "commands/sum/first"
+        first, decks = EXAMPLES / "commands/sum/first", EXAMPLES / "two_decks"
         lines = {
-            f"gapfile tighter {EXAMPLES}/two_decks/problem.bin {EXAMPLES}/two_decks/low.bin {EXAMPLES}/two_decks/low.bin -o out":
-                "out",
+            f"gapfile tighter {decks}/problem.bin {decks}/low.bin {decks}/low.bin -o out": "out",
             f"gapfile sum {first} {first} -o sum.html": "sum.html",
             f"gapfile adjust {first} a -o changes": "changes",
             f"rm -rf d d.notes && cp -r {first} d && gapfile note d seen": "d.notes/low.bin",
@@ -95,8 +96,8 @@ class Pipes(unittest.TestCase):
                 with tempfile.TemporaryDirectory() as place:
                     found, err = self.shell(place, f"{line} {end}")
                     self.assertEqual(found, status, (line, end, err))
-                    self.assertEqual(err, "" if not status else "gapfile: standard output: No space left on device; what was to "
-                                                                "be written is written")
+                    full = "gapfile: standard output: No space left on device; what was to be written is written"
+                    self.assertEqual(err, full if status else "")
                     self.assertTrue((Path(place) / file).exists(), (line, end))
 
 

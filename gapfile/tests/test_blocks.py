@@ -65,8 +65,8 @@ class BlocksOfAProblem(unittest.TestCase):
             status, out, _ = run("blocks", EXAMPLES / "ex5_5/problem.bin", "--json", made[0], "--svg", made[1])
             self.assertEqual(status, 0)
             self.assertEqual(out.splitlines()[:8], [
-                "blocks 4", "rounds 2", "rule 1", "keys 9 of 2048", "sign symmetries 2: the identity; turn the signs of x1 and x2 "
-                "together",
+                "blocks 4", "rounds 2", "rule 1", "keys 9 of 2048",
+                "sign symmetries 2: the identity; turn the signs of x1 and x2 together",
                 "basis 0, 6 monomials in 2 blocks of 4 2", "  block 0: 1  x1^2  x1*x2  x2^2", "  block 1: x1  x2"])
             data = json.loads(made[0].read_text())
             self.assertEqual((data["blocks"], data["rounds"], data["keys"], data["symmetries"]), (4, 2, 9, [0, 3]))

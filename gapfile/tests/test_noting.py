@@ -1,4 +1,4 @@
-"""`gapfile note` and `gapfile notes`: notes put in, read back by the office's call, and taken out; answers of the reference."""
+"""`gapfile note`, `gapfile notes`: put in, read back by the office's call, taken out; answers of the reference."""
 import json
 import shutil
 import tempfile
@@ -6,7 +6,8 @@ import unittest
 from pathlib import Path
 
 from gapfile.notes import NoteError, note_bytes, placed, put_in, texts, without_notes
-from gapfile.tests.support import CASE_F, EXAMPLES, by_reference, case_f, needs_programs, needs_reference, run, streams_of
+from gapfile.tests.support import (CASE_F, EXAMPLES, by_reference, case_f, needs_programs, needs_reference, run,
+                                   streams_of)
 from gapfile.text import encode
 
 STRICT = encode("lower -1/1 scale 2\nrow 0 weight 1\nentry 0 1\nentry 1 1\nrow 1 weight 1\nentry 0 1\ndone")[0]
@@ -39,7 +40,8 @@ class Bytes(unittest.TestCase):
     def test_another_hand(self) -> None:
         """Notes that are no text of this form are shown as bytes, also one that is cut off by another line."""
         for note, said in ((b"\xff" * 8, "bytes ff ff ff ff ff ff ff ff"), (bytes(8), "bytes 00 00 00 00 00 00 00 00"),
-                           (b"abcdefgh", "bytes 61 62 63 64 65 66 67 68"), (b"ab\0cd\0\0\0", "bytes 61 62 00 63 64 00 00 00"),
+                           (b"abcdefgh", "bytes 61 62 63 64 65 66 67 68"),
+                           (b"ab\0cd\0\0\0", "bytes 61 62 00 63 64 00 00 00"),
                            (b"\x1b[2Jabc\0", "bytes 1b 5b 32 4a 61 62 63 00")):
             self.assertEqual([one.text for one in texts([(2, note)])], [said])
         both = texts([(2, b"abcdefgh"), (3, b"ijk\0\0\0\0\0")])
@@ -112,8 +114,8 @@ class Commands(unittest.TestCase):
 
     def test_a_row_in_two_blocks(self) -> None:
         """8 is told of the certificate without its notes, and its place as sent in the first line."""
-        problem = encode("variables x y\nobjective 1 x^2\nconstraint\nterm 1 1\nterm -1 x^2\nbasis 0 1\nbasis 0 x\nbasis 0 y\n"
-                         "end")[0]
+        problem = encode("variables x y\nobjective 1 x^2\nconstraint\nterm 1 1\nterm -1 x^2\nbasis 0 1\nbasis 0 x\n"
+                         "basis 0 y\nend")[0]
         low = encode("lower 0/1 scale 1\nrow 0 weight 1\nentry 1 1\nentry 2 1\ndone")[0]
         (self.folder / "problem.bin").write_bytes(problem)
         (self.folder / "low.bin").write_bytes(put_in(low, 3, note_bytes("x")))
@@ -125,7 +127,8 @@ class Commands(unittest.TestCase):
         for words, said in ((("note", self.folder, ""), "not empty"), (("note", self.folder, "a\tb"), "can be printed"),
                             (("note", self.folder, "a", "--before", "1"), "the lines 2 to 7"),
                             (("note", self.folder, "a", "--before", "99"), "the lines 2 to 7"),
-                            (("notes", "nothing"), "is no folder"), (("note", EXAMPLES / "models", "a"), "No such file"),
+                            (("notes", "nothing"), "is no folder"),
+                            (("note", EXAMPLES / "models", "a"), "No such file"),
                             (("notes", self.folder, "--strict", CASE_F.parent), "name another folder"),
                             (("notes", self.folder, "--strict", self.folder / "low.bin"), "name another folder")):
             status, out, err = run(*words)

@@ -124,8 +124,10 @@ class ReadStrictly(unittest.TestCase):
                 "office 0 1/0 rounds 1 rule 1 notes 0 " + "00" * 8, "office 2 1/1 rounds 1 rule 1 notes 0 " + "00" * 8,
                 "office 0 1/1 rounds 1 rule 1 notes 2 " + "00" * 8, "office 0 1/1 rounds 1 rule 1 notes 0 " + "01" * 8,
                 "office 0 1/1 rounds 1 rule 1 notes 1 " + "00" * 9)),
-            "window": (lambda: proved.window([(1, 2)]), ("window", "window 1/2 0; 1/2 0", "window 1/0 0", "window x", "1/2 0")),
-            "sum": (lambda: proved.added([b""] * 3, [b""] * 3), ("sum 1/0 1/1 rules 1 1", "sum 1/1 1/1 rules 1 3", "sum 1/1")),
+            "window": (lambda: proved.window([(1, 2)]), (
+                "window", "window 1/2 0; 1/2 0", "window 1/0 0", "window x", "1/2 0")),
+            "sum": (lambda: proved.added([b""] * 3, [b""] * 3), (
+                "sum 1/0 1/1 rules 1 1", "sum 1/1 1/1 rules 1 3", "sum 1/1")),
             "adjusted": (lambda: proved.adjusted(b"", b"", b""), ("adjusted 1/0", "adjusted", "adjusted 1/1 ")),
         }
         for ask, lines in calls.values():
@@ -138,7 +140,8 @@ class ReadStrictly(unittest.TestCase):
         assert isinstance(found, proved.Report)
         self.assertEqual([one.empty for one in found.records], [False, False, True])
         self.assertEqual((found.accepted, Fraction(found.lower)), (2, -1))
-        for said in (good.replace("accepted 2", "accepted 3"), good.replace("accepted 2 lower -1/1", "accepted 2 lower -2/1"),
+        for said in (good.replace("accepted 2", "accepted 3"),
+                     good.replace("accepted 2 lower -1/1", "accepted 2 lower -2/1"),
                      good.replace("3 lower", "4 lower"), good.replace("refused 10", "refuse 10"), "", "accepted 0",
                      good.replace("accepted 2 lower -1/1 upper 1/1", "accepted 2 lower 0/0 upper 0/0"),
                      good + "\naccepted 2 lower -1/1 upper 1/1", "accepted 0 lower 1/1 upper 1/1"):

@@ -5,7 +5,8 @@ import tempfile
 import unittest
 from pathlib import Path
 
-from gapfile.tests.support import CASE_F, EXAMPLES, by_reference, case_f, needs_programs, needs_reference, run, streams_of
+from gapfile.tests.support import (CASE_F, EXAMPLES, by_reference, case_f, needs_programs, needs_reference, run,
+                                   streams_of)
 from gapfile.text import encode
 
 FIRST, SECOND = (EXAMPLES / name for name in ("two_decks", "two_decks_wide"))
@@ -28,7 +29,8 @@ class Tighter(unittest.TestCase):
         """-6110001/65000 is above -4700103/50000, by 1329/650000."""
         status, out, _ = run("tighter", FIRST / "problem.bin", FIRST / "low.bin", SECOND / "low.bin", "-o", self.out)
         self.assertEqual(status, 0)
-        self.assertEqual(out.splitlines()[2], "the second supersedes: its lower bound is larger, by 1329/650000 = 0.002044..")
+        self.assertEqual(out.splitlines()[2],
+                         "the second supersedes: its lower bound is larger, by 1329/650000 = 0.002044..")
         self.assertEqual(self.out.read_bytes(), (SECOND / "low.bin").read_bytes())
 
     def test_the_smaller_upper_bound(self) -> None:

@@ -9,8 +9,8 @@ from pathlib import Path
 
 from gapfile import weekly
 from gapfile.tests.filings import Linear
-from gapfile.tests.support import (CASE_F, EXAMPLES, ROOT, by_reference, case_f, folder_of, needs_programs, needs_reference,
-                                   needs_weekcheck, run, streams_of)
+from gapfile.tests.support import (CASE_F, EXAMPLES, ROOT, by_reference, case_f, folder_of, needs_programs,
+                                   needs_reference, needs_weekcheck, run, streams_of)
 
 FOLDERS = [EXAMPLES / name for name in ("two_decks", "ex5_5", "contradictory")]
 GAPFILE = str(ROOT / "gapfile/gapfile")
@@ -43,8 +43,8 @@ class Week(unittest.TestCase):
             "2 ex5_5 -6251/50000 = -0.12502 53090/50000 = 1.0618",
             "3 contradictory 2/1 = 2 -2/1 = -2 empty: the bounds cross",
             "3 pairs accepted, 0 refused; 1 of the accepted empty: no point meets all of its conditions",
-            "every accepted polynomial is at least -4700103/50000 and at most 2600156/50000 wherever its own conditions hold, in "
-            "the streams' units",
+            "every accepted polynomial is at least -4700103/50000 and at most 2600156/50000 wherever its own "
+            "conditions hold, in the streams' units",
             f"written: {self.week}, and the names in {self.place / 'week.names'}"]))
         self.assertEqual(run("week", "--check", self.week)[1], "\n".join(out.splitlines()[:-1]) + "\n")
 
@@ -108,7 +108,8 @@ class Week(unittest.TestCase):
         status, out, _ = run("week", "--check", self.week)
         self.assertEqual((status, out.splitlines()[-1]), (0, "0 pairs accepted, 0 refused"))
         run("week", CASE_F, "-o", self.week)
-        ran = subprocess.run([GAPFILE, "week", "--check", "-"], input=self.week.read_bytes(), capture_output=True, check=False)
+        ran = subprocess.run([GAPFILE, "week", "--check", "-"], input=self.week.read_bytes(), capture_output=True,
+                             check=False)
         self.assertEqual((ran.returncode, ran.stderr), (0, b""))
         self.assertIn(b"no name  -1/1 = -1", ran.stdout)
 

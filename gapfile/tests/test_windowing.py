@@ -20,8 +20,9 @@ GAPFILE = str(ROOT / "gapfile/gapfile")
 class Lines(unittest.TestCase):
     def test_gaps(self) -> None:
         for text, gap in (("1/2", (1, 2)), ("gap 365012950000/2500000000", (365012950000, 2500000000)), ("7", (7, 1)),
-                          ("0.25", (25, 100)), ("-1/2", (-1, 2)), ("-0.5", (-5, 10)), ("empty", (0, 0)), ("gap empty", (0, 0)),
-                          ("1/0", (1, 0)), (str(2 ** 63 - 1), (2 ** 63 - 1, 1)), (f"1/{2 ** 64 - 1}", (1, 2 ** 64 - 1))):
+                          ("0.25", (25, 100)), ("-1/2", (-1, 2)), ("-0.5", (-5, 10)), ("empty", (0, 0)),
+                          ("gap empty", (0, 0)), ("1/0", (1, 0)), (str(2 ** 63 - 1), (2 ** 63 - 1, 1)),
+                          (f"1/{2 ** 64 - 1}", (1, 2 ** 64 - 1))):
             self.assertEqual(read_gap(text), gap, text)
         for text in ("", "x", "1/", "/2", "1/2/3", "1/-2", "1e3", "gap", "+1", "1 2", str(2 ** 63), f"1/{2 ** 64}", "٣",
                      "0." + "1" * 19):
@@ -129,7 +130,8 @@ class Window(unittest.TestCase):
 
     def test_a_state_that_is_none(self) -> None:
         """It is named and left; so is one with a gap that the call refuses, or with more than 32."""
-        for text in ("", "1/2\n", f"{HEADER}\nx\n", f"{HEADER}\n-1/2\n", f"{HEADER}\n1/0\n", HEADER + "\n" + "1/2\n" * 33):
+        for text in ("", "1/2\n", f"{HEADER}\nx\n", f"{HEADER}\n-1/2\n", f"{HEADER}\n1/0\n",
+                     HEADER + "\n" + "1/2\n" * 33):
             self.state.write_text(text)
             status, lines, err = self.window("1\n")
             self.assertEqual((status, lines), (2, []), text)
