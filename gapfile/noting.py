@@ -21,6 +21,7 @@ from .outcome import Outcome
 from .programs import ProgramError, check_one
 from .progress import Say
 from .reading import Refusal
+from .restating import Mismatch
 from .statuses import DONE, REFUSED, UsageError
 from .writing import STREAMS, OutputError, is_plain, make_folder, write_file, write_folder
 
@@ -77,14 +78,23 @@ def _explained(refusal: Refusal, problem: bytes, path: Path, stream: bytes) -> l
     return [f"{path}: {lines[0]}", *lines[1:]]
 
 
+def belongs(folder: str, streams: list[bytes], side: str, noted: Noted) -> None:
+    """Raises Mismatch where a certificate that was kept with notes is not, without them, the folder's own."""
+    own = Path(folder) / STREAMS[SIDES[side]]
+    if noted.path != own and without_notes(noted.stream) != without_notes(streams[SIDES[side]]):
+        raise Mismatch(f"{noted.path} is, without its notes, not {own}: that was made anew; move {noted.path.parent} "
+                       "away, and put in again what still holds")
+
+
 def run_note(arguments: argparse.Namespace, say: Say) -> Outcome:
     """Puts a note in, has the office's call read it back, and writes the certificate with it."""
-    problem = streams_in(arguments.folder)[0]
-    path = noted_path(arguments.folder, arguments.on)
+    streams = streams_in(arguments.folder)
+    problem, path = streams[0], noted_path(arguments.folder, arguments.on)
     say("asking the office's call")
     before = office(problem, path, read(str(path)))
     if isinstance(before, list):
         return Outcome(REFUSED, [*before, "no note was put in"], data={"accepted": False})
+    belongs(arguments.folder, streams, arguments.on, before)
     try:
         stream = put_in(before.stream, arguments.before, note_bytes(arguments.text))
     except NoteError as error:
@@ -112,6 +122,7 @@ def run_notes(arguments: argparse.Namespace, say: Say) -> Outcome:
         said = office(streams[0], path, read(str(path)))
         if isinstance(said, list):
             return Outcome(REFUSED, said, data={"accepted": False})
+        belongs(arguments.folder, streams, side, said)
         found[side] = said
     lines = [line for side, noted in found.items() for line in _lines(side, noted)]
     data = _data(found)
@@ -124,11 +135,17 @@ def run_notes(arguments: argparse.Namespace, say: Say) -> Outcome:
 
 
 def _write_strict(folder: Path, streams: list[bytes]) -> None:
-    """Puts the three streams into a new folder. Raises OutputError where something else stands there."""
-    if folder.is_symlink() or folder.exists() and (not folder.is_dir() or any(
-            file.name not in STREAMS or not is_plain(file) for file in folder.iterdir())):
-        raise OutputError(f"{folder} is there and has more than {', '.join(STREAMS)}; name another folder")
-    write_folder(folder, dict(zip(STREAMS, streams)))
+    """Puts the three streams into a new folder, or one that has them already. Raises OutputError where something else
+    stands there."""
+    wanted = dict(zip(STREAMS, streams))
+    if folder.is_symlink() or folder.exists() and not folder.is_dir():
+        raise OutputError(f"{folder} is there and is no folder; name another one")
+    files = sorted(folder.iterdir()) if folder.exists() else []
+    held = {file.name: read(str(file)) if is_plain(file) else b"" for file in files}
+    if held and held != wanted:
+        raise OutputError(f"{folder} is there and holds other files; name another folder")
+    if not held:
+        write_folder(folder, wanted)
 
 
 def _lines(side: str, noted: Noted) -> list[str]:

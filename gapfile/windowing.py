@@ -36,8 +36,10 @@ Gap = tuple[int, int]
 
 @dataclass
 class Line:
-    """What a run has so far: the gaps held, how many lines were read, the worst status, and what is to be told."""
+    """What a run has so far: the gaps held and the widest of them, how many lines were read, the status that comes of
+    them, and what is to be told."""
     held: list[Gap]
+    widest: Optional[proved.Widest] = None
     read: int = 0
     status: int = DONE
     told: list[dict[str, Any]] = field(default_factory=list)
@@ -101,23 +103,29 @@ def chunks() -> Iterator[list[str]]:
 
 
 def run_window(arguments: argparse.Namespace, say: Say) -> Outcome:
-    """Takes the gaps in, keeps the state, and tells after each; the plot is written at the end."""
-    state, plot = Path(arguments.state), arguments.svg and Path(arguments.svg)
+    """Takes the gaps in, keeps the state and the plot, and tells after each."""
+    state = Path(arguments.state)
     line = Line(read_state(state))
-    if line.held:
-        arrived(line.held, [])
+    line.widest = arrived(line.held[:-1], line.held[-1:])[1][0] if line.held else None
     show = not arguments.quiet and not arguments.json
+    draw(line, arguments.svg)
     for texts in chunks():
         say("asking for the widest gap")
         lines = take(line, texts, state)
+        draw(line, arguments.svg)
         if show and lines:
             show = _print(lines, line)
-    widest = arrived(line.held[:-1], line.held[-1:])[1][0] if line.held else None
-    if plot:
-        write_file(plot, as_svg([Fraction(a, b) for a, b in line.held], widest.age if widest else 0).encode())
+    widest = line.widest
     return Outcome(line.status, [], data={
         "outcomes": line.told, "held": [f"{a}/{b}" for a, b in line.held], "state": str(state),
         "widest": widest and {"gap": widest.gap, "age": widest.age}, "plot": arguments.svg})
+
+
+def draw(line: Line, path: Optional[str]) -> None:
+    """Writes the plot of the gaps held, where one is asked for."""
+    if path:
+        gaps = [Fraction(a, b) for a, b in line.held]
+        write_file(Path(path), as_svg(gaps, line.widest.age if line.widest else 0).encode())
 
 
 def take(line: Line, texts: list[str], state: Path) -> list[str]:
@@ -134,7 +142,11 @@ def take(line: Line, texts: list[str], state: Path) -> list[str]:
             line.status = USAGE
     if not numbered:
         return []
+    if read_state(state) != line.held:
+        raise UsageError(f"{state} was changed by another run, so line {numbered[0][0]} and those behind it are not "
+                         "taken in")
     line.held, outcomes = arrived(line.held, [gap for _, _, gap in numbered])
+    line.widest = next((outcome for outcome in reversed(outcomes) if outcome), line.widest)
     write_state(state, line.held)
     out = []
     for (number, text, _), outcome in zip(numbered, outcomes):

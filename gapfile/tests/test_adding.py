@@ -246,7 +246,8 @@ class Sheet(unittest.TestCase):
             place = Path(name)
             long = [f"position_of_the_deck_number_{k}" for k in range(1, 8)]
             full = Linear(long, [(k, 100 + k) for k in range(7)], [Fraction(1, 3 + k) for k in range(7)],
-                          Fraction(1, 7), 2520, "kilograms of stone in the lane", "A lane with many decks, on many footings, " * 4)
+                          Fraction(1, 7), 2520, "kilograms of stone in the lane",
+                          "A lane with many decks, on many footings, " * 4)
             run("sum", full.write(place / "a"), replace(full, constant=Fraction(2, 9)).write(place / "b"),
                 "-o", place / "sum.html")
             self.assertEqual(Browser().pages((place / "sum.html").read_text(encoding="utf-8")), 1)

@@ -97,6 +97,25 @@ class Commands(unittest.TestCase):
         self.assertEqual(streams_of(self.place / "strict"), case_f())
         self.assertEqual(run("notes", self.folder, "--strict", self.place / "strict")[0], 0)      # once more
 
+    def test_the_strict_form_does_not_take_the_place_of_the_noted_one(self) -> None:
+        noted = put_in(case_f()[1], 3, note_bytes("sent along"))
+        (self.folder / "low.bin").write_bytes(noted)
+        status, _, err = run("notes", self.folder, "--strict", self.folder)
+        self.assertEqual((status, (self.folder / "low.bin").read_bytes()), (2, noted))
+        self.assertIn("holds other files", err)
+
+    def test_a_filing_that_was_made_anew(self) -> None:
+        """Notes of another certificate are not taken for this one's: status 5, and they stay."""
+        run("note", self.folder, "to the first")
+        kept = self.folder.with_name("filed.notes") / "low.bin"
+        before = kept.read_bytes()
+        (self.folder / "low.bin").write_bytes(encode("lower -2/2 scale 1\nrow 0 weight 1\nentry 0 1\nentry 1 1\n"
+                                                     "row 1 weight 1\nentry 0 1\ndone")[0])
+        for words in (("notes", self.folder), ("note", self.folder, "more")):
+            status, out, err = run(*words)
+            self.assertEqual((status, out, kept.read_bytes()), (5, "", before))
+            self.assertIn("that was made anew; move", err)
+
     def test_refused(self) -> None:
         """A note cut short, a false identity behind notes, and nothing that is written then."""
         problem, low, _ = case_f()
@@ -130,7 +149,8 @@ class Commands(unittest.TestCase):
                             (("notes", "nothing"), "is no folder"),
                             (("note", EXAMPLES / "models", "a"), "No such file"),
                             (("notes", self.folder, "--strict", CASE_F.parent), "name another folder"),
-                            (("notes", self.folder, "--strict", self.folder / "low.bin"), "name another folder")):
+                            (("notes", self.folder, "--strict", EXAMPLES / "ex5_5"), "name another folder"),
+                            (("notes", self.folder, "--strict", self.folder / "low.bin"), "name another one")):
             status, out, err = run(*words)
             self.assertEqual((status, out), (2, ""), words)
             self.assertIn(said, err)

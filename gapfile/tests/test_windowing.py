@@ -141,6 +141,20 @@ class Window(unittest.TestCase):
         os.mkdir(self.state)
         self.assertEqual(self.window("1\n")[0], 2)
 
+    def test_two_runs_at_once(self) -> None:
+        """The one that finds the state changed takes nothing more in, and says so."""
+        process = subprocess.Popen([GAPFILE, "window", "--state", str(self.state)], stdin=subprocess.PIPE,
+                                   stdout=subprocess.PIPE, stderr=subprocess.PIPE, text=True)
+        assert process.stdin and process.stdout
+        process.stdin.write("1\n")
+        process.stdin.flush()
+        process.stdout.readline()
+        self.window("2\n")
+        _, err = process.communicate("3\n", timeout=60)
+        self.assertEqual(process.returncode, 2)
+        self.assertIn("was changed by another run, so line 2 and those behind it are not taken in", err)
+        self.assertEqual(self.state.read_text().splitlines()[1:], ["1/1", "2/1"])
+
     def test_no_gaps(self) -> None:
         self.assertEqual(self.window(""), (0, [], ""))
         self.assertFalse(self.state.exists())
