@@ -65,9 +65,18 @@ class Week(unittest.TestCase):
         (self.place / "week.names").unlink()
         self.assertIn("no name", run("week", "--check", self.week)[1])
 
-    def test_titles(self) -> None:
-        folder = Linear(["a"], [(0, 2)], [Fraction(1)], title="Lane 7").write(self.place / "lane")
-        self.assertIn("1  lane: Lane 7  0/1 = 0  2/1 = 2", run("week", folder, "-o", self.week)[1])
+    def test_titles_and_units(self) -> None:
+        """Of a filing with a model also its figure: a/3 from 0 to 2 kg, sent 60 times. Read again, with its folder."""
+        lane = Linear(["a"], [(0, 2)], [Fraction(1, 3)], factor=60, unit="kg", title="Lane 7").write(self.place / "lane")
+        out = run("week", CASE_F, lane, "-o", self.week)[1]
+        row = "2 lane: Lane 7 0/1 = 0 40/1 = 40 at least 0, at most 0.666667 kg"
+        self.assertEqual(" ".join(out.splitlines()[2].split()), row)
+        self.assertEqual(" ".join(run("week", "--check", self.week, lane)[1].splitlines()[2].split()), row)
+        self.assertNotIn("kg", run("week", "--check", self.week)[1])
+        (lane / "manifest.json").write_text("{}")
+        self.assertEqual(run("week", "--check", self.week, lane)[0], 2)
+        self.assertEqual(run("week", lane, "-o", self.place / "other.bin")[0], 2)
+        self.assertFalse((self.place / "other.bin").exists())
 
     def test_one_that_is_refused(self) -> None:
         """It is packed and reported at its place, and the status is 1."""
@@ -114,8 +123,9 @@ class Week(unittest.TestCase):
         self.assertIn(b"no name  -1/1 = -1", ran.stdout)
 
     def test_wrong(self) -> None:
-        for words in (("week",), ("week", CASE_F), ("week", "-o", self.week), ("week", CASE_F, "--check", self.week),
+        for words in (("week",), ("week", CASE_F), ("week", "-o", self.week),
                       ("week", CASE_F, "-o", self.week, "--check", self.week), ("week", "nothing", "-o", self.week),
+                      ("week", "--check", CASE_F / "low.bin", "nothing"),
                       ("week", "--check", self.place / "none"), ("week", CASE_F, "-o", self.place / "week.names"),
                       ("week", *[CASE_F] * 65, "-o", self.week), ("week", EXAMPLES / "models", "-o", self.week),
                       ("week", CASE_F, "-o", self.place / "no/week.bin")):
