@@ -150,8 +150,8 @@ def _write_strict(folder: Path, streams: list[bytes]) -> None:
 
 def _lines(side: str, noted: Noted) -> list[str]:
     """The verdict of the office's call, and the notes."""
-    return [f"{side}: {noted.said.line}", *(f"  before line {one.line}: {one.text}" for one in noted.texts)] \
-        if noted.texts else [f"{side}: {noted.said.line}", "  no notes"]
+    shown = [f"  before line {one.line}: {one.text}" for one in noted.texts]
+    return [f"{side}: {noted.said.line}", *(shown or ["  no notes"])]
 
 
 def _data(found: dict[str, Noted]) -> dict[str, Any]:

@@ -35,7 +35,7 @@ Gap = tuple[int, int]
 
 
 @dataclass
-class Line:
+class Run:
     """What a run has so far: the gaps held and the widest of them, how many lines were read, the status that comes of
     them, and what is to be told."""
     held: list[Gap]
@@ -105,64 +105,64 @@ def chunks() -> Iterator[list[str]]:
 def run_window(arguments: argparse.Namespace, say: Say) -> Outcome:
     """Takes the gaps in, keeps the state and the plot, and tells after each."""
     state = Path(arguments.state)
-    line = Line(read_state(state))
-    line.widest = arrived(line.held[:-1], line.held[-1:])[1][0] if line.held else None
+    run = Run(read_state(state))
+    run.widest = arrived(run.held[:-1], run.held[-1:])[1][0] if run.held else None
     show = not arguments.quiet and not arguments.json
-    draw(line, arguments.svg)
+    draw(run, arguments.svg)
     for texts in chunks():
         say("asking for the widest gap")
-        lines = take(line, texts, state)
-        draw(line, arguments.svg)
+        lines = take(run, texts, state)
+        draw(run, arguments.svg)
         if show and lines:
-            show = _print(lines, line)
-    widest = line.widest
-    return Outcome(line.status, [], data={
-        "outcomes": line.told, "held": [f"{a}/{b}" for a, b in line.held], "state": str(state),
+            show = _print(lines, run)
+    widest = run.widest
+    return Outcome(run.status, [], data={
+        "outcomes": run.told, "held": [f"{a}/{b}" for a, b in run.held], "state": str(state),
         "widest": widest and {"gap": widest.gap, "age": widest.age}, "plot": arguments.svg})
 
 
-def draw(line: Line, path: Optional[str]) -> None:
+def draw(run: Run, path: Optional[str]) -> None:
     """Writes the plot of the gaps held, where one is asked for."""
     if path:
-        gaps = [Fraction(a, b) for a, b in line.held]
-        write_file(Path(path), as_svg(gaps, line.widest.age if line.widest else 0).encode())
+        gaps = [Fraction(a, b) for a, b in run.held]
+        write_file(Path(path), as_svg(gaps, run.widest.age if run.widest else 0).encode())
 
 
-def take(line: Line, texts: list[str], state: Path) -> list[str]:
+def take(run: Run, texts: list[str], state: Path) -> list[str]:
     """Takes some lines in: the state is on the disk when this returns what there is to print."""
     numbered: list[tuple[int, str, Gap]] = []
     for text in texts:
-        line.read += 1
+        run.read += 1
         gap = read_gap(text) if text else None
         if gap is not None:
-            numbered.append((line.read, text, gap))
+            numbered.append((run.read, text, gap))
         elif text:
-            complain(f"gapfile: line {line.read}: `{text[:60]}` is no gap and is passed over; expected one as 73/50, "
+            complain(f"gapfile: line {run.read}: `{text[:60]}` is no gap and is passed over; expected one as 73/50, "
                      "146.005 or `gap 73/50`")
-            line.status = USAGE
+            run.status = USAGE
     if not numbered:
         return []
-    if read_state(state) != line.held:
+    if read_state(state) != run.held:
         raise UsageError(f"{state} was changed by another run, so line {numbered[0][0]} and those behind it are not "
                          "taken in")
-    line.held, outcomes = arrived(line.held, [gap for _, _, gap in numbered])
-    line.widest = next((outcome for outcome in reversed(outcomes) if outcome), line.widest)
-    write_state(state, line.held)
+    run.held, outcomes = arrived(run.held, [gap for _, _, gap in numbered])
+    run.widest = next((outcome for outcome in reversed(outcomes) if outcome), run.widest)
+    write_state(state, run.held)
     out = []
     for (number, text, _), outcome in zip(numbered, outcomes):
         if outcome is None:
             complain(f"gapfile: line {number}: `{text[:60]}` is refused with 14: a gap is from 0 to below 2^48, over 1 "
                      "to below 2^32")
-            line.status = line.status or REFUSED
+            run.status = run.status or REFUSED
             out.append("refused 14")
-            line.told.append({"line": number, "refusal": 14})
+            run.told.append({"line": number, "refusal": 14})
         else:
             out.append(f"widest {outcome.gap} = {decimal(Fraction(outcome.gap), True)} age {outcome.age}")
-            line.told.append({"line": number, "widest": outcome.gap, "age": outcome.age})
+            run.told.append({"line": number, "widest": outcome.gap, "age": outcome.age})
     return out
 
 
-def _print(lines: list[str], line: Line) -> bool:
+def _print(lines: list[str], run: Run) -> bool:
     """Prints lines at once; false where nobody reads any more, and then the gaps are still taken in."""
     try:
         print("\n".join(lines), flush=True)
@@ -170,7 +170,7 @@ def _print(lines: list[str], line: Line) -> bool:
     except OSError as error:
         if not isinstance(error, BrokenPipeError):
             complain(f"gapfile: standard output: {error.strerror}; the gaps are taken in without")
-            line.status = USAGE
+            run.status = USAGE
         os.dup2(os.open(os.devnull, os.O_WRONLY), sys.stdout.fileno())       # so that nothing is tried again at exit
         return False
 
