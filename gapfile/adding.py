@@ -94,8 +94,9 @@ def sum_lines(summed: Summed) -> list[str]:
     lines = [f"{q.words} {q.decimal}{unit}{'' if q.is_exact else ' (rounded outward)'}" for q in summed.quoted]
     if summed.empty:
         lines = ["no point meets all the conditions: bounds cross, so there is no figure to quote"]
-    low, high = summed.bounds
-    lines.append(f"exactly at least {fraction(low)} and at most {fraction(high)}")
+    else:
+        low, high = summed.bounds
+        lines.append(f"exactly at least {fraction(low)} and at most {fraction(high)}")
     for part in summed.parts:
         assert part.verdict.lower is not None and part.verdict.upper is not None
         lines.append(f"  {part.name}: at least {fraction(part.verdict.lower / part.factor)}, at most "

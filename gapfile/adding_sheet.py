@@ -3,6 +3,7 @@ from __future__ import annotations
 
 from fractions import Fraction
 from html import escape
+from pathlib import Path
 
 from .decimals import fraction
 from .filing import digest
@@ -12,7 +13,7 @@ from .polynomials import Polynomial, ordered, plus
 from .programs import build
 from .reading import read_problem
 from .report import today
-from .sheet import DENSE, STYLE
+from .sheet import DENSE, STYLE, UNIT, WIDER
 from .summed import TOGETHER, Summed, how_added
 from .text import DEFAULT_NAMES
 from .writing import STREAMS
@@ -36,10 +37,10 @@ each folder, and <code>gapfile sum</code> on both: it must print the line above.
 def sum_page(summed: Summed) -> str:
     """The whole page."""
     body = [_polynomials(summed), _exact(summed)]
-    title = escape("Sum of " + " and ".join(_title(part) for part in summed.parts))
+    title = escape(f"Sum of {_title(summed.parts[0])} and {_title(summed.parts[1])}")
     kind = "sheet dense" if letters("".join(body)) > DENSE else "sheet"
     cells = "".join(f"<div><span>{words}</span><b>{escape(said)}</b></div>" for words, said in (
-        ("Date", today()), ("Document number", ""), ("Unit", summed.parts[0].unit[:40]), ("Made by", "")))
+        ("Date", today()), ("Document number", ""), ("Unit", _cut(summed.parts[0].unit, 40)), ("Made by", "")))
     return (f'<!DOCTYPE html>\n<html lang="en"><head><meta charset="utf-8"><title>{title}</title>'
             f'<style>{STYLE}</style></head>\n<body><div class="{kind}">'
             '<div class="above"><span>Sheet of a sum</span><span>both pairs accepted</span></div>'
@@ -48,8 +49,13 @@ def sum_page(summed: Summed) -> str:
 
 
 def _title(part: Judged) -> str:
-    title = part.figures.model.title if part.figures else part.folder
-    return (title or part.folder)[:TITLE]
+    """The title of the model, or the folder's name."""
+    title = part.figures.model.title if part.figures else ""
+    return _cut(title or Path(part.folder).resolve().name, TITLE)
+
+
+def _cut(text: str, room: int) -> str:
+    return text if len(text) <= room else text[:room - 1].rstrip() + "…"
 
 
 def _figure(summed: Summed) -> str:
@@ -57,7 +63,7 @@ def _figure(summed: Summed) -> str:
     if summed.empty:
         return ('<div class="figure"><p class="empty">No point meets all the conditions: the region is empty.</p>'
                 '<p class="note">So there is no figure to quote.</p></div>')
-    unit = f" <small>{escape(summed.parts[0].unit[:12])}</small>" if summed.parts[0].unit else ""
+    unit = f" <small>{escape(_cut(summed.parts[0].unit, UNIT))}</small>" if summed.parts[0].unit else ""
     shown = "".join(f"<div><span>{'and ' if q.name == 'upper' else ''}{q.words}</span> "
                     f'<b data-figure="{q.name}">{minus(q.decimal)}</b>{unit}</div>' for q in summed.quoted)
     note = ("These decimals are exact." if all(q.is_exact for q in summed.quoted) else
@@ -93,7 +99,9 @@ def _in_the_model(part: Judged) -> Polynomial:
 def _sent(part: Judged) -> str:
     """The factor, and what the variables of the stream stand for."""
     figures = part.figures
-    if figures is None or figures.as_sent:
+    if figures is None:
+        return '<p class="small">As in problem.bin; there is no model.</p>'
+    if figures.as_sent:
         return '<p class="small">problem.bin has the polynomial itself, in the same variables.</p>'
     of = "the polynomial" if figures.factor == 1 else f"{figures.factor} times the polynomial"
     meant = standing(figures.variables, ROOM // 2)
@@ -105,7 +113,7 @@ def _wider(summed: Summed) -> str:
     if not summed.wider:
         return ""
     return ('<p class="small">This region is larger than a model\'s, so that the sum holds on the models\' too: '
-            f"{escape('; '.join(summed.wider)[:160])}.</p>")
+            f"{escape(_cut('; '.join(summed.wider), WIDER))}.</p>")
 
 
 def _exact(summed: Summed) -> str:
@@ -120,20 +128,25 @@ def _exact(summed: Summed) -> str:
     table = "".join(f"<tr><th>{word}</th>" + "".join(f'<td class="mono" data-figure="{word} {side}">{minus(said)}</td>'
                                                     for side, said in zip(("lower", "upper"), pair)) + "</tr>"
                     for word, *pair in rows)
-    return ("<h2>Exact fractions, in the models' units</h2><table><tr><th></th><th>lower</th><th>upper</th></tr>"
+    units = "the models' units" if summed.parts[0].figures else "the units of the streams"
+    return (f"<h2>Exact fractions, in {units}</h2><table><tr><th></th><th>lower</th><th>upper</th></tr>"
             f"{table}</table><h2>What the proved call printed</h2><pre>{escape(summed.call.line)}</pre>"
-            f'<p class="small">Here {escape(how_added(summed))}.'
-            + (f" T{escape(TOGETHER[1:])}." if summed.together else "") + "</p>")
+            f'<p class="small">{escape(_sentence(how_added(summed)))}'
+            f"{' ' + escape(_sentence(TOGETHER)) if summed.together else ''}</p>")
+
+
+def _sentence(words: str) -> str:
+    return f"{words[0].upper()}{words[1:]}."
 
 
 def _end(summed: Summed) -> str:
     """Hashes of the six files and of the programs, what was proved, how to check it again, what is not claimed."""
-    sums = [(f"{word} {name}", digest(stream)) for word, part in zip(WORDS, summed.parts)
+    sums = [(f"{word} {name.removesuffix('.bin')}", digest(stream)) for word, part in zip(WORDS, summed.parts)
             for name, stream in zip(STREAMS, part.streams)]
     sums += [(name, build(name).digest) for name in ("gapcheck", "replay")]
     table = "".join(f'<tr><td class="mono">{escape(name)}</td><td class="mono">{value}</td></tr>'
                     for name, value in sums)
-    where = "; ".join(f"the {word} is {part.folder[:FOLDER]}" for word, part in zip(WORDS, summed.parts))
+    where = "; ".join(f"the {word} is {_cut(part.folder, FOLDER)}" for word, part in zip(WORDS, summed.parts))
     return (f'<div class="columns end"><div class="wide"><h2>SHA-256 of the files and of the programs asked</h2>'
             f'<table class="sums">{table}</table><p class="small">{escape(where)}.</p></div><div>{AGAIN}</div></div>'
             f"{PROVED}")

@@ -108,6 +108,8 @@ def check_sum(summed: Summed) -> None:
 def how_added(summed: Summed) -> str:
     """How the models' sum comes from the streams'."""
     a, b = (part.factor for part in summed.parts)
+    if summed.parts[0].figures is None:
+        return "the folders have no models, so these are the sums above"
     if a == b == 1:
         return "the streams' polynomials are the models', so these are the sums above"
     if a == b:

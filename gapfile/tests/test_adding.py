@@ -1,5 +1,6 @@
 """`gapfile sum`: sums in the models' units, exactly; what cannot be added and why; the sheet; answers of the
 reference."""
+import hashlib
 import json
 import re
 import tempfile
@@ -222,12 +223,13 @@ class Sheet(unittest.TestCase):
             place = Path(name)
             run("sum", A.write(place / "a"), B.write(place / "b"), "-o", place / "sum.html")
             page = (place / "sum.html").read_text(encoding="utf-8")
-            sums = [re.search(r'"mono">first low.bin</td><td class="mono">([0-9a-f]{64})<', page)]
+            sums = [re.search(r'"mono">first low</td><td class="mono">([0-9a-f]{64})<', page)]
+            low = hashlib.sha256((place / "a/low.bin").read_bytes()).hexdigest()
         found = dict(FIGURE.findall(page))
         self.assertEqual(found["lower"], "−12.333334")
         self.assertEqual((found["sum lower"], found["sum upper"]), ("−37/3", "22"))
         self.assertEqual((found["first lower"], found["second upper"]), ("1", "10"))
-        self.assertTrue(sums[0])
+        self.assertEqual(sums[0] and sums[0][1], low)
         self.assertNotIn("<script", page)
 
     def test_words_of_a_model_are_no_marks(self) -> None:

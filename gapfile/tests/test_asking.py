@@ -1,7 +1,9 @@
 """The commands on the calls of the requests: their help, and the folders of examples/commands, run as they are typed,
 by the proved programs and with the plain reference in the place of `replay`."""
 import os
+import random
 import re
+import shutil
 import subprocess
 import tempfile
 import unittest
@@ -70,6 +72,66 @@ class Examples(unittest.TestCase):
                 if file.parent.name != "week":                   # by weekcheck; test_weekly compares its report
                     expected = file.with_name("expected").read_text()
                     self.assertEqual(ran(file, replay), (0, expected, ""), file.parent.name)
+
+
+def damaged(data: bytes, chance: random.Random) -> bytes:
+    """The bytes with some changed, cut, put in or taken out."""
+    out = bytearray(data)
+    for _ in range(chance.randrange(1, 4)):
+        at, end = sorted(chance.randrange(len(out) + 1) for _ in range(2))
+        way = chance.randrange(4)
+        if way == 0:
+            out[at:at + 1] = bytes([chance.randrange(256)])
+        elif way == 1:
+            del out[at:]
+        elif way == 2:
+            out[at:at] = chance.randbytes(chance.randrange(1, 10))
+        else:
+            del out[at:min(end, at + 12)]
+    return bytes(out)
+
+
+@needs_programs
+@needs_weekcheck
+class Damaged(unittest.TestCase):
+    """Whatever the files of a folder hold: a status that means something, words for it, and no fault of gapfile."""
+
+    def setUp(self) -> None:
+        kept = tempfile.TemporaryDirectory()
+        self.addCleanup(kept.cleanup)
+        self.place = Path(kept.name)
+
+    def ends_well(self, *words: object) -> None:
+        status, out, err = run(*words)
+        self.assertIn(status, (0, 1, 2, 5), (words, err))
+        self.assertTrue(status == 0 or (out + err).strip(), words)
+        self.assertNotIn("Traceback", err)
+
+    def test_folders(self) -> None:
+        chance, other = random.Random(20261117), COMMANDS / "sum/first"
+        for k in range(24):
+            folder = self.place / f"d{k}"
+            shutil.copytree(other if k % 3 else COMMANDS / "notes/noted", folder)
+            for file in chance.sample(sorted(folder.iterdir()), 1 + k % 2):
+                file.write_bytes(damaged(file.read_bytes(), chance))
+            for words in chance.sample([
+                    ("sum", folder, other), ("sum", other, folder, "-o", self.place / "sum.html"), ("notes", folder),
+                    ("adjust", folder, "a", "b +- 1"), ("adjust", folder, "--blank"), ("note", folder, "words", "--json"),
+                    ("notes", folder, "--strict", self.place / f"s{k}"), ("week", folder, "-o", self.place / "w.bin"),
+                    ("tighter", *(folder / f"{name}.bin" for name in ("problem", "low", "low")), "-o", self.place / "o"),
+                    ("blocks", folder / "problem.bin")], 3):
+                self.ends_well(*words)
+
+    def test_weeks_and_changes(self) -> None:
+        chance = random.Random(17112026)
+        run("week", EXAMPLES / "ex5_5", COMMANDS / "sum/first", "-o", self.place / "week.bin")
+        for k in range(8):
+            for name in ("bin", "names"):
+                data = (self.place / f"week.{name}").read_bytes()
+                (self.place / f"k.{name}").write_bytes(damaged(data, chance) if chance.random() < 0.7 else data)
+            self.ends_well("week", "--check", self.place / "k.bin")
+            text = "".join(chance.choices("ab12.+-*/^()± e%#x", k=chance.randrange(1, 14)))
+            self.ends_well("adjust", COMMANDS / "sum/first", "--", text)
 
 
 @needs_programs
