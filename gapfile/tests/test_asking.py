@@ -116,8 +116,9 @@ class Damaged(unittest.TestCase):
                 file.write_bytes(damaged(file.read_bytes(), chance))
             for words in chance.sample([
                     ("sum", folder, other), ("sum", other, folder, "-o", self.place / "sum.html"), ("notes", folder),
-                    ("adjust", folder, "a", "b +- 1"), ("adjust", folder, "--blank"), ("note", folder, "words", "--json"),
-                    ("notes", folder, "--strict", self.place / f"s{k}"), ("week", folder, "-o", self.place / "w.bin"),
+                    ("adjust", folder, "a", "b +- 1"), ("adjust", folder, "--blank"),
+                    ("note", folder, "words", "--json"), ("notes", folder, "--strict", self.place / f"s{k}"),
+                    ("week", folder, "-o", self.place / "w.bin"),
                     ("tighter", *(folder / f"{name}.bin" for name in ("problem", "low", "low")), "-o", self.place / "o"),
                     ("blocks", folder / "problem.bin")], 3):
                 self.ends_well(*words)
