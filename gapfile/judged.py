@@ -48,7 +48,8 @@ class Judged:
 def streams_in(folder: str) -> list[bytes]:
     """The three streams of a folder. Raises UsageError."""
     problem, low, high = streams_of([folder])
-    assert high is not None                                  # a folder has three
+    if high is None:
+        raise UsageError(f"{folder} has one certificate, where a lower and an upper one are asked for")
     return [problem, low, high]
 
 

@@ -87,6 +87,13 @@ class Mapping(unittest.TestCase):
             (ONE, 34), (monomial(0), 8), (monomial(1), 15), (monomial(0, 2), 4)])
         self.assertEqual(made.encoded()[:12], bytes(monomial(0)) + struct.pack("<i", 8000))
 
+    def test_sizes_do_not_cancel(self) -> None:
+        """0.1 x 10 x (a - b) is up to 10 + 20u + 5v term by term, either way round, and both together twice that."""
+        both = [read_change(text, 1, NAMES, Work()) for text in ("a - b +- 0.1", "b - a +- 0.1")]
+        for some, times in ((both[:1], 1), (both[1:], 1), (both, 2)):
+            made = sent(some, MAPPED, 10)
+            self.assertEqual((made.constant, [d for _, _, d in made.terms]), (0, [times * k for k in (10, 20, 5)]))
+
     def test_whole_numbers_cover(self) -> None:
         """Each is the next one away from 0."""
         made = sent([read_change("a/7 - b/9", 1, NAMES, Work())], [replace(v, middle=Fraction(0), half=Fraction(1))
