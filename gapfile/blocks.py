@@ -1,4 +1,4 @@
-"""The blocks of a problem, as the checker finds them: by basis, as text and as JSON."""
+"""The blocks and the sign symmetries of a problem, as the checker finds them: as text and as JSON."""
 from __future__ import annotations
 
 import json
@@ -31,15 +31,25 @@ def compared_keys(problem: Problem, found: Blocks) -> int:
     return len(counted)
 
 
-def symmetries(problem: Problem) -> list[int]:
-    """The masks of sign symmetries: with every exponent an even number of ones in common with its odd positions."""
-    odd = {sum((e[i] & 1) << i for i in range(8)) for e in problem.objective}
-    for condition in problem.conditions:
-        odd |= {sum((e[i] & 1) << i for i in range(8)) for e in condition.terms}
-    return [r for r in range(1 << problem.variables) if all(bin(r & x).count("1") % 2 == 0 for x in odd)]
+def turning(mask: int, names: list[str]) -> str:
+    """A sign symmetry in words."""
+    turned = [names[i] for i in range(8) if mask >> i & 1]
+    if not turned:
+        return "the identity"
+    if len(turned) == 1:
+        return f"turn the sign of {turned[0]}"
+    return f"turn the signs of {', '.join(turned[:-1])} and {turned[-1]} together"
 
 
-def as_data(problem: Problem, found: Blocks, names: list[str]) -> dict[str, Any]:
+def _turnings(masks: list[int], names: list[str]) -> str:
+    """The sign symmetries in a line; the first eight of more."""
+    if len(masks) == 1:
+        return "sign symmetries: none but the identity"
+    shown = "; ".join(turning(mask, names) for mask in masks[:8])
+    return f"sign symmetries {len(masks)}: {shown}{'; ..' if len(masks) > 8 else ''}"
+
+
+def as_data(problem: Problem, found: Blocks, masks: list[int], names: list[str]) -> dict[str, Any]:
     """The blocks as plain data, for JSON."""
     bases = []
     for j, blocks in enumerate(by_basis(problem, found)):
@@ -47,21 +57,20 @@ def as_data(problem: Problem, found: Blocks, names: list[str]) -> dict[str, Any]
                       "blocks": [{"number": ix[0], "monomials": [monomial_text(problem.bases[j][i], names) for i in ix]}
                                  for ix in blocks]})
     return {"blocks": found.count, "rounds": found.rounds, "rule": found.rule, "order": problem.order,
-            "keys": compared_keys(problem, found), "limit": KEYS, "symmetries": symmetries(problem), "bases": bases}
+            "keys": compared_keys(problem, found), "limit": KEYS, "symmetries": masks,
+            "turned": [turning(mask, names) for mask in masks], "bases": bases}
 
 
-def as_json(problem: Problem, found: Blocks, names: list[str]) -> str:
-    return json.dumps(as_data(problem, found, names), indent=2) + "\n"
+def as_json(problem: Problem, found: Blocks, masks: list[int], names: list[str]) -> str:
+    return json.dumps(as_data(problem, found, masks, names), indent=2) + "\n"
 
 
-def as_text(problem: Problem, found: Blocks, names: list[str]) -> str:
-    """The blocks as lines."""
-    masks = symmetries(problem)
-    shown = [" ".join(names[i] for i in range(problem.variables) if r >> i & 1) or "none" for r in masks]
+def as_text(problem: Problem, found: Blocks, masks: list[int], names: list[str]) -> str:
+    """The blocks and the sign symmetries, as lines."""
     order = f" (at most {problem.order})" if problem.order else ""
     lines = [f"blocks {found.count}", f"rounds {found.rounds}{order}",
              f"rule {found.rule}", f"keys {compared_keys(problem, found)} of {KEYS}",
-             f"sign symmetries {len(masks)}: " + "; ".join(shown[:8]) + ("; .." if len(masks) > 8 else "")]
+             _turnings(masks, names)]
     for j, blocks in enumerate(by_basis(problem, found)):
         sizes = [len(ix) for ix in blocks]
         lines.append(f"basis {j}, {counted(sum(sizes), 'monomial')} in {counted(len(sizes), 'block')}"

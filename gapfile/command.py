@@ -11,9 +11,9 @@ import sys
 import traceback
 from fractions import Fraction
 from pathlib import Path
-from typing import Callable, Optional, Sequence
+from typing import Any, Callable, Optional, Sequence
 
-from . import VERSION, blocks, picture, programs
+from . import VERSION, asking, blocks, picture, programs, proved
 from .commands import Kind, kind_of
 from .decimals import decimal, digits_for, fraction, is_exact
 from .explain import explain, explain_empty
@@ -44,6 +44,7 @@ EXAMPLES = {
     "theorem": "gapfile theorem two_decks --check",
     "round": "gapfile round examples/ex5_5/problem.bin examples/gram/ex5_5.json -o rounded",
     "work": "gapfile work examples/ex5_5 low --column 'x1*x2'",
+    **asking.EXAMPLES,
 }
 
 
@@ -178,11 +179,14 @@ def run_blocks(arguments: argparse.Namespace, say: Say) -> Outcome:
     if isinstance(found, Refusal):
         say("looking for the reason")
         return Outcome(REFUSED, explain(found, stream, b"", b"", names))
+    masks = proved.symmetries(stream)
+    if isinstance(masks, Refusal):
+        raise programs.ProgramError(f"the blocks of {arguments.problem} are told, and its symmetries {masks.line()}")
     problem = read_problem(stream)
     if len(names) < problem.variables:
         raise UsageError(f"{arguments.problem} has {problem.variables} variables, --names has {len(names)}")
-    text = blocks.as_text(problem, found, names)
-    for path, form in ((arguments.json_file, blocks.as_json(problem, found, names)),
+    text = blocks.as_text(problem, found, masks, names)
+    for path, form in ((arguments.json_file, blocks.as_json(problem, found, masks, names)),
                        (arguments.svg, picture.as_svg(problem, found, names))):
         if path == "-":
             text = form
@@ -191,10 +195,24 @@ def run_blocks(arguments: argparse.Namespace, say: Say) -> Outcome:
     return Outcome(DONE, text.splitlines())
 
 
+class _Mixed(argparse.ArgumentParser):
+    """A parser that takes options between the other arguments too, as `adjust DIR --json CHANGE`."""
+    mixing = False
+
+    def parse_known_args(self, args: Any = None, namespace: Any = None) -> Any:
+        if self.mixing:                                      # this is asked for again, once for each kind of argument
+            return super().parse_known_args(args, namespace)
+        self.mixing = True
+        try:
+            return self.parse_known_intermixed_args(args, namespace)
+        finally:
+            self.mixing = False
+
+
 def parser() -> argparse.ArgumentParser:
     top = argparse.ArgumentParser(prog="gapfile", description="From a polynomial to a filed figure.", epilog=STATUSES)
     top.add_argument("--version", action="version", version=f"gapfile {VERSION}")
-    commands = top.add_subparsers(dest="command", required=True, metavar="COMMAND")
+    commands = top.add_subparsers(dest="command", required=True, metavar="COMMAND", parser_class=_Mixed)
 
     def command(name: str, said: str) -> argparse.ArgumentParser:
         made = commands.add_parser(name, help=said, description=said[0].upper() + said[1:] + ".",
@@ -203,7 +221,7 @@ def parser() -> argparse.ArgumentParser:
         made.add_argument("-q", "--quiet", action="store_true", help="print nothing but errors")
         made.add_argument("-v", "--verbose", action="store_true", help="say every step at once, and at a fault of "
                                                                        "gapfile where it happened")
-        if name in ("check", "explain", "file", "verify", "theorem", "round", "work"):
+        if name in ("check", "explain", "file", "verify", "theorem", "round", "work", *asking.EXAMPLES):
             made.add_argument("--json", action="store_true", help="print JSON in the place of lines")
         return made
 
@@ -215,6 +233,7 @@ def parser() -> argparse.ArgumentParser:
     add_theorem(command)
     add_round(command)
     add_work(command)
+    asking.add_asking(command)
     return top
 
 
@@ -268,10 +287,11 @@ def tell(outcome: Outcome, options: argparse.Namespace) -> int:
     """Prints what a command has to say. Its work is done: a reader who closes the pipe does not change its status."""
     for line in outcome.errors:
         complain(line)
-    if options.quiet or not sys.stdout:
+    as_json = getattr(options, "json", False)
+    if options.quiet or not sys.stdout or not outcome.lines and not as_json:
         return outcome.status
     text = "\n".join(outcome.lines)
-    if getattr(options, "json", False):
+    if as_json:
         text = json.dumps({"gapfile": VERSION, "command": options.command, "status": outcome.status, **outcome.data},
                           indent=2, ensure_ascii=False)
     try:

@@ -26,6 +26,13 @@ RULES = {
     8: "a row has entries in two blocks",
     9: "the identity is false",
     10: "the first certificate is no lower bound, or the second no upper one",
+    11: "both certificates are accepted, and one is a lower bound and the other an upper one",
+    12: "a record of the week is cut short, or a byte follows the 64th",
+    13: "the buffer cannot hold all notes",
+    14: "a gap is below 0 or from 2^48, or its denominator is 0 or from 2^32",
+    15: "the regions of the two problems differ",
+    16: "some variable has no inequality that is exactly 1 - x^2",
+    17: "an upper certificate, where a lower one is asked for",
 }
 STREAMS = ("the problem", "the first certificate", "the second certificate")
 ADVICE = {
@@ -45,6 +52,13 @@ ADVICE = {
     9: "what to do: see with `gapfile decode --problem PROBLEM FILE` which rows reach these monomials; a certificate "
        "that `gapfile file` makes of the model anew has none",
     10: "what to do: the first must say `lower` and the second `upper`: exchange the files, or find the missing one",
+    11: "what to do: give two lower certificates, or two upper ones; a lower bound never supersedes an upper one",
+    12: "what to do: write the file again with `gapfile week DIR.. -o week.bin`, with at most 64 folders",
+    13: "what to do: lend 8 bytes for each note",
+    14: "what to do: send gaps as gapcheck prints them; an empty gap is no gap",
+    15: "what to do: file both models with the same variables, ranges and conditions, in the same order",
+    16: "what to do: file the model with a range for every variable, mapped to -1 .. 1, which is sent as 1 - u^2",
+    17: "what to do: name the lower certificate",
 }
 OTHER = 0.5                      # where more of the monomials differ, the certificate is likely one of another problem
 
@@ -55,7 +69,8 @@ def explain(refusal: Refusal, problem_stream: bytes, low: bytes, high: Optional[
     to do."""
     names = names or DEFAULT_NAMES
     streams = (problem_stream, low, high or b"")
-    lines = [refusal.line(), f"{RULES.get(refusal.number, 'unknown refusal')}, in {STREAMS[refusal.stream]}"]
+    where = f", in {STREAMS[refusal.stream]}" if refusal.number <= 10 else ""      # later ones are of the whole call
+    lines = [refusal.line(), f"{RULES.get(refusal.number, 'unknown refusal')}{where}"]
     files = FILES if high is not None else (FILES[0], "the certificate")
     lines += _seen(refusal, streams, names) + exchanged(streams) + changed(dict(zip(files, streams)), sums)
     return lines + [ADVICE.get(refusal.number, "what to do: ask for the gapfile of this gapcheck")]
@@ -64,7 +79,7 @@ def explain(refusal: Refusal, problem_stream: bytes, low: bytes, high: Optional[
 def _seen(refusal: Refusal, streams: tuple[bytes, bytes, bytes], names: list[str]) -> list[str]:
     """What can be seen at the place of a refusal."""
     problem_stream, stream = streams[0], streams[refusal.stream]
-    if refusal.number == 1:
+    if refusal.number == 1 or refusal.number > 10:
         return []
     if refusal.number <= 6:
         return _place(refusal, stream, problem_stream, names)

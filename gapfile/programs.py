@@ -96,8 +96,8 @@ def program(name: str) -> tuple[Path, str]:
             if not Path(found).is_file():
                 raise ProgramError(f"{found} is no file; {variable} must name a {name}")
             return Path(found).absolute(), how
-    raise ProgramError(f"{name} is not built; in the repository's folder `rt check gapcheck replay` builds it, or name "
-                       f"one in {variable}")
+    raise ProgramError(f"{name} is not built; in the repository's folder `rt check {name}` builds it, or name one in "
+                       f"{variable}")
 
 
 def build(name: str) -> Build:

@@ -10,7 +10,7 @@ from pathlib import Path
 from typing import Iterator, Optional
 from unittest import mock
 
-from gapfile import command
+from gapfile import command, programs
 from gapfile.command import main
 
 ROOT = Path(__file__).resolve().parents[2]
@@ -22,7 +22,13 @@ _beside = Path(os.environ.get("GAPFILE_SHARED", ROOT.parent / "shared"))
 SHARED: Optional[Path] = _beside if (_beside / "vectors").is_dir() else None       # vectors of another hand
 LENGTHS = {"d": 6, "x": 4}          # how many runs a record has, where they are not 3
 
+REFERENCE = ROOT / "reference/target/release/reference"
+
 needs_programs = unittest.skipUnless(BUILT, "gapcheck and replay are not built (rt check gapcheck replay)")
+needs_weekcheck = unittest.skipUnless((ROOT / "target/bin/weekcheck").exists(),
+                                      "weekcheck is not built (rt check weekcheck)")
+needs_reference = unittest.skipUnless(REFERENCE.exists(),
+                                      "the reference is not built (cargo build --release in reference)")
 needs_vectors = unittest.skipUnless(SHARED, "there is no folder ../shared with vectors beside the repository")
 
 
@@ -36,6 +42,16 @@ def run(*arguments: object) -> tuple[int, str, str]:
         except SystemExit as ended:
             status = int(ended.code or 0)
     return status, out.getvalue(), err.getvalue()
+
+
+def by_reference(kind: str, *runs: bytes) -> str:
+    """What the reference answers to a record."""
+    return programs.replay(programs.record(kind, *runs), [str(REFERENCE), "replay"])[1]
+
+
+def streams_of(folder: Path) -> list[bytes]:
+    """The three streams of a folder."""
+    return [(folder / f"{name}.bin").read_bytes() for name in ("problem", "low", "high")]
 
 
 def case_f() -> list[bytes]:

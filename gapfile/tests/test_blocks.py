@@ -5,10 +5,10 @@ import unittest
 import xml.etree.ElementTree as xml
 from pathlib import Path
 
-from gapfile.blocks import symmetries
+from gapfile import proved
+from gapfile.blocks import turning
 from gapfile.picture import label
-from gapfile.reading import read_problem
-from gapfile.tests.support import EXAMPLES, corpus, needs_programs, run, vectors
+from gapfile.tests.support import EXAMPLES, needs_programs, needs_vectors, run, vectors
 from gapfile.tests.test_explain import case_h
 from gapfile.text import encode
 
@@ -16,9 +16,12 @@ SVG = "{http://www.w3.org/2000/svg}"
 CASE_E = "variables x\n{}objective 1 x^6\nconstraint\nterm 1 x\nbasis 0 1\nbasis 0 x^3\nbasis 1 x\nend"
 
 
+@needs_programs
 class Symmetries(unittest.TestCase):
     def masks(self, text: str) -> list[int]:
-        return symmetries(read_problem(encode(text)[0]))
+        found = proved.symmetries(encode(text)[0])
+        assert isinstance(found, list)
+        return found
 
     def test_by_hand(self) -> None:
         """Bit i - 1 for variable i; every odd exponent vector has an even number of ones in common."""
@@ -28,19 +31,23 @@ class Symmetries(unittest.TestCase):
         self.assertEqual(self.masks("variables a b c\nobjective 1 a\nequality\nterm 1 b^3*c\nend"), [0, 6])
         self.assertEqual(len(self.masks("variables a b c d e f g h\nend")), 256)
 
-    def test_as_the_checker(self) -> None:
-        """The masks of the stored corpus, and of the vectors where they are."""
-        seen = 0
-        for kind, runs, answer in (*corpus(), *vectors("s", "calls")):
-            words = answer.split()
-            if kind == "s" and words[0] == "symmetries":
-                masks = symmetries(read_problem(runs[0]))
-                self.assertEqual((len(masks), bytes(masks)), (int(words[1]), bytes.fromhex(words[2])[:len(masks)]))
-                seen += 1
-        self.assertGreater(seen, 20)
+    @needs_vectors
+    def test_as_another_hand(self) -> None:
+        """The masks of a share of the vectors."""
+        found = [(runs, answer.split()) for _, runs, answer in vectors("s", "calls") if answer.startswith("symmetries")]
+        for runs, words in found[::len(found) // 30 + 1]:
+            masks = proved.symmetries(runs[0])
+            assert isinstance(masks, list)
+            self.assertEqual((len(masks), bytes(masks)), (int(words[1]), bytes.fromhex(words[2])[:len(masks)]))
 
     def test_none(self) -> None:
         self.assertEqual(self.masks("variables a b\nobjective 1 a\nobjective 1 b\nend"), [0])
+
+    def test_in_words(self) -> None:
+        """Bit i - 1 stands for variable i."""
+        self.assertEqual([turning(mask, ["a", "b", "c"]) for mask in (0, 1, 5, 7)],
+                         ["the identity", "turn the sign of a", "turn the signs of a and c together",
+                          "turn the signs of a, b and c together"])
 
 
 @needs_programs
@@ -58,10 +65,12 @@ class BlocksOfAProblem(unittest.TestCase):
             status, out, _ = run("blocks", EXAMPLES / "ex5_5/problem.bin", "--json", made[0], "--svg", made[1])
             self.assertEqual(status, 0)
             self.assertEqual(out.splitlines()[:8], [
-                "blocks 4", "rounds 2", "rule 1", "keys 9 of 2048", "sign symmetries 2: none; x1 x2",
+                "blocks 4", "rounds 2", "rule 1", "keys 9 of 2048",
+                "sign symmetries 2: the identity; turn the signs of x1 and x2 together",
                 "basis 0, 6 monomials in 2 blocks of 4 2", "  block 0: 1  x1^2  x1*x2  x2^2", "  block 1: x1  x2"])
             data = json.loads(made[0].read_text())
             self.assertEqual((data["blocks"], data["rounds"], data["keys"], data["symmetries"]), (4, 2, 9, [0, 3]))
+            self.assertEqual(data["turned"], ["the identity", "turn the signs of x1 and x2 together"])
             self.assertEqual(data["bases"][1]["blocks"][1], {"number": 1, "monomials": ["x1", "x2"]})
             picture = xml.fromstring(made[1].read_text())
         squares = [r for r in picture.iter(SVG + "rect") if r.get("fill")]
@@ -115,6 +124,10 @@ class BlocksOfAProblem(unittest.TestCase):
         self.assertIn("\nkeys 2048 of 2048\n", out)
         self.assertIn("sign symmetries 64: ", out)                   # x7 and x8 are seen alone, x1 to x6 never
         self.assertEqual(self.blocks(case_h("objective 1 x1"))[0], 1)
+
+    def test_one_symmetry(self) -> None:
+        self.assertIn("\nsign symmetries: none but the identity\n",
+                      self.blocks((EXAMPLES / "two_decks/problem.bin").read_bytes())[1])
 
     def test_refused(self) -> None:
         status, out = self.blocks(b"\x01\x09\x06")
