@@ -33,7 +33,7 @@ use Rattle.calls.proofs.AnyOrder.{adjusted-any-order}
 use Rattle.calls.proofs.Zeros.{none-zeros, problem-zeros, zero-fraction}
 use Rattle.calls.proofs.Rules.{AllLead, under-leads, larger-leads}
 use Rattle.calls.proofs.Stays.{AllSeven, AllStay, Decides, decides-kept}
-use Rattle.calls.proofs.Ends.{reads-at}
+use Rattle.calls.proofs.Refusing.{reads-at}
 use Rattle.calls.proofs.Checking.{Checked, check-found, check-clauses, check-opens, check-zeros}
 use Rattle.calls.proofs.Superseded.{accepted-states}
 use Rattle.calls.proofs.Boxes.{boxes-found, found-boxes}

@@ -5,7 +5,7 @@ use mathlib.Core.List.{List}
 use mathlib.Core.Logic.{inl, inr}
 use Prim.Native.Nat.{ℕ, _≤_}
 use native.Mathlib.Omega.{arith}
-use Rattle.format.specs.Commands.{given}
+use Rattle.format.specs.Commands as Stream
 use Rattle.format.specs.ProblemRules.{Problem, readProblem}
 use Rattle.format.proofs.ProblemRule.{read-rule}
 use Rattle.format.proofs.ProblemLimits.{read-limits}
@@ -18,8 +18,9 @@ use Rattle.accepting.specs.Bounds.{BoundedBelow, BoundedAbove}
 use Rattle.accepting.proofs.Accepted.{judge-accepted, accepted-judge, judge-splits, judge-differs, accepted-below, accepted-above}
 use Rattle.accepting.proofs.Rules.{accepted-other}
 use Rattle.calls.specs.declared.CheckVerdict.{CheckVerdict}
-use Rattle.calls.specs.Refusals.{noRefusal, problemRefusal, certificateRefusal}
-use Rattle.calls.specs.Check.{refusedCheck, acceptedCheck, checkJudged, checkOf, checkRead, checkVerdict}
+use Rattle.calls.specs.declared.Refusal.{Refusal}
+use Rattle.calls.specs.Refusals.{noRefusal}
+use Rattle.calls.specs.Check.{refusedCheck, acceptedCheck, checkFor, checkVerdict}
 use Rattle.calls.specs.Promises.{NumberedTo, RoundsTaken, FewRounds, RuleUsed, Reads, DiffersAt, IdentityFalse, Within, AcceptedExactly, SevenExactly, SplitsAt, CheckSplits, CheckDiffers, HoldsBelow, HoldsAbove, HoldsBySide}
 use Rattle.calls.specs.declared.TwoChecks.{TwoChecks}
 use Rattle.calls.specs.Zeros.{CheckZeros, TwoZeros}
@@ -27,13 +28,13 @@ use Rattle.calls.specs.Rules.{UnderOne, AtLarger, UnlessSeven, SameBound
 use Rattle.calls.proofs.Promised.{promise-rounds, promise-few}
 use Rattle.calls.specs.RowOrder.{CheckAnyOrder}
 use Rattle.calls.proofs.RowOrder.{check-alike}
-use Rattle.calls.proofs.Judged.{Between, judge-number, judge-key, judge-seven, judge-eight, judge-nine}
-use Rattle.calls.proofs.Zeros.{problem-zeros, certificate-zeros, check-refused, check-accepted}
-use Rattle.calls.proofs.Ends.{reads-at, Ends, before, within, ends, opened, opens, too-large, seven-exactly}
+use Rattle.calls.proofs.Refusing.{reads-at, Seven, seven-exactly}
+use Rattle.calls.proofs.Endings.{checkBy, CheckRefused, check-by, check-large, check-decided, check-accepted-by}
+use Rattle.calls.proofs.Zeros.{refused-zeros, check-refused, check-accepted}
 use Rattle.calls.proofs.Rules.{AllLead, under-leads, larger-leads, BothWithin, Under, large, both, under}
 
 -- two certificates that a stream gives are one
-pub given-once : (h : Problem) (s : List ℕ) (c d : Certificate) → readCertificate h s ≡ given c → readCertificate h s ≡ given d → c ≡ d
+pub given-once : (h : Problem) (s : List ℕ) (c d : Certificate) → readCertificate h s ≡ Stream.given c → readCertificate h s ≡ Stream.given d → c ≡ d
 given-once h s c d e f = cc
 
 -- a certificate that is accepted, and the verdict that says so
@@ -42,56 +43,29 @@ pub record Checked (p : Problem) (t : List ℕ) (v : CheckVerdict) : Type 0 wher
   pub accepted : J.Accepted p t certificate
   pub verdict : v ≡ acceptedCheck (certificate .header) (closing p .rounds) (p .rule)
 
--- how the check ends
-data Ended (s t : List ℕ) (v : CheckVerdict) : Type 0 where
-  unjudged : (n place : ℕ) → Between n 1 7 → v ≡ refusedCheck (problemRefusal n place) → Ended s t v
-  refused : (p : Problem) → readProblem s ≡ given p → (n place key : ℕ) → judge p t ≡ J.refused n place key → v ≡ refusedCheck (certificateRefusal 1 n place key) → Ended s t v
-  accepted : Reads s (λ p. Checked p t v) → Ended s t v
-
--- a problem that is too large meets 7, whatever the certificate
-pub check-large : (short : Bool) (s t : List ℕ) (p : Problem) → short ≡ false → readProblem s ≡ given p → tooLarge p ≡ true
-    → checkVerdict short s t ≡ refusedCheck (problemRefusal 7 0)
-unfolding checkVerdict checkOf
-check-large short s t p = too-large refusedCheck (λ p. checkJudged p (judge p t)) (λ o. checkRead o t) (λ n place. refl) (λ p. refl) short s p
-
 module _ (short : Bool) (s t : List ℕ) (v : CheckVerdict) (is : v ≡ checkVerdict short s t) where
-  ended : Ended s t v
-  unfolding checkVerdict checkOf
-  ended = go (rw is (ends refusedCheck (λ p. checkJudged p (judge p t)) (λ o. checkRead o t) (λ n place. refl) (λ p. refl) short s))
-    where
-      judged : (p : Problem) → readProblem s ≡ given p → (j : Judgement) → judge p t ≡ j → v ≡ checkJudged p j → Ended s t v
-      judged p r (J.refused n place key) f e = refused p r n place key f e
-      judged p r (J.accepted c) f e = accepted (record { problem = p; read = r; holds = record { certificate = c; accepted = judge-accepted p (read-limits s p r) t c f; verdict = e } })
+  by-end : (P : CheckVerdict → Type 0) → ((r : Refusal) → CheckRefused short s t r → P (refusedCheck r))
+      → ((p : Problem) → Within short s p → (c : Certificate) → J.Accepted p t c
+      → P (acceptedCheck (c .header) (closing p .rounds) (p .rule)))
+      → P v
+  by-end P x y = rw is (check-by short s t P x y)
 
-      go : Ends refusedCheck (λ p. checkJudged p (judge p t)) (λ o. checkRead o t) (λ n place. refl) (λ p. refl) short s v → Ended s t v
-      go (before n place b e) = unjudged n place b e
-      go (within p r e) = judged p r (judge p t) refl e
-
-  is-judged : (p : Problem) → Within short s p → v ≡ checkJudged p (judge p t)
-  unfolding checkVerdict checkOf
-  is-judged p w = is ∙ opened refusedCheck (λ p. checkJudged p (judge p t)) (λ o. checkRead o t) (λ n place. refl) (λ p. refl) short s p w
+  is-judged : (p : Problem) → Within short s p → (j : Judgement) → judge p t ≡ j → v ≡ checkBy p j
+  is-judged p w j e = is ∙ check-decided short s t p w ∙ rw e
 
   number-is : (w : CheckVerdict) → v ≡ w → v .refusal .number ≡ w .refusal .number
   number-is w e = ap (λ (x : CheckVerdict). x .refusal .number) e
 
   check-numbered : NumberedTo 9 (v .refusal .number)
-  check-numbered = go ended
-    where
-      go : Ended s t v → v .refusal .number ≤ 9
-      go (unjudged n place b e) = omega (arith, number-is _ e, b .most)
-      go (refused p r n place key f e) = omega (arith, number-is _ e, judge-number p t n place key f .most)
-      go (accepted r) = omega (arith, number-is _ (r .holds .verdict))
+  check-numbered = by-end (λ v. v .refusal .number ≤ 9) (λ r b. b .most) (λ p w c a. omega arith)
 
   -- ---- where nothing is refused
   pub check-found : v .refusal .number ≡ 0 → Reads s (λ p. Checked p t v)
-  check-found h = go ended
-    where
-      go : Ended s t v → Reads s (λ p. Checked p t v)
-      go (unjudged n place b e) = absurd (omega (arith, number-is _ e, b .least))
-      go (refused p r n place key f e) = absurd (omega (arith, number-is _ e, judge-number p t n place key f .least))
-      go (accepted r) = r
+  check-found =
+      by-end (λ v. v .refusal .number ≡ 0 → Reads s (λ p. Checked p t v)) (λ r b h. absurd (omega (arith, b .least)))
+      (λ p w c a _. record { problem = p; read = w .read; holds = record { certificate = c; accepted = a; verdict = refl } })
 
-  found-at : (p : Problem) → readProblem s ≡ given p → v .refusal .number ≡ 0 → Checked p t v
+  found-at : (p : Problem) → readProblem s ≡ Stream.given p → v .refusal .number ≡ 0 → Checked p t v
   found-at p r h = reads-at s (λ p. Checked p t v) (check-found h) p r
 
   pub check-exactly : AcceptedExactly short s t v
@@ -108,7 +82,9 @@ module _ (short : Bool) (s t : List ℕ) (v : CheckVerdict) (is : v ≡ checkVer
           p = ap (λ (x : CheckVerdict). x .bound .num) (k .verdict);
           q = ap (λ (x : CheckVerdict). x .bound .den) (k .verdict);
         };
-    always = λ p c w given blocks identity. number-is _ (is-judged p w ∙ ap (checkJudged p) (accepted-judge p t c (record { read = given; blocks = blocks; identity = identity })));
+    always = λ p c w read blocks identity.
+        let a : J.Accepted p t c = record { read = read; blocks = blocks; identity = identity } in
+        number-is _ (is-judged p w _ (accepted-judge p t c a));
   }
 
   pub check-rounds : RoundsTaken s (v .refusal .number) (v .rounds)
@@ -119,57 +95,40 @@ module _ (short : Bool) (s t : List ℕ) (v : CheckVerdict) (is : v ≡ checkVer
 
   -- ---- refusal 7
   pub check-seven : SevenExactly short s (v .refusal)
-  unfolding checkVerdict checkOf
+  unfolding checkVerdict
   check-seven =
-      rw is (seven-exactly refusedCheck (λ p. checkJudged p (judge p t)) (λ o. checkRead o t) (λ n place. refl) (λ p. refl) short s (λ w. w .refusal) (λ r. refl) (λ p. other p (judge p t) refl))
-    where
-      other : (p : Problem) (j : Judgement) → judge p t ≡ j → checkJudged p j .refusal .number ≡ 7 → ⊥
-      other p (J.refused n place key) f h = judge-seven p t n place key f h
-      other p (J.accepted c) f h = omega arith
+      rw is (seven-exactly short s refusedCheck (λ p. checkFor p t) (λ w. w .refusal) (λ r. refl)
+      (check-by short s t (λ v. Seven s (v .refusal)) (λ r b. b .seven) (λ p w c a h. absurd (omega arith))))
 
   -- ---- refusal 8
   pub check-splits : CheckSplits short s t (v .refusal)
   check-splits = record {
-    only = λ h. go h ended;
-    always = λ p c w read fails. number-is _ (is-judged p w ∙ ap (checkJudged p) (judge-splits p t c read fails .refusal));
+    only =
+        by-end (λ v. v .refusal .number ≡ 8 → (v .refusal .stream ≡ 1) × Reads s (λ p. SplitsAt p t (v .refusal .place)))
+        (λ r b. b .eight) (λ p w c a h. absurd (omega arith));
+    always = λ p c w read fails. number-is _ (is-judged p w _ (judge-splits p t c read fails .refusal));
   }
-    where
-      go : v .refusal .number ≡ 8 → Ended s t v → (v .refusal .stream ≡ 1) × Reads s (λ p. SplitsAt p t (v .refusal .place))
-      go h (unjudged n place b e) = absurd (omega (arith, number-is _ e, b .most))
-      go h (refused p r n place key f e) = (
-        ap (λ (x : CheckVerdict). x .refusal .stream) e,
-        record { problem = p; read = r; holds = rw e (judge-eight p t n place key f (sym (number-is _ e) ∙ h)) },
-      )
-      go h (accepted r) = absurd (omega (arith, number-is _ (r .holds .verdict)))
 
   -- ---- refusal 9
   pub check-differs : CheckDiffers short s t (v .refusal)
   check-differs = record {
-    only = λ h. go h ended;
+    only =
+        by-end (λ v. v .refusal .number ≡ 9 → (v .refusal .stream ≡ 1) × Reads s (λ p. DiffersAt p t (v .refusal .key)))
+        (λ r b. b .nine) (λ p w c a h. absurd (omega arith));
     always = λ p c w i.
         let d = judge-differs p t c (i .read) (read-limits s p (w .read)) (i .blocks) (i .differs) in
-        number-is _ (is-judged p w ∙ ap (checkJudged p) (d .refusal));
+        number-is _ (is-judged p w _ (d .refusal));
   }
-    where
-      go : v .refusal .number ≡ 9 → Ended s t v → (v .refusal .stream ≡ 1) × Reads s (λ p. DiffersAt p t (v .refusal .key))
-      go h (unjudged n place b e) = absurd (omega (arith, number-is _ e, b .most))
-      go h (refused p r n place key f e) = (
-        ap (λ (x : CheckVerdict). x .refusal .stream) e,
-        record { problem = p; read = r; holds = rw e (judge-nine p t n place key (read-limits s p r) f (sym (number-is _ e) ∙ h)) },
-      )
-      go h (accepted r) = absurd (omega (arith, number-is _ (r .holds .verdict)))
 
   -- ---- the bound
   check-holds : HoldsBySide s v
-  check-holds = record { sides = sides ended; lower = lower; upper = upper }
+  check-holds = record { sides = sides; lower = lower; upper = upper }
     where
       side-is : (w : CheckVerdict) → v ≡ w → v .side ≡ w .side
       side-is w e = ap (λ (x : CheckVerdict). x .side) e
 
-      sides : Ended s t v → v .side ≤ 1
-      sides (unjudged n place b e) = omega (arith, side-is _ e)
-      sides (refused p r n place key f e) = omega (arith, side-is _ e)
-      sides (accepted r) = let k = r .holds in omega (arith, side-is _ (k .verdict), read-sound (r .problem) t (k .certificate) (k .accepted .read) .side)
+      sides : v .side ≤ 1
+      sides = by-end (λ v. v .side ≤ 1) (λ r b. omega arith) (λ p w c a. read-sound p t c (a .read) .side)
 
       lower : v .side ≡ 0 → HoldsBelow s (v .refusal .number) (v .bound)
       lower z p read h =
@@ -187,48 +146,34 @@ module _ (short : Bool) (s t : List ℕ) (v : CheckVerdict) (is : v ≡ checkVer
 
   -- ---- the rule
   pub check-rule : RuleUsed s (v .refusal .number) (v .rule)
-  check-rule = go ended
-    where
-      rule-is : (w : CheckVerdict) → v ≡ w → v .rule ≡ w .rule
-      rule-is w e = ap (λ (x : CheckVerdict). x .rule) e
-
-      go : Ended s t v → RuleUsed s (v .refusal .number) (v .rule)
-      go (unjudged n place b e) =
-          record { named = λ h. absurd (omega (arith, number-is _ e, b .least)); refused = λ _. rule-is _ e }
-      go (refused p r n place key f e) =
-          record { named = λ h. absurd (omega (arith, number-is _ e, judge-number p t n place key f .least)); refused = λ _. rule-is _ e }
-      go (accepted r) = record {
-        named = λ _. rule-is _ (r .holds .verdict) ∙ read-rule s (r .problem) (r .read);
-        refused = λ h. absurd (omega (arith, number-is _ (r .holds .verdict)));
-      }
+  check-rule =
+      by-end (λ v. RuleUsed s (v .refusal .number) (v .rule))
+      (λ r b. record { named = λ h. absurd (omega (arith, b .least)); refused = λ _. refl })
+      (λ p w c a. record { named = λ _. read-rule s p (w .read); refused = λ h. absurd (omega arith) })
 
   -- ---- the zeros
   pub check-zeros : CheckZeros v
-  check-zeros = go ended
-    where
-      go : Ended s t v → CheckZeros v
-      go (unjudged n place b e) = rw e (check-refused _ (problem-zeros n place (b .least)))
-      go (refused p r n place key f e) =
-          rw e (check-refused _ (certificate-zeros 1 n place key (judge-number p t n place key f .least) (judge-key p t n place key f)))
-      go (accepted r) = rw (r .holds .verdict) (check-accepted (r .holds .certificate .header) (closing (r .problem) .rounds) (r .problem .rule))
+  check-zeros =
+      by-end CheckZeros (λ r b. check-refused r (refused-zeros r (b .least) (b .key)))
+      (λ p w c a. check-accepted (c .header) (closing p .rounds) (p .rule))
 
   -- ---- the same stream under rule 1, or at a larger order: s′, where no less is joined
   -- where nothing is refused the problem is within its limits
   pub check-opens : v .refusal .number ≡ 0 → Reads s (Within short s)
-  unfolding checkVerdict checkOf
-  check-opens h = opens refusedCheck (λ p. checkJudged p (judge p t)) (λ o. checkRead o t) (λ n place. refl) (λ p. refl) short s (λ w. w .refusal .number) (λ r. refl) (rw is at h)
+  check-opens =
+      by-end (λ v. v .refusal .number ≡ 0 → Reads s (Within short s)) (λ r b h. absurd (omega (arith, b .least)))
+      (λ p w c a _. record { problem = p; read = w .read; holds = w })
 
   -- where both problems are within their limits, what is accepted stays accepted
   pub check-stays : (s′ : List ℕ) → BothWithin short s s′ → v .refusal .number ≡ 0
       → (checkVerdict short s′ t .refusal ≡ noRefusal) × SameBound (checkVerdict short s′ t) v
-  unfolding checkVerdict checkOf
   check-stays s′ b h =
       let p = b .problem in
       let q = b .other in
       let k = found-at p (b .first .read) h in
       let c = k .certificate in
       let a = accepted-other p q (b .more) (read-limits s p (b .first .read)) t c (k .accepted) in
-      let e = opened refusedCheck (λ p. checkJudged p (judge p t)) (λ o. checkRead o t) (λ n place. refl) (λ p. refl) short s′ q (b .second) ∙ ap (checkJudged q) (accepted-judge q t c a) in (
+      let e = check-accepted-by short s′ t q c (b .second) a in (
         ap (λ (x : CheckVerdict). x .refusal) e,
         (ap (λ (x : CheckVerdict). x .side) e ∙ sym (ap (λ (x : CheckVerdict). x .side) (k .verdict)), ap (λ (x : CheckVerdict). x .bound) e ∙ sym (ap (λ (x : CheckVerdict). x .bound) (k .verdict))),
       )

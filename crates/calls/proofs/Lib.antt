@@ -1,14 +1,14 @@
 pub mod Zeros
 pub mod Entries
-pub mod Judged
-pub mod Ends
+pub mod Outcomes
+pub mod Refusing
+pub mod Endings
 pub mod Rules
 pub mod Promised
 pub mod Checking
 pub mod Pairing
 pub mod Stays
 pub mod Pushing
-pub mod Untouched
 pub mod Windows
 pub mod WidestGap
 pub mod RingPairs

@@ -13,9 +13,8 @@ use borrow.Author.Tests.{eqb-true, eq-eqb, ne-eqb, lt-ltb, le-ltb}
 use Rattle.counting.proofs.Cases.{clash, lt-or-le}
 use Rattle.counting.proofs.Listed.{same-or-not}
 use Rattle.format.specs.All.{All}
-use Rattle.format.specs.Commands.{Outcome}
 use Rattle.format.specs.Commands as Stream
-use Rattle.format.specs.ProblemRules.{Problem, readProblem}
+use Rattle.format.specs.ProblemRules.{Problem}
 use Rattle.format.proofs.ProblemLimits.{read-limits}
 use Rattle.format.specs.CertificateRules.{Entry, Row, Certificate, readCertificate}
 use Rattle.format.proofs.Longest.{enoughBytes, read-beginning}
@@ -24,58 +23,30 @@ use Rattle.format.specs.Notes.{noteText, noteOffsets, bodyEnd, withoutNotes, pl
 use Rattle.format.proofs.Notes.{Spaced, spaced, place-low, place-inside, removes-notes, without-none, same-offsets, same-removed, notes-in-order}
 use Rattle.format.proofs.NotesRead.{Strict, noted, earlier, strict-reading}
 use Rattle.format.proofs.CutNotes.{read-whole}
-use Rattle.joining_rule.specs.Joining.{tooLarge}
 use Rattle.accepting.specs.Judgement.{Judgement, judge, judgeRead, judgeOutcome, firstOutside, rowSplit, orElse, splitBy, splitPlace, byBlocks, byIdentity, differenceKey}
 use Rattle.accepting.specs.Judgement as J
 use Rattle.calls.specs.declared.Refusal.{Refusal}
 use Rattle.calls.specs.declared.CheckVerdict.{CheckVerdict}
 use Rattle.calls.specs.declared.OfficeVerdict.{OfficeVerdict}
-use Rattle.calls.specs.Refusals.{problemRefusal, certificateRefusal}
-use Rattle.calls.specs.Check.{refusedCheck, checkJudged, checkOf, checkVerdict}
+use Rattle.calls.specs.Refusals.{certificateRefusal}
+use Rattle.calls.specs.Outcome.{Outcome, refused, given, _then_, told}
+use Rattle.calls.specs.Checks.{problemOf}
+use Rattle.calls.specs.Check.{refusedCheck, checkFor, checkVerdict}
 use Rattle.calls.specs.Promises.{Within, HoldsBySide}
 use Rattle.calls.specs.Superseding.{isAccepted}
 use Rattle.calls.specs.Office.{refusalSent, verdictSent, noteCount, refusedNotes, officeOf, officeVerdict, bufferLeft}
 use Rattle.calls.specs.Office.{OfficeNumbered, StrictBeside, SameForOthers, RefusedBefore, CutNote, ThirteenExactly, Untouched}
-use Rattle.calls.proofs.Judged.{Between, problem-number, certificate-number, judge-number}
+use Rattle.calls.proofs.Refusing.{Between, certificate-number, problem-by, problem-refuses}
+use Rattle.calls.proofs.Endings.{checkBy, check-unless, check-judged, check-decided}
 use Rattle.calls.proofs.Checking.{check-found, check-clauses}
-
--- ---- how the check of any certificate begins: the problem is refused, or every certificate is judged by it
-data Begins (short : Bool) (s : List ℕ) : Type 0 where
-  refuses : (n place : ℕ) → 1 ≤ n → ((t : List ℕ) → checkVerdict short s t ≡ refusedCheck (problemRefusal n place))
-      → Begins short s
-  judges : (p : Problem) → readProblem s ≡ Stream.given p
-      → ((t : List ℕ) → checkVerdict short s t ≡ checkJudged p (judge p t)) → Begins short s
-
-begins : (short : Bool) (s : List ℕ) → Begins short s
-unfolding checkVerdict checkOf
-begins true s = refuses 1 0 (omega arith) (λ t. refl)
-begins false s = go (readProblem s) refl
-  where
-    sized : (p : Problem) → readProblem s ≡ Stream.given p → (b : Bool) → tooLarge p ≡ b → Begins false s
-    sized p e true f = refuses 7 0 (omega arith) (λ t. rw (e, f))
-    sized p e false f = judges p e (λ t. rw (e, f))
-
-    go : (o : Outcome Problem) → readProblem s ≡ o → Begins false s
-    go (Stream.refused n place) e = refuses n place (problem-number s n place e .least) (λ t. rw e)
-    go (Stream.given p) e = sized p e (tooLarge p) refl
-
--- for a problem within its limits and full-length work tables it is judged
-judged-within : (short : Bool) (s : List ℕ) (p : Problem) → Within short s p → (t : List ℕ)
-    → checkVerdict short s t ≡ checkJudged p (judge p t)
-unfolding checkVerdict checkOf
-judged-within short s p w t = rw (w .long, w .read, w .few)
 
 -- ---- the check of a certificate by its first bytes
 pub check-beginning : (short : Bool) (s t : List ℕ) → checkVerdict short s (take enoughBytes t) ≡ checkVerdict short s t
-unfolding judge
-check-beginning short s t = go (begins short s)
-  where
-    go : Begins short s → checkVerdict short s (take enoughBytes t) ≡ checkVerdict short s t
-    go (refuses n place b f) = f (take enoughBytes t) ∙ sym (f t)
-    go (judges p e f) =
-        f (take enoughBytes t)
-        ∙ ap (λ (o : Outcome Certificate). checkJudged p (judgeOutcome p o)) (read-beginning p t (read-limits s p e))
-        ∙ sym (f t)
+unfolding checkVerdict judge
+check-beginning short s t =
+    problem-by short s
+    (λ o. told refusedCheck (o then λ p. checkFor p (take enoughBytes t)) ≡ told refusedCheck (o then λ p. checkFor p t)) (λ r b. refl) (λ p w.
+    ap (λ (o : Stream.Outcome Certificate). checkBy p (judgeOutcome p o)) (read-beginning p t (read-limits s p (w .read))))
 
 -- ---- places: a refusal of the certificate stands within its stream, or at its end
 module _ (t : List ℕ) (b : ℕ → ℕ) where
@@ -119,7 +90,7 @@ judge-within p t n place key h = go (readCertificate p t) refl h
     by-rows c k none (some key) e h = let z : place ≡ 0 = cc in omega arith
     by-rows c k none none e h = clash (cc)
 
-    go : (o : Outcome Certificate) → readCertificate p t ≡ o → judgeOutcome p o ≡ J.refused n place key → place ≤ length t
+    go : (o : Stream.Outcome Certificate) → readCertificate p t ≡ o → judgeOutcome p o ≡ J.refused n place key → place ≤ length t
     go (Stream.refused m at) e h =
         let z : at ≡ place = cc in
         ⊎-elim (λ k. omega arith) (λ k. omega (arith, k .1)) (refused-within p t m at e)
@@ -129,16 +100,16 @@ judge-within p t n place key h = go (readCertificate p t) refl h
 
 pub check-within : (short : Bool) (s t : List ℕ) → checkVerdict short s t .refusal .stream ≡ 1
     → checkVerdict short s t .refusal .place ≤ length t
-check-within short s t = go (begins short s)
+unfolding checkVerdict
+check-within short s t =
+    problem-by short s
+    (λ o. let v = told refusedCheck (o then λ p. checkFor p t) in v .refusal .stream ≡ 1 → v .refusal .place ≤ length t)
+    (λ r b h. absurd (omega (arith, b .stream))) (λ p w. judged p (judge p t) refl)
   where
-    judged : (p : Problem) (j : Judgement) → judge p t ≡ j → checkJudged p j .refusal .stream ≡ 1
-        → checkJudged p j .refusal .place ≤ length t
+    judged : (p : Problem) (j : Judgement) → judge p t ≡ j → checkBy p j .refusal .stream ≡ 1
+        → checkBy p j .refusal .place ≤ length t
     judged p (J.refused n place key) e h = judge-within p t n place key e
     judged p (J.accepted c) e h = omega arith
-
-    go : Begins short s → checkVerdict short s t .refusal .stream ≡ 1 → checkVerdict short s t .refusal .place ≤ length t
-    go (refuses n place b f) h = absurd (omega (arith, rw (f t) at h))
-    go (judges p e f) h = rw (f t) (judged p (judge p t) refl (rw (f t) at h))
 
 -- as sent, too
 pub sent-within : (short : Bool) (s t : List ℕ) → checkVerdict short s (withoutNotes t) .refusal .stream ≡ 1
@@ -223,8 +194,8 @@ pub data OfficeTold (t : List ℕ) (room : ℕ) (w : CheckVerdict) (v : OfficeVe
   accepting : w .refusal .number ≡ 0 → noteText * noteCount t ≤ room
       → v ≡ record { check = verdictSent t w; notes = noteCount t } → OfficeTold t room w v
 
-pub told : (t : List ℕ) (room : ℕ) (w : CheckVerdict) → OfficeTold t room w (officeOf t room w)
-told t room w = ⊎-elim passed (λ h. refusing h (office-refused t room w h)) (same-or-not (w .refusal .number) 0)
+pub office-told : (t : List ℕ) (room : ℕ) (w : CheckVerdict) → OfficeTold t room w (officeOf t room w)
+office-told t room w = ⊎-elim passed (λ h. refusing h (office-refused t room w h)) (same-or-not (w .refusal .number) 0)
   where
     passed : w .refusal .number ≡ 0 → OfficeTold t room w (officeOf t room w)
     passed h =
@@ -240,7 +211,7 @@ module _ (short : Bool) (s t : List ℕ) (room : ℕ) (v : OfficeVerdict) (is : 
 
   pub ended : OfficeTold t room w v
   unfolding officeVerdict
-  ended = rw is (told t room w)
+  ended = rw is (office-told t room w)
 
   check-is : (u : OfficeVerdict) → v ≡ u → v .check ≡ u .check
   check-is u e = ap (λ (x : OfficeVerdict). x .check) e
@@ -313,29 +284,29 @@ module _ (short : Bool) (s t : List ℕ) (room : ℕ) (v : OfficeVerdict) (is : 
 
     beside : Beside
     unfolding judge
-    beside = go (begins short s)
+    beside = go (problemOf short s) refl
       where
-        judged : (p : Problem) → ((u : List ℕ) → checkVerdict short s u ≡ checkJudged p (judge p u)) → Strict p t a l first
-            → Beside
+        judged : (p : Problem) → problemOf short s ≡ given p → Strict p t a l first → Beside
         judged p f (noted e) =
-            inl (f t ∙ ap (λ (o : Outcome Certificate). checkJudged p (judgeOutcome p o)) e)
+            inl (check-judged short s t f ∙ ap (λ (o : Stream.Outcome Certificate). checkBy p (judgeOutcome p o)) e)
         judged p f (earlier n place b e g) =
             let j = ap (judgeOutcome p) g in
             let k : checkVerdict short s t ≡ w =
-            f t ∙ ap (checkJudged p) (ap (judgeOutcome p) e ∙ sym j) ∙ sym (f (withoutNotes t)) in
-            let m : w ≡ refusedCheck (certificateRefusal 1 n place 0) = f (withoutNotes t) ∙ ap (checkJudged p) j in
-            let least = judge-number p (withoutNotes t) n place 0 j .least in
+            check-judged short s t f ∙ ap (checkBy p) (ap (judgeOutcome p) e ∙ sym j) ∙ sym (check-judged short s (withoutNotes t) f) in
+            let m : w ≡ refusedCheck (certificateRefusal 1 n place 0) = check-judged short s (withoutNotes t) f ∙ ap (checkBy p) j in
+            let least = certificate-number p (withoutNotes t) n place g .least in
             let z = refusing-is (λ q. omega (arith, ap (λ (x : CheckVerdict). x .refusal .number) m)) in
             let i = ap (λ (x : CheckVerdict). x .refusal .place) m in
             inr (k ∙ sym (z ∙ sent-same t w (rw i (low place b))))
 
-        go : Begins short s → Beside
-        go (refuses n place b f) =
-            let m = f (withoutNotes t) in
-            let z = refusing-is (λ q. omega (arith, ap (λ (x : CheckVerdict). x .refusal .number) m)) in
+        go : (o : Outcome Problem) → problemOf short s ≡ o → Beside
+        go (refused r) e =
+            let b = problem-refuses short s .by r e in
+            let m = check-unless short s (withoutNotes t) e in
+            let z = refusing-is (λ q. omega (arith, ap (λ (x : CheckVerdict). x .refusal .number) m, b .least)) in
             let i = ap (λ (x : CheckVerdict). x .refusal .stream) m in
-            inr (f t ∙ sym m ∙ sym (z ∙ sent-other t w (λ q. omega arith)))
-        go (judges p e f) = judged p f (strict-reading p t a l first)
+            inr (check-unless short s t e ∙ sym m ∙ sym (z ∙ sent-other t w (λ q. omega (arith, b .stream))))
+        go (given p) e = judged p e (strict-reading p t a l first)
 
   strict-beside : StrictBeside short s t v
   strict-beside = record { without = without; noted = beside }
@@ -370,7 +341,7 @@ module _ (short : Bool) (s t : List ℕ) (room : ℕ) (v : OfficeVerdict) (is : 
     unfolding judge verdictSent refusalSent
     refused-sent n place e =
         let m : w ≡ refusedCheck (certificateRefusal 1 n place 0) =
-        judged-within short s p within (withoutNotes t) ∙ ap (λ (o : Outcome Certificate). checkJudged p (judgeOutcome p o)) e in
+        check-decided short s (withoutNotes t) p within ∙ ap (λ (o : Stream.Outcome Certificate). checkBy p (judgeOutcome p o)) e in
         let b = certificate-number p (withoutNotes t) n place e in
         let least = b .least in
         let z = refusing-is (λ q. omega (arith, ap (λ (x : CheckVerdict). x .refusal .number) m)) in
@@ -380,7 +351,7 @@ module _ (short : Bool) (s t : List ℕ) (room : ℕ) (v : OfficeVerdict) (is : 
         → (v .check .refusal ≡ certificateRefusal 1 2 (bodyEnd t) 0) ⊎ RefusedBefore (bodyEnd t) (v .check .refusal)
     cut-within cut = go (readCertificate p (withoutNotes t)) refl
       where
-        go : (o : Outcome Certificate) → readCertificate p (withoutNotes t) ≡ o
+        go : (o : Stream.Outcome Certificate) → readCertificate p (withoutNotes t) ≡ o
             → (v .check .refusal ≡ certificateRefusal 1 2 (bodyEnd t) 0) ⊎ RefusedBefore (bodyEnd t) (v .check .refusal)
         go (Stream.refused n place) e =
             let k = refused-sent n place e in
@@ -421,7 +392,7 @@ module _ (short : Bool) (s t lent : List ℕ) where
   -- where it is not refused, all notes are told
   pub notes-told : verdict .check .refusal .number ≡ 0 → verdict .notes ≡ noteCount t
   unfolding officeVerdict verdictSent
-  notes-told z = go (told t (length lent) (checkVerdict short s (withoutNotes t)))
+  notes-told z = go (office-told t (length lent) (checkVerdict short s (withoutNotes t)))
     where
       go : OfficeTold t (length lent) (checkVerdict short s (withoutNotes t)) verdict → verdict .notes ≡ noteCount t
       go (refusing h e) =

@@ -1,26 +1,23 @@
 -- The clauses of the pair, from its equation.
 use mathlib.Core.Path.{_≡_, refl, sym, ap, _∙_}
-use mathlib.Core.Bool.{Bool, true, false, cond}
+use mathlib.Core.Bool.{Bool, true, false}
 use mathlib.Core.List.{List}
 use mathlib.Core.Logic.{_⊎_, inl, inr}
 use Prim.Native.Nat.{ℕ, _≤_}
 use native.Mathlib.Omega.{arith}
-use lib.Dec.{eqb}
 use lib.IntN.{ℤ, pos, negsuc}
 use lib.Signed.{ltZ}
-use borrow.Author.Tests.{eqb-true, eqb-false, eq-eqb, ne-eqb, ltb-true}
+use borrow.Author.Tests.{eq-eqb, ne-eqb, ltb-true}
 use Rattle.counting.proofs.Cases.{clash}
 use Rattle.polynomial.specs.Point.{Point}
-use Rattle.format.specs.Commands.{given}
+use Rattle.format.specs.Commands as Stream
 use Rattle.format.specs.ProblemRules.{Problem, readProblem}
 use Rattle.format.proofs.ProblemRule.{read-rule}
 use Rattle.format.proofs.ProblemLimits.{read-limits}
 use Rattle.format.specs.CertificateRules.{Certificate}
-use Rattle.format.specs.declared.certificate.Header.{Header}
-use Rattle.joining_rule.specs.Joining.{closing, tooLarge}
-use Rattle.accepting.specs.Judgement.{Judgement, judge}
+use Rattle.joining_rule.specs.Joining.{closing}
 use Rattle.accepting.specs.Judgement as J
-use Rattle.accepting.proofs.Accepted.{judge-accepted, accepted-judge, judge-splits, judge-differs, accepted-below, accepted-above}
+use Rattle.accepting.proofs.Accepted.{judge-splits, judge-differs, accepted-below, accepted-above}
 use Rattle.accepting.proofs.Bounds.{bounds-gap}
 use Rattle.accepting.proofs.Empty.{below-zero-empty}
 use Rattle.accepting.specs.Bounds.{Allowed, WithinGap}
@@ -28,15 +25,18 @@ use Rattle.accepting.proofs.Rules.{accepted-other}
 use Rattle.calls.specs.declared.PairVerdict.{PairVerdict}
 use Rattle.calls.specs.Fractions.{gapOf}
 use Rattle.calls.specs.Check.{boundOf}
-use Rattle.calls.specs.Refusals.{noRefusal, problemRefusal, certificateRefusal}
-use Rattle.calls.specs.Pair.{refusedPair, acceptedPair, pairSides, pairSecond, pairFirst, pairOf, pairRead, pairVerdict}
+use Rattle.calls.specs.declared.Refusal.{Refusal}
+use Rattle.calls.specs.Refusals.{noRefusal, certificateRefusal}
+use Rattle.calls.specs.Outcome.{Outcome, refused, given, _then_, ofJudgement, told}
+use Rattle.calls.specs.Checks.{certificateOf}
+use Rattle.calls.specs.Pair.{refusedPair, acceptedPair, pairSides, pairFor, pairVerdict}
 use Rattle.calls.specs.Promises.{NumberedTo, RoundsTaken, FewRounds, RuleUsed, Reads, DiffersAt, Within, BothHold, Stated, PairExactly, SevenExactly, SplitsAt, SecondSplits, PairSplits, WrongSides, TenExactly, SecondDiffers, PairDiffers, HoldsBelow, HoldsAbove, HoldsGap, NoPoints}
 use Rattle.calls.specs.Zeros.{PairZeros}
 use Rattle.calls.specs.Rules.{UnderOne, AtLarger, UnlessSeven, SameBounds, PairKept, PairUnderOne, PairAtLarger}
 use Rattle.calls.proofs.Promised.{promise-rounds, promise-few}
-use Rattle.calls.proofs.Judged.{Between, judge-number, judge-key, judge-seven, judge-eight, judge-nine}
-use Rattle.calls.proofs.Zeros.{problem-zeros, certificate-zeros, pair-refused, pair-accepted}
-use Rattle.calls.proofs.Ends.{reads-at, Ends, before, within, ends, opened, opens, too-large, seven-exactly}
+use Rattle.calls.proofs.Refusing.{reads-at, Seven, seven-exactly}
+use Rattle.calls.proofs.Endings.{accepted-given, PairRefused, pair-by, pair-large, pair-decided, pair-accepted-by}
+use Rattle.calls.proofs.Zeros.{refused-zeros, pair-refused, pair-accepted}
 use Rattle.calls.proofs.Rules.{AllLead, under-leads, larger-leads, BothWithin, Under, large, both, under}
 
 -- a gap below 0 is the distance of no two points
@@ -51,65 +51,17 @@ record Paired (p : Problem) (low high : List ℕ) (v : PairVerdict) : Type 0 whe
   hold : BothHold p low high first second
   verdict : v ≡ acceptedPair (first .header) (second .header) (closing p .rounds) (p .rule)
 
--- how the pair ends
-data Ended (s low high : List ℕ) (v : PairVerdict) : Type 0 where
-  unjudged : (n place : ℕ) → Between n 1 7 → v ≡ refusedPair (problemRefusal n place) → Ended s low high v
-  first-refused : (p : Problem) → readProblem s ≡ given p → (n place key : ℕ) → judge p low ≡ J.refused n place key
-      → v ≡ refusedPair (certificateRefusal 1 n place key) → Ended s low high v
-  second-refused : (p : Problem) → readProblem s ≡ given p → (c : Certificate) → J.Accepted p low c → (n place key : ℕ) → judge p high ≡ J.refused n place key
-      → v ≡ refusedPair (certificateRefusal 2 n place key) → Ended s low high v
-  wrong-side : (p : Problem) → readProblem s ≡ given p → (stream : ℕ) → WrongSides p low high stream → v ≡ refusedPair (certificateRefusal stream 10 0 0) → Ended s low high v
-  accepted : Reads s (λ p. Paired p low high v) → Ended s low high v
-
--- a problem that is too large meets 7, whatever the certificates
-pub pair-large : (short : Bool) (s low high : List ℕ) (p : Problem) → short ≡ false → readProblem s ≡ given p → tooLarge p ≡ true
-    → pairVerdict short s low high ≡ refusedPair (problemRefusal 7 0)
-unfolding pairVerdict pairOf
-pair-large short s low high p = too-large refusedPair (λ p. pairFirst p (judge p low) high) (λ o. pairRead o low high) (λ n place. refl) (λ p. refl) short s p
-
--- a wrong side is that of stream 1 or 2
-wrong-most : {low high : List ℕ} (p : Problem) (i : ℕ) → WrongSides p low high i → i ≤ 2
-wrong-most p i w = go (w .wrong)
-  where
-    go : {X Y : Type 0} → ((i ≡ 1) × X) ⊎ ((i ≡ 2) × Y) → i ≤ 2
-    go (inl x) = omega arith
-    go (inr x) = omega arith
-
 module _ (short : Bool) (s low high : List ℕ) (v : PairVerdict) (is : v ≡ pairVerdict short s low high) where
-  module _ (p : Problem) (r : readProblem s ≡ given p) where
-    module _ (c d : Certificate) (a : J.Accepted p low c) (b : J.Accepted p high d)
-        (e : v ≡ pairSides (c .header) (d .header) (closing p .rounds) (p .rule)) where
-      wrong-in : (i : ℕ) → ((i ≡ 1) × (c .header .side ≡ 0 → ⊥)) ⊎ ((i ≡ 2) × ((c .header .side ≡ 0) × (d .header .side ≡ 1 → ⊥)))
-          → v ≡ refusedPair (certificateRefusal i 10 0 0) → Ended s low high v
-      wrong-in i w f = wrong-side p r i (record { first = c; second = d; low-accepted = a; high-accepted = b; wrong = w }) f
+  by-end : (P : PairVerdict → Type 0) → ((r : Refusal) → PairRefused short s low high r → P (refusedPair r))
+      → ((p : Problem) → Within short s p → (c d : Certificate) → BothHold p low high c d
+      → P (acceptedPair (c .header) (d .header) (closing p .rounds) (p .rule)))
+      → P v
+  by-end P x y = rw is (pair-by short s low high P x y)
 
-      sides : (x y : Bool) → eqb (c .header .side) 0 ≡ x → eqb (d .header .side) 1 ≡ y → Ended s low high v
-      unfolding pairSides
-      sides true true x y =
-          let hold : BothHold p low high c d = record { first = a; second = b; lower = eqb-true _ _ x; upper = eqb-true _ _ y } in
-          accepted (record { problem = p; read = r; holds = record { first = c; second = d; hold = hold; verdict = e ∙ rw (pairSides, x, y) } })
-      sides true false x y = wrong-in 2 (inr (refl, (eqb-true _ _ x, eqb-false _ _ y))) (e ∙ rw (pairSides, x, y))
-      sides false y x z = wrong-in 1 (inl (refl, eqb-false _ _ x)) (e ∙ rw (pairSides, x))
-
-    second : (c : Certificate) → J.Accepted p low c → (k : Judgement) → judge p high ≡ k → v ≡ pairSecond p c k → Ended s low high v
-    second c a (J.refused n place key) g e = second-refused p r c a n place key g e
-    second c a (J.accepted d) g e = sides c d a (judge-accepted p (read-limits s p r) high d g) e (eqb (c .header .side) 0) (eqb (d .header .side) 1) refl refl
-
-    first : (j : Judgement) → judge p low ≡ j → v ≡ pairFirst p j high → Ended s low high v
-    first (J.refused n place key) f e = first-refused p r n place key f e
-    first (J.accepted c) f e = second c (judge-accepted p (read-limits s p r) low c f) (judge p high) refl e
-
-  ended : Ended s low high v
-  unfolding pairVerdict pairOf
-  ended = go (rw is (ends refusedPair (λ p. pairFirst p (judge p low) high) (λ o. pairRead o low high) (λ n place. refl) (λ p. refl) short s))
-    where
-      go : Ends refusedPair (λ p. pairFirst p (judge p low) high) (λ o. pairRead o low high) (λ n place. refl) (λ p. refl) short s v → Ended s low high v
-      go (before n place b e) = unjudged n place b e
-      go (within p r e) = first p r (judge p low) refl e
-
-  is-judged : (p : Problem) → Within short s p → v ≡ pairFirst p (judge p low) high
-  unfolding pairVerdict pairOf
-  is-judged p w = is ∙ opened refusedPair (λ p. pairFirst p (judge p low) high) (λ o. pairRead o low high) (λ n place. refl) (λ p. refl) short s p w
+  -- by what became of each certificate
+  is-judged : (p : Problem) → Within short s p → (o q : Outcome Certificate) → certificateOf 1 p low ≡ o → certificateOf 2 p high ≡ q
+      → v ≡ told refusedPair (o then λ c. q then λ d. pairSides (c .header) (d .header) (closing p .rounds) (p .rule))
+  is-judged p w o q e f = is ∙ pair-decided short s low high p w ∙ rw (e, f)
 
   number-is : (w : PairVerdict) → v ≡ w → v .refusal .number ≡ w .refusal .number
   number-is w e = ap (λ (x : PairVerdict). x .refusal .number) e
@@ -121,47 +73,20 @@ module _ (short : Bool) (s low high : List ℕ) (v : PairVerdict) (is : v ≡ pa
   empty-is w e = ap (λ (x : PairVerdict). x .empty) e
 
   pair-numbered : NumberedTo 10 (v .refusal .number)
-  pair-numbered = go ended
-    where
-      go : Ended s low high v → v .refusal .number ≤ 10
-      go (unjudged n place b e) = omega (arith, number-is _ e, b .most)
-      go (first-refused p r n place key f e) = omega (arith, number-is _ e, judge-number p low n place key f .most)
-      go (second-refused p r c a n place key f e) = omega (arith, number-is _ e, judge-number p high n place key f .most)
-      go (wrong-side p r i b e) = omega (arith, number-is _ e)
-      go (accepted r) = omega (arith, number-is _ (r .holds .verdict))
+  pair-numbered = by-end (λ v. v .refusal .number ≤ 10) (λ r b. b .most) (λ p w c d b. omega arith)
 
   -- "stream (0 problem, 1 first certificate, 2 second)"
   pub pair-stream : v .refusal .stream ≤ 2
-  pair-stream = go ended
-    where
-      go : Ended s low high v → v .refusal .stream ≤ 2
-      go (unjudged n place b e) = omega (arith, stream-is _ e)
-      go (first-refused p r n place key f e) = omega (arith, stream-is _ e)
-      go (second-refused p r c a n place key f e) = omega (arith, stream-is _ e)
-      go (wrong-side p r i b e) = omega (arith, stream-is _ e, wrong-most p i b)
-      go (accepted r) = omega (arith, stream-is _ (r .holds .verdict))
+  pair-stream = by-end (λ v. v .refusal .stream ≤ 2) (λ r b. b .stream) (λ p w c d b. omega arith)
 
   -- ---- where nothing is refused
   pair-found : v .refusal .number ≡ 0 → Reads s (λ p. Paired p low high v)
-  pair-found h = go ended
-    where
-      go : Ended s low high v → Reads s (λ p. Paired p low high v)
-      go (unjudged n place b e) = absurd (omega (arith, number-is _ e, b .least))
-      go (first-refused p r n place key f e) = absurd (omega (arith, number-is _ e, judge-number p low n place key f .least))
-      go (second-refused p r c a n place key f e) = absurd (omega (arith, number-is _ e, judge-number p high n place key f .least))
-      go (wrong-side p r i b e) = absurd (omega (arith, number-is _ e))
-      go (accepted r) = r
+  pair-found =
+      by-end (λ v. v .refusal .number ≡ 0 → Reads s (λ p. Paired p low high v)) (λ r b h. absurd (omega (arith, b .least)))
+      (λ p w c d b _. record { problem = p; read = w .read; holds = record { first = c; second = d; hold = b; verdict = refl } })
 
-  found-at : (p : Problem) → readProblem s ≡ given p → v .refusal .number ≡ 0 → Paired p low high v
+  found-at : (p : Problem) → readProblem s ≡ Stream.given p → v .refusal .number ≡ 0 → Paired p low high v
   found-at p r h = reads-at s (λ p. Paired p low high v) (pair-found h) p r
-
-  -- two certificates that hold give their verdict
-  both-verdict : (s : List ℕ) (p : Problem) (c d : Certificate) → Within short s p → BothHold p low high c d
-      → pairVerdict short s low high ≡ acceptedPair (c .header) (d .header) (closing p .rounds) (p .rule)
-  unfolding pairVerdict pairOf pairSides
-  both-verdict s p c d w b =
-      opened refusedPair (λ p. pairFirst p (judge p low) high) (λ o. pairRead o low high) (λ n place. refl) (λ p. refl) short s p w
-      ∙ rw (accepted-judge p low c (b .first), accepted-judge p high d (b .second), pairSides, eq-eqb (c .header .side) 0 (b .lower), eq-eqb (d .header .side) 1 (b .upper))
 
   pub pair-exactly : PairExactly short s low high v
   pair-exactly = record {
@@ -179,7 +104,7 @@ module _ (short : Bool) (s low high : List ℕ) (v : PairVerdict) (is : v ≡ pa
           gap = ap (λ (x : PairVerdict). x .gap) (k .verdict);
           empty = empty-is _ (k .verdict);
         };
-    always = λ p c d w b. number-is _ (is ∙ both-verdict s p c d w b);
+    always = λ p c d w b. number-is _ (is ∙ pair-accepted-by short s low high p c d w b);
   }
 
   below : HoldsBelow s (v .refusal .number) (v .lower)
@@ -193,7 +118,7 @@ module _ (short : Bool) (s low high : List ℕ) (v : PairVerdict) (is : v ≡ pa
       rw (k .verdict) (accepted-above p (read-limits s p read) high (k .second) (k .hold .second) (k .hold .upper))
 
   -- document 01's gap, whether it is below 0 or not
-  within-gap : (p : Problem) → readProblem s ≡ given p → v .refusal .number ≡ 0 → (k : Paired p low high v)
+  within-gap : (p : Problem) → readProblem s ≡ Stream.given p → v .refusal .number ≡ 0 → (k : Paired p low high v)
       → let g = gapOf (boundOf (k .first .header)) (boundOf (k .second .header)) in WithinGap p (g .num) (g .den)
   within-gap p read h k =
       bounds-gap p _ _ _ _ (rw (k .verdict) at (below p read h)) (rw (k .verdict) at (above p read h))
@@ -206,14 +131,7 @@ module _ (short : Bool) (s low high : List ℕ) (v : PairVerdict) (is : v ≡ pa
 
   -- ---- where the gap is marked as empty
   empty-accepted : v .empty ≡ true → v .refusal .number ≡ 0
-  empty-accepted t = go ended
-    where
-      go : Ended s low high v → v .refusal .number ≡ 0
-      go (unjudged n place b e) = let f = empty-is _ e in clash (cc)
-      go (first-refused p r n place key g e) = let f = empty-is _ e in clash (cc)
-      go (second-refused p r c a n place key g e) = let f = empty-is _ e in clash (cc)
-      go (wrong-side p r i b e) = let f = empty-is _ e in clash (cc)
-      go (accepted r) = number-is _ (r .holds .verdict)
+  empty-accepted = by-end (λ v. v .empty ≡ true → v .refusal .number ≡ 0) (λ r b t. clash (cc)) (λ p w c d b t. refl)
 
   empty : NoPoints s v
   empty = record {
@@ -237,146 +155,96 @@ module _ (short : Bool) (s low high : List ℕ) (v : PairVerdict) (is : v ≡ pa
 
   -- ---- refusal 7
   pair-seven : SevenExactly short s (v .refusal)
-  unfolding pairVerdict pairOf pairSides
+  unfolding pairVerdict
   pair-seven =
-      rw is (seven-exactly refusedPair (λ p. pairFirst p (judge p low) high) (λ o. pairRead o low high) (λ n place. refl) (λ p. refl) short s (λ w. w .refusal) (λ r. refl) (λ p. first-other p (judge p low) refl))
-    where
-      sides-other : (t u : Header) (rounds rule : ℕ) (x y : Bool) → eqb (t .side) 0 ≡ x → eqb (u .side) 1 ≡ y
-          → pairSides t u rounds rule .refusal .number ≡ 7 → ⊥
-      sides-other t u rounds rule true true x y h = let z : _≡_ {A = ℕ} 0 7 = rw (pairSides, x, y) at h in omega arith
-      sides-other t u rounds rule true false x y h = let z : _≡_ {A = ℕ} 10 7 = rw (pairSides, x, y) at h in omega arith
-      sides-other t u rounds rule false y x w h = let z : _≡_ {A = ℕ} 10 7 = rw (pairSides, x) at h in omega arith
+      rw is (seven-exactly short s refusedPair (λ p. pairFor p low high) (λ w. w .refusal) (λ r. refl)
+      (pair-by short s low high (λ v. Seven s (v .refusal)) (λ r b. b .seven) (λ p w c d b h. absurd (omega arith))))
 
-      second-other : (p : Problem) (c : Certificate) (k : Judgement) → judge p high ≡ k → pairSecond p c k .refusal .number ≡ 7 → ⊥
-      second-other p c (J.refused n place key) f h = judge-seven p high n place key f h
-      second-other p c (J.accepted d) f h = sides-other (c .header) (d .header) (closing p .rounds) (p .rule) (eqb (c .header .side) 0) (eqb (d .header .side) 1) refl refl h
+  -- ---- refusals 8 and 9: of the first certificate, or of the second, after the first was accepted
+  first-is : (p : Problem) → Within short s p → {f : Refusal} → certificateOf 1 p low ≡ refused f → v ≡ refusedPair f
+  first-is p w e = is-judged p w _ _ e refl
 
-      first-other : (p : Problem) (j : Judgement) → judge p low ≡ j → pairFirst p j high .refusal .number ≡ 7 → ⊥
-      first-other p (J.refused n place key) f h = judge-seven p low n place key f h
-      first-other p (J.accepted c) f h = second-other p c (judge p high) refl h
+  second-is : (p : Problem) → Within short s p → (c : Certificate) → J.Accepted p low c → {f : Refusal} → certificateOf 2 p high ≡ refused f
+      → v ≡ refusedPair f
+  second-is p w c a e = is-judged p w _ _ (accepted-given 1 p low c a) e
 
-  -- ---- refusal 8
+  told-at : (n i : ℕ) {place key : ℕ} → v ≡ refusedPair (certificateRefusal i n place key) → (v .refusal .number ≡ n) × (v .refusal .stream ≡ i)
+  told-at n i e = (number-is _ e, stream-is _ e)
+
   pair-splits : PairSplits short s low high (v .refusal)
   pair-splits = record {
-    only = λ h. go h ended;
-    first = λ p c w read fails.
-        let e = is-judged p w ∙ ap (λ (j : Judgement). pairFirst p j high) (judge-splits p low c read fails .refusal) in
-        (number-is _ e, stream-is _ e);
-    second = λ p c d w a read fails.
-        let e = is-judged p w ∙ ap (λ (j : Judgement). pairFirst p j high) (accepted-judge p low c a) ∙ ap (pairSecond p c) (judge-splits p high d read fails .refusal) in
-        (number-is _ e, stream-is _ e);
+    only =
+        by-end (λ v.
+        v .refusal .number ≡ 8
+        → ((v .refusal .stream ≡ 1) × Reads s (λ p. SplitsAt p low (v .refusal .place)))
+        ⊎ ((v .refusal .stream ≡ 2) × Reads s (λ p. SecondSplits p low high (v .refusal .place))))
+        (λ r b. b .eight) (λ p w c d b h. absurd (omega arith));
+    first = λ p c w read fails. told-at 8 1 (first-is p w (ap (ofJudgement 1) (judge-splits p low c read fails .refusal)));
+    second = λ p c d w a read fails. told-at 8 2 (second-is p w c a (ap (ofJudgement 2) (judge-splits p high d read fails .refusal)));
   }
-    where
-      go : v .refusal .number ≡ 8 → Ended s low high v
-          → ((v .refusal .stream ≡ 1) × Reads s (λ p. SplitsAt p low (v .refusal .place))) ⊎ ((v .refusal .stream ≡ 2) × Reads s (λ p. SecondSplits p low high (v .refusal .place)))
-      go h (unjudged n place b e) = absurd (omega (arith, number-is _ e, b .most))
-      go h (first-refused p r n place key f e) =
-          let d = judge-eight p low n place key f (sym (number-is _ e) ∙ h) in
-          inl (stream-is _ e, record { problem = p; read = r; holds = rw e d })
-      go h (second-refused p r c a n place key f e) =
-          let d = judge-eight p high n place key f (sym (number-is _ e) ∙ h) in
-          inr (stream-is _ e, record { problem = p; read = r; holds = record { first = c; accepted = a; second = rw e d } })
-      go h (wrong-side p r i b e) = absurd (omega (arith, number-is _ e))
-      go h (accepted r) = absurd (omega (arith, number-is _ (r .holds .verdict)))
 
-  -- ---- refusal 10
-  module _ (p : Problem) (i : ℕ) (w : Within short s p) (b : WrongSides p low high i) where
-    judged-sides : v ≡ pairSides (b .first .header) (b .second .header) (closing p .rounds) (p .rule)
-    judged-sides =
-        is-judged p w
-        ∙ ap (λ (j : Judgement). pairFirst p j high) (accepted-judge p low (b .first) (b .low-accepted))
-        ∙ ap (pairSecond p (b .first)) (accepted-judge p high (b .second) (b .high-accepted))
-
-    wrong-ten : (v .refusal .number ≡ 10) × (v .refusal .stream ≡ i)
-    unfolding pairSides
-    wrong-ten = go (b .wrong)
-      where
-        go : ((i ≡ 1) × (b .first .header .side ≡ 0 → ⊥)) ⊎ ((i ≡ 2) × ((b .first .header .side ≡ 0) × (b .second .header .side ≡ 1 → ⊥)))
-            → (v .refusal .number ≡ 10) × (v .refusal .stream ≡ i)
-        go (inl x) =
-            let e : v ≡ refusedPair (certificateRefusal 1 10 0 0) = judged-sides ∙ rw (pairSides, ne-eqb (b .first .header .side) 0 (x .1)) in
-            (number-is _ e, stream-is _ e ∙ sym (x .0))
-        go (inr x) =
-            let e : v ≡ refusedPair (certificateRefusal 2 10 0 0) = judged-sides ∙ rw (pairSides, eq-eqb (b .first .header .side) 0 (x .1 .0), ne-eqb (b .second .header .side) 1 (x .1 .1)) in
-            (number-is _ e, stream-is _ e ∙ sym (x .0))
-
-  pair-ten : TenExactly short s low high (v .refusal)
-  pair-ten = record { only = λ h. go h ended; always = wrong-ten }
-    where
-      go : v .refusal .number ≡ 10 → Ended s low high v → (v .refusal .place ≡ 0) × Reads s (λ p. WrongSides p low high (v .refusal .stream))
-      go h (unjudged n place b e) = absurd (omega (arith, number-is _ e, b .most))
-      go h (first-refused p r n place key f e) = absurd (omega (arith, number-is _ e, judge-number p low n place key f .most))
-      go h (second-refused p r c a n place key f e) = absurd (omega (arith, number-is _ e, judge-number p high n place key f .most))
-      go h (wrong-side p r i b e) = (
-        ap (λ (x : PairVerdict). x .refusal .place) e,
-        record { problem = p; read = r; holds = rw (stream-is _ e) b },
-      )
-      go h (accepted r) = absurd (omega (arith, number-is _ (r .holds .verdict)))
-
-  -- ---- refusal 9
   pair-differs : PairDiffers short s low high (v .refusal)
   pair-differs = record {
-    only = λ h. go h ended;
+    only =
+        by-end (λ v.
+        v .refusal .number ≡ 9
+        → ((v .refusal .stream ≡ 1) × Reads s (λ p. DiffersAt p low (v .refusal .key)))
+        ⊎ ((v .refusal .stream ≡ 2) × Reads s (λ p. SecondDiffers p low high (v .refusal .key))))
+        (λ r b. b .nine) (λ p w c d b h. absurd (omega arith));
     first = λ p c w i.
         let d = judge-differs p low c (i .read) (read-limits s p (w .read)) (i .blocks) (i .differs) in
-        let e = is-judged p w ∙ ap (λ (j : Judgement). pairFirst p j high) (d .refusal) in
-        (number-is _ e, stream-is _ e);
+        told-at 9 1 (first-is p w (ap (ofJudgement 1) (d .refusal)));
     second = λ p c d w a i.
         let k = judge-differs p high d (i .read) (read-limits s p (w .read)) (i .blocks) (i .differs) in
-        let e = is-judged p w ∙ ap (λ (j : Judgement). pairFirst p j high) (accepted-judge p low c a) ∙ ap (pairSecond p c) (k .refusal) in
-        (number-is _ e, stream-is _ e);
+        told-at 9 2 (second-is p w c a (ap (ofJudgement 2) (k .refusal)));
   }
+
+  -- ---- refusal 10
+  wrong-ten : (p : Problem) (i : ℕ) → Within short s p → WrongSides p low high i → (v .refusal .number ≡ 10) × (v .refusal .stream ≡ i)
+  unfolding pairSides
+  wrong-ten p i w b = go (b .wrong)
     where
-      go : v .refusal .number ≡ 9 → Ended s low high v
-          → ((v .refusal .stream ≡ 1) × Reads s (λ p. DiffersAt p low (v .refusal .key))) ⊎ ((v .refusal .stream ≡ 2) × Reads s (λ p. SecondDiffers p low high (v .refusal .key)))
-      go h (unjudged n place b e) = absurd (omega (arith, number-is _ e, b .most))
-      go h (first-refused p r n place key f e) =
-          let d = judge-nine p low n place key (read-limits s p r) f (sym (number-is _ e) ∙ h) in
-          inl (stream-is _ e, record { problem = p; read = r; holds = rw e d })
-      go h (second-refused p r c a n place key f e) =
-          let d = judge-nine p high n place key (read-limits s p r) f (sym (number-is _ e) ∙ h) in
-          inr (stream-is _ e, record { problem = p; read = r; holds = record { first = c; accepted = a; second = rw e d } })
-      go h (wrong-side p r i b e) = absurd (omega (arith, number-is _ e))
-      go h (accepted r) = absurd (omega (arith, number-is _ (r .holds .verdict)))
+      sides : v ≡ told refusedPair (pairSides (b .first .header) (b .second .header) (closing p .rounds) (p .rule))
+      sides =
+          is-judged p w _ _ (accepted-given 1 p low (b .first) (b .low-accepted)) (accepted-given 2 p high (b .second) (b .high-accepted))
+
+      go : ((i ≡ 1) × (b .first .header .side ≡ 0 → ⊥)) ⊎ ((i ≡ 2) × ((b .first .header .side ≡ 0) × (b .second .header .side ≡ 1 → ⊥)))
+          → (v .refusal .number ≡ 10) × (v .refusal .stream ≡ i)
+      go (inl x) =
+          let e : v ≡ refusedPair (certificateRefusal 1 10 0 0) = sides ∙ rw (pairSides, ne-eqb (b .first .header .side) 0 (x .1)) in
+          rw (x .0) (told-at 10 1 e)
+      go (inr x) =
+          let e : v ≡ refusedPair (certificateRefusal 2 10 0 0) =
+          sides ∙ rw (pairSides, eq-eqb (b .first .header .side) 0 (x .1 .0), ne-eqb (b .second .header .side) 1 (x .1 .1)) in
+          rw (x .0) (told-at 10 2 e)
+
+  pair-ten : TenExactly short s low high (v .refusal)
+  pair-ten = record {
+    only =
+        by-end (λ v. v .refusal .number ≡ 10 → (v .refusal .place ≡ 0) × Reads s (λ p. WrongSides p low high (v .refusal .stream)))
+        (λ r b. b .ten) (λ p w c d b h. absurd (omega arith));
+    always = wrong-ten;
+  }
 
   -- ---- the rule
   pair-rule : RuleUsed s (v .refusal .number) (v .rule)
-  pair-rule = go ended
-    where
-      rule-is : (w : PairVerdict) → v ≡ w → v .rule ≡ w .rule
-      rule-is w e = ap (λ (x : PairVerdict). x .rule) e
-
-      go : Ended s low high v → RuleUsed s (v .refusal .number) (v .rule)
-      go (unjudged n place b e) =
-          record { named = λ h. absurd (omega (arith, number-is _ e, b .least)); refused = λ _. rule-is _ e }
-      go (first-refused p r n place key f e) =
-          record { named = λ h. absurd (omega (arith, number-is _ e, judge-number p low n place key f .least)); refused = λ _. rule-is _ e }
-      go (second-refused p r c a n place key f e) =
-          record { named = λ h. absurd (omega (arith, number-is _ e, judge-number p high n place key f .least)); refused = λ _. rule-is _ e }
-      go (wrong-side p r i b e) = record { named = λ h. absurd (omega (arith, number-is _ e)); refused = λ _. rule-is _ e }
-      go (accepted r) = record {
-        named = λ _. rule-is _ (r .holds .verdict) ∙ read-rule s (r .problem) (r .read);
-        refused = λ h. absurd (omega (arith, number-is _ (r .holds .verdict)));
-      }
+  pair-rule =
+      by-end (λ v. RuleUsed s (v .refusal .number) (v .rule))
+      (λ r b. record { named = λ h. absurd (omega (arith, b .least)); refused = λ _. refl })
+      (λ p w c d b. record { named = λ _. read-rule s p (w .read); refused = λ h. absurd (omega arith) })
 
   -- ---- the zeros
   pub pair-zeros : PairZeros v
-  pair-zeros = go ended
-    where
-      go : Ended s low high v → PairZeros v
-      go (unjudged n place b e) = rw e (pair-refused _ (problem-zeros n place (b .least)))
-      go (first-refused p r n place key f e) =
-          rw e (pair-refused _ (certificate-zeros 1 n place key (judge-number p low n place key f .least) (judge-key p low n place key f)))
-      go (second-refused p r c a n place key f e) =
-          rw e (pair-refused _ (certificate-zeros 2 n place key (judge-number p high n place key f .least) (judge-key p high n place key f)))
-      go (wrong-side p r i b e) = rw e (pair-refused _ (certificate-zeros i 10 0 0 (omega arith) (λ _. refl)))
-      go (accepted r) = let k = r .holds in rw (k .verdict) (pair-accepted (k .first .header) (k .second .header) (closing (r .problem) .rounds) (r .problem .rule))
+  pair-zeros =
+      by-end PairZeros (λ r b. pair-refused r (refused-zeros r (b .least) (b .key)))
+      (λ p w c d b. pair-accepted (c .header) (d .header) (closing p .rounds) (p .rule))
 
   -- ---- the same stream under rule 1, or at a larger order: s′, where no less is joined
   -- where nothing is refused the problem is within its limits
   pub pair-opens : v .refusal .number ≡ 0 → Reads s (Within short s)
-  unfolding pairVerdict pairOf
-  pair-opens h = opens refusedPair (λ p. pairFirst p (judge p low) high) (λ o. pairRead o low high) (λ n place. refl) (λ p. refl) short s (λ w. w .refusal .number) (λ r. refl) (rw is at h)
+  pair-opens =
+      by-end (λ v. v .refusal .number ≡ 0 → Reads s (Within short s)) (λ r b h. absurd (omega (arith, b .least)))
+      (λ p w c d b _. record { problem = p; read = w .read; holds = w })
 
   -- a verdict of no refusal has none of its fields
   pub pair-unrefused : v .refusal .number ≡ 0 → v .refusal ≡ noRefusal
@@ -397,7 +265,7 @@ module _ (short : Bool) (s low high : List ℕ) (v : PairVerdict) (is : v ≡ pa
         lower = k .hold .lower;
         upper = k .hold .upper;
       } in
-      let e = both-verdict s′ q (k .first) (k .second) (b .second) hold in (
+      let e = pair-accepted-by short s′ low high q (k .first) (k .second) (b .second) hold in (
         ap (λ (x : PairVerdict). x .refusal) e,
         (
           ap (λ (x : PairVerdict). x .lower) e ∙ sym (ap (λ (x : PairVerdict). x .lower) (k .verdict)),

@@ -9,7 +9,7 @@ use lib.ListN.{length, getD, drop, List·getD-append}
 use Rattle.counting.specs.Counting.{listed, sumTo}
 use Rattle.counting.proofs.Listed.{listed-same, listed-all}
 use Rattle.counting.proofs.Sums.{sumTo-same}
-use Rattle.format.specs.Commands.{Outcome, refused, given}
+use Rattle.format.specs.Commands as Stream
 use Rattle.format.specs.ProblemRules.{Problem, readProblem}
 use Rattle.format.specs.ProblemOrder.{orderNamed}
 use Rattle.format.specs.ProblemBases.{basisOf}
@@ -34,13 +34,13 @@ use Rattle.joining_rule.proofs.Rules.{large-other}
 use Rattle.calls.specs.declared.Refusal.{Refusal}
 use Rattle.calls.specs.declared.BlocksVerdict.{BlocksVerdict}
 use Rattle.calls.specs.Refusals.{noRefusal, problemRefusal}
-use Rattle.calls.specs.Blocks.{refusedBlocks, blocksOf, blocksRead, blocksVerdict, bytesOf, bytesLeft}
-use Rattle.calls.specs.Promises.{NumberedTo, BlocksClosed, BlocksLeast, BlocksLowest, BlocksAfter, BlocksCounted, RoundsTaken, FewRounds, SevenExactly, RuleUsed, Within}
+use Rattle.calls.specs.Outcome.{given, _then_, told}
+use Rattle.calls.specs.Blocks.{refusedBlocks, foundBlocks, blocksVerdict, writtenBytes, bytesLeft}
+use Rattle.calls.specs.Promises.{NumberedTo, BlocksClosed, BlocksLeast, BlocksLowest, BlocksAfter, BlocksCounted, RoundsTaken, FewRounds, SevenExactly, RuleUsed, Reads, Within}
 use Rattle.calls.specs.Zeros.{BlocksZeros}
 use Rattle.calls.specs.Rules.{UnderOne, AtLarger, UnlessSeven, BlocksInside, BlocksKept, BlocksUnderOne, BlocksAtLarger}
-use Rattle.calls.proofs.Judged.{problem-number}
-use Rattle.calls.proofs.Zeros.{blocks-refused, blocks-accepted}
-use Rattle.calls.proofs.Ends.{Ends, before, within, ends, opened, opens, too-large, seven-exactly}
+use Rattle.calls.proofs.Refusing.{ProblemRefused, Seven, seven-of, reads-at, problem-by, problem-within, problem-large, seven-exactly}
+use Rattle.calls.proofs.Zeros.{refused-zeros, blocks-refused, blocks-accepted}
 use Rattle.calls.proofs.Rules.{AllLead, under-leads, larger-leads, BothWithin, Under, large, both, under, bytes-inside}
 
 -- ---- block numbers that agree at every index of a basis mean the same
@@ -80,7 +80,7 @@ module _ (rule : ℕ) (g : Bases) (S₀ : List ℕ) (label label′ : ℕ → �
 pub byte-found : (L : List (List ℕ)) (rest : List ℕ) (j i : ℕ) → j < 9 → i < 64 → i < length (getD L j []) → getD (getD L j []) i 0 ≡ blockAt (blockBytes L ++ rest) j i
 byte-found L rest j i h b x = sym (List·getD-append (blockBytes L) rest 0 (64 * j + i) (omega (arith, bytes-long L)) ∙ byte-at L j i h b x)
 
-module _ (s : List ℕ) (p : Problem) (read : readProblem s ≡ given p) where
+module _ (s : List ℕ) (p : Problem) (read : readProblem s ≡ Stream.given p) where
   limits : Limits p
   limits = read-limits s p read
 
@@ -148,85 +148,71 @@ module _ (s : List ℕ) (p : Problem) (read : readProblem s ≡ given p) where
   promise-few = rw (count-members s p read, count-named s p read) (few-rounds (p .rule) (basesOf p) (startSet p) rising _)
 
 -- ---- from the verdict and the bytes to the clauses
-abbrev refuse : Refusal → BlocksVerdict
-refuse r = record { refusal = r; blocks = 0; rounds = 0; rule = 0 }
+-- a property of what the call returns and leaves, by how it ends
+pub blocks-by : (short : Bool) (s out : List ℕ) (P : BlocksVerdict → List ℕ → Type 0)
+    → ((r : Refusal) → ProblemRefused short s r → P (refusedBlocks r) out)
+    → ((p : Problem) → Within short s p → P (foundBlocks p) (writtenBytes out p))
+    → P (blocksVerdict short s) (bytesLeft short s out)
+unfolding blocksVerdict bytesLeft
+blocks-by short s out P =
+    problem-by short s
+    (λ o. P (told refusedBlocks (o then λ p. given (foundBlocks p))) (told (λ _. out) (o then λ p. given (writtenBytes out p))))
 
-abbrev answer : Problem → BlocksVerdict
-answer p = record { refusal = noRefusal; blocks = blockTotal p; rounds = closing p .rounds; rule = p .rule }
+-- "A refusal leaves the 576 bytes untouched"
+pub refusal-leaves : (short : Bool) (s out : List ℕ) → 0 < blocksVerdict short s .refusal .number → bytesLeft short s out ≡ out
+refusal-leaves short s out =
+    blocks-by short s out (λ v bytes. 0 < v .refusal .number → bytes ≡ out) (λ r b h. refl) (λ p w h. absurd (omega arith))
+
+-- where nothing is refused the problem is within its limits
+pub blocks-opens : (short : Bool) (s : List ℕ) → blocksVerdict short s .refusal .number ≡ 0 → Reads s (Within short s)
+blocks-opens short s =
+    blocks-by short s [] (λ v bytes. v .refusal .number ≡ 0 → Reads s (Within short s)) (λ r b h. absurd (omega (arith, b .least)))
+    (λ p w h. record { problem = p; read = w .read; holds = w })
 
 -- what is found where nothing is refused
-record Found (short : Bool) (s out : List ℕ) (p : Problem) : Type 0 where
-  blocks : blocksVerdict short s .blocks ≡ blockTotal p
-  rounds : blocksVerdict short s .rounds ≡ closing p .rounds
-  bytes : bytesLeft short s out ≡ blockBytes (closing p .state .labels) ++ drop blockByteCount out
+record Found (out : List ℕ) (v : BlocksVerdict) (bytes : List ℕ) (p : Problem) : Type 0 where
+  blocks : v .blocks ≡ blockTotal p
+  rounds : v .rounds ≡ closing p .rounds
+  bytes-are : bytes ≡ writtenBytes out p
 
-never : {X : Type 0} (n : ℕ) → suc n ≡ 0 → X
-never n e = absurd (omega arith)
-
-module _ (short : Bool) (s out : List ℕ) (p : Problem) (read : readProblem s ≡ given p) where
-  found : blocksVerdict short s .refusal .number ≡ 0 → Found short s out p
-  unfolding blocksVerdict bytesLeft blocksOf bytesOf
-  found h = go short (tooLarge p) refl (rw read at h)
+module _ (short : Bool) (s out : List ℕ) (p : Problem) (read : readProblem s ≡ Stream.given p) where
+  found : blocksVerdict short s .refusal .number ≡ 0 → Found out (blocksVerdict short s) (bytesLeft short s out) p
+  found h = reads-at s (Found out (blocksVerdict short s) (bytesLeft short s out)) (reads h) p read
     where
-      go : (b t : Bool) → tooLarge p ≡ t → cond b (refusedBlocks 1 0) (cond t (refusedBlocks 7 0) (answer p)) .refusal .number ≡ 0 → Found b s out p
-      go true t e h = never 0 h
-      go false true e h = never 6 h
-      go false false e h = record { blocks = rw (read, blocksOf, e); rounds = rw (read, blocksOf, e); bytes = rw (read, bytesOf, e) }
+      reads : blocksVerdict short s .refusal .number ≡ 0 → Reads s (Found out (blocksVerdict short s) (bytesLeft short s out))
+      reads =
+          blocks-by short s out (λ v bytes. v .refusal .number ≡ 0 → Reads s (Found out v bytes))
+          (λ r b h. absurd (omega (arith, b .least)))
+          (λ q w h. record { problem = q; read = w .read; holds = record { blocks = refl; rounds = refl; bytes-are = refl } })
 
 -- ---- the same stream under rule 1, or at a larger order
--- refusal 7 is given for a problem that is too large
-record Large (short : Bool) (s : List ℕ) : Type 0 where
-  problem : Problem
-  long : short ≡ false
-  read : readProblem s ≡ given problem
-  large : tooLarge problem ≡ true
-
-seven-large : (short : Bool) (s : List ℕ) → blocksVerdict short s .refusal .number ≡ 7 → Large short s
-unfolding blocksVerdict blocksOf
-seven-large short s h = go short refl (readProblem s) refl h
-  where
-    by-size : (p : Problem) → short ≡ false → readProblem s ≡ given p → (l : Bool) → tooLarge p ≡ l
-        → cond l (refusedBlocks 7 0) (answer p) .refusal .number ≡ 7 → Large short s
-    by-size p f e true q h = record { problem = p; long = f; read = e; large = q }
-    by-size p f e false q h = absurd (omega arith)
-
-    go : (b : Bool) → short ≡ b → (o : Outcome Problem) → readProblem s ≡ o
-        → cond b (refusedBlocks 1 0) (blocksRead o) .refusal .number ≡ 7 → Large short s
-    go true f o e h = absurd (omega arith)
-    go false f (refused n place) e h = absurd (omega (arith, problem-number s n place e .most))
-    go false f (given p) e h = by-size p f e (tooLarge p) refl h
-
 module _ (short : Bool) (s out t : List ℕ) (leads : AllLead s t) where
-  large-under : (p : Problem) → short ≡ false → readProblem t ≡ given p → tooLarge p ≡ true → blocksVerdict short t .refusal ≡ problemRefusal 7 0
-  unfolding blocksVerdict blocksOf
-  large-under p f e l =
-      ap (λ (v : BlocksVerdict). v .refusal) (too-large refuse answer blocksRead (λ n place. refl) (λ p. refl) short t p f e l)
-
-  bytes-within : (s : List ℕ) (p : Problem) → Within short s p → bytesLeft short s out ≡ blockBytes (closing p .state .labels) ++ drop blockByteCount out
-  unfolding bytesLeft bytesOf
-  bytes-within s p w = rw (w .long, w .read, bytesOf, w .few)
+  large-under : (p : Problem) → short ≡ false → readProblem t ≡ Stream.given p → tooLarge p ≡ true → blocksVerdict short t .refusal ≡ problemRefusal 7 0
+  unfolding blocksVerdict
+  large-under p f e l = rw (problem-large short t p f e l)
 
   within-under : BothWithin short s t → (blocksVerdict short t .refusal ≡ noRefusal) × BlocksInside (bytesLeft short s out) (bytesLeft short t out)
-  unfolding blocksVerdict blocksOf
+  unfolding blocksVerdict bytesLeft
   within-under b =
       let p = b .problem in
-      let q = b .other in (
-        ap (λ (v : BlocksVerdict). v .refusal) (opened refuse answer blocksRead (λ n place. refl) (λ p. refl) short t q (b .second)),
-        rw (bytes-within s p (b .first), bytes-within t q (b .second)) (bytes-inside p q (b .more) (drop blockByteCount out)),
-      )
+      let q = b .other in
+      rw (problem-within short s p (b .first), problem-within short t q (b .second)) (refl, bytes-inside p q (b .more) (drop blockByteCount out))
 
   under-inside : blocksVerdict short s .refusal .number ≡ 0 → UnlessSeven (blocksVerdict short t .refusal) (BlocksInside (bytesLeft short s out) (bytesLeft short t out))
-  under-inside h = go (under short s t leads (unfold blocksVerdict blocksOf in opens refuse answer blocksRead (λ n place. refl) (λ p. refl) short s (λ v. v .refusal .number) (λ r. refl) h))
+  under-inside h = go (under short s t leads (blocks-opens short s h))
     where
       go : Under short s t → UnlessSeven (blocksVerdict short t .refusal) (BlocksInside (bytesLeft short s out) (bytesLeft short t out))
       go (large q f e l) = inl (large-under q f e l)
       go (both b) = inr (within-under b)
 
   under-seven : blocksVerdict short s .refusal .number ≡ 7 → blocksVerdict short t .refusal ≡ problemRefusal 7 0
-  under-seven h =
-      let k = seven-large short s h in
+  under-seven =
+      blocks-by short s out (λ v bytes. v .refusal .number ≡ 7 → blocksVerdict short t .refusal ≡ problemRefusal 7 0)
+      (λ r b h.
+      let k = b .seven h .1 in
       let l = leads (k .problem) (k .read) in
-      large-under (l .problem) (k .long) (l .read) (large-other (k .problem) (l .problem) (l .more) (k .large))
+      large-under (l .problem) (k .holds .long) (l .read) (large-other (k .problem) (l .problem) (l .more) (k .holds .large)))
+      (λ p w h. absurd (omega arith))
 
 module _ (short : Bool) (s out : List ℕ) where
   abbrev number : ℕ
@@ -243,19 +229,19 @@ module _ (short : Bool) (s out : List ℕ) where
   clause-larger = kept AtLarger (larger-leads s)
 
   clause-closed : BlocksClosed s number (bytesLeft short s out)
-  clause-closed p read h f = rw (found short s out p read h .bytes) (promise-closed s p read (drop blockByteCount out) f)
+  clause-closed p read h f = rw (found short s out p read h .bytes-are) (promise-closed s p read (drop blockByteCount out) f)
 
   clause-least : BlocksLeast s number (bytesLeft short s out)
-  clause-least p read h f = rw (found short s out p read h .bytes) (promise-least s p read (drop blockByteCount out))
+  clause-least p read h f = rw (found short s out p read h .bytes-are) (promise-least s p read (drop blockByteCount out))
 
   clause-after : BlocksAfter s number (bytesLeft short s out) (blocksVerdict short s .rounds)
-  clause-after p read h = let f = found short s out p read h in rw (f .bytes, f .rounds) (promise-after s p read (drop blockByteCount out))
+  clause-after p read h = let f = found short s out p read h in rw (f .bytes-are, f .rounds) (promise-after s p read (drop blockByteCount out))
 
   clause-lowest : BlocksLowest s number (bytesLeft short s out)
-  clause-lowest p read h = rw (found short s out p read h .bytes) (promise-lowest s p read (drop blockByteCount out))
+  clause-lowest p read h = rw (found short s out p read h .bytes-are) (promise-lowest s p read (drop blockByteCount out))
 
   clause-counted : BlocksCounted s number (bytesLeft short s out) (blocksVerdict short s .blocks)
-  clause-counted p read h = let f = found short s out p read h in f .blocks ∙ rw (f .bytes) (promise-counted s p read (drop blockByteCount out))
+  clause-counted p read h = let f = found short s out p read h in f .blocks ∙ rw (f .bytes-are) (promise-counted s p read (drop blockByteCount out))
 
   clause-rounds : RoundsTaken s number (blocksVerdict short s .rounds)
   clause-rounds p read h = rw (found short s out p read h .rounds) (promise-rounds s p read)
@@ -264,33 +250,24 @@ module _ (short : Bool) (s out : List ℕ) where
   clause-few p read h = rw (found short s out p read h .rounds) (promise-few s p read)
 
   pub clause-seven : SevenExactly short s (blocksVerdict short s .refusal)
-  unfolding blocksVerdict blocksOf
+  unfolding blocksVerdict
   clause-seven =
-      seven-exactly refuse answer blocksRead (λ n place. refl) (λ p. refl) short s (λ v. v .refusal) (λ r. refl) (λ p h. omega arith)
+      seven-exactly short s refusedBlocks (λ p. given (foundBlocks p)) (λ v. v .refusal) (λ r. refl)
+      (blocks-by short s out (λ v bytes. Seven s (v .refusal)) (λ r b. seven-of short s r b) (λ p w h. absurd (omega arith)))
 
   clause-numbered : NumberedTo 7 number
-  unfolding blocksVerdict blocksOf
-  clause-numbered = go (ends refuse answer blocksRead (λ n place. refl) (λ p. refl) short s)
-    where
-      go : {v : BlocksVerdict} → Ends refuse answer blocksRead (λ n place. refl) (λ p. refl) short s v → v .refusal .number ≤ 7
-      go (before n place b e) = rw e (b .most)
-      go (within p r e) = rw e (omega arith)
+  clause-numbered = blocks-by short s out (λ v bytes. v .refusal .number ≤ 7) (λ r b. b .most) (λ p w. omega arith)
 
   clause-rule : RuleUsed s number (blocksVerdict short s .rule)
-  unfolding blocksVerdict blocksOf
-  clause-rule = go (ends refuse answer blocksRead (λ n place. refl) (λ p. refl) short s)
-    where
-      go : {v : BlocksVerdict} → Ends refuse answer blocksRead (λ n place. refl) (λ p. refl) short s v → RuleUsed s (v .refusal .number) (v .rule)
-      go (before n place b e) = rw e (record { named = λ h. absurd (omega (arith, b .least)); refused = λ _. refl })
-      go (within p r e) = rw e (record { named = λ _. read-rule s p r; refused = λ h. absurd (omega arith) })
+  clause-rule =
+      blocks-by short s out (λ v bytes. RuleUsed s (v .refusal .number) (v .rule))
+      (λ r b. record { named = λ h. absurd (omega (arith, b .least)); refused = λ _. refl })
+      (λ p w. record { named = λ _. read-rule s p (w .read); refused = λ h. absurd (omega arith) })
 
   clause-zeros : BlocksZeros (blocksVerdict short s)
-  unfolding blocksVerdict blocksOf
-  clause-zeros = go (ends refuse answer blocksRead (λ n place. refl) (λ p. refl) short s)
-    where
-      go : {v : BlocksVerdict} → Ends refuse answer blocksRead (λ n place. refl) (λ p. refl) short s v → BlocksZeros v
-      go (before n place b e) = rw e (blocks-refused n place (b .least))
-      go (within p r e) = rw e (blocks-accepted (blockTotal p) (closing p .rounds) (p .rule))
+  clause-zeros =
+      blocks-by short s out (λ v bytes. BlocksZeros v) (λ r b. blocks-refused r (refused-zeros r (b .least) (λ _. b .key)))
+      (λ p w. blocks-accepted (blockTotal p) (closing p .rounds) (p .rule))
 
   -- all of them, of a verdict and bytes that are the definitions'
   pub clauses : (v : BlocksVerdict) (bytes : List ℕ) → v ≡ blocksVerdict short s → bytes ≡ bytesLeft short s out

@@ -24,7 +24,7 @@ use Rattle.calls.specs.declared.Fraction.{Fraction}
 use Rattle.calls.specs.Adjusted.{changesOf, absoluteSum, movedBound, ChangesFit, EveryBox, Moved}
 use Rattle.calls.specs.RingAdjusted.{ChangedBelowIn}
 use Rattle.calls.proofs.AdjustedBounds.{sum-size, moved-nonneg, box-nonneg, Fits, changes-fit}
-use Rattle.calls.proofs.Ends.{reads-at}
+use Rattle.calls.proofs.Refusing.{reads-at}
 
 module _ {A : Type 0} (R : OrderedRing A) where
   open OrderedRing R using (ring, order)

@@ -14,7 +14,7 @@ use Rattle.accepting.proofs.RingBounds.{accepted-below-in, accepted-above-in}
 use Rattle.calls.specs.Check.{boundOf, checkVerdict}
 use Rattle.calls.specs.RingPromises.{SideHoldsIn}
 use Rattle.calls.specs.Superseding.{HoldingPart}
-use Rattle.calls.proofs.Ends.{reads-at}
+use Rattle.calls.proofs.Refusing.{reads-at}
 use Rattle.calls.proofs.Checking.{Checked, check-found}
 
 module _ {A : Type 0} (R : OrderedRing A) (s : List ℕ) (p : Problem) (read : readProblem s ≡ given p) where

@@ -11,26 +11,20 @@ use lib.ListN.{length}
 use borrow.Author.Tests.{eq-eqb, ne-eqb, eqb-true, eqb-false, ltb-false}
 use Rattle.counting.proofs.Cases.{clash}
 use Rattle.counting.proofs.Listed.{same-or-not}
-use Rattle.format.specs.Commands.{Outcome, refused, given}
-use Rattle.format.specs.ProblemRules.{Problem, readProblem}
-use Rattle.format.proofs.ProblemLimits.{read-limits}
-use Rattle.format.proofs.WithinLimits.{Limits}
+use Rattle.format.specs.ProblemRules.{Problem}
 use Rattle.format.specs.CertificateRules.{Certificate}
 use Rattle.format.specs.declared.certificate.Header.{Header}
 use Rattle.format.specs.RowOrder.{OtherOrder}
 use Rattle.format.proofs.RowOrder.{other-back}
-use Rattle.joining_rule.specs.Joining.{closing, tooLarge}
-use Rattle.accepting.specs.Judgement.{Judgement, judge}
+use Rattle.joining_rule.specs.Joining.{closing}
 use Rattle.accepting.specs.Judgement as J
-use Rattle.accepting.proofs.Accepted.{judge-accepted, accepted-judge}
 use Rattle.accepting.proofs.RowOrder.{order-accepted}
 use Rattle.calls.specs.declared.CheckVerdict.{CheckVerdict}
 use Rattle.calls.specs.declared.PairVerdict.{PairVerdict}
-use Rattle.calls.specs.Refusals.{problemRefusal}
-use Rattle.calls.specs.Check.{refusedCheck, acceptedCheck, checkJudged, checkRead, checkOf, checkVerdict}
-use Rattle.calls.specs.Pair.{refusedPair, pairSides, pairSecond, pairFirst, pairRead, pairOf, pairVerdict}
+use Rattle.calls.specs.Check.{acceptedCheck, checkVerdict}
+use Rattle.calls.specs.Pair.{acceptedPair, pairVerdict}
 use Rattle.calls.specs.RowOrder.{Rearranged, Alike, checkNumber, pairNumber}
-use Rattle.calls.proofs.Judged.{judge-number}
+use Rattle.calls.proofs.Endings.{check-by, check-accepted-by, pair-by, pair-accepted-by}
 
 -- ---- verdicts that are alike
 module _ {A : Type 0} (number : A → ℕ) where
@@ -60,42 +54,24 @@ pub rearranged-back : {t u : List ℕ} → Rearranged t u → Rearranged u t
 rearranged-back (inl e) = inl (sym e)
 rearranged-back (inr o) = inr (other-back o)
 
-record JudgedAlike (p : Problem) (u : List ℕ) (c : Certificate) : Type 0 where
+record AcceptedAlike (p : Problem) (u : List ℕ) (c : Certificate) : Type 0 where
   other : Certificate
-  accepted : judge p u ≡ J.accepted other
+  accepted : J.Accepted p u other
   header : other .header ≡ c .header
 
-judged-alike : (p : Problem) {t u : List ℕ} → Limits p → Rearranged t u → (c : Certificate) → judge p t ≡ J.accepted c
-    → JudgedAlike p u c
-judged-alike p {t} {u} limits (inl e) c j = record { other = c; accepted = rw e j; header = refl }
-judged-alike p {t} {u} limits (inr o) c j =
-    let a = order-accepted o c (judge-accepted p limits t c j) in
-    record { other = a .other; accepted = accepted-judge p u (a .other) (a .accepted); header = a .header }
+accepted-alike : (p : Problem) {t u : List ℕ} → Rearranged t u → (c : Certificate) → J.Accepted p t c → AcceptedAlike p u c
+accepted-alike p (inl e) c a = record { other = c; accepted = rw e a; header = refl }
+accepted-alike p (inr o) c a = let k = order-accepted o c a in record { other = k .other; accepted = k .accepted; header = k .header }
 
 module _ (short : Bool) (s : List ℕ) where
   -- ---- the check
   check-order : {t u : List ℕ} → Rearranged t u → checkNumber (checkVerdict short s t) ≡ 0
       → checkVerdict short s u ≡ checkVerdict short s t
-  unfolding checkVerdict checkOf
-  check-order {t} {u} o = go short (readProblem s) refl
-    where
-      judged : (p : Problem) → readProblem s ≡ given p → (large : Bool) (j : Judgement) → judge p t ≡ j
-          → checkNumber (cond large (refusedCheck (problemRefusal 7 0)) (checkJudged p j)) ≡ 0
-          → cond large (refusedCheck (problemRefusal 7 0)) (checkJudged p (judge p u))
-          ≡ cond large (refusedCheck (problemRefusal 7 0)) (checkJudged p j)
-      judged p e true j f h = refl
-      judged p e false (J.refused n place key) f h = absurd (omega (arith, judge-number p t n place key f .least))
-      judged p e false (J.accepted c) f h =
-          let k = judged-alike p (read-limits s p e) o c f in
-          rw (k .accepted) (ap (λ (x : Header). acceptedCheck x (closing p .rounds) (p .rule)) (k .header))
-
-      go : (b : Bool) (r : Outcome Problem) → readProblem s ≡ r
-          → checkNumber (cond b (refusedCheck (problemRefusal 1 0)) (checkRead r t)) ≡ 0
-          → cond b (refusedCheck (problemRefusal 1 0)) (checkRead r u)
-          ≡ cond b (refusedCheck (problemRefusal 1 0)) (checkRead r t)
-      go true r e h = refl
-      go false (refused n place) e h = refl
-      go false (given p) e h = judged p e (tooLarge p) (judge p t) refl h
+  check-order {t} {u} o =
+      check-by short s t (λ v. checkNumber v ≡ 0 → checkVerdict short s u ≡ v) (λ r b h. absurd (omega (arith, b .least))) (λ p w c a h.
+      let k = accepted-alike p o c a in
+      check-accepted-by short s u p (k .other) w (k .accepted)
+      ∙ ap (λ (x : Header). acceptedCheck x (closing p .rounds) (p .rule)) (k .header))
 
   pub check-alike : {t u : List ℕ} → Rearranged t u
       → Alike checkNumber (checkVerdict short s t) (checkVerdict short s u)
@@ -104,35 +80,17 @@ module _ (short : Bool) (s : List ℕ) where
   -- ---- the pair: the rows of either certificate
   pair-order : {low low′ high high′ : List ℕ} → Rearranged low low′ → Rearranged high high′
       → pairNumber (pairVerdict short s low high) ≡ 0 → pairVerdict short s low′ high′ ≡ pairVerdict short s low high
-  unfolding pairVerdict pairOf
-  pair-order {low} {low′} {high} {high′} o u = go short (readProblem s) refl
-    where
-      second : (p : Problem) → Limits p → (c : Certificate) → judge p low ≡ J.accepted c → (j : Judgement)
-          → judge p high ≡ j
-          → pairNumber (pairSecond p c j) ≡ 0 → pairFirst p (judge p low′) high′ ≡ pairSecond p c j
-      second p l c e (J.refused n place key) f h = absurd (omega (arith, judge-number p high n place key f .least))
-      second p l c e (J.accepted d) f h =
-          let k = judged-alike p l o c e in
-          let m = judged-alike p l u d f in
-          rw (k .accepted, m .accepted) (ap₂ (λ (x y : Header). pairSides x y (closing p .rounds) (p .rule)) (k .header) (m .header))
-
-      whole : Problem → Bool → Judgement → List ℕ → PairVerdict
-      whole p large i t = cond large (refusedPair (problemRefusal 7 0)) (pairFirst p i t)
-
-      first : (p : Problem) → Limits p → (large : Bool) (i : Judgement) → judge p low ≡ i
-          → pairNumber (whole p large i high) ≡ 0
-          → whole p large (judge p low′) high′ ≡ whole p large i high
-      first p l true i e h = refl
-      first p l false (J.refused n place key) e h = absurd (omega (arith, judge-number p low n place key e .least))
-      first p l false (J.accepted c) e h = second p l c e (judge p high) refl h
-
-      go : (b : Bool) (r : Outcome Problem) → readProblem s ≡ r
-          → pairNumber (cond b (refusedPair (problemRefusal 1 0)) (pairRead r low high)) ≡ 0
-          → cond b (refusedPair (problemRefusal 1 0)) (pairRead r low′ high′)
-          ≡ cond b (refusedPair (problemRefusal 1 0)) (pairRead r low high)
-      go true r e h = refl
-      go false (refused n place) e h = refl
-      go false (given p) e h = first p (read-limits s p e) (tooLarge p) (judge p low) refl h
+  pair-order {low} {low′} {high} {high′} o u =
+      pair-by short s low high (λ v. pairNumber v ≡ 0 → pairVerdict short s low′ high′ ≡ v) (λ r b h. absurd (omega (arith, b .least))) (λ p w c d b h.
+      let k = accepted-alike p o c (b .first) in
+      let m = accepted-alike p u d (b .second) in
+      pair-accepted-by short s low′ high′ p (k .other) (m .other) w (record {
+        first = k .accepted;
+        second = m .accepted;
+        lower = ap (λ (x : Header). x .side) (k .header) ∙ b .lower;
+        upper = ap (λ (x : Header). x .side) (m .header) ∙ b .upper;
+      })
+      ∙ ap₂ (λ (x y : Header). acceptedPair x y (closing p .rounds) (p .rule)) (k .header) (m .header))
 
   pub pair-alike : {low low′ high high′ : List ℕ} → Rearranged low low′ → Rearranged high high′
       → Alike pairNumber (pairVerdict short s low high) (pairVerdict short s low′ high′)

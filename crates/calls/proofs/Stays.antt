@@ -17,8 +17,9 @@ use Rattle.calls.specs.Pair.{refusedPair, pairVerdict}
 use Rattle.calls.specs.Promises.{Reads, Within}
 use Rattle.calls.specs.Rules.{Unless, KeptUnless, SameBound, SameBounds}
 use Rattle.calls.proofs.Rules.{AllLead, BothWithin, Under, large, both, under}
-use Rattle.calls.proofs.Checking.{check-large, check-opens, check-stays}
-use Rattle.calls.proofs.Pairing.{pair-large, pair-opens, pair-stays}
+use Rattle.calls.proofs.Endings.{check-large, pair-large}
+use Rattle.calls.proofs.Checking.{check-opens, check-stays}
+use Rattle.calls.proofs.Pairing.{pair-opens, pair-stays}
 
 -- 7 applies to the problem of t
 pub record AllSeven (short : Bool) (t : List ℕ) : Type 0 where

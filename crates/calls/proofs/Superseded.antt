@@ -35,7 +35,7 @@ use Rattle.calls.specs.Superseding.{Tightest, TighterBack}
 use Rattle.calls.specs.Superseding.{AloneBack, FirstRefusal, SidesDiffer, ElevenExactly}
 use Rattle.calls.specs.Superseding.{SupersedingNumbered, ChosenZeros, PartZeros}
 use Rattle.calls.proofs.Zeros.{none-zeros, certificate-zeros}
-use Rattle.calls.proofs.Ends.{reads-at}
+use Rattle.calls.proofs.Refusing.{reads-at}
 use Rattle.calls.proofs.Checking.{Checked, given-once, check-found, check-clauses, check-zeros}
 
 -- ---- how two verdicts of the check are decided on

@@ -8,23 +8,23 @@ use lib.Bits.{bitXor, xor-lt}
 use lib.Count.{ones}
 use lib.ListN.{length, getD, drop, List·getD-append}
 use lib.Pow.{pow-mono, pow-pos}
-use Rattle.format.specs.Commands.{Outcome, refused, given}
+use Rattle.format.specs.Commands as Stream
 use Rattle.format.specs.ProblemRules.{Problem, readProblem}
 use Rattle.format.specs.ProblemBases.{basisOf}
 use Rattle.format.proofs.WithinLimits.{Limits}
 use Rattle.format.proofs.ProblemLimits.{read-limits}
 use Rattle.joining_rule.specs.Bytes.{blockByteCount, blockBytes, blockAt}
-use Rattle.joining_rule.specs.Joining.{closing, tooLarge}
-use Rattle.calls.specs.Refusals.{noRefusal}
-use Rattle.calls.specs.declared.BlocksVerdict.{BlocksVerdict}
+use Rattle.joining_rule.specs.Joining.{closing}
+use Rattle.calls.specs.declared.Refusal.{Refusal}
 use Rattle.calls.specs.declared.SymmetriesVerdict.{SymmetriesVerdict}
-use Rattle.calls.specs.Blocks.{refusedBlocks, blocksOf, blocksRead, blocksVerdict, bytesOf, bytesLeft}
-use Rattle.calls.specs.Promises.{NumberedTo, SevenExactly}
+use Rattle.calls.specs.Outcome.{given, _then_, told}
+use Rattle.calls.specs.Blocks.{refusedBlocks, foundBlocks, blocksVerdict, bytesLeft}
+use Rattle.calls.specs.Promises.{NumberedTo, Reads, Within, SevenExactly}
 use Rattle.calls.specs.Zeros.{SymmetriesZeros}
-use Rattle.calls.specs.Symmetries.{meetsEvenly, meetsAll, exponentsOf, symmetriesOf, refusedSymmetries, symmetriesFor, symmetriesRead, symmetriesVerdict, maskBytes, masksFor, masksLeft}
+use Rattle.calls.specs.Symmetries.{meetsEvenly, meetsAll, exponentsOf, symmetriesOf, refusedSymmetries, foundSymmetries, symmetriesVerdict, maskBytes, masksLeft}
 use Rattle.calls.specs.Symmetries.{RefusesAsBlocks, Symmetry, IsListed, ListsEach, EverySymmetry, InOneBlock, EvenInBlocks, PowerOfTwo, Group, SymmetryGroup}
-use Rattle.calls.proofs.Judged.{problem-number}
-use Rattle.calls.proofs.Zeros.{symmetries-refused, symmetries-accepted}
+use Rattle.calls.proofs.Refusing.{ProblemRefused, reads-at, problem-by, problem-within}
+use Rattle.calls.proofs.Zeros.{refused-zeros, symmetries-refused, symmetries-accepted}
 use Rattle.calls.proofs.Promised.{bytes-agree, clauses, clause-seven}
 use Rattle.calls.proofs.Doubling.{closed-power}
 use Rattle.calls.proofs.Evenness.{meets-xor}
@@ -116,32 +116,30 @@ module _ (p : Problem) (limits : Limits p) where
 
 -- ---- from the verdict and the bytes to the clauses
 
+-- a property of what the call returns and leaves, by how it ends
+symmetries-by : (short : Bool) (s out : List ℕ) (P : SymmetriesVerdict → List ℕ → Type 0)
+    → ((r : Refusal) → ProblemRefused short s r → P (refusedSymmetries r) out)
+    → ((p : Problem) → Within short s p → P (foundSymmetries p) (maskBytes (symmetriesOf p) out))
+    → P (symmetriesVerdict short s) (masksLeft short s out)
+unfolding symmetriesVerdict masksLeft
+symmetries-by short s out P =
+    problem-by short s
+    (λ o. P (told refusedSymmetries (o then λ p. given (foundSymmetries p))) (told (λ _. out) (o then λ p. given (maskBytes (symmetriesOf p) out))))
+
 -- what is found where nothing is refused
-record Found (short : Bool) (s out : List ℕ) (p : Problem) : Type 0 where
-  few : tooLarge p ≡ false
-  masks : symmetriesVerdict short s .masks ≡ length (symmetriesOf p)
-  bytes : masksLeft short s out ≡ maskBytes (symmetriesOf p) out
-
-never : {X : Type 0} (n : ℕ) → suc n ≡ 0 → X
-never n e = absurd (omega arith)
-
-abbrev answer : Problem → SymmetriesVerdict
-answer p = record { refusal = noRefusal; masks = length (symmetriesOf p) }
+record Found (short : Bool) (s out : List ℕ) (v : SymmetriesVerdict) (bytes : List ℕ) (p : Problem) : Type 0 where
+  within : Within short s p
+  masks : v .masks ≡ length (symmetriesOf p)
+  bytes-are : bytes ≡ maskBytes (symmetriesOf p) out
 
 module _ (short : Bool) (s out : List ℕ) where
   -- "uses refusals 1 to 7 as the blocks call does"
   as-blocks : RefusesAsBlocks short s (symmetriesVerdict short s)
-  unfolding symmetriesVerdict blocksVerdict symmetriesFor blocksOf
-  as-blocks = go short (readProblem s)
-    where
-      by-size : (p : Problem) (v : BlocksVerdict) (t : Bool) → v .refusal ≡ noRefusal → cond t (refusedSymmetries 7 0) (answer p) .refusal ≡ cond t (refusedBlocks 7 0) v .refusal
-      by-size p v true e = refl
-      by-size p v false e = sym e
-
-      go : (b : Bool) (o : Outcome Problem) → cond b (refusedSymmetries 1 0) (symmetriesRead o) .refusal ≡ cond b (refusedBlocks 1 0) (blocksRead o) .refusal
-      go true o = refl
-      go false (refused n place) = refl
-      go false (given p) = by-size p _ (tooLarge p) refl
+  unfolding symmetriesVerdict blocksVerdict
+  as-blocks =
+      problem-by short s
+      (λ o. told refusedSymmetries (o then λ p. given (foundSymmetries p)) .refusal ≡ told refusedBlocks (o then λ p. given (foundBlocks p)) .refusal)
+      (λ r b. refl) (λ p w. refl)
 
   clause-numbered : NumberedTo 7 (symmetriesVerdict short s .refusal .number)
   clause-numbered = rw as-blocks (clauses short s out (blocksVerdict short s) _ refl refl .0)
@@ -150,54 +148,46 @@ module _ (short : Bool) (s out : List ℕ) where
   as-seven = rw as-blocks (clause-seven short s out)
 
   clause-zeros : SymmetriesZeros (symmetriesVerdict short s)
-  unfolding symmetriesVerdict symmetriesFor
-  clause-zeros = go short (readProblem s) refl
-    where
-      by-size : (p : Problem) (t : Bool) → SymmetriesZeros (cond t (refusedSymmetries 7 0) (answer p))
-      by-size p true = symmetries-refused 7 0 (omega arith)
-      by-size p false = symmetries-accepted _
+  clause-zeros =
+      symmetries-by short s out (λ v bytes. SymmetriesZeros v)
+      (λ r b. symmetries-refused r (refused-zeros r (b .least) (λ _. b .key))) (λ p w. symmetries-accepted _)
 
-      go : (b : Bool) (o : Outcome Problem) → readProblem s ≡ o → SymmetriesZeros (cond b (refusedSymmetries 1 0) (symmetriesRead o))
-      go true o e = symmetries-refused 1 0 (omega arith)
-      go false (refused n place) e = symmetries-refused n place (problem-number s n place e .least)
-      go false (given p) e = by-size p (tooLarge p)
-
-  module _ (p : Problem) (read : readProblem s ≡ given p) (h : symmetriesVerdict short s .refusal .number ≡ 0) where
-    found : Found short s out p
-    unfolding symmetriesVerdict masksLeft symmetriesFor masksFor
-    found = go short (tooLarge p) refl (rw read at h)
+  module _ (p : Problem) (read : readProblem s ≡ Stream.given p) (h : symmetriesVerdict short s .refusal .number ≡ 0) where
+    found : Found short s out (symmetriesVerdict short s) (masksLeft short s out) p
+    found = reads-at s (Found short s out (symmetriesVerdict short s) (masksLeft short s out)) (reads h) p read
       where
-        go : (b t : Bool) → tooLarge p ≡ t → cond b (refusedSymmetries 1 0) (cond t (refusedSymmetries 7 0) (answer p)) .refusal .number ≡ 0 → Found b s out p
-        go true t e h = never 0 h
-        go false true e h = never 6 h
-        go false false e h = record { few = e; masks = rw (read, symmetriesFor, e); bytes = rw (read, masksFor, e) }
+        reads : symmetriesVerdict short s .refusal .number ≡ 0 → Reads s (Found short s out (symmetriesVerdict short s) (masksLeft short s out))
+        reads =
+            symmetries-by short s out (λ v bytes. v .refusal .number ≡ 0 → Reads s (Found short s out v bytes))
+            (λ r b h. absurd (omega (arith, b .least)))
+            (λ q w h. record { problem = q; read = w .read; holds = record { within = w; masks = refl; bytes-are = refl } })
 
     -- the bytes that the blocks call leaves for the same stream tell the blocks
-    told : (lent : List ℕ) → bytesLeft false s lent ≡ blockBytes (closing p .state .labels) ++ drop blockByteCount lent
-    unfolding bytesLeft bytesOf
-    told lent = rw (read, bytesOf, found .few)
+    labels-told : (lent : List ℕ) → bytesLeft false s lent ≡ blockBytes (closing p .state .labels) ++ drop blockByteCount lent
+    unfolding bytesLeft
+    labels-told lent = let w = found .within in rw (problem-within false s p (record { long = refl; read = w .read; few = w .few }))
 
     one-block : (lent : List ℕ) (j i k : ℕ) → InOneBlock p (blockAt (bytesLeft false s lent)) j i k
         → getD (getD (closing p .state .labels) j []) i 0 ≡ getD (getD (closing p .state .labels) j []) k 0
     unfolding closing
     one-block lent j i k b =
         let a = bytes-agree s p read (drop blockByteCount lent) in
-        a .at j i (b .basis) (b .first) ∙ (rw (told lent) at (b .same)) ∙ sym (a .at j k (b .basis) (b .second))
+        a .at j i (b .basis) (b .first) ∙ (rw (labels-told lent) at (b .same)) ∙ sym (a .at j k (b .basis) (b .second))
 
   clause-every : EverySymmetry s (symmetriesVerdict short s .refusal .number) (symmetriesVerdict short s .masks) (masksLeft short s out)
   unfolding maskBytes
-  clause-every p read h = let f = found p read h in rw (f .masks, f .bytes, maskBytes) (lists-each p (read-limits s p read) _)
+  clause-every p read h = let f = found p read h in rw (f .masks, f .bytes-are, maskBytes) (lists-each p (read-limits s p read) _)
 
   clause-even : EvenInBlocks s (symmetriesVerdict short s .refusal .number) (symmetriesVerdict short s .masks) (masksLeft short s out)
   unfolding maskBytes
   clause-even p read h lent j i k m b c =
       let f = found p read h in
-      rw (f .bytes, maskBytes)
+      rw (f .bytes-are, maskBytes)
       (listed-even p (read-limits s p read) _ m (rw (f .masks) at c) j i k (b .basis) (b .first) (b .second) (one-block p read h lent j i k b))
 
   clause-group : SymmetryGroup s (symmetriesVerdict short s .refusal .number) (symmetriesVerdict short s .masks) (masksLeft short s out)
   unfolding maskBytes
-  clause-group p read h = let f = found p read h in rw (f .masks, f .bytes, maskBytes) (are-group p (read-limits s p read) _)
+  clause-group p read h = let f = found p read h in rw (f .masks, f .bytes-are, maskBytes) (are-group p (read-limits s p read) _)
 
   -- all of them, of a verdict and bytes that are the definitions'
   pub symmetry-clauses : (v : SymmetriesVerdict) (bytes : List ℕ) → v ≡ symmetriesVerdict short s → bytes ≡ masksLeft short s out

@@ -14,9 +14,9 @@ use Rattle.counting.specs.Counting.{Bounded}
 use Rattle.counting.proofs.Bounded.{bounded-part}
 use Rattle.counting.proofs.Cases.{lt-or-le}
 use Rattle.format.specs.All.{All}
-use Rattle.format.specs.Commands.{Outcome, refused, given}
+use Rattle.format.specs.Commands.{given}
 use Rattle.format.specs.Operands.{number, signed}
-use Rattle.format.specs.ProblemRules.{Problem, readProblem}
+use Rattle.format.specs.ProblemRules.{Problem}
 use Rattle.format.specs.CertificateLayout.{certificateDecoded}
 use Rattle.format.specs.CertificateRules.{Certificate, noCertificate, certificateApplied, certificateNext}
 use Rattle.format.specs.CertificateRules.{certificateCommandAt, certificateLanguage, readCertificate}
@@ -25,21 +25,15 @@ use Rattle.format.specs.declared.certificate.Command.the-variants as C
 use Rattle.format.specs.declared.certificate.Header.{Header}
 use Rattle.format.proofs.CertificateLimits.{all-within}
 use Rattle.format.proofs.Numbers.{lower, upper, number-low}
-use Rattle.format.proofs.ProblemLimits.{read-limits}
 use Rattle.format.proofs.Run.{read-induction}
-use Rattle.format.proofs.WithinLimits.{Limits}
-use Rattle.joining_rule.specs.Joining.{closing, tooLarge}
-use Rattle.accepting.specs.Judgement.{Judgement, judge}
-use Rattle.accepting.specs.Judgement as J
-use Rattle.accepting.proofs.Accepted.{judge-accepted}
 use Rattle.calls.specs.declared.PairVerdict.{PairVerdict}
 use Rattle.calls.specs.declared.Refusal.{Refusal}
-use Rattle.calls.specs.Pair.{refusedPair, acceptedPair, pairSides, pairSecond, pairFirst, pairOf, pairRead, pairVerdict}
-use Rattle.calls.specs.Refusals.{problemRefusal, certificateRefusal}
+use Rattle.calls.specs.Pair.{refusedPair, pairVerdict}
 use Rattle.calls.specs.Report.{Runs, lowStart, highStart, runsAt, recordsOf, pairOn, recordBytes}
 use Rattle.calls.specs.Report.{noRuns, EachRecord, Told, EachTold, RecordZeros, EachZeros}
 use Rattle.calls.specs.Zeros.{PairZeros}
 use Rattle.calls.proofs.Records.{records-induction}
+use Rattle.calls.proofs.Endings.{pair-by}
 use Rattle.calls.proofs.Pairing.{pair-clauses, pair-zeros}
 use Rattle.calls.proofs.RecordFields.{Small, up, down, record-told}
 
@@ -91,46 +85,12 @@ record Fields (v : PairVerdict) : Type 0 where
 refused-fields : (r : Refusal) → r .stream ≤ 2 → Fields (refusedPair r)
 refused-fields r h = record { p = up 0 (lit< tt); q = lit< tt; P = up 0 (lit< tt); Q = lit< tt; stream = omega arith }
 
-sides-fields : (t u : Header) (rounds rule : ℕ) → Narrow t → Narrow u → Fields (pairSides t u rounds rule)
-unfolding pairSides
-sides-fields t u rounds rule n m = go (eqb (t .side) 0) (eqb (u .side) 1)
-  where
-    go : (a b : Bool) → Fields
-        (cond a
-        (cond b (acceptedPair t u rounds rule) (refusedPair (certificateRefusal 2 10 0 0)))
-        (refusedPair (certificateRefusal 1 10 0 0)))
-    go true true = record { p = n .p; q = n .q; P = m .p; Q = m .q; stream = lit< tt }
-    go true false = refused-fields (certificateRefusal 2 10 0 0) (omega arith)
-    go false b = refused-fields (certificateRefusal 1 10 0 0) (omega arith)
-
-module _ (low high : List ℕ) (low-bytes : Bounded 255 low) (high-bytes : Bounded 255 high) where
-  module _ (p : Problem) (limits : Limits p) where
-    second-fields : (c : Certificate) → Narrow (c .header) → (j : Judgement) → judge p high ≡ j → Fields (pairSecond p c j)
-    second-fields c n (J.refused number place key) e = refused-fields (certificateRefusal 2 number place key) (omega arith)
-    second-fields c n (J.accepted d) e =
-        sides-fields (c .header) (d .header) (closing p .rounds) (p .rule) n
-        (read-narrow high high-bytes p d (judge-accepted p limits high d e .read))
-
-    first-fields : (i : Judgement) → judge p low ≡ i → Fields (pairFirst p i high)
-    first-fields (J.refused number place key) e = refused-fields (certificateRefusal 1 number place key) (omega arith)
-    first-fields (J.accepted c) e =
-        second-fields c (read-narrow low low-bytes p c (judge-accepted p limits low c e .read)) (judge p high) refl
-
-    of-fields : Fields (pairOf p low high)
-    unfolding pairOf
-    of-fields = go (tooLarge p)
-      where
-        go : (large : Bool) → Fields (cond large (refusedPair (problemRefusal 7 0)) (pairFirst p (judge p low) high))
-        go true = refused-fields (problemRefusal 7 0) (omega arith)
-        go false = first-fields (judge p low) refl
-
-  pair-fields : (s : List ℕ) → Fields (pairVerdict false s low high)
-  unfolding pairVerdict
-  pair-fields s = go (readProblem s) refl
-    where
-      go : (o : Outcome Problem) → readProblem s ≡ o → Fields (pairRead o low high)
-      go (refused number place) e = refused-fields (problemRefusal number place) (omega arith)
-      go (given p) e = of-fields p (read-limits s p e)
+pair-fields : (s low high : List ℕ) → Bounded 255 low → Bounded 255 high → Fields (pairVerdict false s low high)
+pair-fields s low high low-bytes high-bytes =
+    pair-by false s low high Fields (λ r b. refused-fields r (b .stream)) (λ p w c d b.
+    let n = read-narrow low low-bytes p c (b .first .read) in
+    let m = read-narrow high high-bytes p d (b .second .read) in
+    record { p = n .p; q = n .q; P = m .p; Q = m .q; stream = lit< tt })
 
 -- ---- the record of any three runs whose certificates are bytes, whatever stands behind it
 pub record Bytes (r : Runs) : Type 0 where
@@ -140,7 +100,7 @@ pub record Bytes (r : Runs) : Type 0 where
 pub pair-told : (r : Runs) → Bytes r → (rest : List ℕ) → Told (recordBytes (pairOn r) ++ rest) (pairOn r)
 unfolding pairOn
 pair-told r b rest =
-    let f = pair-fields (r .low) (r .high) (b .low) (b .high) (r .problem) in
+    let f = pair-fields (r .problem) (r .low) (r .high) (b .low) (b .high) in
     record-told (pairOn r) (record {
       number = omega (arith, pair-clauses false (r .problem) (r .low) (r .high) (pairOn r) refl .0);
       p = f .p;

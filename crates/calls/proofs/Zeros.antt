@@ -22,23 +22,24 @@ use Rattle.calls.specs.Zeros.{ZeroFraction, RefusalZeros, BlocksZeros, C
 pub none-zeros : RefusalZeros noRefusal
 none-zeros = record { stream = λ _. refl; place = λ _. refl; key = λ _. refl }
 
-pub problem-zeros : (n place : ℕ) → 1 ≤ n → RefusalZeros (problemRefusal n place)
-problem-zeros n place b = record { stream = λ _. refl; place = λ z. absurd (omega arith); key = λ _. refl }
+-- one with a number, whose key is 0 except at 9
+pub refused-zeros : (r : Refusal) → 1 ≤ r .number → ((r .number ≡ 9 → ⊥) → r .key ≡ 0) → RefusalZeros r
+refused-zeros r b k = record { stream = λ z. absurd (omega arith); place = λ z. absurd (omega arith); key = k }
 
--- of a certificate, where the key is 0 except at 9
+pub problem-zeros : (n place : ℕ) → 1 ≤ n → RefusalZeros (problemRefusal n place)
+problem-zeros n place b = refused-zeros (problemRefusal n place) b (λ _. refl)
+
 pub certificate-zeros : (stream n place key : ℕ) → 1 ≤ n → ((n ≡ 9 → ⊥) → key ≡ 0)
     → RefusalZeros (certificateRefusal stream n place key)
-certificate-zeros stream n place key b k =
-    record { stream = λ z. absurd (omega arith); place = λ z. absurd (omega arith); key = k }
+certificate-zeros stream n place key b k = refused-zeros (certificateRefusal stream n place key) b k
 
 -- 0 over 0
 pub zero-fraction : ZeroFraction none
 zero-fraction = record { num = refl; den = refl }
 
 -- ---- verdicts with a refusal
-pub blocks-refused : (n place : ℕ) → 1 ≤ n → BlocksZeros (refusedBlocks n place)
-blocks-refused n place b =
-    record { refusal = problem-zeros n place b; blocks = λ _. refl; rounds = λ _. refl; rule = λ _. refl }
+pub blocks-refused : (r : Refusal) → RefusalZeros r → BlocksZeros (refusedBlocks r)
+blocks-refused r z = record { refusal = z; blocks = λ _. refl; rounds = λ _. refl; rule = λ _. refl }
 
 pub check-refused : (r : Refusal) → RefusalZeros r → CheckZeros (refusedCheck r)
 check-refused r z = record {
@@ -60,8 +61,8 @@ pair-refused r z = record {
   rule = λ _. refl;
 }
 
-pub symmetries-refused : (n place : ℕ) → 1 ≤ n → SymmetriesZeros (refusedSymmetries n place)
-symmetries-refused n place b = record { refusal = problem-zeros n place b; masks = λ _. refl }
+pub symmetries-refused : (r : Refusal) → RefusalZeros r → SymmetriesZeros (refusedSymmetries r)
+symmetries-refused r z = record { refusal = z; masks = λ _. refl }
 
 -- ---- and with none
 pub blocks-accepted : (blocks rounds rule : ℕ)

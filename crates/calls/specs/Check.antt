@@ -1,18 +1,17 @@
 -- What the check returns, for all inputs.
-use mathlib.Core.Bool.{Bool, cond}
+use mathlib.Core.Bool.{Bool}
 use mathlib.Core.List.{List}
 use Prim.Native.Nat.{ℕ}
-use Rattle.format.specs.Commands.{Outcome, refused, given}
-use Rattle.format.specs.ProblemRules.{Problem, readProblem}
-use Rattle.joining_rule.specs.Joining.{closing, tooLarge}
+use Rattle.format.specs.ProblemRules.{Problem}
+use Rattle.joining_rule.specs.Joining.{closing}
 use Rattle.calls.specs.Fractions.{fraction, none}
 use Rattle.calls.specs.declared.Fraction.{Fraction}
 use Rattle.format.specs.declared.certificate.Header.{Header}
-use Rattle.accepting.specs.Judgement.{Judgement, judge}
-use Rattle.accepting.specs.Judgement as J
 use Rattle.calls.specs.declared.Refusal.{Refusal}
 use Rattle.calls.specs.declared.CheckVerdict.{CheckVerdict}
-use Rattle.calls.specs.Refusals.{noRefusal, problemRefusal, certificateRefusal}
+use Rattle.calls.specs.Refusals.{noRefusal}
+use Rattle.calls.specs.Outcome.{Outcome, given, _then_, told}
+use Rattle.calls.specs.Checks.{problemOf, certificateOf}
 
 -- "A refusal .. returns number, stream .., place and key; all other fields are 0"
 abbrev pub refusedCheck : Refusal → CheckVerdict
@@ -27,19 +26,10 @@ abbrev pub acceptedCheck : Header → ℕ → ℕ → CheckVerdict
 acceptedCheck t rounds rule =
     record { refusal = noRefusal; side = t .side; bound = boundOf t; rounds = rounds; rule = rule }
 
-abbrev pub checkJudged : Problem → Judgement → CheckVerdict
-checkJudged p (J.refused number place key) = refusedCheck (certificateRefusal 1 number place key)
-checkJudged p (J.accepted c) = acceptedCheck (c .header) (closing p .rounds) (p .rule)
+-- "the first certificate by commands likewise; 8 by rows; 9"
+abbrev pub checkFor : Problem → List ℕ → Outcome CheckVerdict
+checkFor p t = certificateOf 1 p t then λ c. given (acceptedCheck (c .header) (closing p .rounds) (p .rule))
 
--- "7; the first certificate by commands likewise; 8 by rows; 9"
-unfoldable pub checkOf : Problem → List ℕ → CheckVerdict
-checkOf p s = cond (tooLarge p) (refusedCheck (problemRefusal 7 0)) (checkJudged p (judge p s))
-
-abbrev pub checkRead : Outcome Problem → List ℕ → CheckVerdict
-checkRead (refused number place) s = refusedCheck (problemRefusal number place)
-checkRead (given p) s = checkOf p s
-
--- "Order: 1; the problem by commands .."
+-- "Order: 1; the problem by commands ..; 7"
 unfoldable pub checkVerdict : Bool → List ℕ → List ℕ → CheckVerdict
-checkVerdict short problem certificate =
-    cond short (refusedCheck (problemRefusal 1 0)) (checkRead (readProblem problem) certificate)
+checkVerdict short s t = told refusedCheck (problemOf short s then λ p. checkFor p t)

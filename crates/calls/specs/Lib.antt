@@ -1,5 +1,7 @@
 pub mod Fractions
 pub mod Refusals
+pub mod Outcome
+pub mod Checks
 pub mod Tables
 pub mod Zeros
 pub mod Blocks

@@ -11,16 +11,17 @@ use lib.ListN.{length, getD, drop, replicate}
 use Rattle.counting.specs.Counting.{sumTo}
 use Rattle.polynomial.specs.Monomial.{exponent}
 use Rattle.polynomial.specs.Terms.{keysOf}
-use Rattle.format.specs.Commands.{Outcome, refused, given}
-use Rattle.format.specs.ProblemRules.{Condition, Problem, readProblem}
+use Rattle.format.specs.ProblemRules.{Condition, Problem}
 use Rattle.format.specs.ProblemBases.{basisOf}
 use Rattle.joining_rule.specs.Sets.{In}
 use Rattle.joining_rule.specs.Bytes.{blockAt}
-use Rattle.joining_rule.specs.Joining.{tooLarge}
 use Rattle.calls.specs.Tables.{Tables, tablesShort}
-use Rattle.calls.specs.Refusals.{noRefusal, problemRefusal}
+use Rattle.calls.specs.Refusals.{noRefusal}
+use Rattle.calls.specs.Outcome.{given, _then_, told}
+use Rattle.calls.specs.Checks.{problemOf}
 use Rattle.calls.specs.Blocks.{blocksVerdict, bytesLeft}
 use Rattle.calls.specs.Promises.{WhereAccepted}
+use Rattle.calls.specs.declared.Refusal.{Refusal}
 use Rattle.calls.specs.declared.SymmetriesVerdict.{SymmetriesVerdict}
 
 -- ---- masks and exponents
@@ -70,35 +71,22 @@ unfoldable pub symmetriesShort : List ℕ → Tables → Bool
 symmetriesShort out t = ltb (length out) maskByteCount || tablesShort t
 
 -- ---- the verdict: "It returns their number"; "uses refusals 1 to 7 as the blocks call does"
-abbrev pub refusedSymmetries : ℕ → ℕ → SymmetriesVerdict
-refusedSymmetries number place = record { refusal = problemRefusal number place; masks = 0 }
+abbrev pub refusedSymmetries : Refusal → SymmetriesVerdict
+refusedSymmetries r = record { refusal = r; masks = 0 }
 
-unfoldable pub symmetriesFor : Problem → SymmetriesVerdict
-symmetriesFor p =
-    cond (tooLarge p) (refusedSymmetries 7 0)
-    (record { refusal = noRefusal; masks = length (symmetriesOf p) })
-
-abbrev pub symmetriesRead : Outcome Problem → SymmetriesVerdict
-symmetriesRead (refused number place) = refusedSymmetries number place
-symmetriesRead (given p) = symmetriesFor p
+abbrev pub foundSymmetries : Problem → SymmetriesVerdict
+foundSymmetries p = record { refusal = noRefusal; masks = length (symmetriesOf p) }
 
 unfoldable pub symmetriesVerdict : Bool → List ℕ → SymmetriesVerdict
-symmetriesVerdict short s = cond short (refusedSymmetries 1 0) (symmetriesRead (readProblem s))
+symmetriesVerdict short s = told refusedSymmetries (problemOf short s then λ p. given (foundSymmetries p))
 
 -- ---- the 256 bytes: "lists all sign symmetries .. into 256 lent bytes"; "the rest of the 256 is 0"; "a refusal leaves
 -- them untouched, and bytes past them always stay"
 unfoldable pub maskBytes : List ℕ → List ℕ → List ℕ
 maskBytes masks out = masks ++ (replicate (maskByteCount - length masks) 0 ++ drop maskByteCount out)
 
-unfoldable pub masksFor : Problem → List ℕ → List ℕ
-masksFor p out = cond (tooLarge p) out (maskBytes (symmetriesOf p) out)
-
-abbrev pub masksRead : Outcome Problem → List ℕ → List ℕ
-masksRead (refused number place) out = out
-masksRead (given p) out = masksFor p out
-
 unfoldable pub masksLeft : Bool → List ℕ → List ℕ → List ℕ
-masksLeft short s out = cond short out (masksRead (readProblem s) out)
+masksLeft short s out = told (λ _. out) (problemOf short s then λ p. given (maskBytes (symmetriesOf p) out))
 
 -- ---- what the call promises. s is the problem stream, number and masks are what the call returns, and bytes the lent
 -- bytes at exit; short is true where something lent is too short

@@ -19,9 +19,10 @@ use Rattle.joining_rule.specs.Bytes.{blockBytes}
 use Rattle.joining_rule.specs.Joining.{startFrom, startSet, closing, tooLarge, blockTotal}
 use Rattle.accepting.specs.Identity.{square, squares, claimOf, blockOf}
 use Rattle.accepting.specs.Judgement.{firstOutside, rowSplit, splitBy, firstDifference, comparedKeys, differenceKey, judgeRead, judge}
-use Rattle.calls.specs.Blocks.{blocksOf, blocksVerdict, bytesOf, bytesLeft}
-use Rattle.calls.specs.Check.{checkOf, checkVerdict}
-use Rattle.calls.specs.Pair.{pairSides, pairOf, pairVerdict}
+use Rattle.calls.specs.Checks.{problemOf}
+use Rattle.calls.specs.Blocks.{blocksVerdict, bytesLeft}
+use Rattle.calls.specs.Check.{checkVerdict}
+use Rattle.calls.specs.Pair.{pairSides, pairVerdict}
 use Rattle.lines.specs.Lines.{decimal, signedDecimal, ratio, refusalLine, gapWord, pairWords, pairLines}
 
 -- a problem is read
@@ -29,14 +30,14 @@ unfoldable pub reading : Unit {0}
 unfolding listed fromTo sumTo number signed firstRefusal run readWhole degreeOf degree within among keysOf problemCommand appendAt orderPlace fitting problemApplied problemRefusalAt problemNext readProblem basisOf multiplier multiplierOf kindOf
 reading = tt
 
--- the joining rule ends, and its keys are counted
+-- the joining rule ends, its keys are counted, and the problem has its outcome
 unfoldable pub joining : Unit {0}
-unfolding reading member different insert insertAll linked merged joinPair join addTerms addPair extend singles start joinAll extendTo addingBases round after same sameAll sameState closeFrom mostRounds closingOf blocksIn countedKeys startFrom startSet closing tooLarge
+unfolding reading member different insert insertAll linked merged joinPair join addTerms addPair extend singles start joinAll extendTo addingBases round after same sameAll sameState closeFrom mostRounds closingOf blocksIn countedKeys startFrom startSet closing tooLarge problemOf
 joining = tt
 
 -- the blocks call
 unfoldable pub blocking : Unit {0}
-unfolding joining blockBytes blockTotal blocksOf blocksVerdict bytesOf bytesLeft
+unfolding joining blockBytes blockTotal blocksVerdict bytesLeft
 blocking = tt
 
 -- a certificate is read and judged
@@ -46,12 +47,12 @@ judging = tt
 
 -- the check
 unfoldable pub checking : Unit {0}
-unfolding judging checkOf checkVerdict
+unfolding judging checkVerdict
 checking = tt
 
 -- the pair
 unfoldable pub pairing : Unit {0}
-unfolding judging pairSides pairOf pairVerdict
+unfolding judging pairSides pairVerdict
 pairing = tt
 
 -- the lines of the pair

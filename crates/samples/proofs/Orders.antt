@@ -31,7 +31,8 @@ use Rattle.joining_rule.specs.Joining.{startFrom, startSet, closing, tooLarge}
 use Rattle.accepting.specs.Identity.{square, squares, claimOf, blockOf}
 use Rattle.accepting.specs.Judgement.{firstOutside, rowSplit, splitBy, firstDifference, comparedKeys, differenceKey, judgeRead, judge}
 use Rattle.calls.specs.Fractions.{fraction}
-use Rattle.calls.specs.Pair.{pairSides, pairOf, pairVerdict}
+use Rattle.calls.specs.Checks.{problemOf}
+use Rattle.calls.specs.Pair.{pairSides, pairVerdict}
 use Rattle.calls.specs.declared.PairVerdict.{PairVerdict}
 use Rattle.samples.specs.Streams.{problemF, headerMinus, header, row, entry, entryMinus, finish, lowF, highF, certificateA}
 use Rattle.samples.specs.Noted.{notedA, headerA}
@@ -104,7 +105,7 @@ bounds = record {
 
 pub verdicts :
     pairVerdict false problemF lowF highF ∷ pairVerdict false problemF turnedF highF ∷ [] ≡ bounds ∷ bounds ∷ []
-unfolding listed fromTo sumTo number signed firstRefusal run readWhole degreeOf degree within among keysOf problemCommand appendAt fitting problemApplied problemRefusalAt problemNext readProblem basisOf multiplier multiplierOf kindOf member insert linked merged joinPair join addTerms addPair extend different singles start joinAll extendTo addingBases round same sameAll sameState closeFrom blocksIn countedKeys mostRounds closingOf insertAll startFrom startSet closing tooLarge certificateCommand certificateRefusalAt certificateApplied certificateNext readCertificate coefficient square squares claimOf blockOf firstOutside rowSplit splitBy firstDifference comparedKeys differenceKey judgeRead judge pairSides pairOf pairVerdict
+unfolding listed fromTo sumTo number signed firstRefusal run readWhole degreeOf degree within among keysOf problemCommand appendAt fitting problemApplied problemRefusalAt problemNext readProblem basisOf multiplier multiplierOf kindOf member insert linked merged joinPair join addTerms addPair extend different singles start joinAll extendTo addingBases round same sameAll sameState closeFrom blocksIn countedKeys mostRounds closingOf insertAll startFrom startSet closing tooLarge certificateCommand certificateRefusalAt certificateApplied certificateNext readCertificate coefficient square squares claimOf blockOf firstOutside rowSplit splitBy firstDifference comparedKeys differenceKey judgeRead judge problemOf pairSides pairVerdict
 verdicts = refl
 
 -- ---- sample A's certificate with notes put in

@@ -7,7 +7,7 @@ use lib.Count.{ones}
 use lib.ListN.{length, replicate}
 use Rattle.counting.specs.Counting.{listed}
 use Rattle.polynomial.specs.Monomial.{exponent}
-use Rattle.calls.specs.Symmetries.{parityByte, meetsEvenly, meetsAll, exponentsOf, passing, symmetriesOf, symmetriesFor, symmetriesVerdict, maskBytes, masksFor, masksLeft}
+use Rattle.calls.specs.Symmetries.{parityByte, meetsEvenly, meetsAll, exponentsOf, passing, symmetriesOf, symmetriesVerdict, maskBytes, masksLeft}
 use Rattle.calls.specs.declared.SymmetriesVerdict.{SymmetriesVerdict}
 use Rattle.samples.proofs.Computing.{joining}
 use Rattle.samples.specs.Streams.{problemA, problemC, problemD, problemE, problemF, equality, inequality, rule, variables, end, problemSigns, problemOneCondition}
@@ -15,7 +15,7 @@ use Rattle.samples.specs.Verdicts.{symmetriesFound, symmetriesRefused}
 
 -- what the call computes through, after the joining rule
 symmetric : Unit {0}
-unfolding exponent ones parityByte meetsEvenly meetsAll exponentsOf passing symmetriesOf symmetriesFor symmetriesVerdict maskBytes masksFor masksLeft
+unfolding exponent ones parityByte meetsEvenly meetsAll exponentsOf passing symmetriesOf symmetriesVerdict maskBytes masksLeft
 symmetric = tt
 
 -- a verdict, and the bytes that are left of 257 lent ones

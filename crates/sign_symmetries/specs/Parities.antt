@@ -5,7 +5,8 @@ use mathlib.Core.List.{List, [], _∷_, map}
 use Prim.Native.Nat.{ℕ, _≤_}
 use lib.IntN.{ℤ}
 use lib.ListN.{length, take}
-use Rattle.format.specs.ProblemRules.{Problem}
+use Rattle.format.specs.Commands.{given}
+use Rattle.format.specs.ProblemRules.{Problem, readProblem}
 use Rattle.flat.specs.Flat.{FlatProblem}
 use Rattle.calls.specs.Symmetries.{parityByte, onesInCommon, isEven, exponentsOf}
 
@@ -21,11 +22,7 @@ pub record Gathered (keys sizes : List ℕ) (n : ℕ) (bytes : List ℕ) : Type 
   pub parities : (p : Problem) (coefficients : List ℤ) → FlatProblem p keys coefficients sizes
       → take n bytes ≡ map parityByte (exponentsOf p)
 
--- arrays that hold a problem in n variables, whatever its coefficients are: neither the joining rule nor the symmetries
--- look at them
-pub record HoldsProblem (keys sizes : List ℕ) (n : ℕ) : Type 0 where
+-- a stream that gives a problem
+pub record GivesProblem (s : List ℕ) : Type 0 where
   pub problem : Problem
-  pub coefficients : List ℤ
-  pub flat : FlatProblem problem keys coefficients sizes
-  pub variables : problem .variables ≡ n
-  pub few : n ≤ 8
+  pub read : readProblem s ≡ given problem

@@ -1,22 +1,22 @@
-// Request 01: the sign symmetries of a problem, beside its blocks. The parity bytes of all exponents are gathered once,
-// and each mask is held against them.
+// Request 01: the sign symmetries of a problem, beside its blocks. The blocks call is asked first, whose refusals are
+// those of this one; then the parity bytes of all exponents are gathered once, and each mask is held against them.
 ghost use mathlib.Core.Path.{_≡_};
 ghost use mathlib.Core.List.{List, map, _++_};
 ghost use Prim.Native.Nat.{_+_, _≤_};
 ghost use lib.IntN.{ℤ};
-ghost use lib.ListN.{length, take, drop};
+ghost use lib.ListN.{length, take};
+ghost use Rattle.format.specs.Commands.{given};
 ghost use Rattle.format.specs.ProblemRules.{Problem, readProblem};
 ghost use Rattle.flat.specs.Flat.{FlatProblem};
 ghost use Rattle.closure.specs.Tables.{FlatKeys};
-ghost use Rattle.calls.specs.Tables.{tableLength, tables, TablesLeft};
+ghost use Rattle.calls.specs.Tables.{tables, TablesLeft};
 ghost use Rattle.calls.specs.Promises.{NumberedTo, SevenExactly};
 ghost use Rattle.calls.specs.Zeros.{SymmetriesZeros};
 ghost use Rattle.calls.specs.Symmetries.{parityByte, onesInCommon, isEven, passing, symmetriesOf};
-ghost use Rattle.calls.specs.Symmetries.{maskByteCount, symmetriesShort, refusedSymmetries, symmetriesFor};
-ghost use Rattle.calls.specs.Symmetries.{symmetriesRead, symmetriesVerdict};
-ghost use Rattle.calls.specs.Symmetries.{maskBytes, masksFor, masksRead, masksLeft};
+ghost use Rattle.calls.specs.Symmetries.{maskByteCount, symmetriesShort, refusedSymmetries, symmetriesVerdict};
+ghost use Rattle.calls.specs.Symmetries.{maskBytes, masksLeft};
 ghost use Rattle.calls.specs.Symmetries.{RefusesAsBlocks, EverySymmetry, EvenInBlocks, SymmetryGroup};
-ghost use Rattle.sign_symmetries.specs.Parities.{evenAll, Gathered, HoldsProblem};
+ghost use Rattle.sign_symmetries.specs.Parities.{evenAll, Gathered, GivesProblem};
 use calls::Refusal;
 use calls::SymmetriesVerdict;
 
@@ -129,78 +129,28 @@ fn write(keys: &[u64], sizes: &[usize], n: usize, out: &mut [u8]) -> usize
     list(&bytes[..count], 1 << n, out)
 }
 
-// A refusal is always the problem's, and has no key.
-fn refuse(number: u8, place: usize) -> SymmetriesVerdict
-    ensures { λ r. ⌜ r ≡ refusedSymmetries number place ⌝ }
-{
-    SymmetriesVerdict {
-        refusal: Refusal {
-            number,
-            stream: 0,
-            place,
-            key: 0,
-        },
-        masks: 0,
-    }
-}
-
-// Refusal 7, or the symmetries of the problem in the arrays. The table is changed before place 2,048 only.
-fn symmetries_of(
-    keys: &[u64],
-    sizes: &[usize],
-    n: usize,
-    out: &mut [u8],
-    table: &mut [u64],
-) -> SymmetriesVerdict
-    requires { ⌜
-        HoldsProblem (now keys) (now sizes) n
-        × (maskByteCount ≤ length (now out))
-        × (tableLength ≤ length (now table))
-        ⌝ }
-    ensures verdict { λ r. ⌜
-        ((p : Problem) (coefficients : List ℤ) → FlatProblem p (now (keys .entry)) coefficients (now (sizes .entry))
-        → p .variables ≡ n → (r ≡ symmetriesFor p) × (now (out .exit) ≡ masksFor p (now (out .entry))))
-        ⌝ }
-    ensures rest { λ _. ⌜ drop tableLength (now (table .exit)) ≡ drop tableLength (now (table .entry)) ⌝ }
-{
-    let mut index = [0u16; 6144];
-    let mut labels = [255u8; 576];
-    let j = closure::join(keys, sizes, &mut labels, table, &mut index);
-    if j.full {
-        return refuse(7, 0);
-    }
-    let masks = write(keys, sizes, n, out);
-    SymmetriesVerdict {
-        refusal: Refusal {
-            number: 0,
-            stream: 0,
-            place: 0,
-            key: 0,
-        },
-        masks,
-    }
-}
-
-// The symmetries of a problem stream, with bytes and tables that are long enough. The problem is read into arrays of
-// the call; the number of variables is the stream's second byte.
-fn answer(problem: &[u8], out: &mut [u8], table: &mut [u64]) -> SymmetriesVerdict
-    requires { ⌜ (maskByteCount ≤ length (now out)) × (tableLength ≤ length (now table)) ⌝ }
+// The sign symmetries of a stream that gives a problem, listed into `out`. How many they are. The problem is read into
+// arrays of the call; the number of variables is the stream's second byte.
+fn answer(problem: &[u8], out: &mut [u8]) -> usize
+    requires { ⌜ GivesProblem (now problem) × (maskByteCount ≤ length (now out)) ⌝ }
     ensures { λ r. ⌜
-        (r ≡ symmetriesRead (readProblem (now (problem .entry))))
-        × (now (out .exit) ≡ masksRead (readProblem (now (problem .entry))) (now (out .entry)))
-        × (drop tableLength (now (table .exit)) ≡ drop tableLength (now (table .entry)))
+        ((p : Problem) → readProblem (now (problem .entry)) ≡ given p
+        → (r ≡ length (symmetriesOf p)) × (now (out .exit) ≡ maskBytes (symmetriesOf p) (now (out .entry))))
         ⌝ }
 {
     let mut keys = [0u64; 1120];
     let mut coefficients = [0i32; 544];
     let mut sizes = [0usize; 31];
-    let r = problem_reader::read(problem, &mut keys, &mut coefficients, &mut sizes);
-    let number = r.number;
-    if 0 < number {
-        return refuse(number, r.place);
-    }
+    problem_reader::read(problem, &mut keys, &mut coefficients, &mut sizes);
     let n = problem[1] as usize;
-    symmetries_of(&keys, &sizes, n, out, table)
+    write(&keys, &sizes, n, out)
+}
+
+// All other fields are 0.
+fn refuse(refusal: Refusal) -> SymmetriesVerdict
+    ensures { λ r. ⌜ r ≡ refusedSymmetries refusal ⌝ }
+{
+    SymmetriesVerdict { refusal, masks: 0 }
 }
 
 // The sign symmetries of a problem. `out` gets the masks, rising and each once, and zeros up to 256 bytes; `keys`,
@@ -242,12 +192,16 @@ pub fn symmetries(
         ⌜ SevenExactly (symmetriesShort (now (out .entry)) lent) (now (problem .entry)) (r .refusal) ⌝ }
 {
     if out.len() < 256 {
-        return refuse(1, 0);
+        return refuse(certificate_judge::problem_refusal(1, 0));
     }
-    if work_tables::is_short(keys.len(), high.len(), low.len()) {
-        return refuse(1, 0);
+    let mut labels = [255u8; 576];
+    let v = checker::blocks(problem, &mut labels, keys, high, low);
+    let f = v.refusal;
+    if f.number != 0 {
+        return refuse(f);
     }
-    let v = answer(problem, out, keys);
-    work_tables::clear_tables(keys, high, low);
-    v
+    SymmetriesVerdict {
+        refusal: f,
+        masks: answer(problem, out),
+    }
 }

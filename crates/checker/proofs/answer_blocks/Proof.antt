@@ -1,72 +1,71 @@
--- `answer_blocks`: each return by what was read.
+-- `answer_blocks`: by what became of the problem.
 use borrow.Author.Needs.{needs}
 use native.Mathlib.Omega.{arith}
-use mathlib.Core.Path.{refl, sym, ap, _∙_}
-use Rattle.format.specs.Commands.{Outcome}
-use Rattle.format.specs.ProblemRules.{Problem}
-use Rattle.format.proofs.ProblemLimits.{read-limits}
-use Rattle.problem_reader.specs.Storing.{GivenFlat}
-use Rattle.calls.specs.Blocks.{blocksRead, bytesRead}
+use mathlib.Core.Path.{refl, sym, _∙_}
+use Rattle.key_set.proofs.Index.{indexed-start}
+use Rattle.certificate_judge.proofs.Judging.{labels-long}
+use Rattle.problem_judge.specs.Chain.{Prepares}
+use Rattle.checker.proofs.Verdicts.{blocks-refused, bytes-refused, blocks-found, bytes-found}
 use Rattle.checker.proofs.answer_blocks.Statement.{statement}
 use Rattle.checker.proofs.answer_blocks.Tie as tie
 
-abbrev start : tie.After-read → tie.Start
-start c = c .before .before .before .before .before .before .before
+abbrev start : tie.After-prepare → tie.Start
+start c = c .before .before .before .before .before .before .before .before .before .before
 
--- the problem that the stream gives, in the arrays
-is-given : (c : tie.Else1) → let r = c .before in GivenFlat (start r .args .problem .now) (r .read .last .1 .0) (r .read .last .1 .1 .0) (r .read .last .1 .1 .1 .0)
-is-given c = c .before .read .ensures .gives (omega (arith, c .if1 .left))
+abbrev preparing : tie.After-j → tie.After-prepare
+preparing c = c .before .before .before .before
 
-read-requires : tie.Need-read-requires
-read-requires c κs = record { keys-zero = refl; coefficients-zero = refl; sizes-zero = refl }
+-- the problem in the arrays
+prepared : (c : tie.After-j) → let k = preparing c in let l = k .prepare .last in Prepares (start k .args .problem .now) (c .j .given .0 .0)
+    (l .1 .0) (l .1 .1 .0) (l .1 .1 .1 .0) (l .1 .1 .1 .1 .0) (l .1 .1 .1 .1 .1 .0) (l .1 .1 .1 .1 .1 .1 .0)
+prepared c = preparing c .prepare .ensures .ready _ (c .j .given .1)
 
-refuse-blocks-requires : tie.Need-refuse-blocks-requires
-refuse-blocks-requires c κs = search needs
+prepare-requires : tie.Need-prepare-requires
+prepare-requires c κs =
+    let s = c .before .before .before .before .before .before .before .before .before in
+    (record { keys-zero = refl; coefficients-zero = refl; sizes-zero = refl }, s .pre .1, indexed-start _)
+
+slice-aggregate-copy : tie.Need-slice-aggregate-copy
+slice-aggregate-copy c = sym (labels-long (prepared (c .before .before) .joined))
+
+copy-requires : tie.Need-copy-requires
+copy-requires c κs =
+    let j = c .before .before .before in
+    omega (arith, labels-long (prepared j .joined), start (preparing j) .pre .0)
 
 returns : tie.Need-returns
 returns c =
-    let i = c .before in
-    let r = i .before in
-    let e = r .read .ensures .refuses (i .if1 .taken) in
-    (c .refuse-blocks .ensures ∙ sym (ap blocksRead e), sym (ap (λ (o : Outcome Problem). bytesRead o (start r .args .out .now)) e), refl)
-
-slice-aggregate-blocks-of : tie.Need-slice-aggregate-blocks-of
-slice-aggregate-blocks-of c = sym (c .before .before .read .ensures .limits .keys-length)
-
-slice-aggregate-blocks-of-2 : tie.Need-slice-aggregate-blocks-of-2
-slice-aggregate-blocks-of-2 c = sym (c .before .before .before .read .ensures .limits .sizes-length)
-
-blocks-of-requires : tie.Need-blocks-of-requires
-blocks-of-requires c κs =
-    let i = c .before .before .before .before in
-    let p = start (i .before) .pre in
-    let g = is-given i in
-    (record { coefficients = _; readable = record { problem = g .problem; limits = read-limits _ _ (g .read); flat = g .flat } }, p .0, p .1)
-
-same-length : tie.Need-same-length
-same-length c = search needs
-
-same-length-2 : tie.Need-same-length-2
-same-length-2 c = search needs
+    let f = c .before .before in
+    let k = f .before .before .before .before in
+    let s = start k .args in
+    let e = k .prepare .ensures .refuses _ (f .f .given .1) in
+    (c .refuse-blocks .ensures ∙ blocks-refused _ e, bytes-refused _ e (s .out .now), k .prepare .ensures .rest)
 
 returns-2 : tie.Need-returns-2
 returns-2 c =
-    let d = c .before .before .before .before in
-    let i = d .before .before .before .before .before in
-    let g = is-given i in
-    let q = d .blocks-of .ensures .0 (g .problem) _ (g .flat) in
-    (q .0 ∙ sym (ap blocksRead (g .read)), q .1 ∙ sym (ap (λ (o : Outcome Problem). bytesRead o (start (i .before) .args .out .now)) (g .read)), d .blocks-of .ensures .1)
+    let d = c .before .before .before in
+    let j = d .before .before .before .before in
+    let k = preparing j in
+    let q = prepared j in (
+      blocks-found _ (q .gives) _ _ _ _ (c .problem-refusal .ensures) (q .blocks) (q .rounds) (q .joined .flat .rule),
+      bytes-found _ (q .gives) (start k .args .out .now) _ _ (q .joined .labels-are) (d .copy .ensures .1),
+      k .prepare .ensures .rest,
+    )
 
 pub answer-blocks-spec : {M : Type 1} → statement M
 answer-blocks-spec =
     tie.close
     (tie.spec
-    read-requires
-    refuse-blocks-requires
+    prepare-requires
+    (λ c. search needs)
+    (λ c κs. search needs)
+    (λ c. search needs)
+    slice-aggregate-copy
+    copy-requires
+    (λ c κs. search needs)
+    (λ c. search needs)
+    (λ c. search needs)
     returns
-    slice-aggregate-blocks-of
-    slice-aggregate-blocks-of-2
-    blocks-of-requires
-    same-length
-    same-length-2
+    (λ c. search needs)
+    (λ c. search needs)
     returns-2)

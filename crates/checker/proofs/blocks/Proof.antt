@@ -5,6 +5,7 @@ use mathlib.Core.Path.{_≡_, refl, sym, _∙_}
 use mathlib.Core.Bool.{Bool, true, false}
 use Rattle.calls.specs.Tables.{Tables, tables, tablesShort}
 use Rattle.work_tables.specs.Tables.{Long}
+use Rattle.calls.specs.Checks.{problemOf}
 use Rattle.calls.specs.Blocks.{blocksShort, blocksVerdict, bytesLeft}
 use Rattle.work_tables.proofs.Tables.{tables-long, tables-kept, tables-cleared}
 use Rattle.checker.proofs.Tables.{out-short, out-long}
@@ -19,30 +20,23 @@ lent s = tables (s .args .keys .now) (s .args .high .now) (s .args .low .now)
 abbrev short : tie.Start → Bool
 short s = blocksShort (s .args .out .now) (lent s)
 
-refuse-blocks-requires : tie.Need-refuse-blocks-requires
-refuse-blocks-requires c κs = search needs
-
 returns : tie.Need-returns
-unfolding blocksVerdict bytesLeft
+unfolding problemOf blocksVerdict bytesLeft
 returns c =
-    let s = c .before .before .before .before .before in
-    let e : short s ≡ true = out-short (lent s) (s .args .out .now) (c .before .if1 .taken) in
-    let v = c .refuse-blocks .ensures in
+    let i = c .before .before in
+    let s = i .before .before .before .before in
+    let e : short s ≡ true = out-short (lent s) (s .args .out .now) (i .if1 .taken) in
+    let v = rw (c .before .problem-refusal .ensures) at (c .refuse-blocks .ensures) in
     rw e (v, (refl, (tables-kept _, clauses true (s .args .problem .now) (s .args .out .now) _ _ v refl)))
 
-is-short-requires : tie.Need-is-short-requires
-is-short-requires c κs = search needs
-
-refuse-blocks-requires-2 : tie.Need-refuse-blocks-requires-2
-refuse-blocks-requires-2 c κs = search needs
-
 returns-2 : tie.Need-returns-2
-unfolding blocksVerdict bytesLeft
+unfolding problemOf blocksVerdict bytesLeft
 returns-2 c =
-    let i = c .before .before in
+    let t = c .before .before in
+    let i = t .before in
     let s = i .before .before .before .before .before in
-    let e : short s ≡ true = out-long (lent s) (s .args .out .now) true (i .before .if1 .left) (sym (i .is-short .ensures) ∙ c .before .if2 .taken) in
-    let v = c .refuse-blocks2 .ensures in
+    let e : short s ≡ true = out-long (lent s) (s .args .out .now) true (i .before .if1 .left) (sym (i .is-short .ensures) ∙ t .if2 .taken) in
+    let v = rw (c .before .problem-refusal2 .ensures) at (c .refuse-blocks2 .ensures) in
     rw e (v, (refl, (tables-kept _, clauses true (s .args .problem .now) (s .args .out .now) _ _ v refl)))
 
 -- with tables that are long enough
@@ -61,20 +55,7 @@ clear-tables-requires c κs =
     let l = long (a .before .before .before) in
     record { keys = omega (arith, l .keys, a .answer-blocks .kept .1 .1 .0); high = l .high; low = l .low }
 
-same-length : tie.Need-same-length
-same-length c = search needs
-
-same-length-2 : tie.Need-same-length-2
-same-length-2 c = search needs
-
-same-length-3 : tie.Need-same-length-3
-same-length-3 c = search needs
-
-same-length-4 : tie.Need-same-length-4
-same-length-4 c = search needs
-
 returns-3 : tie.Need-returns-3
-unfolding blocksVerdict bytesLeft
 returns-3 c =
     let k = c .before .before .before .before in
     let a = k .before .before .before .before .before .before .before .before in
@@ -90,15 +71,17 @@ pub blocks-spec : {M : Type 1} → statement M
 blocks-spec =
     tie.close
     (tie.spec
-    refuse-blocks-requires
+    (λ c κs. search needs)
+    (λ c κs. search needs)
     returns
-    is-short-requires
-    refuse-blocks-requires-2
+    (λ c κs. search needs)
+    (λ c κs. search needs)
+    (λ c κs. search needs)
     returns-2
     answer-blocks-requires
     clear-tables-requires
-    same-length
-    same-length-2
-    same-length-3
-    same-length-4
+    (λ c. search needs)
+    (λ c. search needs)
+    (λ c. search needs)
+    (λ c. search needs)
     returns-3)

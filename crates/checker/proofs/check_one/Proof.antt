@@ -13,7 +13,7 @@ use Rattle.certificate_judge.specs.declared.Judged.{Judged}
 use Rattle.certificate_judge.specs.declared.Judged.the-variants as Judged
 use Rattle.calls.specs.Refusals.{noRefusal}
 use Rattle.calls.specs.Check.{refusedCheck}
-use Rattle.checker.specs.Steps.{checkFrom}
+use Rattle.checker.specs.Verdicts.{checkFrom}
 use Rattle.checker.proofs.check_one.Statement.{statement}
 use Rattle.checker.proofs.check_one.Tie as tie
 

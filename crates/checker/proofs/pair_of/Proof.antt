@@ -1,105 +1,54 @@
--- `pair_of`: refusal 7, or what was joined and judged.
+-- `pair_of`: the verdict by what became of each.
 use borrow.Author.Needs.{needs}
-use mathlib.Core.Path.{refl, sym, _∙_}
-use Rattle.format.specs.ProblemRules.{Problem}
-use Rattle.joining_rule.specs.Joining.{basesOf, closing}
-use Rattle.flat.specs.Flat.{FlatProblem}
-use Rattle.key_set.proofs.Index.{indexed-start}
-use Rattle.closure.specs.Tables.{ClosureLeft}
-use Rattle.checker.proofs.Joins.{full-is, joins, left-long}
-use Rattle.checker.proofs.Steps.{pair-full, pair-within, within}
+use mathlib.Core.Path.{_≡_}
+use Rattle.format.specs.declared.certificate.Header.{Header}
+use Rattle.calls.specs.declared.Refusal.{Refusal}
+use Rattle.calls.specs.declared.PairVerdict.{PairVerdict}
+use Rattle.calls.specs.Outcome.{told}
+use Rattle.calls.specs.Pair.{refusedPair, pairSides}
+use Rattle.certificate_judge.specs.declared.Judged.the-variants as Judged
+use Rattle.problem_judge.specs.declared.TwoJudged.{TwoJudged}
+use Rattle.checker.specs.Verdicts.{pairFrom}
 use Rattle.checker.proofs.pair_of.Statement.{statement}
 use Rattle.checker.proofs.pair_of.Tie as tie
 
--- what the joining left, for a problem that the arrays hold
-module _ (j : tie.After-join) where
-  abbrev s : tie.Start
-  s = j .before .before .before .before .before .before .before .before .before
+module _ (two : TwoJudged) (v : PairVerdict) where
+  first-refused : (f : Refusal) → two .first ≡ Judged.Refused f → v ≡ refusedPair f → v ≡ pairFrom two
+  first-refused f e g = rw e g
 
-  left : (p : Problem) → FlatProblem p (s .args .keys .now) (s .args .coefficients .now) (s .args .sizes .now)
-      → ClosureLeft (basesOf p) (closing p) (s .args .table .now) (j .join .result) (j .join .last .1 .1 .1 .0) (j .join .last .1 .1 .1 .1 .0) (j .join .last .1 .1 .0)
-  left p f = j .join .ensures p _ f
+  module _ (t : Header) (e : two .first ≡ Judged.Accepted t) where
+    second-refused : (f : Refusal) → two .second ≡ Judged.Refused f → v ≡ refusedPair f → v ≡ pairFrom two
+    second-refused f h g = rw (e, h) g
 
-  -- and for the one that was read
-  read-left : ClosureLeft (basesOf (s .pre .0 .problem)) (closing (s .pre .0 .problem)) (s .args .table .now) (j .join .result) (j .join .last .1 .1 .1 .0) (j .join .last .1 .1 .1 .1 .0) (j .join .last .1 .1 .0)
-  read-left = left (s .pre .0 .problem) (s .pre .0 .flat)
-
-abbrev joining : tie.Else1 → tie.After-join
-joining c = c .before .before .before .before
-
-slice-aggregate-join : tie.Need-slice-aggregate-join
-slice-aggregate-join c = search needs
-
-join-requires : tie.Need-join-requires
-join-requires c κs =
-    let p = c .before .before .before .before .before .before .before .before .pre in
-    (p .1 .keys, indexed-start _, record { coefficients = _; limits = p .0 .flat .limits })
-
-problem-refusal-requires : tie.Need-problem-refusal-requires
-problem-refusal-requires c κs = search needs
-
-refuse-pair-requires : tie.Need-refuse-pair-requires
-refuse-pair-requires c κs = search needs
-
-same-length : tie.Need-same-length
-same-length c = search needs
+    both : (u : Header) → two .second ≡ Judged.Accepted u → v ≡ told refusedPair (pairSides t u (two .rounds) (two .rule)) → v ≡ pairFrom two
+    both u h g = rw (e, h) g
 
 returns : tie.Need-returns
-returns c =
-    let i = c .before .before in
-    let j = i .before .before .before .before in (
-      (λ p l f. rw (c .before .problem-refusal .ensures) at (c .refuse-pair .ensures) ∙ pair-full p _ _ (sym (full-is p (left j p f)) ∙ i .if1 .taken)),
-      record { keys = read-left j .rest; high = refl; low = refl },
-    )
-
-slice-aggregate-pair-both : tie.Need-slice-aggregate-pair-both
-slice-aggregate-pair-both c = let e = c .before in sym (left-long _ (read-left (joining e)) (e .if1 .left))
-
-pair-both-requires : tie.Need-pair-both-requires
-pair-both-requires c κs =
-    let e = c .before .before .before .before .before in
-    let j = joining e in
-    let p = s j .pre in
-    let w = p .0 in (
-      record { problem = w .problem; joined = joins (w .problem) (read-left j) (w .limits) (w .flat) (p .1 .keys) (e .if1 .left) },
-      record { high-long = p .1 .high; low-long = p .1 .low },
-    )
-
-same-length-2 : tie.Need-same-length-2
-same-length-2 c = search needs
-
-same-length-3 : tie.Need-same-length-3
-same-length-3 c = search needs
-
-same-length-4 : tie.Need-same-length-4
-same-length-4 c = search needs
+returns c = let a = c .before .before in first-refused (a .before .before .args .two) _ _ (a .a .given .1) (c .refuse-pair .ensures)
 
 returns-2 : tie.Need-returns-2
 returns-2 c =
-    let d = c .before .before in
-    let e = d .before .before .before .before .before .before in
-    let few = e .if1 .left in
-    let j = joining e in
-    let v = d .pair-both .ensures in (
-      (λ p l f.
-          let q = left j p f in
-          v .0 p (joins p q l f (s j .pre .1 .keys) few) (q .rounds few) ∙ pair-within p _ _ (within p q few)),
-      record { keys = read-left j .rest; high = v .1 .high-rest; low = v .1 .low-rest },
-    )
+    let b = c .before .before in
+    let a = b .before .before .before in
+    second-refused (a .before .before .args .two) _ _ (a .a2 .given .1) _ (b .b .given .1) (c .refuse-pair2 .ensures)
+
+returns-3 : tie.Need-returns-3
+returns-3 c =
+    let b = c .before .before in
+    let a = b .before .before .before in
+    both (a .before .before .args .two) _ _ (a .a2 .given .1) _ (b .b2 .given .1) (c .pair-sides .ensures)
 
 pub pair-of-spec : {M : Type 1} → statement M
 pair-of-spec =
     tie.close
     (tie.spec
-    slice-aggregate-join
-    join-requires
-    problem-refusal-requires
-    refuse-pair-requires
-    same-length
+    (λ c. search needs)
+    (λ c κs. search needs)
+    (λ c. search needs)
+    (λ c. search needs)
+    (λ c κs. search needs)
+    (λ c. search needs)
+    (λ c κs. search needs)
     returns
-    slice-aggregate-pair-both
-    pair-both-requires
-    same-length-2
-    same-length-3
-    same-length-4
-    returns-2)
+    returns-2
+    returns-3)

@@ -11,23 +11,24 @@ use Rattle.calls.specs.declared.Fraction.{Fraction}
 use Rattle.calls.specs.Fractions.{fraction, gapOf, isNegative, unlessNegative}
 use Rattle.calls.specs.declared.Refusal.{Refusal}
 use Rattle.calls.specs.Refusals.{noRefusal, certificateRefusal}
+use Rattle.calls.specs.Outcome.{told}
 use Rattle.calls.specs.Pair.{refusedPair, pairSides}
 use Rattle.checker.proofs.pair_sides.Statement.{statement}
 use Rattle.checker.proofs.pair_sides.Tie as tie
 
 module _ (t u : Header) (rounds rule : ℕ) where
-  first-wrong : (t .side ≡ 0 → ⊥) → refusedPair (certificateRefusal 1 10 0 0) ≡ pairSides t u rounds rule
+  first-wrong : (t .side ≡ 0 → ⊥) → refusedPair (certificateRefusal 1 10 0 0) ≡ told refusedPair (pairSides t u rounds rule)
   unfolding pairSides
   first-wrong h = rw (ne-eqb (t .side) 0 h) refl
 
   module _ (z : t .side ≡ 0) where
-    second-wrong : (u .side ≡ 1 → ⊥) → refusedPair (certificateRefusal 2 10 0 0) ≡ pairSides t u rounds rule
+    second-wrong : (u .side ≡ 1 → ⊥) → refusedPair (certificateRefusal 2 10 0 0) ≡ told refusedPair (pairSides t u rounds rule)
     unfolding pairSides
     second-wrong h = rw (eq-eqb (t .side) 0 z, ne-eqb (u .side) 1 h) refl
 
     both-right : (r : Refusal) (a b g f : Fraction) (m : Bool) → u .side ≡ 1 → a ≡ fraction (t .p) (t .q)
         → b ≡ fraction (u .p) (u .q) → g ≡ gapOf a b → r ≡ noRefusal → f ≡ unlessNegative g → m ≡ isNegative g
-        → record { refusal = r; lower = a; upper = b; gap = f; empty = m; rounds = rounds; rule = rule } ≡ pairSides t u rounds rule
+        → record { refusal = r; lower = a; upper = b; gap = f; empty = m; rounds = rounds; rule = rule } ≡ told refusedPair (pairSides t u rounds rule)
     unfolding pairSides
     both-right r a b g f m o x y k e h i = rw (eq-eqb (t .side) 0 z, eq-eqb (u .side) 1 o, e, h, i, k, x, y) refl
 
