@@ -104,17 +104,17 @@ fn read(text: &str) -> Option<Shape> {
     Some(shape)
 }
 
-/// The conditions that move the index past its first divisors: the first has only terms of one remainder,
-/// and each other one squares of one remainder modulo the divisor that the index has when they come.
-fn passing(passed: u64) -> Vec<Condition> {
+/// The conditions that move the index past its first divisors: the last has only terms of one remainder, and
+/// each other one squares of one remainder modulo the divisor that the index has when they come, with a basis
+/// of these monomials.
+fn passing(low: &[Monomial], passed: u64) -> Vec<Condition> {
     let rng = &mut Rng::new(passed);
-    let low = all_monomials(8, 8);
     let mut all = Vec::new();
     for number in 1..passed {
         let d = divisor(number);
         let most = allowed(number) + 2;
         let bases = most.div_ceil(TERMS);
-        let basis = largest_class(&low, d, bases);
+        let basis = largest_class(low, d, bases);
         all.push((class(rng, d, most.div_ceil(bases)), basis));
     }
     if passed > 0 {
@@ -208,7 +208,7 @@ impl Shape {
 
     /// The pair: full rows on the blocks, each on all conditions whose sum is 0.
     fn record(&self, rng: &mut Rng, wide: bool) -> Option<Record> {
-        let passing = passing(self.passed);
+        let passing = passing(&all_monomials(8, 8), self.passed);
         let constant = 1 + rng.below(1_000) as i32;
         let problem = self.problem(rng, &self.conditions(&passing), constant);
         let blocks = Checker::default().blocks(&problem).ok()?;
@@ -272,10 +272,12 @@ struct Climber {
 
 impl Climber {
     fn new(seed: u64) -> Self {
+        let low = all_monomials(8, 8);
+        let numbers = 0..DIVISORS.min(CONDITIONS as u64);
         Climber {
             rng: Rng::new(seed),
             checker: Checker::default(),
-            passing: (0..DIVISORS.min(CONDITIONS as u64)).map(|n| (n, passing(n))).collect(),
+            passing: numbers.map(|n| (n, passing(&low, n))).collect(),
         }
     }
 
