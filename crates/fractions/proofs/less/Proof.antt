@@ -35,15 +35,6 @@ first-above : (c : tie.Else1)
     → let s = c .before .before .before .before .before .before .before in ltZ (s .args .first .num) (pos 0) ≡ false
 first-above c = simp (first-kept (c .before .before .before .before .before .before)) at (c .if1 .left)
 
-magnitude-requires : tie.Need-magnitude-requires
-magnitude-requires c κs = search needs
-
-magnitude-requires-2 : tie.Need-magnitude-requires-2
-magnitude-requires-2 c κs = search needs
-
-less-products-requires : tie.Need-less-products-requires
-less-products-requires c κs = search needs
-
 returns : tie.Need-returns
 returns c =
     let u = c .before in
@@ -64,9 +55,6 @@ returns-2 c =
     across (s .first .den) (s .other .den) (s .first .num) (s .other .num) (first-below t)
     (simp (other-kept (m .before)) at (u .if2 .left)) (c .if3 .taken)
 
-less-products-requires-2 : tie.Need-less-products-requires-2
-less-products-requires-2 c κs = search needs
-
 returns-3 : tie.Need-returns-3
 returns-3 c =
     let u = c .before .before .before in
@@ -85,9 +73,6 @@ returns-4 c =
     not-across (s .first .den) (s .other .den) (s .first .num) (s .other .num) (first-above t)
     (simp (other-kept (m .before)) at (c .if4 .taken))
 
-less-products-requires-3 : tie.Need-less-products-requires-3
-less-products-requires-3 c κs = search needs
-
 returns-5 : tie.Need-returns-5
 returns-5 c =
     let u = c .before in
@@ -103,13 +88,13 @@ pub less-spec : {M : Type 1} → statement M
 less-spec =
     tie.close
     (tie.spec
-    magnitude-requires
-    magnitude-requires-2
-    less-products-requires
+    (λ c κs. search needs)
+    (λ c κs. search needs)
+    (λ c κs. search needs)
     returns
     returns-2
-    less-products-requires-2
+    (λ c κs. search needs)
     returns-3
     returns-4
-    less-products-requires-3
+    (λ c κs. search needs)
     returns-5)

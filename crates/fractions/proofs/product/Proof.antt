@@ -43,12 +43,6 @@ add-t12 c = omega (arith, lowest c, middle c, highest c)
 add-t14 : tie.Need-add-t14
 add-t14 c = omega (arith, lowest c, middle c, other c, highest c)
 
-mul-t16 : tie.Need-mul-t16
-mul-t16 c = omega arith
-
-add-t18 : tie.Need-add-t18
-add-t18 c = omega arith
-
 returns : tie.Need-returns
 returns c = product-is (c .args .n) (c .args .d)
 
@@ -64,6 +58,6 @@ product-spec =
     mul-t10
     add-t12
     add-t14
-    mul-t16
-    add-t18
+    (λ c. omega arith)
+    (λ c. omega arith)
     returns)

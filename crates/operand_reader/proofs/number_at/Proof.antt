@@ -25,19 +25,10 @@ loop-holds c =
     let e : c .args .width - c .args .width ≡ 0 = omega arith in
     (omega arith, rw e, rw e (omega arith))
 
-sub-i : tie.Need-sub-i Inv-loop μ-loop
-sub-i c = omega arith
-
 mul-x : tie.Need-mul-x Inv-loop μ-loop
 mul-x c =
     let l = c .before in
     omega (arith, room (l .before .args .width - l .loop .i) (l .loop .x) 0 (omega arith) (l .loop .inv .2) (lit< tt))
-
-add-x : tie.Need-add-x Inv-loop μ-loop
-add-x c = omega arith
-
-shared-slice-read-x : tie.Need-shared-slice-read-x Inv-loop μ-loop
-shared-slice-read-x c = omega arith
 
 cast-x : tie.Need-cast-x Inv-loop μ-loop
 cast-x c = omega (arith, byte c)
@@ -46,9 +37,6 @@ add-x-2 : tie.Need-add-x-2 Inv-loop μ-loop
 add-x-2 c =
     let l = c .before .before in
     record { fits = room (l .before .args .width - l .loop .i) (l .loop .x) _ (omega arith) (l .loop .inv .2) (byte c) }
-
-loop-less : tie.Need-loop-less Inv-loop μ-loop
-loop-less c = omega arith
 
 loop-again : tie.Need-loop-again Inv-loop μ-loop
 loop-again c =
@@ -77,12 +65,12 @@ number-at-spec =
     Inv-loop
     μ-loop
     loop-holds
-    sub-i
+    (λ c. omega arith)
     mul-x
-    add-x
-    shared-slice-read-x
+    (λ c. omega arith)
+    (λ c. omega arith)
     cast-x
     add-x-2
-    loop-less
+    (λ c. omega arith)
     loop-again
     returns)

@@ -23,18 +23,6 @@ mul-high c = let s = c .before .before in simp (toZ-ofZ, s .fits .c, high-fits c
 mul-low : tie.Need-mul-low
 mul-low c = let s = c .before .before .before .before in simp (toZ-ofZ, s .fits .c, low-fits c) (number-fits (s .pre .1))
 
-mul-h : tie.Need-mul-h
-mul-h c = search needs
-
-slice-copy-out-h : tie.Need-slice-copy-out-h
-slice-copy-out-h c = search needs
-
-mul-l : tie.Need-mul-l
-mul-l c = search needs
-
-slice-copy-out-l : tie.Need-slice-copy-out-l
-slice-copy-out-l c = search needs
-
 module _ (c : tie.After-l) where
   abbrev t : tie.After-struct-told2
   t = c .before .before
@@ -51,26 +39,8 @@ module _ (c : tie.After-l) where
 add-hi : tie.Need-add-hi
 add-hi c = simp (toZ-ofZ, s c .fits .c, high-fits (t c .before .before), number-fits (s c .pre .0), h-fits c) (sum-fits (s c .pre .0))
 
-mul-lo : tie.Need-mul-lo
-mul-lo c = search needs
-
-slice-set-from-lo : tie.Need-slice-set-from-lo
-slice-set-from-lo c = search needs
-
 add-lo : tie.Need-add-lo
 add-lo c = simp (toZ-ofZ, s c .fits .c, low-fits (t c), number-fits (s c .pre .1), l-fits c) (sum-fits (s c .pre .1))
-
-mul-t10 : tie.Need-mul-t10
-mul-t10 c = search needs
-
-slice-set-from-lo-2 : tie.Need-slice-set-from-lo-2
-slice-set-from-lo-2 c = search needs
-
-same-length : tie.Need-same-length
-same-length c = search needs
-
-same-length-2 : tie.Need-same-length-2
-same-length-2 c = search needs
 
 returns : tie.Need-returns
 unfolding addedAt
@@ -85,16 +55,16 @@ add-spec =
     (tie.spec
     mul-high
     mul-low
-    mul-h
-    slice-copy-out-h
-    mul-l
-    slice-copy-out-l
+    (λ c. search needs)
+    (λ c. search needs)
+    (λ c. search needs)
+    (λ c. search needs)
     add-hi
-    mul-lo
-    slice-set-from-lo
+    (λ c. search needs)
+    (λ c. search needs)
     add-lo
-    mul-t10
-    slice-set-from-lo-2
-    same-length
-    same-length-2
+    (λ c. search needs)
+    (λ c. search needs)
+    (λ c. search needs)
+    (λ c. search needs)
     returns)

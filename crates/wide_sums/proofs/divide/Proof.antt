@@ -55,31 +55,10 @@ high-is c =
 low-is : (c : tie.After-cut-step2) → c .cut-step2 .result ≡ low (k (c .before .before .before))
 low-is c = let q = k (c .before .before .before) in simp (toZ-ofZ, cut-is q, halves-fit (a q) (a-fits q) .low) at (c .cut-step2 .ensures)
 
-mul-cut : tie.Need-mul-cut
-mul-cut c = search needs
-
-slice-copy-out-cut : tie.Need-slice-copy-out-cut
-slice-copy-out-cut c = search needs
-
-cut-requires : tie.Need-cut-requires
-cut-requires c κs = search needs
-
-mul-cut-step : tie.Need-mul-cut-step
-mul-cut-step c = search needs
-
-slice-copy-out-cut-step : tie.Need-slice-copy-out-cut-step
-slice-copy-out-cut-step c = search needs
-
 add-cut-step : tie.Need-add-cut-step
 add-cut-step c =
     let q = k c in
     simp (toZ-ofZ, cut-is q, halves-fit (a q) (a-fits q) .high, g-fits c) (carried-fits (g q) (a q) (a-fits q) (room q))
-
-cut-step-requires : tie.Need-cut-step-requires
-cut-step-requires c κs = search needs
-
-cut-step-requires-2 : tie.Need-cut-step-requires-2
-cut-step-requires-2 c κs = search needs
 
 mul-low : tie.Need-mul-low
 mul-low c =
@@ -96,24 +75,6 @@ add-low c =
     let low-fits = low-halved (g q) (a q) (a-fits q) (room q) in
     let moves = moved-fits (g q) (a q) (a-fits q) (room q) in
     simp (toZ-ofZ, high-is d, low-is e, high-fits .low, moves, low-fits .high) (sum-fits (g q) (a q) (a-fits q) (room q))
-
-mul-high : tie.Need-mul-high
-mul-high c = search needs
-
-slice-set-from-high : tie.Need-slice-set-from-high
-slice-set-from-high c = search needs
-
-mul-low-2 : tie.Need-mul-low-2
-mul-low-2 c = search needs
-
-slice-set-from-low : tie.Need-slice-set-from-low
-slice-set-from-low c = search needs
-
-same-length : tie.Need-same-length
-same-length c = search needs
-
-same-length-2 : tie.Need-same-length-2
-same-length-2 c = search needs
 
 returns : tie.Need-returns
 returns c =
@@ -132,20 +93,20 @@ pub divide-spec : {M : Type 1} → statement M
 divide-spec =
     tie.close
     (tie.spec
-    mul-cut
-    slice-copy-out-cut
-    cut-requires
-    mul-cut-step
-    slice-copy-out-cut-step
+    (λ c. search needs)
+    (λ c. search needs)
+    (λ c κs. search needs)
+    (λ c. search needs)
+    (λ c. search needs)
     add-cut-step
-    cut-step-requires
-    cut-step-requires-2
+    (λ c κs. search needs)
+    (λ c κs. search needs)
     mul-low
     add-low
-    mul-high
-    slice-set-from-high
-    mul-low-2
-    slice-set-from-low
-    same-length
-    same-length-2
+    (λ c. search needs)
+    (λ c. search needs)
+    (λ c. search needs)
+    (λ c. search needs)
+    (λ c. search needs)
+    (λ c. search needs)
     returns)

@@ -37,15 +37,6 @@ module _ (c : tie.After-cut) where
   cut-is : c .cut .result ≡ halvesOf a
   cut-is = rw (toZ-ofZ a-fits) at (c .cut .ensures)
 
-mul-cut : tie.Need-mul-cut
-mul-cut c = search needs
-
-shared-slice-copy-out-cut : tie.Need-shared-slice-copy-out-cut
-shared-slice-copy-out-cut c = search needs
-
-cut-requires : tie.Need-cut-requires
-cut-requires c κs = search needs
-
 returns : tie.Need-returns
 returns c =
     let l = c .before .before .before in
@@ -53,12 +44,6 @@ returns c =
       yes = λ e. absurd (let z : _≡_ {A = ℕ} 0 1 = cc in omega arith);
       no = λ _ e. c .if1 .taken (rw (cut-is l, zero-halves (g l) (a l) e .0));
     }
-
-mul-result : tie.Need-mul-result
-mul-result c = search needs
-
-shared-slice-copy-out-result : tie.Need-shared-slice-copy-out-result
-shared-slice-copy-out-result c = search needs
 
 sub-result : tie.Need-sub-result
 sub-result c =
@@ -81,11 +66,11 @@ pub is-zero-spec : {M : Type 1} → statement M
 is-zero-spec =
     tie.close
     (tie.spec
-    mul-cut
-    shared-slice-copy-out-cut
-    cut-requires
+    (λ c. search needs)
+    (λ c. search needs)
+    (λ c κs. search needs)
     returns
-    mul-result
-    shared-slice-copy-out-result
+    (λ c. search needs)
+    (λ c. search needs)
     sub-result
     returns-2)

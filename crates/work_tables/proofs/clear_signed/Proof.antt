@@ -19,18 +19,6 @@ abbrev μ-loop : tie.MeasureT-loop
 loop-holds : tie.Need-loop-holds Inv-loop μ-loop
 loop-holds c = (omega arith, refl, refl)
 
-mul-t : tie.Need-mul-t Inv-loop μ-loop
-mul-t c = search needs
-
-slice-set-of-t : tie.Need-slice-set-of-t Inv-loop μ-loop
-slice-set-of-t c = search needs
-
-add-i : tie.Need-add-i Inv-loop μ-loop
-add-i c = search needs
-
-loop-less : tie.Need-loop-less Inv-loop μ-loop
-loop-less c = search needs
-
 loop-again : tie.Need-loop-again Inv-loop μ-loop
 loop-again c = let v = c .before .loop .inv in (omega arith, simp length-set (v .1), ap (λ (l : List ℤ). set l (c .before .loop .i) (pos 0)) (v .2) ∙ fill-more (pos 0) (c .before .loop .i) (c .before .before .args .t .now) (omega (arith, c .before .before .pre)))
 
@@ -47,10 +35,10 @@ clear-signed-spec =
     Inv-loop
     μ-loop
     loop-holds
-    mul-t
-    slice-set-of-t
-    add-i
-    loop-less
+    (λ c. search needs)
+    (λ c. search needs)
+    (λ c. search needs)
+    (λ c. search needs)
     loop-again
     same-length
     returns)
