@@ -268,10 +268,10 @@ uint64_t zamiachisel_office(const uint8_t *problem, size_t problem_length, const
 
 /* ---- without work tables
 
-   A gap arrives at a window, which holds the latest 32 (request 11). The state is 65 lent numbers: how many gaps are held, and then
-   numerator and denominator of each, the newest first. 65 zeros are the state before any arrival; any 65 numbers are a state, and more
-   than 32 held count as 32. Returned is the number of the refusal, 14 or 1, or 0; with a refusal the state stays as it was. A state
-   of fewer than 65 numbers, like a verdict of fewer than 7, is refused with 1, and nothing is written. */
+   A gap arrives at a window, which holds the latest 32 (request 11). The state is 65 lent numbers: numerator and denominator of 32 gaps,
+   the newest first, and then how many of these are held. 65 zeros are the state before any arrival; any 65 numbers are a state, and
+   more than 32 held count as 32. Returned is the number of the refusal, 14 or 1, or 0; with a refusal the state stays as it was. A
+   state of fewer than 65 numbers, like a verdict of fewer than 7, is refused with 1, and nothing is written. */
 uint64_t zamiachisel_push(int64_t numerator, uint64_t denominator, uint64_t *state, size_t state_length, uint64_t *verdict,
                           size_t verdict_length);
 
