@@ -1,14 +1,14 @@
 -- The numbers of each verdict, one after the other: "number, stream .., place and key", and then the call's own fields,
 -- in the order of its struct in crates/calls. include/zamiachisel.h names the places; a test holds it to this file. A
 -- signed field is the number of 64 bits that stands for it in two's complement.
+use mathlib.Core.Path.{_≡_}
 use mathlib.Core.Bool.{Bool, cond, _||_}
 use mathlib.Core.List.{List, [], _∷_, _++_}
-use Prim.Native.Nat.{ℕ}
+use Prim.Native.Nat.{ℕ, _-_, _<_}
 use lib.Dec.{eqb, ltb}
-use lib.ListN.{length, getD, drop}
+use lib.ListN.{length, getD, take, drop, replicate}
 use Rattle.calls.specs.Report.{unsigned}
 use Rattle.calls.specs.Superseding.{streamOf}
-use Rattle.calls.specs.Tables.{Tables, tablesShort}
 use Rattle.calls.specs.declared.Fraction.{Fraction}
 use Rattle.calls.specs.declared.Refusal.{Refusal}
 use Rattle.calls.specs.declared.BlocksVerdict.{BlocksVerdict}
@@ -48,6 +48,10 @@ pairNumbers v =
     (withFraction (v .upper)
     (withFraction (v .gap) (markNumber (v .empty) ∷ v .rounds ∷ v .rule ∷ []))))
 
+-- what the check says of two certificates
+abbrev pub twoChecks : CheckVerdict → CheckVerdict → TwoChecks
+twoChecks a b = record { first = a; second = b }
+
 -- the check's of the first certificate, and then of the second
 unfoldable pub twoNumbers : TwoChecks → List ℕ
 twoNumbers v = checkNumbers (v .first) ++ checkNumbers (v .second)
@@ -84,10 +88,16 @@ unfoldable pub adjustedNumbers : AdjustedVerdict → List ℕ
 adjustedNumbers v = withRefusal (v .refusal) (withFraction (v .bound) [])
 
 -- ---- a run that is lent for n numbers
--- refusal 1: it is too short, or a work table is
-abbrev pub lentShort : ℕ → List ℕ → Tables → Bool
-lentShort n run t = ltb (length run) n || tablesShort t
+-- refusal 1: it is too short, or something else that is lent
+abbrev pub runShort : ℕ → List ℕ → Bool → Bool
+runShort n run others = ltb (length run) n || others
 
 -- the run at exit: "refusal 1 writes nothing"; otherwise the verdict, and what is past it stays
 unfoldable pub numbersLeft : List ℕ → List ℕ → List ℕ
 numbersLeft numbers run = cond (eqb (getD numbers 0 0) 1) run (numbers ++ drop (length numbers) run)
+
+-- ---- "all other fields are 0", in the run at exit of a verdict of n numbers: with a refusal, but not 1, all that are
+-- past the first four; without one the first four
+pub record RunZeros (n number : ℕ) (left : List ℕ) : Type 0 where
+  pub refused : 0 < number → (number ≡ 1 → ⊥) → drop 4 (take n left) ≡ replicate (n - 4) 0
+  pub accepted : number ≡ 0 → take 4 left ≡ replicate 4 0

@@ -118,7 +118,24 @@ pub fn two_numbers(v: TwoChecks) -> [u64; 18]
     let a = check_numbers(v.first);
     let b = check_numbers(v.second);
     [
-        a[0], a[1], a[2], a[3], a[4], a[5], a[6], a[7], a[8], b[0], b[1], b[2], b[3], b[4], b[5], b[6], b[7], b[8],
+        a[0],
+        a[1],
+        a[2],
+        a[3],
+        a[4],
+        a[5],
+        a[6],
+        a[7],
+        a[8],
+        b[0],
+        b[1],
+        b[2],
+        b[3],
+        b[4],
+        b[5],
+        b[6],
+        b[7],
+        b[8],
     ]
 }
 
