@@ -42,7 +42,7 @@ function keyOf(checker, streams, fields) {
 // The blocks of the problem, by `zamiachisel_blocks`: for each basis its indices, block by block. None where it is refused.
 function blocksOf(checker, problem, bases) {
   const out = new Uint8Array(576);
-  if (call(checker, "zamiachisel_blocks", [problem, out], 0, true).number) return null;
+  if (call(checker, "zamiachisel_blocks", [problem, out], 0, true, 7).number) return null;
   return bases.map((basis, j) => {
     const blocks = new Map();
     basis.forEach((_, i) => { const b = out[64 * j + i]; blocks.set(b, [...blocks.get(b) ?? [], i]); });
@@ -164,7 +164,7 @@ async function judge() {
 // Judges a week's file: up to 64 pairs, each with its own record.
 async function judgeWeek(file) {
   const checker = await ready, whole = new Uint8Array(await file.arrayBuffer()), out = new Uint8Array(64 * RECORD);
-  const { number: refusal } = call(checker, "zamiachisel_report", [whole, out], 0, true);
+  const { number: refusal } = call(checker, "zamiachisel_report", [whole, out], 0, true, 9);
   if (refusal) {
     say("refused", element("strong", {}, "refused"), element("pre", {}, `refused ${refusal}`),
       element("p", {}, `${REFUSALS[refusal]?.[0] ?? ""}.`));

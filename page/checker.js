@@ -12,11 +12,12 @@ async function checkerOf(bytes) {
 }
 
 // Calls a C function. Its arguments are runs of bytes, each a pointer and a length, then pointers to `singles` numbers of 64
-// bits, then, where `tables` is true, the three work tables. The runs are lent as copies behind the stack and the module's
-// own data, and afterwards copied back into `runs`. Returned are the number that the function returns and the single numbers,
-// read as unsigned.
-function call(exports, name, runs, singles = 0, tables = false) {
-  const sizes = [...runs.map(run => run.length), ...Array(singles).fill(8), ...Array(tables ? 3 : 0).fill(8 * TABLE)];
+// bits, then, where `numbers` is not 0, a run of so many for the verdict, then, where `tables` is true, the three work tables.
+// The runs are lent as copies behind the stack and the module's own data, and afterwards copied back into `runs`. Returned are
+// the number that the function returns, the single numbers, and the verdict, read as unsigned.
+function call(exports, name, runs, singles = 0, tables = false, numbers = 0) {
+  const lent = [...Array(numbers ? 1 : 0).fill(numbers), ...Array(tables ? 3 : 0).fill(TABLE)];
+  const sizes = [...runs.map(run => run.length), ...Array(singles).fill(8), ...lent.map(length => 8 * length)];
   const places = [];
   let end = exports.__heap_base.value;
   for (const size of sizes) {
@@ -25,13 +26,14 @@ function call(exports, name, runs, singles = 0, tables = false) {
   }
   const missing = end - exports.memory.buffer.byteLength;
   if (missing > 0) exports.memory.grow(Math.ceil(missing / 65536));
-  const memory = new Uint8Array(exports.memory.buffer);
+  const memory = new Uint8Array(exports.memory.buffer), first = runs.length, last = first + singles;
   runs.forEach((run, k) => memory.set(run, places[k]));
-  const lengths = k => k < runs.length ? [BigInt(runs[k].length)] : k < runs.length + singles ? [] : [BigInt(TABLE)];
+  const lengths = k => k < first ? [BigInt(runs[k].length)] : k < last ? [] : [BigInt(lent[k - last])];
   const number = Number(exports[name](...places.flatMap((place, k) => [place, ...lengths(k)])));
   runs.forEach((run, k) => run.set(memory.subarray(places[k], places[k] + run.length)));
-  const view = new DataView(exports.memory.buffer);
-  return { number, singles: places.slice(runs.length, runs.length + singles).map(place => view.getBigUint64(place, true)) };
+  const view = new DataView(exports.memory.buffer), at = place => view.getBigUint64(place, true);
+  return { number, singles: places.slice(first, last).map(at),
+           verdict: Array.from({ length: numbers }, (_, k) => at(places[last] + 8 * k)) };
 }
 
 // The fields of the record at an offset: the refusal's number, 0 where the pair is accepted; p/q and P/Q; stream, place, and the

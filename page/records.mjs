@@ -1,5 +1,5 @@
 // node page/records.mjs MODULE RECORDS ANSWERS: the records of a file, as `replay` reads them, through the C functions of the
-// module, against the stored lines. Held to a line is all of it that the C functions give; to the header, the returned
+// module, against the stored lines, whole; and to the header the returned
 // number, that what is only read stays, that a refusal leaves what was lent as it was, and that the work tables come back as
 // zeros. Ends with status 1 where anything differs. Kind w has no C function.
 import fs from "node:fs";
@@ -27,16 +27,18 @@ function* recordsIn(data) {
 }
 
 // A call with work tables that hold anything; what it leaves of them.
-function withTables(name, runs, singles) {
-  const start = checker.__heap_base.value, lent = runs.reduce((n, run) => n + run.length + 16, 16 * singles + 32);
+function withTables(name, runs, singles, numbers = 0) {
+  const start = checker.__heap_base.value;
+  const lent = runs.reduce((n, run) => n + run.length + 16, 16 * singles + 8 * numbers + 48);
   const missing = start + lent + 3 * 8 * TABLE - checker.memory.buffer.byteLength;
   if (missing > 0) checker.memory.grow(Math.ceil(missing / 65536));
   new Uint8Array(checker.memory.buffer, start, lent + 3 * 8 * TABLE).fill(LENT);
-  const found = call(checker, name, runs, singles, true);
+  const found = call(checker, name, runs, singles, true, numbers);
   // the tables are the last thing laid, each 16 bytes aligned
   let at = start;
   for (const run of runs) at = ((at + 15) & ~15) + run.length;
   for (let k = 0; k < singles; k++) at = ((at + 15) & ~15) + 8;
+  if (numbers) at = ((at + 15) & ~15) + 8 * numbers;
   const tables = Buffer.from(checker.memory.buffer, (at + 15) & ~15, 3 * 8 * TABLE);
   return { ...found, zeros: tables.equals(ZEROS), lent: tables.equals(AS_LENT) };
 }
@@ -45,66 +47,59 @@ const lentBytes = length => new Uint8Array(length).fill(LENT);
 
 // For each kind what the C functions say, beside what the stored line says of the same; `read` are the runs that no call may
 // write.
+const ratio = (verdict, k) => `${signed(verdict[k])}/${verdict[k + 1]}`;
+const checkWords = (word, v) => `${word} ${v[4]} ${ratio(v, 5)} rounds ${v[7]} rule ${v[8]}`;
+// A call that fills a verdict of so many numbers: its refusal as a line, or the line that `words` gives. With refusal 1 nothing
+// is written.
+function told(name, runs, numbers, line, words, kept = () => true) {
+  const { number, verdict, singles, ...tables } = withTables(name, runs, 0, numbers);
+  const written = number !== 1, unwritten = verdict.every(n => n === BigInt("0x" + "a5".repeat(8)));
+  if (!number) return { number, tables, said: words(verdict), must: line };
+  return { number, tables, said: written ? `refused ${verdict.slice(0, 4).join(" ")}` : `refused ${number} 0 0 0`, must: line,
+           kept: kept() && (written ? verdict.slice(4).every(n => n === 0n) : unwritten) };
+}
 const kinds = {
   b([problem], line) {
-    const out = lentBytes(576), { number, ...tables } = withTables("zamiachisel_blocks", [problem, out], 0);
-    if (number) return { number, tables, kept: out.every(byte => byte === LENT) };
-    let count = 0;
-    for (let j = 0; j < 9; j++) count += new Set(out.subarray(64 * j, 64 * j + 64).filter(block => block < 255)).size;
-    return { number, tables, said: `blocks ${count} ${hex(out)}`, must: line.replace(/ rounds \d+ rule \d+/, "") };
+    const out = lentBytes(576), lent = () => out.every(byte => byte === LENT);
+    return told("zamiachisel_blocks", [problem, out], 7, line, v => `blocks ${v[4]} rounds ${v[5]} rule ${v[6]} ${hex(out)}`, lent);
   },
-  c([problem, certificate]) {
-    const { number, ...tables } = withTables("zamiachisel_check", [problem, certificate], 0);
-    return { number, tables };
+  c([problem, certificate], line) {
+    return told("zamiachisel_check", [problem, certificate], 9, line, v => checkWords("check", v));
   },
   p(runs, line) {
-    const { number, ...tables } = withTables("zamiachisel_pair", runs, 0);
-    const r = recordOf(checker, ...runs);
-    if (r.refusal !== number) return { number, tables, said: `record ${r.refusal}`, must: line };
-    const words = line.split(" ");
-    if (number) return { number, tables, said: `refused ${number} ${r.stream} ${r.place} ${r.key}`,
-                         must: [...words.slice(0, 4), BigInt.asUintN(32, BigInt(words[4]))].join(" ") };
-    return { number, tables, said: `pair ${r.p}/${r.q} ${r.P}/${r.Q}`, must: words.slice(0, 3).join(" ") };
+    return told("zamiachisel_pair", runs, 13, line, v =>
+      `pair ${ratio(v, 4)} ${ratio(v, 6)} gap ${v[10] ? "empty" : ratio(v, 8)} rounds ${v[11]} rule ${v[12]}`);
   },
   t(runs, line) {
     const { number: back, singles, ...tables } = withTables("zamiachisel_tighter", runs, 4);
     const said = back ? `tighter ${hex(runs[back])}` : `refused ${singles.join(" ")}`;
-    return { number: Number(singles[0]), tables, said, must: line, kept: back === 0 || singles.every(single => single === 0n) };
+    const chosen = withTables("zamiachisel_choose", runs, 0, 5).verdict;
+    return { number: Number(singles[0]), tables, said, must: line,
+             kept: chosen.join() === [...singles, BigInt(back)].join() && (back === 0 || singles.every(single => single === 0n)) };
   },
   s([problem], line) {
-    const out = lentBytes(256), { number, ...tables } = withTables("zamiachisel_symmetries", [problem, out], 0);
-    if (number) return { number, tables, kept: out.every(byte => byte === LENT) };
-    return { number, tables, said: `symmetries ${1 + out.filter(mask => mask).length} ${hex(out)}`, must: line };
+    const out = lentBytes(256), lent = () => out.every(byte => byte === LENT);
+    return told("zamiachisel_symmetries", [problem, out], 5, line, v => `symmetries ${v[4]} ${hex(out)}`, lent);
   },
   r([records, output], line) {
-    const out = output.slice(), { number, ...tables } = withTables("zamiachisel_report", [records, out], 0);
-    if (number) return { number, tables, kept: hex(out) === hex(output) };
-    const words = line.split(" ");
-    let count = 0, accepted = 0;
-    const length = at => 6 + [0, 2, 4].reduce((sum, k) => sum + records[at + k] + 256 * records[at + k + 1], 0);
-    for (let at = 0; at < records.length; at += length(at)) count++;
-    for (let k = 0; k < count; k++) accepted += fieldsOf(out, 32 * k).refusal === 0;
-    return { number, tables, said: `report ${accepted} ${hex(out)}`, must: `report ${words[1]} ${words[6] ?? ""}` };
+    const out = output.slice(), lent = () => hex(out) === hex(output);
+    return told("zamiachisel_report", [records, out], 9, line,
+                v => `report ${v[4]} lower ${ratio(v, 5)} upper ${ratio(v, 7)} ${hex(out)}`, lent);
   },
   x([problem, low, high, output], line) {
     const out = output.slice(), { number } = call(checker, "zamiachisel_record", [problem, low, high, out]);
     return { number, said: `record ${number} ${hex(out)}`, must: line };
   },
   d(runs, line) {
-    const { number, singles: [a, b, A, B], ...tables } = withTables("zamiachisel_sum", runs, 4);
-    if (number) return { number, tables, kept: !(a || b || A || B) };
-    return { number, tables, said: `sum ${signed(a)}/${b} ${signed(A)}/${B}`, must: line.replace(/ rules .*/, "") };
+    return told("zamiachisel_sum", runs, 10, line, v => `sum ${ratio(v, 4)} ${ratio(v, 6)} rules ${v[8]} ${v[9]}`);
   },
   a(runs, line) {
-    const { number, singles: [a, b], ...tables } = withTables("zamiachisel_moved_bound", runs, 2);
-    if (number) return { number, tables, kept: !(a || b) };
-    return { number, tables, said: `adjusted ${signed(a)}/${b}`, must: line };
+    return told("zamiachisel_moved_bound", runs, 6, line, v => `adjusted ${ratio(v, 4)}`);
   },
   n([problem, certificate, buffer], line) {
-    const out = buffer.slice();
-    const { number, singles: [count], ...tables } = withTables("zamiachisel_office", [problem, certificate, out], 1);
-    if (number) return { number, tables, kept: count === 0n && hex(out) === hex(buffer) };
-    return { number, tables, said: `notes ${count} ${hex(out)}`, must: line.replace(/.* notes/, "notes") };
+    const out = buffer.slice(), lent = () => hex(out) === hex(buffer);
+    return told("zamiachisel_office", [problem, certificate, out], 10, line,
+                v => `${checkWords("office", v)} notes ${v[9]} ${hex(out)}`, lent);
   },
 };
 

@@ -1,6 +1,7 @@
 /* every_call: calls every function of include/zamiachisel.h, for streams that are accepted and for each kind of
    refusal, with work tables and outputs of the length that is asked, longer and too short, all full of other numbers
-   before the call; and looks at everything that was lent after it. What must be there is what the contracts in
+   before the call, with a run for the verdict that is longer than asked or one number short; and looks at everything that was lent
+   after it. What must be there is what the contracts in
    crates/c_calls say, worked out here by hand: the first 2,048 numbers of each table are 0 and the rest is as it was;
    with refusal 1 nothing is changed; with any other refusal no output is. It says what is not so, and ends with status
    1 where there is such a thing. Each run is allocated at its own length, so that valgrind sees what is read or written
@@ -92,6 +93,12 @@ static uint8_t *out;
 static size_t keys_length, high_length, low_length, out_length;
 static uint64_t single[4];
 
+/* The run for a verdict: as long as the call asks, or one number short of it. */
+static uint64_t *verdict;
+static size_t verdict_length;
+static int verdict_short;
+
+
 static uint8_t *copy(struct run run) {
     uint8_t *bytes = malloc(run.length ? run.length : 1);
     if (bytes == NULL) {
@@ -136,7 +143,18 @@ static void lend(const size_t *lengths, size_t length) {
     }
 }
 
+/* Lends a run for a verdict of so many numbers, with others in it and two more than is asked. */
+static void lend_verdict(size_t numbers) {
+    verdict_length = verdict_short ? numbers - 1 : numbers + 2;
+    verdict = allocate(8 * verdict_length);
+    for (size_t i = 0; i < verdict_length; i++) {
+        verdict[i] = 0xFACE + i;
+    }
+}
+
 static void give_back(void) {
+    free(verdict);
+    verdict = NULL;
     free(keys);
     free(high);
     free(low);
@@ -172,6 +190,26 @@ static void look_at_tables(int is_short) {
     }
     for (size_t i = 0; i < low_length; i++) {
         equal("a low half", (uint64_t)low[i], !is_short && i < 2048 ? 0 : (uint64_t)(7 + (int64_t)i));
+    }
+}
+
+/* The run for the verdict after a call with this refusal: its number stands first, and with a refusal the fields of the call are 0;
+   with refusal 1, and past the verdict, all is as it was. */
+static void look_at_verdict(size_t numbers, uint64_t number) {
+    for (size_t i = 0; i < verdict_length; i++) {
+        if (number == 1 || i >= numbers) {
+            equal("a number that is not written", verdict[i], 0xFACE + i);
+        } else if (i == 0) {
+            equal("the number in the verdict", verdict[i], number);
+        } else if (number ? i > 3 : i < 4) {
+            equal("a field that is 0", verdict[i], 0);
+        }
+    }
+}
+
+static void field(const char *what, size_t place, uint64_t number, uint64_t expected) {
+    if (number == 0) {
+        equal(what, verdict[place], expected);
     }
 }
 
@@ -224,9 +262,11 @@ static void blocks(const struct answers *a, int is_short) {
         expected[i] = (uint8_t)(a->numbers[i] - 1);
     }
     is_short |= out_length < sizeof expected;
-    refusal = zamiachisel_blocks(problem, a->problem.length, out, out_length, keys, keys_length, high, high_length, low,
-                                 low_length);
+    lend_verdict(ZAMIACHISEL_BLOCKS_NUMBERS);
+    refusal = zamiachisel_blocks(problem, a->problem.length, out, out_length, verdict, verdict_length, keys, keys_length, high,
+                                 high_length, low, low_length);
     equal("the refusal", refusal, is_short ? 1 : a->blocks);
+    look_at_verdict(ZAMIACHISEL_BLOCKS_NUMBERS, refusal);
     look_at_output(expected, is_short || a->blocks ? 0 : sizeof expected);
     look_at_singles(0, 0, 0, 0, 0);
     look_at_tables(is_short);
@@ -239,9 +279,11 @@ static void symmetries(const struct answers *a, int is_short) {
     uint64_t refusal;
     memcpy(expected + 1, a->masks, sizeof a->masks);
     is_short |= out_length < sizeof expected;
-    refusal = zamiachisel_symmetries(problem, a->problem.length, out, out_length, keys, keys_length, high, high_length,
-                                     low, low_length);
+    lend_verdict(ZAMIACHISEL_SYMMETRIES_NUMBERS);
+    refusal = zamiachisel_symmetries(problem, a->problem.length, out, out_length, verdict, verdict_length, keys, keys_length,
+                                     high, high_length, low, low_length);
     equal("the refusal", refusal, is_short ? 1 : a->blocks);
+    look_at_verdict(ZAMIACHISEL_SYMMETRIES_NUMBERS, refusal);
     look_at_output(expected, is_short || a->blocks ? 0 : sizeof expected);
     look_at_singles(0, 0, 0, 0, 0);
     look_at_tables(is_short);
@@ -250,9 +292,12 @@ static void symmetries(const struct answers *a, int is_short) {
 
 static void check(const struct answers *a, int is_short) {
     uint8_t *problem = copy(a->problem), *first = copy(a->first);
-    uint64_t refusal = zamiachisel_check(problem, a->problem.length, first, a->first.length, keys, keys_length, high,
-                                         high_length, low, low_length);
+    uint64_t refusal;
+    lend_verdict(ZAMIACHISEL_CHECK_NUMBERS);
+    refusal = zamiachisel_check(problem, a->problem.length, first, a->first.length, verdict, verdict_length, keys, keys_length,
+                                high, high_length, low, low_length);
     equal("the refusal", refusal, is_short ? 1 : a->check);
+    look_at_verdict(ZAMIACHISEL_CHECK_NUMBERS, refusal);
     look_at_output(NULL, 0);
     look_at_singles(0, 0, 0, 0, 0);
     look_at_tables(is_short);
@@ -260,14 +305,78 @@ static void check(const struct answers *a, int is_short) {
     free(first);
 }
 
+/* Two checks: of the first certificate, and of the same again. */
+static void check_two(const struct answers *a, int is_short) {
+    uint8_t *problem = copy(a->problem), *first = copy(a->first), *second = copy(a->first);
+    uint64_t refusal;
+    lend_verdict(ZAMIACHISEL_TWO_NUMBERS);
+    refusal = zamiachisel_check_two(problem, a->problem.length, first, a->first.length, second, a->first.length, verdict,
+                                    verdict_length, keys, keys_length, high, high_length, low, low_length);
+    equal("the refusal", refusal, is_short ? 1 : a->check);
+    if (refusal != 1) {
+        for (size_t i = 0; i < ZAMIACHISEL_CHECK_NUMBERS; i++) {
+            equal("a number of the second check", verdict[ZAMIACHISEL_TWO_SECOND + i], verdict[i]);
+        }
+    }
+    look_at_output(NULL, 0);
+    look_at_tables(is_short);
+    free(problem);
+    free(first);
+    free(second);
+}
+
 static void pair(const struct answers *a, int is_short) {
     uint8_t *problem = copy(a->problem), *first = copy(a->first), *second = copy(a->second);
-    uint64_t refusal = zamiachisel_pair(problem, a->problem.length, first, a->first.length, second, a->second.length,
-                                        keys, keys_length, high, high_length, low, low_length);
+    uint64_t refusal;
+    lend_verdict(ZAMIACHISEL_PAIR_NUMBERS);
+    refusal = zamiachisel_pair(problem, a->problem.length, first, a->first.length, second, a->second.length, verdict,
+                               verdict_length, keys, keys_length, high, high_length, low, low_length);
     equal("the refusal", refusal, is_short ? 1 : a->pair);
+    look_at_verdict(ZAMIACHISEL_PAIR_NUMBERS, refusal);
+    field("the lower numerator", ZAMIACHISEL_PAIR_LOWER_NUMERATOR, refusal, (uint64_t)a->lower.num);
+    field("the lower denominator", ZAMIACHISEL_PAIR_LOWER_DENOMINATOR, refusal, a->lower.den);
+    field("the upper numerator", ZAMIACHISEL_PAIR_UPPER_NUMERATOR, refusal, (uint64_t)a->upper.num);
+    field("the upper denominator", ZAMIACHISEL_PAIR_UPPER_DENOMINATOR, refusal, a->upper.den);
     look_at_output(NULL, 0);
     look_at_singles(0, 0, 0, 0, 0);
     look_at_tables(is_short);
+    free(problem);
+    free(first);
+    free(second);
+}
+
+/* The choice of the tighter certificate, in a run. */
+static void choose(const struct answers *a, int is_short) {
+    uint8_t *problem = copy(a->problem), *first = copy(a->first), *second = copy(a->second);
+    uint64_t refusal;
+    lend_verdict(ZAMIACHISEL_CHOOSE_NUMBERS);
+    refusal = zamiachisel_choose(problem, a->problem.length, first, a->first.length, second, a->second.length, verdict,
+                                 verdict_length, keys, keys_length, high, high_length, low, low_length);
+    equal("the refusal", refusal, is_short ? 1 : a->tighter);
+    look_at_verdict(ZAMIACHISEL_CHOOSE_NUMBERS, refusal);
+    field("the stream that comes back", ZAMIACHISEL_CHOOSE_STREAM, refusal, a->better);
+    look_at_output(NULL, 0);
+    look_at_tables(is_short);
+    free(problem);
+    free(first);
+    free(second);
+}
+
+/* The lines borrow neither a verdict nor tables: those here stay as they are. An output too short for them stays too. */
+static void lines(const struct answers *a, int is_short) {
+    uint8_t *problem = copy(a->problem), *first = copy(a->first), *second = copy(a->second);
+    uint64_t length;
+    (void)is_short;
+    length = zamiachisel_lines(problem, a->problem.length, first, a->first.length, second, a->second.length, out, out_length);
+    must(0 < length && length <= ZAMIACHISEL_LINES_LENGTH, "the length of the lines", length, ZAMIACHISEL_LINES_LENGTH);
+    if (length <= out_length) {
+        equal("the first letter of the lines", out[0], a->pair ? 'r' : 'l');
+        equal("the last byte of the lines", out[length - 1], 10);
+    }
+    for (size_t i = length <= out_length ? length : 0; i < out_length; i++) {
+        equal("a byte of the output", out[i], 1 + i % 251);
+    }
+    look_at_tables(1);
     free(problem);
     free(first);
     free(second);
@@ -295,10 +404,13 @@ static void office(const struct answers *a, int is_short) {
     if (!refusal && out_length < 8 * a->notes) {
         refusal = 13;
     }
-    found = zamiachisel_office(problem, a->problem.length, first, a->first.length, out, out_length, &single[0], keys,
-                               keys_length, high, high_length, low, low_length);
+    lend_verdict(ZAMIACHISEL_OFFICE_NUMBERS);
+    found = zamiachisel_office(problem, a->problem.length, first, a->first.length, out, out_length, verdict, verdict_length,
+                               keys, keys_length, high, high_length, low, low_length);
     equal("the refusal", found, refusal);
-    look_at_singles(1, refusal ? 0 : a->notes, 0, 0, 0);
+    look_at_verdict(ZAMIACHISEL_OFFICE_NUMBERS, found);
+    field("the number of notes", ZAMIACHISEL_OFFICE_NOTES, found, a->notes);
+    look_at_singles(0, 0, 0, 0, 0);
     look_at_output(a->note_bytes, refusal ? 0 : 8 * a->notes);
     look_at_tables(is_short);
     free(problem);
@@ -309,12 +421,14 @@ static void moved_bound(const struct answers *a, int is_short) {
     const struct run change = RUN(X(1, 0), 253, 255, 255, 255);
     uint8_t *problem = copy(a->problem), *first = copy(a->first), *changes = copy(change);
     uint64_t refusal = is_short ? 1 : a->moved, found;
-    int64_t numerator = 0xBEEF;
-    found = zamiachisel_moved_bound(problem, a->problem.length, first, a->first.length, changes, change.length,
-                                    &numerator, &single[0], keys, keys_length, high, high_length, low, low_length);
+    lend_verdict(ZAMIACHISEL_MOVED_NUMBERS);
+    found = zamiachisel_moved_bound(problem, a->problem.length, first, a->first.length, changes, change.length, verdict,
+                                    verdict_length, keys, keys_length, high, high_length, low, low_length);
     equal("the refusal", found, refusal);
-    equal("the numerator", (uint64_t)numerator, refusal ? 0 : (uint64_t)a->bound.num);
-    look_at_singles(1, refusal ? 0 : a->bound.den, 0, 0, 0);
+    look_at_verdict(ZAMIACHISEL_MOVED_NUMBERS, found);
+    field("the numerator", ZAMIACHISEL_MOVED_NUMERATOR, found, (uint64_t)a->bound.num);
+    field("the denominator", ZAMIACHISEL_MOVED_DENOMINATOR, found, a->bound.den);
+    look_at_singles(0, 0, 0, 0, 0);
     look_at_output(NULL, 0);
     look_at_tables(is_short);
     free(problem);
@@ -326,17 +440,20 @@ static void moved_bound(const struct answers *a, int is_short) {
 static void sum_with(const struct answers *a, const struct answers *b, uint64_t refusal) {
     uint8_t *problem = copy(a->problem), *first = copy(a->first), *second = copy(a->second);
     uint8_t *problem2 = copy(b->problem), *first2 = copy(b->first), *second2 = copy(b->second);
-    int64_t lower = 0xBEEF, upper = 0xBEEF;
-    uint64_t found =
-        zamiachisel_sum(problem, a->problem.length, first, a->first.length, second, a->second.length, problem2,
-                        b->problem.length, first2, b->first.length, second2, b->second.length, &lower, &single[0],
-                        &upper, &single[1], keys, keys_length, high, high_length, low, low_length);
+    uint64_t found;
     int64_t p = a->lower.num * (int64_t)b->lower.den + b->lower.num * (int64_t)a->lower.den;
     int64_t P = a->upper.num * (int64_t)b->upper.den + b->upper.num * (int64_t)a->upper.den;
+    lend_verdict(ZAMIACHISEL_SUM_NUMBERS);
+    found = zamiachisel_sum(problem, a->problem.length, first, a->first.length, second, a->second.length, problem2,
+                            b->problem.length, first2, b->first.length, second2, b->second.length, verdict, verdict_length,
+                            keys, keys_length, high, high_length, low, low_length);
     equal("the refusal", found, refusal);
-    equal("the lower numerator", (uint64_t)lower, refusal ? 0 : (uint64_t)p);
-    equal("the upper numerator", (uint64_t)upper, refusal ? 0 : (uint64_t)P);
-    look_at_singles(2, refusal ? 0 : a->lower.den * b->lower.den, refusal ? 0 : a->upper.den * b->upper.den, 0, 0);
+    look_at_verdict(ZAMIACHISEL_SUM_NUMBERS, found);
+    field("the lower numerator", ZAMIACHISEL_SUM_LOWER_NUMERATOR, found, (uint64_t)p);
+    field("the lower denominator", ZAMIACHISEL_SUM_LOWER_DENOMINATOR, found, a->lower.den * b->lower.den);
+    field("the upper numerator", ZAMIACHISEL_SUM_UPPER_NUMERATOR, found, (uint64_t)P);
+    field("the upper denominator", ZAMIACHISEL_SUM_UPPER_DENOMINATOR, found, a->upper.den * b->upper.den);
+    look_at_singles(0, 0, 0, 0, 0);
     look_at_output(NULL, 0);
     look_at_tables(refusal == 1);
     free(problem);
@@ -419,9 +536,14 @@ static void report_on(const struct answers *a, int is_short, int is_cut) {
     expect_record(a, expected);
     expect_record(a, expected + ZAMIACHISEL_RECORD_LENGTH);
     refusal = is_short ? 1 : is_cut ? 12 : out_length < sizeof expected ? 1 : 0;
+    equal("the number of records", zamiachisel_record_count(records, length), is_cut ? 0 : 2);
+    lend_verdict(ZAMIACHISEL_REPORT_NUMBERS);
     equal("the refusal",
-          zamiachisel_report(records, length, out, out_length, keys, keys_length, high, high_length, low, low_length),
+          zamiachisel_report(records, length, out, out_length, verdict, verdict_length, keys, keys_length, high, high_length,
+                             low, low_length),
           refusal);
+    look_at_verdict(ZAMIACHISEL_REPORT_NUMBERS, refusal);
+    field("the number accepted", ZAMIACHISEL_REPORT_ACCEPTED, refusal, a->pair ? 0 : 2);
     look_at_output(expected, refusal ? 0 : sizeof expected);
     look_at_singles(0, 0, 0, 0, 0);
     look_at_tables(refusal == 1);
@@ -446,6 +568,9 @@ static const struct {
     {"blocks", blocks, ZAMIACHISEL_BLOCKS_LENGTH},
     {"check", check, MORE},
     {"pair", pair, MORE},
+    {"check of two", check_two, MORE},
+    {"choose", choose, MORE},
+    {"lines", lines, 128},
     {"tighter", tighter, MORE},
     {"symmetries", symmetries, ZAMIACHISEL_MASKS_LENGTH},
     {"report", report, 2 * ZAMIACHISEL_RECORD_LENGTH},
@@ -461,13 +586,16 @@ static void try_case(const struct answers *a) {
     case_name = a->name;
     for (size_t i = 0; i < sizeof every / sizeof every[0]; i++) {
         const size_t outputs[] = {every[i].output, every[i].output - 1, every[i].output + MORE, 0};
+        const int has_verdict = every[i].call != tighter && every[i].call != record && every[i].call != lines;
         call_name = every[i].name;
         for (size_t j = 0; j < sizeof outputs / sizeof outputs[0]; j++) {
             for (case_lengths = 0; case_lengths < LENGTHS; case_lengths++) {
-                lend(table_lengths[case_lengths], outputs[j]);
-                every[i].call(a, case_lengths >= ENOUGH);
-                give_back();
-                calls++;
+                for (verdict_short = 0; verdict_short <= has_verdict; verdict_short++) {
+                    lend(table_lengths[case_lengths], outputs[j]);
+                    every[i].call(a, verdict_short || case_lengths >= ENOUGH);
+                    give_back();
+                    calls++;
+                }
             }
         }
     }

@@ -8,6 +8,8 @@ extern "C" {
         problem_length: usize,
         out: *mut u8,
         out_length: usize,
+        verdict: *mut u64,
+        verdict_length: usize,
         keys: *mut u64,
         keys_length: usize,
         high: *mut i64,
@@ -21,6 +23,8 @@ extern "C" {
         problem_length: usize,
         certificate: *const u8,
         certificate_length: usize,
+        verdict: *mut u64,
+        verdict_length: usize,
         keys: *mut u64,
         keys_length: usize,
         high: *mut i64,
@@ -34,6 +38,8 @@ extern "C" {
         problem_length: usize,
         out: *mut u8,
         out_length: usize,
+        verdict: *mut u64,
+        verdict_length: usize,
         keys: *mut u64,
         keys_length: usize,
         high: *mut i64,
@@ -49,6 +55,8 @@ extern "C" {
         first_length: usize,
         second: *const u8,
         second_length: usize,
+        verdict: *mut u64,
+        verdict_length: usize,
         keys: *mut u64,
         keys_length: usize,
         high: *mut i64,
@@ -70,10 +78,8 @@ extern "C" {
         low2_length: usize,
         high2: *const u8,
         high2_length: usize,
-        lower_numerator: *mut i64,
-        lower_denominator: *mut u64,
-        upper_numerator: *mut i64,
-        upper_denominator: *mut u64,
+        verdict: *mut u64,
+        verdict_length: usize,
         keys: *mut u64,
         keys_length: usize,
         high: *mut i64,
@@ -117,6 +123,8 @@ extern "C" {
         records_length: usize,
         out: *mut u8,
         out_length: usize,
+        verdict: *mut u64,
+        verdict_length: usize,
         keys: *mut u64,
         keys_length: usize,
         high: *mut i64,
@@ -132,8 +140,8 @@ extern "C" {
         certificate_length: usize,
         changes: *const u8,
         changes_length: usize,
-        numerator: *mut i64,
-        denominator: *mut u64,
+        verdict: *mut u64,
+        verdict_length: usize,
         keys: *mut u64,
         keys_length: usize,
         high: *mut i64,
@@ -149,7 +157,8 @@ extern "C" {
         certificate_length: usize,
         buffer: *mut u8,
         buffer_length: usize,
-        notes: *mut u64,
+        verdict: *mut u64,
+        verdict_length: usize,
         keys: *mut u64,
         keys_length: usize,
         high: *mut i64,
@@ -165,10 +174,14 @@ pub struct Record {
     pub runs: Vec<Vec<u8>>,
 }
 
+/// As many numbers as the verdicts of these calls have at most: the pair's.
+pub const LONGEST_VERDICT: usize = 13;
+
 /// What is lent to every call.
 #[derive(Clone, Debug, PartialEq, Eq)]
 pub struct Lent {
     pub out: Vec<u8>,
+    pub verdict: Vec<u64>,
     pub keys: Vec<u64>,
     pub high: Vec<i64>,
     pub low: Vec<i64>,
@@ -179,6 +192,7 @@ impl Lent {
     pub fn new(kind: u8) -> Self {
         Lent {
             out: vec![0; if kind == b's' { 256 } else { 576 }],
+            verdict: vec![0; LONGEST_VERDICT],
             keys: vec![0; 2_048],
             high: vec![0; 2_048],
             low: vec![0; 2_048],
@@ -234,14 +248,14 @@ pub fn answer(record: &Record, lent: &mut Lent) -> u64 {
         panic!("a record has three runs at least");
     };
     match (record.kind, others) {
-        (b'b', _) => call!(zamiachisel_blocks, problem; lent.out, lent.keys, lent.high, lent.low),
-        (b'c', _) => call!(zamiachisel_check, problem, first; lent.keys, lent.high, lent.low),
+        (b'b', _) => call!(zamiachisel_blocks, problem; lent.out, lent.verdict, lent.keys, lent.high, lent.low),
+        (b'c', _) => call!(zamiachisel_check, problem, first; lent.verdict, lent.keys, lent.high, lent.low),
         (b'p', _) => {
-            call!(zamiachisel_pair, problem, first, second; lent.keys, lent.high, lent.low)
+            call!(zamiachisel_pair, problem, first, second; lent.verdict, lent.keys, lent.high, lent.low)
         }
         (b't', _) => tighter([problem, first, second], lent)[0],
         (b's', _) => {
-            call!(zamiachisel_symmetries, problem; lent.out, lent.keys, lent.high, lent.low)
+            call!(zamiachisel_symmetries, problem; lent.out, lent.verdict, lent.keys, lent.high, lent.low)
         }
         (b'r', _) => report(problem, &mut first.clone(), lent),
         (b'x', [output]) => self::record([problem, first, second], &mut output.clone()),
@@ -254,7 +268,7 @@ pub fn answer(record: &Record, lent: &mut Lent) -> u64 {
 
 /// The report on these records, which writes to this output: the number of the refusal, or 0.
 pub fn report(records: &[u8], output: &mut [u8], lent: &mut Lent) -> u64 {
-    call!(zamiachisel_report, records; output, lent.keys, lent.high, lent.low)
+    call!(zamiachisel_report, records; output, lent.verdict, lent.keys, lent.high, lent.low)
 }
 
 /// The pair's verdict as a record, which this output gets: the number of the refusal, or 0.
@@ -292,40 +306,20 @@ pub fn tighter([problem, first, second]: [&Vec<u8>; 3], lent: &mut Lent) -> [u64
     [number, stream, place, key]
 }
 
+/// What stands in the verdict from a place on; with refusal 1 nothing is written, which is read as zeros.
+fn fields<const N: usize>(number: u64, lent: &Lent, place: usize) -> [u64; N] {
+    std::array::from_fn(|k| if number == 1 { 0 } else { lent.verdict[place + k] })
+}
+
 /// The number of the refusal and the two sums that the call on two problems leaves, which are 0 over 0 exactly with a refusal.
 pub fn sum(runs: &[Vec<u8>], lent: &mut Lent) -> (u64, [(i64, u64); 2]) {
     let [problem1, low1, high1, problem2, low2, high2] = runs else {
         panic!("two problems with a pair for each are six runs");
     };
-    let mut sums = [(i64::MIN, u64::MAX); 2];
-    let [lower, upper] = &mut sums;
-    // As above.
-    let number = unsafe {
-        zamiachisel_sum(
-            problem1.as_ptr(),
-            problem1.len(),
-            low1.as_ptr(),
-            low1.len(),
-            high1.as_ptr(),
-            high1.len(),
-            problem2.as_ptr(),
-            problem2.len(),
-            low2.as_ptr(),
-            low2.len(),
-            high2.as_ptr(),
-            high2.len(),
-            &raw mut lower.0,
-            &raw mut lower.1,
-            &raw mut upper.0,
-            &raw mut upper.1,
-            lent.keys.as_mut_ptr(),
-            lent.keys.len(),
-            lent.high.as_mut_ptr(),
-            lent.high.len(),
-            lent.low.as_mut_ptr(),
-            lent.low.len(),
-        )
-    };
+    let number = call!(zamiachisel_sum, problem1, low1, high1, problem2, low2, high2;
+        lent.verdict, lent.keys, lent.high, lent.low);
+    let [p, q, upper_p, upper_q] = fields(number, lent, 4);
+    let sums = [(p as i64, q), (upper_p as i64, upper_q)];
     for (numerator, denominator) in sums {
         assert_eq!(number == 0, denominator != 0);
         assert!(number == 0 || numerator == 0);
@@ -338,54 +332,21 @@ pub fn moved_bound(
     [problem, certificate, changes]: [&Vec<u8>; 3],
     lent: &mut Lent,
 ) -> (u64, i64, u64) {
-    let (mut numerator, mut denominator) = (i64::MIN, u64::MAX);
-    // As above.
-    let number = unsafe {
-        zamiachisel_moved_bound(
-            problem.as_ptr(),
-            problem.len(),
-            certificate.as_ptr(),
-            certificate.len(),
-            changes.as_ptr(),
-            changes.len(),
-            &raw mut numerator,
-            &raw mut denominator,
-            lent.keys.as_mut_ptr(),
-            lent.keys.len(),
-            lent.high.as_mut_ptr(),
-            lent.high.len(),
-            lent.low.as_mut_ptr(),
-            lent.low.len(),
-        )
-    };
+    let number = call!(zamiachisel_moved_bound, problem, certificate, changes;
+        lent.verdict, lent.keys, lent.high, lent.low);
+    let [numerator, denominator] = fields(number, lent, 4);
     assert_eq!(number == 0, denominator != 0);
     assert!(number == 0 || numerator == 0);
-    (number, numerator, denominator)
+    (number, numerator as i64, denominator)
 }
 
-/// The number of the refusal of the office's check, or 0, on a buffer as the record has it. The number of notes is lent with
-/// another number in it; with a refusal it is 0, and the buffer stays.
+/// The number of the refusal of the office's check, or 0, on a buffer as the record has it. With a refusal the number of
+/// notes is 0, and the buffer stays.
 pub fn office([problem, certificate, buffer]: [&Vec<u8>; 3], lent: &mut Lent) -> u64 {
     let mut left = buffer.clone();
-    let mut notes = u64::MAX;
-    // As above; the number of notes is apart from the buffer and from the tables.
-    let number = unsafe {
-        zamiachisel_office(
-            problem.as_ptr(),
-            problem.len(),
-            certificate.as_ptr(),
-            certificate.len(),
-            left.as_mut_ptr(),
-            left.len(),
-            &raw mut notes,
-            lent.keys.as_mut_ptr(),
-            lent.keys.len(),
-            lent.high.as_mut_ptr(),
-            lent.high.len(),
-            lent.low.as_mut_ptr(),
-            lent.low.len(),
-        )
-    };
+    let number = call!(zamiachisel_office, problem, certificate;
+        left, lent.verdict, lent.keys, lent.high, lent.low);
+    let [notes] = fields(number, lent, 9);
     assert!(8 * notes as usize <= left.len());
     assert!(number == 0 || (notes == 0 && left == *buffer));
     number

@@ -1,6 +1,8 @@
 //! Refusal 1: each call with each of the lent tables one short.
 
-use crate::calls::{answer, moved_bound, record, report, sum, tighter, Lent, Record};
+use crate::calls::{
+    answer, moved_bound, record, report, sum, tighter, Lent, Record, LONGEST_VERDICT,
+};
 
 /// Case F: a problem and its two certificates, all of which hold.
 const PROBLEM: [&[u8]; 9] = [
@@ -50,6 +52,7 @@ fn case_f(kind: u8) -> Record {
 fn filled() -> Lent {
     Lent {
         out: (0..579).map(|i| 1 + (i % 250) as u8).collect(),
+        verdict: (9_000..).take(LONGEST_VERDICT + 3).collect(),
         keys: (0..2_051).map(|i| 1 + i).collect(),
         high: (0..2_051).map(|i| -1 - i).collect(),
         low: (0..2_051).map(|i| i64::MAX - i).collect(),
@@ -102,6 +105,18 @@ const TABLES: [fn(&mut Lent); 4] = [
     |lent| lent.high.truncate(2_047),
     |lent| lent.low.truncate(2_047),
     |lent| lent.keys.clear(),
+];
+
+/// The run for the verdict of each kind one number short, and empty.
+const VERDICTS: [(u8, fn(&mut Lent)); 8] = [
+    (b'b', |lent| lent.verdict.truncate(6)),
+    (b'c', |lent| lent.verdict.truncate(8)),
+    (b'p', |lent| lent.verdict.truncate(12)),
+    (b's', |lent| lent.verdict.truncate(4)),
+    (b'd', |lent| lent.verdict.truncate(9)),
+    (b'a', |lent| lent.verdict.truncate(5)),
+    (b'n', |lent| lent.verdict.truncate(9)),
+    (b'p', |lent| lent.verdict.clear()),
 ];
 
 /// An output with the record of case F at its start.
@@ -185,9 +200,12 @@ pub fn run() {
         moved_bound([problem, low, changes], &mut filled()),
         (0, -11, 1)
     );
+    for (kind, shorten) in VERDICTS {
+        shortened(kind, shorten);
+    }
     shortened(b'b', |lent| lent.out.truncate(575));
     shortened(b's', |lent| lent.out.truncate(255));
-    println!("refusal 1 for each short table of each call, and nothing written but the numbers that four calls lend singly");
+    println!("refusal 1 for each short table and each short verdict of each call, and nothing written but the four numbers that tighter lends");
     println!("reports: refusal 1 for each short table, then 12, then 1 for the output, and no byte of it written");
     println!("records: 1 for fewer than 32 bytes, and no byte written of them nor past 32");
 }

@@ -8,7 +8,7 @@ ghost use Rattle.calls.specs.Report.{littleEndian, unsigned, fieldsOf, recordBy
 use calls::PairVerdict;
 
 // A signed number as the 64 bits that stand for it.
-fn bits(n: i64) -> u64
+pub fn bits(n: i64) -> u64
     ensures { λ r. ⌜ r ≡ unsigned 63 n ⌝ }
 {
     if n < 0 {
