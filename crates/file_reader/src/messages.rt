@@ -22,7 +22,10 @@ fn is_dashed(path: &[u8]) -> bool {
 fn missing(program: &[u8], path: &[u8], result: &[u8]) {
     speak_of(program, path);
     if is_dashed(path) {
-        io::write_all(STDERR_FILENO, b": no option here, and no file of this name, so ");
+        io::write_all(
+            STDERR_FILENO,
+            b": no option here, and no file of this name, so ",
+        );
         io::write_all(STDERR_FILENO, result);
         io::write_all(STDERR_FILENO, b"; options: ");
         io::write_all(STDERR_FILENO, program);
