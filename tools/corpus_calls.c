@@ -12,9 +12,9 @@
 #include "zamiachisel.h"
 
 #if defined(__STDC_VERSION__) && __STDC_VERSION__ >= 201112L
-_Static_assert(ZAMIACHISEL_TWO_SECOND == ZAMIACHISEL_CHECK_NUMBERS, "the second check begins where the first ends");
-_Static_assert(ZAMIACHISEL_TWO_NUMBERS == 2 * ZAMIACHISEL_CHECK_NUMBERS, "two checks are twice as long as one");
-_Static_assert(ZAMIACHISEL_OFFICE_NOTES == ZAMIACHISEL_CHECK_NUMBERS, "the notes stand behind the check's fields");
+_Static_assert((int)ZAMIACHISEL_TWO_SECOND == (int)ZAMIACHISEL_CHECK_NUMBERS, "the second check begins where the first ends");
+_Static_assert((int)ZAMIACHISEL_TWO_NUMBERS == 2 * (int)ZAMIACHISEL_CHECK_NUMBERS, "two checks are twice as long as one");
+_Static_assert((int)ZAMIACHISEL_OFFICE_NOTES == (int)ZAMIACHISEL_CHECK_NUMBERS, "the notes stand behind the check's fields");
 #endif
 
 #define MOST 65536

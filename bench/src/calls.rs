@@ -248,8 +248,12 @@ pub fn answer(record: &Record, lent: &mut Lent) -> u64 {
         panic!("a record has three runs at least");
     };
     match (record.kind, others) {
-        (b'b', _) => call!(zamiachisel_blocks, problem; lent.out, lent.verdict, lent.keys, lent.high, lent.low),
-        (b'c', _) => call!(zamiachisel_check, problem, first; lent.verdict, lent.keys, lent.high, lent.low),
+        (b'b', _) => {
+            call!(zamiachisel_blocks, problem; lent.out, lent.verdict, lent.keys, lent.high, lent.low)
+        }
+        (b'c', _) => {
+            call!(zamiachisel_check, problem, first; lent.verdict, lent.keys, lent.high, lent.low)
+        }
         (b'p', _) => {
             call!(zamiachisel_pair, problem, first, second; lent.verdict, lent.keys, lent.high, lent.low)
         }
@@ -308,7 +312,13 @@ pub fn tighter([problem, first, second]: [&Vec<u8>; 3], lent: &mut Lent) -> [u64
 
 /// What stands in the verdict from a place on; with refusal 1 nothing is written, which is read as zeros.
 fn fields<const N: usize>(number: u64, lent: &Lent, place: usize) -> [u64; N] {
-    std::array::from_fn(|k| if number == 1 { 0 } else { lent.verdict[place + k] })
+    std::array::from_fn(|k| {
+        if number == 1 {
+            0
+        } else {
+            lent.verdict[place + k]
+        }
+    })
 }
 
 /// The number of the refusal and the two sums that the call on two problems leaves, which are 0 over 0 exactly with a refusal.
