@@ -1,9 +1,9 @@
 """Room inside the cone, for a solution that is at its edge and cannot be asked for again: what one unit given up of the
 bound buys.
 
-The bound's unit can stay with the square of 1. Where a condition is c - (a sum of squares of monomials), as a range from
--1 to 1 or a ball is, more of its multiplier turns it into other squares: k m^2 g_j + k m^2 (c - g_j) = k c m^2, so k c of
-the square of m buys k times the squares of m^2 (c - g_j). From 1 on this reaches all monomials of a bounded basis.
+The bound's unit can stay with the square of 1. Where a condition is c - (a sum of squares of monomials), as a range
+from -1 to 1 or a ball is, more of its multiplier turns it into other squares: k m^2 g_j + k m^2 (c - g_j) = k c m^2, so
+k c of the square of m buys k times the squares of m^2 (c - g_j). From 1 on this reaches what the bases allow.
 """
 from __future__ import annotations
 

@@ -5,7 +5,7 @@ write it again and compare it to the letter. What is quoted carries the name of 
 """
 from __future__ import annotations
 
-from dataclasses import dataclass
+from dataclasses import dataclass, replace
 from fractions import Fraction
 from html import escape
 
@@ -93,13 +93,14 @@ class Room:
 
 
 WIDE, TIGHT = Room(12, 520, 360, 480, 420, 300, 200, 230), Room(8, 300, 220, 340, 220, 200, 130, 80)
+NOTED = replace(TIGHT, formula=220)      # where notes or choices take two lines of it
 
 
 def page(figures: Figures, sums: list[tuple[str, str]]) -> str:
     """The whole page; the sums are pairs of a file and its SHA-256."""
     body = _body(figures, WIDE)
     if letters("".join(body)) > CROWDED:
-        body = _body(figures, TIGHT)
+        body = _body(figures, NOTED if _besides(figures, TIGHT) else TIGHT)
     parts = [_figure(figures), *body, _end(figures, sums)]
     title = escape(_cut(figures.model.title or "A bounded polynomial", 110))
     kind = "sheet dense" if letters("".join(body)) > DENSE else "sheet"

@@ -12,6 +12,7 @@ from unittest import mock
 
 from gapfile import command, programs
 from gapfile.command import main
+from gapfile.programs import reference
 
 ROOT = Path(__file__).resolve().parents[2]
 EXAMPLES = ROOT / "examples"
@@ -23,6 +24,12 @@ SHARED: Optional[Path] = _beside if (_beside / "vectors").is_dir() else None    
 LENGTHS = {"d": 6, "x": 4}          # how many runs a record has, where they are not 3
 
 REFERENCE = ROOT / "reference/target/release/reference"
+
+def judge() -> Optional[list[str]]:
+    """The plain reference as the program that answers records; where it is not built none, which is `replay`."""
+    built = reference()
+    return [str(built), "replay"] if built else None
+
 
 needs_programs = unittest.skipUnless(BUILT, "gapcheck and replay are not built (rt check gapcheck replay)")
 needs_weekcheck = unittest.skipUnless((ROOT / "target/bin/weekcheck").exists(),

@@ -5,13 +5,13 @@ import unittest
 from fractions import Fraction
 from pathlib import Path
 
-from gapfile import exact
 from gapfile.choices import Basis
 from gapfile.expressions import ModelError
 from gapfile.model import parse
 from gapfile.problem import encode_problem, poses
+from gapfile.programs import check_pair, record, replay
 from gapfile.reading import Problem, read_problem
-from gapfile.tests.support import EXAMPLES, RECORDED, needs_programs, run
+from gapfile.tests.support import EXAMPLES, RECORDED, judge, needs_programs, run
 from gapfile.tests.test_theorem import needs_coq
 from gapfile.tests.test_verify import resum
 
@@ -156,8 +156,11 @@ class Filing(unittest.TestCase):
                 self.assertEqual(shape(made), shape(stored))
                 factor = made.objective[next(iter(stored.objective))] // stored.objective[next(iter(stored.objective))]
                 self.assertEqual(made.objective, {e: factor * c for e, c in stored.objective.items()})
-                closed = exact.closure(made)
-                self.assertEqual((sum(len(set(b)) for b in closed.blocks), closed.rounds), (blocks, rounds))
+                _, said = replay(record("b", (folder / "problem.bin").read_bytes(), b"", b""), judge())
+                self.assertTrue(said.startswith(f"blocks {blocks} rounds {rounds} rule {made.rule} "), said[:60])
+                streams = [(folder / file).read_bytes() for file in ("problem.bin", "low.bin", "high.bin")]
+                answer = check_pair(streams[0], streams[1], streams[2], judge())
+                self.assertEqual(answer, (folder / "verdict.txt").read_text().splitlines())
                 lines = (folder / "verdict.txt").read_text().split()
                 lower, upper = Fraction(lines[1]) / factor, Fraction(lines[3]) / factor
                 self.assertTrue(ends[0] <= lower <= ends[1], lower)      # as tight as stored, below what is attained

@@ -14,13 +14,14 @@ from gapfile import working
 from gapfile.commands import key
 from gapfile.programs import check_one
 from gapfile.reading import read_certificate, read_problem
-from gapfile.tests.support import CASE_F, EXAMPLES, folder_of, needs_programs, run
+from gapfile.tests.support import CASE_F, EXAMPLES, corpus, folder_of, judge, needs_programs, run
 from gapfile.tests.test_filing import Page
 from gapfile.text import DEFAULT_NAMES
 from gapfile.worksheet import WHY, worksheet
 from gapfile.working import pretty
 
 Point = dict[str, Fraction]
+SHORT = 300                      # bytes of a certificate of the corpus that is multiplied out here
 
 
 def value(formula: str, point: Point) -> Fraction:
@@ -150,7 +151,8 @@ class Wrong(unittest.TestCase):
             return run("work", folder, "low", *words)
 
     def test_columns_that_differ(self) -> None:
-        """Every entry changed by 1: the status is that of the refusal, and its key is the first column that differs."""
+        """Every entry changed by 1: the key of the reference's refusal is that of the first column that differs, and
+        what it accepts adds up; the status is that of the refusal."""
         problem_stream, stream = ((EXAMPLES / f"ex5_5/{name}.bin").read_bytes() for name in ("problem", "low"))
         problem = read_problem(problem_stream)
         for row in read_certificate(stream, problem).rows:
@@ -159,10 +161,11 @@ class Wrong(unittest.TestCase):
                     continue
                 data = bytearray(stream)
                 data[place + 2] ^= 1
-                verdict = check_one(problem_stream, bytes(data))
-                if verdict.refusal and verdict.refusal.number == 9:
+                verdict = check_one(problem_stream, bytes(data), judge())
+                if verdict.accepted or verdict.refusal and verdict.refusal.number == 9:
                     sheet = worksheet(problem, read_certificate(bytes(data), problem), DEFAULT_NAMES)
-                    self.assertEqual(min(map(key, sheet.wrong)), verdict.refusal.key)
+                    wanted = verdict.refusal.key if verdict.refusal else None
+                    self.assertEqual(min(map(key, sheet.wrong), default=None), wanted)
         place = next(iter(read_certificate(stream, problem).rows[0].places.values()))
 
         def edit(data: bytearray) -> None:
@@ -207,6 +210,23 @@ class Wrong(unittest.TestCase):
             status, _, err = self.changed(edit)
         self.assertEqual(status, 4)
         self.assertIn("the columns and the checker disagree", err)
+
+
+class Corpus(unittest.TestCase):
+    def test_the_stored_answers(self) -> None:
+        """The short certificates of the stored corpus, whose answers are the reference's: what is accepted adds up, and
+        what is refused with 9 differs first at that key."""
+        seen = {0: 0, 9: 0}
+        for kind, runs, line in corpus():
+            words = line.split()
+            number = int(words[1]) if words[0] == "refused" else 0
+            if kind == "c" and number in seen and len(runs[1]) < SHORT:
+                problem = read_problem(runs[0])
+                sheet = worksheet(problem, read_certificate(runs[1], problem), DEFAULT_NAMES)
+                wanted = int(words[4]) if number else None
+                self.assertEqual(min(map(key, sheet.wrong), default=None), wanted, line)
+                seen[number] += 1
+        self.assertGreater(min(seen.values()), 100)
 
 
 @needs_programs
