@@ -25,6 +25,7 @@ LENGTHS = {"d": 6, "x": 4}          # how many runs a record has, where they are
 
 REFERENCE = ROOT / "reference/target/release/reference"
 
+
 def judge() -> Optional[list[str]]:
     """The plain reference as the program that answers records; where it is not built none, which is `replay`."""
     built = reference()
