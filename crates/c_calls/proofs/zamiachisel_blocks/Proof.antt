@@ -3,6 +3,7 @@ use borrow.Author.Needs.{needs}
 use mathlib.Core.Path.{refl}
 use mathlib.Core.Bool.{Bool}
 use Rattle.calls.specs.Blocks.{blocksVerdict, bytesLeft}
+use Rattle.calls.specs.Checks.{problemOf}
 use Rattle.verdict_numbers.specs.Numbers.{blocksNumbers}
 use Rattle.verdict_numbers.proofs.RunsOfZeros.{unwritten, blocks-run}
 use Rattle.c_calls.proofs.Whole.{when-short, when-long, tables-kept, tables-left, too-short, told, zeros}
@@ -10,7 +11,7 @@ use Rattle.c_calls.proofs.zamiachisel_blocks.Statement.{statement}
 use Rattle.c_calls.proofs.zamiachisel_blocks.Tie as tie
 
 returns : tie.Need-returns
-unfolding blocksVerdict bytesLeft blocksNumbers
+unfolding blocksVerdict bytesLeft blocksNumbers problemOf
 returns c =
     let a = c .before .before .before .before .before .args in
     let h = c .if1 .taken in

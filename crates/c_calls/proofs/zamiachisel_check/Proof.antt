@@ -3,6 +3,7 @@ use borrow.Author.Needs.{needs}
 use mathlib.Core.Path.{refl}
 use mathlib.Core.Bool.{Bool}
 use Rattle.calls.specs.Check.{checkVerdict}
+use Rattle.calls.specs.Checks.{problemOf}
 use Rattle.verdict_numbers.specs.Numbers.{checkNumbers}
 use Rattle.verdict_numbers.proofs.RunsOfZeros.{unwritten, check-run}
 use Rattle.c_calls.proofs.Whole.{tables-kept, tables-left, too-short, told, zeros}
@@ -10,7 +11,7 @@ use Rattle.c_calls.proofs.zamiachisel_check.Statement.{statement}
 use Rattle.c_calls.proofs.zamiachisel_check.Tie as tie
 
 returns : tie.Need-returns
-unfolding checkVerdict checkNumbers
+unfolding checkVerdict checkNumbers problemOf
 returns c =
     let a = c .before .before .before .before .before .args in
     let h = c .if1 .taken in

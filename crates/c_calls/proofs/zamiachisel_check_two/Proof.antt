@@ -4,13 +4,14 @@ use mathlib.Core.Path.{refl, ap₂}
 use mathlib.Core.Bool.{Bool}
 use Rattle.calls.specs.declared.TwoChecks.{TwoChecks}
 use Rattle.calls.specs.Check.{checkVerdict}
+use Rattle.calls.specs.Checks.{problemOf}
 use Rattle.verdict_numbers.specs.Numbers.{twoChecks, twoNumbers, checkNumbers}
 use Rattle.c_calls.proofs.Whole.{tables-kept, tables-left, too-short, told}
 use Rattle.c_calls.proofs.zamiachisel_check_two.Statement.{statement}
 use Rattle.c_calls.proofs.zamiachisel_check_two.Tie as tie
 
 returns : tie.Need-returns
-unfolding checkVerdict twoNumbers checkNumbers
+unfolding checkVerdict twoNumbers checkNumbers problemOf
 returns c =
     let a = c .before .before .before .before .before .before .args in
     let h = c .if1 .taken in

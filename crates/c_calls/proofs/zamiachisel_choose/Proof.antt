@@ -9,6 +9,7 @@ use Rattle.calls.specs.declared.Refusal.{Refusal}
 use Rattle.calls.specs.declared.SupersedingVerdict.{SupersedingVerdict}
 use Rattle.calls.specs.Check.{checkVerdict}
 use Rattle.calls.specs.Superseding.{supersedingVerdict, supersedingOf}
+use Rattle.calls.specs.Checks.{problemOf}
 use Rattle.verdict_numbers.specs.Numbers.{chosenNumbers}
 use Rattle.verdict_numbers.proofs.RunsOfZeros.{unwritten, chosen-run}
 use Rattle.c_calls.proofs.Whole.{tables-kept, tables-left, too-short, told, zeros}
@@ -22,7 +23,7 @@ five : (a b c d : ℕ) {x y : ℕ} → x ≡ y → (a ∷ b ∷ c ∷ d ∷ x �
 five a b c d e = ap (λ (x : ℕ). a ∷ b ∷ c ∷ d ∷ x ∷ []) e
 
 returns : tie.Need-returns
-unfolding supersedingVerdict supersedingOf checkVerdict chosenNumbers
+unfolding supersedingVerdict supersedingOf checkVerdict chosenNumbers problemOf
 returns c =
     let a = c .before .before .before .before .before .before .args in
     let h = c .if1 .taken in

@@ -4,6 +4,7 @@ use mathlib.Core.Path.{refl}
 use mathlib.Core.Bool.{Bool}
 use Rattle.calls.specs.Check.{checkVerdict}
 use Rattle.calls.specs.Adjusted.{adjustedVerdict, adjustedChecked}
+use Rattle.calls.specs.Checks.{problemOf}
 use Rattle.verdict_numbers.specs.Numbers.{adjustedNumbers}
 use Rattle.verdict_numbers.proofs.RunsOfZeros.{unwritten, adjusted-run}
 use Rattle.c_calls.proofs.Whole.{tables-kept, tables-left, too-short, told, zeros}
@@ -11,7 +12,7 @@ use Rattle.c_calls.proofs.zamiachisel_moved_bound.Statement.{statement}
 use Rattle.c_calls.proofs.zamiachisel_moved_bound.Tie as tie
 
 returns : tie.Need-returns
-unfolding adjustedVerdict adjustedChecked checkVerdict adjustedNumbers
+unfolding adjustedVerdict adjustedChecked checkVerdict adjustedNumbers problemOf
 returns c =
     let a = c .before .before .before .before .before .before .args in
     let h = c .if1 .taken in

@@ -5,6 +5,7 @@ use mathlib.Core.Bool.{Bool}
 use lib.ListN.{length}
 use Rattle.calls.specs.Check.{checkVerdict}
 use Rattle.calls.specs.Office.{officeVerdict, bufferLeft, officeOf, verdictSent, refusalSent}
+use Rattle.calls.specs.Checks.{problemOf}
 use Rattle.verdict_numbers.specs.Numbers.{officeNumbers, checkNumbers}
 use Rattle.verdict_numbers.proofs.RunsOfZeros.{unwritten, office-run}
 use Rattle.c_calls.proofs.Whole.{when-short, when-long, tables-kept, tables-left, too-short, told, zeros}
@@ -12,7 +13,7 @@ use Rattle.c_calls.proofs.zamiachisel_office.Statement.{statement}
 use Rattle.c_calls.proofs.zamiachisel_office.Tie as tie
 
 returns : tie.Need-returns
-unfolding officeVerdict bufferLeft officeOf verdictSent refusalSent checkVerdict checkNumbers officeNumbers
+unfolding officeVerdict bufferLeft officeOf verdictSent refusalSent checkVerdict checkNumbers officeNumbers problemOf
 returns c =
     let a = c .before .before .before .before .before .before .args in
     let h = c .if1 .taken in

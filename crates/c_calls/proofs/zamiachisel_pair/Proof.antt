@@ -3,6 +3,7 @@ use borrow.Author.Needs.{needs}
 use mathlib.Core.Path.{refl}
 use mathlib.Core.Bool.{Bool}
 use Rattle.calls.specs.Pair.{pairVerdict}
+use Rattle.calls.specs.Checks.{problemOf}
 use Rattle.verdict_numbers.specs.Numbers.{pairNumbers}
 use Rattle.verdict_numbers.proofs.RunsOfZeros.{unwritten, pair-run}
 use Rattle.c_calls.proofs.Whole.{tables-kept, tables-left, too-short, told, zeros}
@@ -10,7 +11,7 @@ use Rattle.c_calls.proofs.zamiachisel_pair.Statement.{statement}
 use Rattle.c_calls.proofs.zamiachisel_pair.Tie as tie
 
 returns : tie.Need-returns
-unfolding pairVerdict pairNumbers
+unfolding pairVerdict pairNumbers problemOf
 returns c =
     let a = c .before .before .before .before .before .before .args in
     let h = c .if1 .taken in

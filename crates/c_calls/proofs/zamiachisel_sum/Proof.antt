@@ -4,6 +4,7 @@ use mathlib.Core.Path.{refl}
 use mathlib.Core.Bool.{Bool}
 use Rattle.calls.specs.Pair.{pairVerdict}
 use Rattle.calls.specs.AddedBounds.{streams, sumVerdict, sumPairs}
+use Rattle.calls.specs.Checks.{problemOf}
 use Rattle.verdict_numbers.specs.Numbers.{sumNumbers}
 use Rattle.verdict_numbers.proofs.RunsOfZeros.{unwritten, sum-run}
 use Rattle.c_calls.proofs.Whole.{tables-kept, tables-left, too-short, told, zeros}
@@ -11,7 +12,7 @@ use Rattle.c_calls.proofs.zamiachisel_sum.Statement.{statement}
 use Rattle.c_calls.proofs.zamiachisel_sum.Tie as tie
 
 returns : tie.Need-returns
-unfolding sumVerdict sumPairs pairVerdict sumNumbers
+unfolding sumVerdict sumPairs pairVerdict sumNumbers problemOf
 returns c =
     let a = c .before .before .before .before .before .before .before .before .before .args in
     let h = c .if1 .taken in

@@ -3,6 +3,7 @@ use borrow.Author.Needs.{needs}
 use mathlib.Core.Path.{refl}
 use mathlib.Core.Bool.{Bool}
 use Rattle.calls.specs.Symmetries.{symmetriesVerdict, masksLeft}
+use Rattle.calls.specs.Checks.{problemOf}
 use Rattle.verdict_numbers.specs.Numbers.{symmetriesNumbers}
 use Rattle.verdict_numbers.proofs.RunsOfZeros.{unwritten, symmetries-run}
 use Rattle.c_calls.proofs.Whole.{when-short, when-long, tables-kept, tables-left, too-short, told, zeros}
@@ -10,7 +11,7 @@ use Rattle.c_calls.proofs.zamiachisel_symmetries.Statement.{statement}
 use Rattle.c_calls.proofs.zamiachisel_symmetries.Tie as tie
 
 returns : tie.Need-returns
-unfolding symmetriesVerdict masksLeft symmetriesNumbers
+unfolding symmetriesVerdict masksLeft symmetriesNumbers problemOf
 returns c =
     let a = c .before .before .before .before .before .args in
     let h = c .if1 .taken in
