@@ -5,6 +5,7 @@
 
 const TABLE = 2048;          // numbers of 64 bits in each of the three work tables
 const RECORD = 32;           // bytes of a record
+const CHECK = 9;             // numbers of the verdict on one certificate
 
 // The exports of the module, from its bytes. It imports nothing, so it can reach nothing but its own memory.
 async function checkerOf(bytes) {
@@ -56,5 +57,5 @@ function recordOf(exports, problem, low, high) {
 
 // The number of the refusal of one certificate, 0 where it is accepted, by `zamiachisel_check`.
 function checkOf(exports, problem, certificate) {
-  return call(exports, "zamiachisel_check", [problem, certificate], 0, true).number;
+  return call(exports, "zamiachisel_check", [problem, certificate], 0, true, CHECK).number;
 }
