@@ -31,6 +31,12 @@ def script(folder: Path, name: str, lines: str) -> Path:
     return file
 
 
+def heeding() -> None:
+    """A shell starts what runs in the background with interrupts ignored, and Python then leaves them so: not here."""
+    for number in (signal.SIGINT, signal.SIGTERM):
+        signal.signal(number, signal.SIG_DFL)
+
+
 class Table(unittest.TestCase):
     def test_one_status_each(self) -> None:
         """Every error has a status; only a refusal has 1; what is in no table is a fault of gapfile."""
@@ -261,7 +267,7 @@ class Pipes(unittest.TestCase):
         for number, status in ((signal.SIGINT, 130), (signal.SIGTERM, 130)):
             process = subprocess.Popen([sys.executable, "-B", GAPFILE, "file", str(EXAMPLES / "two_decks.gap"), "-o",
                                         "filed", "-q"], cwd=self.place, env=environment, stderr=subprocess.PIPE,
-                                       text=True)
+                                       text=True, preexec_fn=heeding)
             end = time.monotonic() + 300
             while not list((self.place / "tmp").glob("*/started")) and time.monotonic() < end:
                 time.sleep(0.05)
