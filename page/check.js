@@ -146,17 +146,14 @@ async function judge() {
   const fields = recordOf(checker, ...streams), problem = problemOf(streams[0]);
   const long = NAMES.filter(name => given[name].whole.length > LONGEST)
     .map(name => element("p", {}, `Of ${given[name].name} the first ${LONGEST} bytes were judged.`));
-  const files = filesShown(checker, streams, fields, problem);
+  const files = filesShown(checker, streams, fields, problem), lines = element("pre", {}, linesOf(checker, ...streams));
   if (fields.refusal) {
-    const key = fields.refusal === 9 ? keyOf(checker, streams, fields) : 0;
-    const line = `refused ${fields.refusal} ${fields.stream} ${fields.place} ${key}`;
-    say("refused", element("strong", {}, "refused"), element("pre", {}, line), ...long);
+    say("refused", element("strong", {}, "refused"), lines, ...long);
     field("shown").replaceChildren(...refusalShown(checker, streams, fields, problem), ...files);
   } else {
-    const lines = `lower ${fields.p}/${fields.q}\nupper ${fields.P}/${fields.Q}`;
     const meaning = gapOf(fields)[0] < 0n ? "The bounds cross: no rational point meets all the conditions."
       : "At every rational point that meets the conditions the objective is between these bounds.";
-    say("accepted", element("strong", {}, "accepted"), element("pre", {}, lines), element("p", {}, meaning), ...long);
+    say("accepted", element("strong", {}, "accepted"), lines, element("p", {}, meaning), ...long);
     field("shown").replaceChildren(...boundsShown(fields), ...files);
   }
 }

@@ -6,6 +6,7 @@
 const TABLE = 2048;          // numbers of 64 bits in each of the three work tables
 const RECORD = 32;           // bytes of a record
 const CHECK = 9;             // numbers of the verdict on one certificate
+const LINES = 1280;          // bytes, more than the lines of a pair ever have
 
 // The exports of the module, from its bytes. It imports nothing, so it can reach nothing but its own memory.
 async function checkerOf(bytes) {
@@ -53,6 +54,13 @@ function recordOf(exports, problem, low, high) {
   const fields = fieldsOf(out);
   if (number !== fields.refusal) throw new Error(`the call returned ${number}, and its record says ${fields.refusal}`);
   return fields;
+}
+
+// The very lines that gapcheck prints for three streams, by `zamiachisel_lines`.
+function linesOf(exports, problem, low, high) {
+  const out = new Uint8Array(LINES), { number } = call(exports, "zamiachisel_lines", [problem, low, high, out]);
+  if (number > LINES) throw new Error(`the lines have ${number} bytes, and there is room for ${LINES}`);
+  return new TextDecoder().decode(out.subarray(0, number)).trimEnd();
 }
 
 // The number of the refusal of one certificate, 0 where it is accepted, by `zamiachisel_check`.

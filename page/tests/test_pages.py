@@ -225,7 +225,8 @@ class InChromium(Pages):
 
     def test_accepted(self) -> None:
         said = self.verdict(*(EXAMPLES / f"two_decks/{name}.bin" for name in NAMES))
-        self.assertTrue(said.startswith("accepted\nlower -4700103/50000\nupper 2600156/50000\n"), said)
+        lines = (EXAMPLES / "two_decks/expected").read_text()
+        self.assertTrue(said.startswith(f"accepted\n{lines}"), said)
         shown = self.browser.text("#shown")
         for part in ("−94.00206", "52.00312", "146.00518", "365012950000/2500000000",
                      "30·x₁·x₂·x₃·x₄ + 12·x₁²·x₄ − 9·x₂²·x₃", "1 − x₄² ≥ 0",
