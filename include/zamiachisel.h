@@ -46,6 +46,7 @@ enum zamiachisel_refusal {
     ZAMIACHISEL_SIDES_DIFFER = 11, /* of two certificates for one problem, one is a lower bound and one an upper one */
     ZAMIACHISEL_CUT_RECORD = 12,   /* of a week's records one is cut short, or there is a byte after the 64th */
     ZAMIACHISEL_NOTES = 13,        /* the buffer can't hold all notes */
+    ZAMIACHISEL_ARRIVAL = 14,      /* a gap at the window: its numerator is below 0 or from 2^48, or its denominator 0 or from 2^32 */
     ZAMIACHISEL_REGIONS = 15,      /* the regions of two problems differ */
     ZAMIACHISEL_NO_BOX = 16,       /* some variable has no inequality that is exactly 1 - x_i^2 */
     ZAMIACHISEL_NOT_LOWER = 17     /* an upper certificate where a lower one is asked for */
@@ -72,7 +73,8 @@ enum zamiachisel_length {
     ZAMIACHISEL_CHANGE_LENGTH = 12,  /* bytes of a change of the objective: 8 of its key and 4 of d, signed, the lowest first */
     ZAMIACHISEL_MOST_CHANGES = 256,  /* changes in one call */
     ZAMIACHISEL_NOTE_LENGTH = 8,     /* bytes of a note in the buffer */
-    ZAMIACHISEL_LINES_LENGTH = 1280  /* bytes that are enough for the lines of any pair: no program's text is longer */
+    ZAMIACHISEL_LINES_LENGTH = 1280, /* bytes that are enough for the lines of any pair */
+    ZAMIACHISEL_STATE_LENGTH = 65    /* numbers of the state of a window of gaps */
 };
 
 /* Bytes of stack that are enough for any call. */
@@ -187,6 +189,13 @@ enum zamiachisel_office_verdict {
     ZAMIACHISEL_OFFICE_NUMBERS = 10
 };
 
+enum zamiachisel_push_verdict {
+    ZAMIACHISEL_PUSH_NUMERATOR = 4, /* the widest gap held */
+    ZAMIACHISEL_PUSH_DENOMINATOR = 5,
+    ZAMIACHISEL_PUSH_AGE = 6, /* how many gaps were accepted after it */
+    ZAMIACHISEL_PUSH_NUMBERS = 7
+};
+
 /* The blocks of a problem: the first 576 bytes of out, where nothing is refused. */
 uint64_t zamiachisel_blocks(const uint8_t *problem, size_t problem_length, uint8_t *out, size_t out_length, uint64_t *verdict,
                             size_t verdict_length, uint64_t *keys, size_t keys_length, int64_t *high, size_t high_length,
@@ -256,6 +265,15 @@ uint64_t zamiachisel_moved_bound(const uint8_t *problem, size_t problem_length, 
 uint64_t zamiachisel_office(const uint8_t *problem, size_t problem_length, const uint8_t *certificate, size_t certificate_length,
                             uint8_t *buffer, size_t buffer_length, uint64_t *verdict, size_t verdict_length, uint64_t *keys,
                             size_t keys_length, int64_t *high, size_t high_length, int64_t *low, size_t low_length);
+
+/* ---- without work tables
+
+   A gap arrives at a window, which holds the latest 32 (request 11). The state is 65 lent numbers: numerator and denominator of 32 gaps,
+   the newest first, and then how many of these are held. 65 zeros are the state before any arrival; any 65 numbers are a state, and
+   more than 32 held count as 32. Returned is the number of the refusal, 14 or 1, or 0; with a refusal the state stays as it was. A
+   state of fewer than 65 numbers, like a verdict of fewer than 7, is refused with 1, and nothing is written. */
+uint64_t zamiachisel_push(int64_t numerator, uint64_t denominator, uint64_t *state, size_t state_length, uint64_t *verdict,
+                          size_t verdict_length);
 
 /* The lines that gapcheck prints for three streams: the first bytes of out, where they fit. Returned is their length always; where out
    is shorter nothing is written. */

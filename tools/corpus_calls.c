@@ -1,5 +1,5 @@
 /* corpus_calls [EVERY]: answers records of the standard input as `replay` does, through the functions of include/zamiachisel.h: what it
-   writes is compared with the stored answers, but for arrivals at a window of gaps, which have no C function. With a number, only every such record is answered, from the first on. It is C and
+   writes is compared with the stored answers. With a number, only every such record is answered, from the first on. It is C and
    C++ at once. Every run is allocated at its own length, so that valgrind sees what is read or written past it; verdicts and
    tables are lent with other numbers in them and some more than is asked, and after each call it is looked at that these stay
    and that the tables are 0. Where two functions say the same thing they are compared: check_two with two checks, choose with
@@ -12,9 +12,9 @@
 #include "zamiachisel.h"
 
 #if defined(__STDC_VERSION__) && __STDC_VERSION__ >= 201112L
-_Static_assert((int)ZAMIACHISEL_TWO_SECOND == (int)ZAMIACHISEL_CHECK_NUMBERS, "the second check begins where the first ends");
-_Static_assert((int)ZAMIACHISEL_TWO_NUMBERS == 2 * (int)ZAMIACHISEL_CHECK_NUMBERS, "two checks are twice as long as one");
-_Static_assert((int)ZAMIACHISEL_OFFICE_NOTES == (int)ZAMIACHISEL_CHECK_NUMBERS, "the notes stand behind the check's fields");
+_Static_assert(ZAMIACHISEL_TWO_SECOND == ZAMIACHISEL_CHECK_NUMBERS, "the second check begins where the first ends");
+_Static_assert(ZAMIACHISEL_TWO_NUMBERS == 2 * ZAMIACHISEL_CHECK_NUMBERS, "two checks are twice as long as one");
+_Static_assert(ZAMIACHISEL_OFFICE_NOTES == ZAMIACHISEL_CHECK_NUMBERS, "the notes stand behind the check's fields");
 #endif
 
 #define MOST 65536
@@ -248,6 +248,42 @@ static void tighter(void) {
     compare_checks();
 }
 
+static void window(void) {
+    uint64_t *state = (uint64_t *)allocated(8 * ZAMIACHISEL_STATE_LENGTH);
+    size_t i, k;
+    memset(state, 0, 8 * ZAMIACHISEL_STATE_LENGTH);
+    printf("window");
+    for (i = 0; i < lengths[0] / 16; i++) {
+        uint64_t arrival[2], before[ZAMIACHISEL_STATE_LENGTH], number;
+        for (k = 0; k < 2; k++) {
+            int b;
+            arrival[k] = 0;
+            for (b = 7; b >= 0; b--) {
+                arrival[k] = arrival[k] << 8 | runs[0][16 * i + 8 * k + (size_t)b];
+            }
+        }
+        memcpy(before, state, sizeof before);
+        lend(ZAMIACHISEL_PUSH_NUMBERS);
+        for (k = 0; k < ZAMIACHISEL_TABLE_LENGTH; k++) {
+            keys[k] = 0, high[k] = 0, low[k] = 0; /* not lent: as after a call */
+        }
+        number = zamiachisel_push((int64_t)arrival[0], arrival[1], state, ZAMIACHISEL_STATE_LENGTH, VERDICT);
+        take_back(number);
+        printf(i ? "; " : " ");
+        if (number) {
+            printf("%" PRIu64, number);
+            if (memcmp(before, state, sizeof before) != 0) {
+                fault("a refused gap changed the state");
+            }
+        } else {
+            fraction(said + ZAMIACHISEL_PUSH_NUMERATOR);
+            printf(" %" PRIu64, said[ZAMIACHISEL_PUSH_AGE]);
+        }
+    }
+    putchar('\n');
+    free(state);
+}
+
 static void report(void) {
     uint64_t count = zamiachisel_record_count(RUN(0)), number;
     lend(ZAMIACHISEL_REPORT_NUMBERS);
@@ -346,7 +382,7 @@ int main(int count, char **words) {
             case 'p': pair(); break;
             case 's': symmetries(); break;
             case 't': tighter(); break;
-            case 'w': break; /* arrivals at a window of gaps: no C function */
+            case 'w': window(); break;
             case 'r': report(); break;
             case 'x': tool(); break;
             case 'd': sum(); break;

@@ -16,16 +16,19 @@ ghost use Rattle.calls.specs.BidTool.{toolNumber, toolBytes, OneRecord, AnyOrde
 ghost use Rattle.calls.specs.Rules.{UnderOne, AtLarger};
 ghost use Rattle.calls.specs.Zeros.{RefusalZeros};
 ghost use Rattle.calls.specs.AddedBounds.{streams, sumVerdict};
+ghost use Rattle.calls.specs.Fractions.{fraction};
 ghost use Rattle.calls.specs.Adjusted.{adjustedVerdict};
 ghost use Rattle.calls.specs.Office.{officeVerdict, bufferLeft};
 ghost use Rattle.verdict_numbers.specs.Numbers.{runShort, numbersLeft, RunZeros};
 ghost use Rattle.verdict_numbers.specs.Numbers.{blocksNumbers, checkNumbers, pairNumbers, chosenNumbers};
 ghost use Rattle.verdict_numbers.specs.Numbers.{twoChecks, twoNumbers};
 ghost use Rattle.verdict_numbers.specs.Numbers.{symmetriesNumbers, reportNumbers, sumNumbers, adjustedNumbers};
-ghost use Rattle.verdict_numbers.specs.Numbers.{officeNumbers};
+ghost use Rattle.verdict_numbers.specs.Numbers.{officeNumbers, pushNumbers};
+ghost use Rattle.verdict_numbers.specs.States.{pushShort, pushedVerdict, stateLeft};
 ghost use Rattle.verdict_numbers.specs.Texts.{textLeft};
 ghost use Rattle.lines.specs.Answers.{answerTo};
 ghost use Rattle.lines.specs.Texts.{textOf};
+use calls::Fraction;
 use calls::Refusal;
 use lines::Text;
 
@@ -593,4 +596,47 @@ pub extern "C" fn zamiachisel_lines(problem: &[u8], low: &[u8], high: &[u8], out
         &mut sums_low,
     );
     put_text(text::pair_lines(v), out)
+}
+
+// A gap arrives at a window, whose state is lent as numbers (request 11).
+// stack: see docs/measured/stack-bound.tsv
+#[no_mangle]
+pub extern "C" fn zamiachisel_push(
+    numerator: i64,
+    denominator: u64,
+    state: &mut [u64],
+    verdict: &mut [u64],
+) -> u64
+    ensures number { λ r.
+        let short = pushShort (now (state .entry)) (now (verdict .entry)) in
+        let v = pushedVerdict short (now (state .entry)) (fraction numerator denominator) in
+        ⌜ r ≡ v .refusal .number ⌝ }
+    ensures verdict { λ _.
+        let short = pushShort (now (state .entry)) (now (verdict .entry)) in
+        let v = pushedVerdict short (now (state .entry)) (fraction numerator denominator) in
+        ⌜ now (verdict .exit) ≡ numbersLeft (pushNumbers v) (now (verdict .entry)) ⌝ }
+    ensures state { λ _.
+        let short = pushShort (now (state .entry)) (now (verdict .entry)) in
+        ⌜ now (state .exit) ≡ stateLeft short (now (state .entry)) (fraction numerator denominator) ⌝ }
+    ensures zeros { λ r. ⌜ RunZeros 7 r (now (verdict .exit)) ⌝ }
+{
+    if verdict.len() < 7 {
+        return 1;
+    }
+    if state.len() < 65 {
+        return 1;
+    }
+    let arrival = Fraction {
+        num: numerator,
+        den: denominator,
+    };
+    let pushed = gap_window::push(window_state::window_in(state), arrival);
+    let window = pushed.window;
+    let v = pushed.verdict;
+    let numbers = verdict_writer::push_numbers(v);
+    let number = verdict_writer::put_numbers(verdict, &numbers);
+    if number == 0 {
+        window_state::put_window(state, window);
+    }
+    number
 }
