@@ -43,7 +43,12 @@ fn escape(b: u8) -> Shown
         };
     }
     Shown {
-        bytes: [b'\\', b'x', text::digit(b / 16), text::digit(b % 16)],
+        bytes: [
+            b'\\',
+            b'x',
+            text_parts::digit(b / 16),
+            text_parts::digit(b % 16),
+        ],
         len: 4,
     }
 }

@@ -16,7 +16,7 @@ use Rattle.calls.specs.declared.WindowVerdict.{WindowVerdict}
 use Rattle.calls.specs.Window.{emptyWindow, windowAfter, pushVerdict, pushVerdicts}
 use Rattle.calls.proofs.Windows.{pushes-from-empty}
 use Rattle.lines.specs.Lines.{ascii, arrivalWord, arrivalWords, windowLine}
-use Rattle.text.specs.Appending.{Appended}
+use Rattle.text_parts.specs.Appending.{Appended}
 use Rattle.replay.specs.Arrivals.{arrivalAt, arrivalsOf, windowAnswer, separator}
 
 -- the first bytes of out, and the outcomes from arrival i on, are the line without its end

@@ -13,7 +13,7 @@ ghost use lib.ListN.{length, take};
 ghost use Rattle.format.specs.Operands.{number, signed};
 ghost use Rattle.lines.specs.Lines.{arrivalWord};
 ghost use Rattle.lines.specs.Texts.{textOf};
-ghost use Rattle.text.specs.Appending.{Appended};
+ghost use Rattle.text_parts.specs.Appending.{Appended};
 ghost use Rattle.calls.specs.AddedBounds.{streams};
 ghost use Rattle.replay.specs.Arrivals.{arrivalAt, separator, windowAnswer};
 ghost use Rattle.replay.specs.Records.{blocksAnswer, checkAnswer, pairAnswer, symmetriesAnswer, recordAnswer};
@@ -156,7 +156,7 @@ fn window_line(run: &[u8], out: &mut [u8]) -> usize
 {
     let count = run.len() / 16;
     let mut window = gap_window::empty();
-    let mut at = text::append(out, 0, b"window");
+    let mut at = text_parts::append(out, 0, b"window");
     let mut i = 0;
     while i < count {
         let pushed = gap_window::push(window, arrival_at(run, i));
@@ -166,7 +166,7 @@ fn window_line(run: &[u8], out: &mut [u8]) -> usize
         window = next;
         i += 1;
     }
-    text::append(out, at, b"\n")
+    text_parts::append(out, at, b"\n")
 }
 
 // Answers a record of arrivals, of which there are at most 4,096; whether its line was written.

@@ -3,16 +3,15 @@ pub mod reports;
 
 ghost use mathlib.Core.Path.{_≡_};
 ghost use mathlib.Core.List.{_++_};
-ghost use Prim.Native.Nat.{_+_, _*_, _≤_, _<_};
+ghost use Prim.Native.Nat.{_+_, _*_, _≤_};
 ghost use lib.ListN.{length, take};
-ghost use Rattle.io.specs.Digits.{glyph};
 ghost use Rattle.calls.specs.Superseding.{refusalIn};
-ghost use Rattle.lines.specs.Lines.{decimal, signedDecimal, ratio, hexadecimal, refusalLine, gapWord, pairWords};
+ghost use Rattle.lines.specs.Lines.{refusalLine, gapWord, pairWords};
 ghost use Rattle.lines.specs.Lines.{pairLines, blocksLine, checkWords, checkLine, pairLine, arrivalWord, tighterLine};
 ghost use Rattle.lines.specs.Lines.{symmetriesLine, adjustedLine, officeLine};
 ghost use Rattle.lines.specs.SumLines.{sumLine};
 ghost use Rattle.lines.specs.Texts.{textOf};
-ghost use Rattle.text.specs.Appending.{Appended};
+ghost use Rattle.text_parts.specs.Appending.{Appended};
 use calls::AdjustedVerdict;
 use calls::BlocksVerdict;
 use calls::CheckVerdict;
@@ -25,121 +24,12 @@ use calls::SymmetriesVerdict;
 use calls::WindowVerdict;
 use lines::Text;
 
-// Puts a text at a place of the buffer. What this and the functions below return is the place after what they put.
-pub fn append(out: &mut [u8], at: usize, text: &[u8]) -> usize
-    requires { ⌜ at + length (now text) ≤ length (now out) ⌝ }
-    ensures { λ r. ⌜ Appended (now (out .entry)) at (now (text .entry)) (now (out .exit)) r ⌝ }
-{
-    let mut i = 0;
-    while i < text.len() {
-        out[at + i] = text[i];
-        i += 1;
-    }
-    at + i
-}
-
-// A number in base ten.
-fn append_number(out: &mut [u8], at: usize, n: u64) -> usize
-    requires { ⌜ at + 20 ≤ length (now out) ⌝ }
-    ensures { λ r. ⌜ Appended (now (out .entry)) at (decimal n) (now (out .exit)) r × (r ≤ at + 20) ⌝ }
-{
-    let mut digits = [0u8; 20];
-    let count = io::decimal(n, &mut digits);
-    append(out, at, &digits[..count])
-}
-
-// A number in base ten, with a minus sign below 0.
-fn append_signed(out: &mut [u8], at: usize, n: i64) -> usize
-    requires { ⌜ at + 21 ≤ length (now out) ⌝ }
-    ensures { λ r. ⌜ Appended (now (out .entry)) at (signedDecimal n) (now (out .exit)) r × (r ≤ at + 21) ⌝ }
-{
-    if n < 0 {
-        let next = append(out, at, b"-");
-        return append_number(out, next, fractions::magnitude(n));
-    }
-    append_number(out, at, fractions::magnitude(n))
-}
-
-// A fraction as it is, not reduced.
-fn append_ratio(out: &mut [u8], at: usize, f: Fraction) -> usize
-    requires { ⌜ at + 42 ≤ length (now out) ⌝ }
-    ensures { λ r. ⌜ Appended (now (out .entry)) at (ratio f) (now (out .exit)) r × (r ≤ at + 42) ⌝ }
-{
-    let a = append_signed(out, at, f.num);
-    let b = append(out, a, b"/");
-    append_number(out, b, f.den)
-}
-
-// A word and a number after it.
-fn append_with_number(out: &mut [u8], at: usize, word: &[u8], n: u64) -> usize
-    requires { ⌜ at + length (now word) + 20 ≤ length (now out) ⌝ }
-    ensures { λ r. ⌜
-        Appended (now (out .entry)) at (now (word .entry) ++ decimal n) (now (out .exit)) r
-        × (r ≤ at + length (now (word .entry)) + 20)
-        ⌝ }
-{
-    let a = append(out, at, word);
-    append_number(out, a, n)
-}
-
-// A word and a fraction after it.
-fn append_with_ratio(out: &mut [u8], at: usize, word: &[u8], f: Fraction) -> usize
-    requires { ⌜ at + length (now word) + 42 ≤ length (now out) ⌝ }
-    ensures { λ r. ⌜
-        Appended (now (out .entry)) at (now (word .entry) ++ ratio f) (now (out .exit)) r
-        × (r ≤ at + length (now (word .entry)) + 42)
-        ⌝ }
-{
-    let a = append(out, at, word);
-    append_ratio(out, a, f)
-}
-
-// The hexadecimal digit of a number below 16.
-pub fn digit(n: u8) -> u8
-    requires { ⌜ n < 16 ⌝ }
-    ensures { λ r. ⌜ r ≡ glyph n ⌝ }
-{
-    if n < 10 { 48 + n } else { 87 + n }
-}
-
-// Two hexadecimal digits for each byte.
-fn append_hexadecimal(out: &mut [u8], at: usize, bytes: &[u8]) -> usize
-    requires { ⌜ at + 2 * length (now bytes) ≤ length (now out) ⌝ }
-    ensures { λ r. ⌜
-        Appended (now (out .entry)) at (hexadecimal (now (bytes .entry))) (now (out .exit)) r
-        × (r ≤ at + 2 * length (now (bytes .entry)))
-        ⌝ }
-{
-    let mut end = at;
-    let mut i = 0;
-    while i < bytes.len() {
-        let b = bytes[i];
-        out[end] = digit(b / 16);
-        out[end + 1] = digit(b % 16);
-        end += 2;
-        i += 1;
-    }
-    end
-}
-
-// The line of a refusal, at the start of a buffer: number, stream, place and key.
-fn append_refusal(out: &mut [u8], number: u64, stream: u64, place: u64, key: u64) -> usize
-    requires { ⌜ 92 ≤ length (now out) ⌝ }
-    ensures { λ r. ⌜ take r (now (out .exit)) ≡ refusalLine (refusalIn number stream place key) ⌝ }
-{
-    let a = append_with_number(out, 0, b"refused ", number);
-    let b = append_with_number(out, a, b" ", stream);
-    let c = append_with_number(out, b, b" ", place);
-    let d = append_with_number(out, c, b" ", key);
-    append(out, d, b"\n")
-}
-
 // The same as a text.
 fn refusal_line(r: Refusal) -> Text
     ensures { λ t. ⌜ textOf t ≡ refusalLine r ⌝ }
 {
     let mut out = [0u8; 1280];
-    let len = append_refusal(
+    let len = text_parts::append_refusal(
         &mut out,
         r.number as u64,
         r.stream as u64,
@@ -158,10 +48,10 @@ fn append_with_gap(out: &mut [u8], at: usize, word: &[u8], empty: bool, gap: Fra
         ⌝ }
 {
     if empty {
-        let a = append(out, at, word);
-        return append(out, a, b"empty");
+        let a = text_parts::append(out, at, word);
+        return text_parts::append(out, a, b"empty");
     }
-    append_with_ratio(out, at, word, gap)
+    text_parts::append_with_ratio(out, at, word, gap)
 }
 
 // The bounds, the gap and the rounds of a pair, with the word that stands before each.
@@ -187,10 +77,10 @@ fn append_pair(
         × (r ≤ at + length l + length u + length g + length w + 146)
         ⌝ }
 {
-    let a = append_with_ratio(out, at, lower, v.lower);
-    let b = append_with_ratio(out, a, upper, v.upper);
+    let a = text_parts::append_with_ratio(out, at, lower, v.lower);
+    let b = text_parts::append_with_ratio(out, a, upper, v.upper);
     let c = append_with_gap(out, b, gap, v.empty, v.gap);
-    append_with_number(out, c, rounds, v.rounds as u64)
+    text_parts::append_with_number(out, c, rounds, v.rounds as u64)
 }
 
 // What gapcheck writes: the bounds, the gap and the rounds, a line each, or the line of the refusal.
@@ -211,7 +101,7 @@ pub fn pair_lines(v: PairVerdict) -> Text
         b"\ngap ",
         b"\nrounds ",
     );
-    let len = append(&mut out, a, b"\n");
+    let len = text_parts::append(&mut out, a, b"\n");
     Text { bytes: out, len }
 }
 
@@ -224,12 +114,12 @@ pub fn blocks_line(v: BlocksVerdict, bytes: &[u8; 576]) -> Text
         return refusal_line(r);
     }
     let mut out = [0u8; 1280];
-    let a = append_with_number(&mut out, 0, b"blocks ", v.blocks as u64);
-    let b = append_with_number(&mut out, a, b" rounds ", v.rounds as u64);
-    let c = append_with_number(&mut out, b, b" rule ", v.rule as u64);
-    let d = append(&mut out, c, b" ");
-    let e = append_hexadecimal(&mut out, d, bytes);
-    let len = append(&mut out, e, b"\n");
+    let a = text_parts::append_with_number(&mut out, 0, b"blocks ", v.blocks as u64);
+    let b = text_parts::append_with_number(&mut out, a, b" rounds ", v.rounds as u64);
+    let c = text_parts::append_with_number(&mut out, b, b" rule ", v.rule as u64);
+    let d = text_parts::append(&mut out, c, b" ");
+    let e = text_parts::append_hexadecimal(&mut out, d, bytes);
+    let len = text_parts::append(&mut out, e, b"\n");
     Text { bytes: out, len }
 }
 
@@ -241,10 +131,10 @@ fn append_check(out: &mut [u8], word: &[u8], v: CheckVerdict) -> usize
         × (r ≤ length (now (word .entry)) + 117)
         ⌝ }
 {
-    let a = append_with_number(out, 0, word, v.side as u64);
-    let b = append_with_ratio(out, a, b" ", v.bound);
-    let c = append_with_number(out, b, b" rounds ", v.rounds as u64);
-    append_with_number(out, c, b" rule ", v.rule as u64)
+    let a = text_parts::append_with_number(out, 0, word, v.side as u64);
+    let b = text_parts::append_with_ratio(out, a, b" ", v.bound);
+    let c = text_parts::append_with_number(out, b, b" rounds ", v.rounds as u64);
+    text_parts::append_with_number(out, c, b" rule ", v.rule as u64)
 }
 
 // The line of the check, or that of the refusal.
@@ -257,7 +147,7 @@ pub fn check_line(v: CheckVerdict) -> Text
     }
     let mut out = [0u8; 1280];
     let a = append_check(&mut out, b"check ", v);
-    let len = append(&mut out, a, b"\n");
+    let len = text_parts::append(&mut out, a, b"\n");
     Text { bytes: out, len }
 }
 
@@ -271,8 +161,8 @@ pub fn pair_line(v: PairVerdict) -> Text
     }
     let mut out = [0u8; 1280];
     let a = append_pair(&mut out, 0, v, b"pair ", b" ", b" gap ", b" rounds ");
-    let b = append_with_number(&mut out, a, b" rule ", v.rule as u64);
-    let len = append(&mut out, b, b"\n");
+    let b = text_parts::append_with_number(&mut out, a, b" rule ", v.rule as u64);
+    let len = text_parts::append(&mut out, b, b"\n");
     Text { bytes: out, len }
 }
 
@@ -286,11 +176,11 @@ pub fn sum_line(v: SumVerdict) -> Text
     }
     let rules = v.rules;
     let mut out = [0u8; 1280];
-    let a = append_with_ratio(&mut out, 0, b"sum ", v.lower);
-    let b = append_with_ratio(&mut out, a, b" ", v.upper);
-    let c = append_with_number(&mut out, b, b" rules ", rules.first as u64);
-    let d = append_with_number(&mut out, c, b" ", rules.second as u64);
-    let len = append(&mut out, d, b"\n");
+    let a = text_parts::append_with_ratio(&mut out, 0, b"sum ", v.lower);
+    let b = text_parts::append_with_ratio(&mut out, a, b" ", v.upper);
+    let c = text_parts::append_with_number(&mut out, b, b" rules ", rules.first as u64);
+    let d = text_parts::append_with_number(&mut out, c, b" ", rules.second as u64);
+    let len = text_parts::append(&mut out, d, b"\n");
     Text { bytes: out, len }
 }
 
@@ -302,13 +192,13 @@ pub fn append_arrival(out: &mut [u8], at: usize, word: &[u8], v: WindowVerdict) 
         × (r ≤ at + length (now (word .entry)) + 63)
         ⌝ }
 {
-    let a = append(out, at, word);
+    let a = text_parts::append(out, at, word);
     let r = v.refusal;
     if 0 < r.number {
-        return append_number(out, a, r.number as u64);
+        return text_parts::append_number(out, a, r.number as u64);
     }
-    let b = append_ratio(out, a, v.widest);
-    append_with_number(out, b, b" ", v.age as u64)
+    let b = text_parts::append_ratio(out, a, v.widest);
+    text_parts::append_with_number(out, b, b" ", v.age as u64)
 }
 
 // The bytes that came back of two certificates, or the line of the refusal in the four numbers, at the start of a
@@ -327,11 +217,11 @@ pub fn tighter_line(
         ⌝ }
 {
     if 0 < number {
-        return append_refusal(out, number, stream, place, key);
+        return text_parts::append_refusal(out, number, stream, place, key);
     }
-    let a = append(out, 0, b"tighter ");
-    let b = append_hexadecimal(out, a, part);
-    append(out, b, b"\n")
+    let a = text_parts::append(out, 0, b"tighter ");
+    let b = text_parts::append_hexadecimal(out, a, part);
+    text_parts::append(out, b, b"\n")
 }
 
 // The line of the moved bound, or that of the refusal.
@@ -343,8 +233,8 @@ pub fn adjusted_line(v: AdjustedVerdict) -> Text
         return refusal_line(r);
     }
     let mut out = [0u8; 1280];
-    let a = append_with_ratio(&mut out, 0, b"adjusted ", v.bound);
-    let len = append(&mut out, a, b"\n");
+    let a = text_parts::append_with_ratio(&mut out, 0, b"adjusted ", v.bound);
+    let len = text_parts::append(&mut out, a, b"\n");
     Text { bytes: out, len }
 }
 
@@ -357,13 +247,19 @@ pub fn office_line(out: &mut [u8], v: OfficeVerdict, buffer: &[u8]) -> usize
     let check = v.check;
     let r = check.refusal;
     if 0 < r.number {
-        return append_refusal(out, r.number as u64, r.stream as u64, r.place as u64, r.key);
+        return text_parts::append_refusal(
+            out,
+            r.number as u64,
+            r.stream as u64,
+            r.place as u64,
+            r.key,
+        );
     }
     let a = append_check(out, b"office ", check);
-    let b = append_with_number(out, a, b" notes ", v.notes as u64);
-    let c = append(out, b, b" ");
-    let d = append_hexadecimal(out, c, buffer);
-    append(out, d, b"\n")
+    let b = text_parts::append_with_number(out, a, b" notes ", v.notes as u64);
+    let c = text_parts::append(out, b, b" ");
+    let d = text_parts::append_hexadecimal(out, c, buffer);
+    text_parts::append(out, d, b"\n")
 }
 
 // The first n bytes, or all.
@@ -382,9 +278,9 @@ pub fn symmetries_line(v: SymmetriesVerdict, bytes: &[u8; 256]) -> Text
         return refusal_line(r);
     }
     let mut out = [0u8; 1280];
-    let a = append_with_number(&mut out, 0, b"symmetries ", v.masks as u64);
-    let b = append(&mut out, a, b" ");
-    let c = append_hexadecimal(&mut out, b, bytes);
-    let len = append(&mut out, c, b"\n");
+    let a = text_parts::append_with_number(&mut out, 0, b"symmetries ", v.masks as u64);
+    let b = text_parts::append(&mut out, a, b" ");
+    let c = text_parts::append_hexadecimal(&mut out, b, bytes);
+    let len = text_parts::append(&mut out, c, b"\n");
     Text { bytes: out, len }
 }

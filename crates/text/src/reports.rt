@@ -8,7 +8,7 @@ ghost use Rattle.calls.specs.Fractions.{fraction};
 ghost use Rattle.lines.specs.Lines.{refusalLine};
 ghost use Rattle.lines.specs.ReportLines.{boundsWords, reportLine, fieldAt, refusedWords, recordWords, recordLine};
 ghost use Rattle.lines.specs.ReportLines.{lastLine, toolLine};
-ghost use Rattle.text.specs.Appending.{Appended};
+ghost use Rattle.text_parts.specs.Appending.{Appended};
 use calls::Fraction;
 use calls::Refusal;
 use calls::ReportVerdict;
@@ -18,7 +18,7 @@ pub fn put_refusal(out: &mut [u8], r: Refusal) -> usize
     requires { ⌜ 92 ≤ length (now out) ⌝ }
     ensures { λ n. ⌜ take n (now (out .exit)) ≡ refusalLine r ⌝ }
 {
-    super::append_refusal(out, r.number as u64, r.stream as u64, r.place as u64, r.key)
+    text_parts::append_refusal(out, r.number as u64, r.stream as u64, r.place as u64, r.key)
 }
 
 // Both bounds.
@@ -28,8 +28,8 @@ fn append_bounds(out: &mut [u8], at: usize, lower: Fraction, upper: Fraction) ->
         Appended (now (out .entry)) at (boundsWords lower upper) (now (out .exit)) r × (r ≤ at + 98)
         ⌝ }
 {
-    let a = super::append_with_ratio(out, at, b" lower ", lower);
-    super::append_with_ratio(out, a, b" upper ", upper)
+    let a = text_parts::append_with_ratio(out, at, b" lower ", lower);
+    text_parts::append_with_ratio(out, a, b" upper ", upper)
 }
 
 // The line of a report with its output, or that of the refusal.
@@ -41,11 +41,11 @@ pub fn report_line(out: &mut [u8], v: ReportVerdict, output: &[u8]) -> usize
     if 0 < r.number {
         return put_refusal(out, r);
     }
-    let a = super::append_with_number(out, 0, b"report ", v.accepted as u64);
+    let a = text_parts::append_with_number(out, 0, b"report ", v.accepted as u64);
     let b = append_bounds(out, a, v.lower, v.upper);
-    let c = super::append(out, b, b" ");
-    let d = super::append_hexadecimal(out, c, output);
-    super::append(out, d, b"\n")
+    let c = text_parts::append(out, b, b" ");
+    let d = text_parts::append_hexadecimal(out, c, output);
+    text_parts::append(out, d, b"\n")
 }
 
 // The line of the call for a C program: the number that it returned, and the output.
@@ -53,10 +53,10 @@ pub fn tool_line(out: &mut [u8], number: u64, output: &[u8]) -> usize
     requires { ⌜ 2 * length (now output) + 29 ≤ length (now out) ⌝ }
     ensures { λ r. ⌜ take r (now (out .exit)) ≡ toolLine number (now (output .entry)) ⌝ }
 {
-    let a = super::append_with_number(out, 0, b"record ", number);
-    let b = super::append(out, a, b" ");
-    let c = super::append_hexadecimal(out, b, output);
-    super::append(out, c, b"\n")
+    let a = text_parts::append_with_number(out, 0, b"record ", number);
+    let b = text_parts::append(out, a, b" ");
+    let c = text_parts::append_hexadecimal(out, b, output);
+    text_parts::append(out, c, b"\n")
 }
 
 // Field k of the 32 bytes of a record.
@@ -95,10 +95,10 @@ fn append_refused(out: &mut [u8], at: usize, number: u64, bytes: &[u8]) -> usize
         Appended (now (out .entry)) at (refusedWords number (now (bytes .entry))) (now (out .exit)) r × (r ≤ at + 92)
         ⌝ }
 {
-    let a = super::append_with_number(out, at, b" refused ", number);
-    let b = super::append_with_number(out, a, b" ", field_at(bytes, 5));
-    let c = super::append_with_number(out, b, b" ", field_at(bytes, 6));
-    super::append_with_number(out, c, b" ", field_at(bytes, 7))
+    let a = text_parts::append_with_number(out, at, b" refused ", number);
+    let b = text_parts::append_with_number(out, a, b" ", field_at(bytes, 5));
+    let c = text_parts::append_with_number(out, b, b" ", field_at(bytes, 6));
+    text_parts::append_with_number(out, c, b" ", field_at(bytes, 7))
 }
 
 // The bounds in a record, or its refusal.
@@ -122,9 +122,9 @@ pub fn append_record(out: &mut [u8], at: usize, n: u64, bytes: &[u8]) -> usize
         Appended (now (out .entry)) at (recordLine n (now (bytes .entry))) (now (out .exit)) r × (r ≤ at + 119)
         ⌝ }
 {
-    let a = super::append_number(out, at, n);
+    let a = text_parts::append_number(out, at, n);
     let b = append_record_words(out, a, bytes);
-    super::append(out, b, b"\n")
+    text_parts::append(out, b, b"\n")
 }
 
 // The last line: how many were accepted, and both bounds.
@@ -132,7 +132,7 @@ pub fn append_last(out: &mut [u8], at: usize, v: ReportVerdict) -> usize
     requires { ⌜ at + 128 ≤ length (now out) ⌝ }
     ensures { λ r. ⌜ Appended (now (out .entry)) at (lastLine v) (now (out .exit)) r ⌝ }
 {
-    let a = super::append_with_number(out, at, b"accepted ", v.accepted as u64);
+    let a = text_parts::append_with_number(out, at, b"accepted ", v.accepted as u64);
     let b = append_bounds(out, a, v.lower, v.upper);
-    super::append(out, b, b"\n")
+    text_parts::append(out, b, b"\n")
 }

@@ -8,7 +8,7 @@ ghost use mathlib.Core.Path.{_≡_};
 ghost use Prim.Native.Nat.{_*_, _≤_};
 ghost use lib.ListN.{length, take};
 ghost use Rattle.lines.specs.ReportLines.{weekAnswer};
-ghost use Rattle.text.specs.Appending.{Appended};
+ghost use Rattle.text_parts.specs.Appending.{Appended};
 ghost use Rattle.week_file.specs.Lines.{linesTo};
 
 // How many bytes of the text's buffer are the answer, and how many of the other were the records.

@@ -4,7 +4,7 @@ use native.Mathlib.Omega.{arith}
 use mathlib.Core.Path.{_∙_}
 use Prim.Native.Nat.{_+_, _≤_}
 use lib.ListN.{length}
-use Rattle.text.proofs.Appending.{appended-text}
+use Rattle.text_parts.proofs.Appending.{appended-text}
 use Rattle.week_file.proofs.Weeks.{week-refused, week-lines, count-few}
 use Rattle.week_file.proofs.put_answer.Statement.{statement}
 use Rattle.week_file.proofs.put_answer.Tie as tie

@@ -5,8 +5,8 @@ use native.Mathlib.Numerals.{add-one}
 use mathlib.Core.Path.{_≡_, refl}
 use Prim.Native.Nat.{_+_, _-_, _*_, _≤_}
 use lib.ListN.{length, length-take, length-drop}
-use Rattle.text.specs.Appending.{Appended}
-use Rattle.text.proofs.Appending.{appended-none, appended-text}
+use Rattle.text_parts.specs.Appending.{Appended}
+use Rattle.text_parts.proofs.Appending.{appended-none, appended-text}
 use Rattle.week_file.specs.Lines.{linesTo}
 use Rattle.week_file.proofs.put_records.Statement.{statement}
 use Rattle.week_file.proofs.put_records.Tie as tie

@@ -6,7 +6,7 @@ use mathlib.Core.List.{List, [], _∷_, _++_, append-assoc, append-nil}
 use Prim.Native.Nat.{ℕ, _+_, _<_}
 use lib.ListN.{length, take, set, length-append}
 use lib.Seq.{take-suc-set}
-use Rattle.text.specs.Appending.{Appended}
+use Rattle.text_parts.specs.Appending.{Appended}
 
 -- nothing is appended yet
 pub appended-none : (a : List ℕ) (at : ℕ) → Appended a at [] a at

@@ -2,8 +2,8 @@
 use borrow.Author.Needs.{needs}
 use borrow.Author.Tests.{lt-ltb, le-ltb}
 use mathlib.Core.Path.{refl}
-use Rattle.text.proofs.digit.Statement.{statement}
-use Rattle.text.proofs.digit.Tie as tie
+use Rattle.text_parts.proofs.digit.Statement.{statement}
+use Rattle.text_parts.proofs.digit.Tie as tie
 
 add-result : tie.Need-add-result
 add-result c = search needs

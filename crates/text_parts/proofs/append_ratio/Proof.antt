@@ -5,27 +5,12 @@ use mathlib.Core.Path.{_≡_}
 use mir.Syntax.{w64}
 use mir.Val.{toZ, ofZ}
 use Rattle.lines.specs.Lines.{ratio}
-use Rattle.text.proofs.Appending.{appended-text}
-use Rattle.text.proofs.append_ratio.Statement.{statement}
-use Rattle.text.proofs.append_ratio.Tie as tie
+use Rattle.text_parts.proofs.Appending.{appended-text}
+use Rattle.text_parts.proofs.append_ratio.Statement.{statement}
+use Rattle.text_parts.proofs.append_ratio.Tie as tie
 
 numerator : (c : tie.After-struct-told) → let n = c .before .before .before .args .f .num in toZ w64 (ofZ w64 n) ≡ n
 numerator c = search needs
-
-append-signed-requires : tie.Need-append-signed-requires
-append-signed-requires c κs = search needs
-
-slice-aggregate-append : tie.Need-slice-aggregate-append
-slice-aggregate-append c = search needs
-
-append-requires : tie.Need-append-requires
-append-requires c κs = search needs
-
-append-number-requires : tie.Need-append-number-requires
-append-number-requires c κs = search needs
-
-same-length : tie.Need-same-length
-same-length c = search needs
 
 returns : tie.Need-returns
 unfolding ratio
@@ -42,9 +27,9 @@ pub append-ratio-spec : {M : Type 1} → statement M
 append-ratio-spec =
     tie.close
     (tie.spec
-    append-signed-requires
-    slice-aggregate-append
-    append-requires
-    append-number-requires
-    same-length
+    (λ c κs. search needs)
+    (λ c. search needs)
+    (λ c κs. search needs)
+    (λ c κs. search needs)
+    (λ c. search needs)
     returns)

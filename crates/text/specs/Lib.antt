@@ -1,2 +1,0 @@
--- The lines that the programs write, and what it means to append to a text.
-pub mod Appending

@@ -1,0 +1,2 @@
+-- What it means to append to a text.
+pub mod Appending
