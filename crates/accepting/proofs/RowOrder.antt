@@ -15,7 +15,7 @@ use Rattle.format.specs.ProblemBases.{basis_of}
 use Rattle.format.specs.CertificateRules.{Entry, Row, Certificate}
 use Rattle.format.specs.Permuted.{Permuted}
 use Rattle.format.specs.Permuted as Runs
-use Rattle.format.specs.RowOrder.{RowRun, OtherOrder}
+use Rattle.format.specs.RowOrder.{RowRun, OtherOrder, run_bytes}
 use Rattle.format.proofs.RowRuns.{entries_at, row_at, rows_at}
 use Rattle.format.proofs.RowOrder.{OrderRead, order_read}
 use Rattle.accepting.specs.Identity.{combination, square, squares, claim, Identity, block_of, OneBlock, KeepsBlocks}
@@ -100,13 +100,15 @@ same_row a b r = record {
 same_rows : (a b : ℕ) (rows : List RowRun) → Reordered (rows_at a rows) (rows_at b rows)
 unfolding rows_at
 same_rows a b [] = none
-same_rows a b (r ∷ rows) = same (same_row a b r) (same_rows _ _ rows)
+same_rows a b (r ∷ rows) =
+    same (same_row a b r) (same_rows (a + length (run_bytes r)) (b + length (run_bytes r)) rows)
 
 pub rows_reordered : (a b : ℕ) {rows others : List RowRun} → Permuted rows others
     → Reordered (rows_at a rows) (rows_at b others)
 unfolding rows_at
 rows_reordered a b Runs.none = none
-rows_reordered a b (Runs.same {a = r} q) = same (same_row a b r) (rows_reordered _ _ q)
+rows_reordered a b (Runs.same {a = r} q) =
+    same (same_row a b r) (rows_reordered (a + length (run_bytes r)) (b + length (run_bytes r)) q)
 rows_reordered a b (Runs.exchanged {a = r} {b = q} {l = rows}) =
     then exchanged (same (same_row _ _ q) (same (same_row _ _ r) (same_rows _ _ rows)))
 rows_reordered a b (Runs.then q r) = then (rows_reordered a a q) (rows_reordered a b r)
