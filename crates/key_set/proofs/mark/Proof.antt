@@ -5,21 +5,21 @@ use lib.Seq.{get_or-set_other}
 use Rattle.key_set.proofs.mark.Statement.{statement}
 use Rattle.key_set.proofs.mark.Tie as tie
 
-cast-index : tie.Need-overflow-cast-index
+cast-index : tie.Need-overflow_cast-index
 cast-index c = search rules
 
-slice-write-index : tie.Need-slice-write-index
+slice-write-index : tie.Need-bounds-index-4094
 slice-write-index c = search rules
 
-same_length : tie.Need-same-length
+same_length : tie.Need-shape_of-index
 same_length c = search rules
 
-returns : tie.Need-returns
+returns : tie.Need-returns-then-steps-gt-LONG
 returns c =
-    let s = c.before in
+    let s = c in
     record { long = length-set s.args.index.now 4094 s.args.steps; same = λ q f. get_or-set_other s.args.index.now 4094 q s.args.steps 0 f }
 
-returns-2 : tie.Need-returns-2
+returns-2 : tie.Need-returns-else-steps-gt-LONG
 returns-2 c = search rules
 
 pub mark_spec : {M : Type 1} → statement M

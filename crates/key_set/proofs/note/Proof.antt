@@ -8,42 +8,42 @@ use Rattle.key_set.specs.Table.{noted}
 use Rattle.key_set.proofs.note.Statement.{statement}
 use Rattle.key_set.proofs.note.Tie as tie
 
-mul-last : tie.Need-overflow-mul-last
+mul-last : tie.Need-offset_bounds-index-at
 mul-last c = search rules
 
-slice-read-last : tie.Need-slice-read-last
+slice-read-last : tie.Need-bounds-index-at
 slice-read-last c = search rules
 
-add-index : tie.Need-overflow-add-index
+add-index : tie.Need-overflow_add-index
 add-index c = search rules
 
-mul-index : tie.Need-overflow-mul-index
+mul-index : tie.Need-offset_bounds-index-len
 mul-index c = search rules
 
-slice-write-index : tie.Need-slice-write-index
+slice-write-index : tie.Need-bounds-index-len
 slice-write-index c = search rules
 
-add-index-2 : tie.Need-overflow-add-index-2
+add-index-2 : tie.Need-overflow_add-index-2
 add-index-2 c = search rules
 
-cast-index : tie.Need-overflow-cast-index
+cast-index : tie.Need-overflow_cast-index
 cast-index c = search rules
 
-mul-index-2 : tie.Need-overflow-mul-index-2
+mul-index-2 : tie.Need-offset_bounds-index-at-2
 mul-index-2 c = search rules
 
-slice-write-index-2 : tie.Need-slice-write-index-2
-slice-write-index-2 c = let s = c.before in omega (arith, s.requires.0, s.requires.2, length-set s.args.index.now (4096 + s.args.len) (get_or s.args.index.now s.args.at 0))
+slice-write-index-2 : tie.Need-bounds-index-at-2
+slice-write-index-2 c = let s = c in omega (arith, s.requires.0, s.requires.2, length-set s.args.index.now (4096 + s.args.len) (get_or s.args.index.now s.args.at 0))
 
-same_length : tie.Need-same-length
+same_length : tie.Need-shape_of-index
 same_length c = search rules
 
 returns : tie.Need-returns
 unfolding noted
 returns c = refl
 
-pub note-spec : {M : Type 1} → statement M
-note-spec =
+pub note_spec : {M : Type 1} → statement M
+note_spec =
     tie.close
     (tie.spec
     mul-last

@@ -11,14 +11,14 @@ use Rattle.key_set.proofs.renew.Tie as tie
 clear-requires : tie.Need-clear-requires
 clear-requires c κs = search rules
 
-slice-write-index : tie.Need-slice-write-index
+slice-write-index : tie.Need-bounds-index-4095
 slice-write-index c = search rules
 
-note-all-requires : tie.Need-note-all-requires
+note-all-requires : tie.Need-note_all-requires
 note-all-requires c κs =
-    let k = c.before.before.before in
-    let s = k.before.before.before.before in
-    let i = k.clear.new.0 in
+    let k = c in
+    let s = k in
+    let i = k.clear.new.index in
     let e = k.clear.ensures in (
       s.requires.0,
       indexed_none _ _ (length-set i 4095 s.args.below ∙ e.0)
@@ -26,11 +26,11 @@ note-all-requires c κs =
           (λ q b. get_or-set_other i 4095 q s.args.below 0 (λ w. omega arith) ∙ e.1 q (omega arith)),
     )
 
-same_length : tie.Need-same-length
+same_length : tie.Need-shape_of-index
 same_length c = search rules
 
 returns : tie.Need-returns
 returns c = search rules
 
-pub renew-spec : {M : Type 1} → statement M
-renew-spec = tie.close (tie.spec clear-requires slice-write-index note-all-requires same_length returns)
+pub renew_spec : {M : Type 1} → statement M
+renew_spec = tie.close (tie.spec clear-requires slice-write-index note-all-requires same_length returns)

@@ -5,25 +5,25 @@ use Prim.Native.Nat.{ℕ, ◌%◌}
 use Rattle.key_set.proofs.slot.Statement.{statement}
 use Rattle.key_set.proofs.slot.Tie as tie
 
-divisor-requires : tie.Need-divisor-requires
+divisor-requires : tie.Need-divisor-d-requires
 divisor-requires c κs = search rules
 
-first-slot-requires : tie.Need-first-slot-requires
+first-slot-requires : tie.Need-first_slot-requires
 first-slot-requires c κs = search rules
 
-returns : tie.Need-returns
+returns : tie.Need-returns-then-d-eq-FIRST
 returns c =
-    let i = c.before in
-    let d = i.before in
-    c.first_slot.ensures ∙ ap (λ (k : ℕ). d.before.before.args.key % k) (sym i.if1.true ∙ d.divisor.ensures)
+    let i = c in
+    let d = i in
+    c.first_slot.ensures ∙ ap (λ (k : ℕ). d.args.key % k) (sym i.if-d-eq-FIRST.true ∙ d.divisor-d.ensures)
 
-rem-result : tie.Need-nonzero-rem-result
+rem-result : tie.Need-nonzero_rem-result
 rem-result c = search rules
 
-returns-2 : tie.Need-returns-2
+returns-2 : tie.Need-returns
 returns-2 c =
-    let d = c.before in
-    ap (λ (k : ℕ). d.before.before.args.key % k) d.divisor.ensures
+    let d = c in
+    ap (λ (k : ℕ). d.args.key % k) d.divisor-d.ensures
 
-pub slot-spec : {M : Type 1} → statement M
-slot-spec = tie.close (tie.spec divisor-requires first-slot-requires returns rem-result returns-2)
+pub slot_spec : {M : Type 1} → statement M
+slot_spec = tie.close (tie.spec divisor-requires first-slot-requires returns rem-result returns-2)

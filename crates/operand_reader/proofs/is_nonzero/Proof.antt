@@ -20,5 +20,5 @@ bits (negsuc n) h = let k = h.sfits in rw (ne_eqb (2 ^ 32 - suc n) 0 (λ e. omeg
 returns : tie.Need-returns
 returns c = bits c.args.c c.ranges.c
 
-pub is-nonzero-spec : {M : Type 1} → statement M
-is-nonzero-spec = tie.close (tie.spec returns)
+pub is_nonzero_spec : {M : Type 1} → statement M
+is_nonzero_spec = tie.close (tie.spec returns)

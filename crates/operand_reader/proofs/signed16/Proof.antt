@@ -8,24 +8,24 @@ use Rattle.format.proofs.Numbers.{turned_fits, narrow_fits, narrow_back, lower, 
 use Rattle.operand_reader.proofs.signed16.Statement.{statement}
 use Rattle.operand_reader.proofs.signed16.Tie as tie
 
-cast-result : tie.Need-overflow-cast-result
+cast-result : tie.Need-overflow_cast-result
 cast-result c = search rules
 
-cast-result-2 : tie.Need-overflow-cast-result-2
+cast-result-2 : tie.Need-overflow_cast-result-else-x-lt32768
 cast-result-2 c = search rules
 
-sub-result : tie.Need-overflow-sub-result
-sub-result c = turned_fits 65535 c.before.args.x (omega arith) (omega arith) (omega arith)
+sub-result : tie.Need-overflow_sub-result
+sub-result c = turned_fits 65535 c.args.x (omega arith) (omega arith) (omega arith)
 
-cast-result-3 : tie.Need-overflow-cast-result-3
-cast-result-3 c = narrow_fits 65535 c.before.args.x (omega arith) (omega arith) (omega arith)
+cast-result-3 : tie.Need-overflow_cast-result-else-x-lt32768-2
+cast-result-3 c = narrow_fits 65535 c.args.x (omega arith) (omega arith) (omega arith)
 
-returns : tie.Need-returns
-returns c = to_z_pos w32 (omega arith) ∙ lower 15 c.before.args.x (omega arith)
+returns : tie.Need-returns-then-x-lt32768
+returns c = to_z_pos w32 (omega arith) ∙ lower 15 c.args.x (omega arith)
 
-returns-2 : tie.Need-returns-2
-returns-2 c = narrow_back 65535 c.before.args.x (omega arith) (omega arith) (omega arith) ∙ upper 15 c.before.args.x (omega arith)
+returns-2 : tie.Need-returns-else-x-lt32768
+returns-2 c = narrow_back 65535 c.args.x (omega arith) (omega arith) (omega arith) ∙ upper 15 c.args.x (omega arith)
 
-pub signed16-spec : {M : Type 1} → statement M
-signed16-spec =
+pub signed16_spec : {M : Type 1} → statement M
+signed16_spec =
     tie.close (tie.spec cast-result cast-result-2 sub-result cast-result-3 returns returns-2)

@@ -8,24 +8,24 @@ use Rattle.format.proofs.Numbers.{turned_fits, narrow_fits, narrow_back, lower, 
 use Rattle.operand_reader.proofs.signed32.Statement.{statement}
 use Rattle.operand_reader.proofs.signed32.Tie as tie
 
-cast-result : tie.Need-overflow-cast-result
+cast-result : tie.Need-overflow_cast-result
 cast-result c = search rules
 
-cast-result-2 : tie.Need-overflow-cast-result-2
+cast-result-2 : tie.Need-overflow_cast-result-else-x-lt2147483648
 cast-result-2 c = search rules
 
-sub-result : tie.Need-overflow-sub-result
-sub-result c = turned_fits 4294967295 c.before.args.x (omega arith) (omega arith) (omega arith)
+sub-result : tie.Need-overflow_sub-result
+sub-result c = turned_fits 4294967295 c.args.x (omega arith) (omega arith) (omega arith)
 
-cast-result-3 : tie.Need-overflow-cast-result-3
-cast-result-3 c = narrow_fits 4294967295 c.before.args.x (omega arith) (omega arith) (omega arith)
+cast-result-3 : tie.Need-overflow_cast-result-else-x-lt2147483648-2
+cast-result-3 c = narrow_fits 4294967295 c.args.x (omega arith) (omega arith) (omega arith)
 
-returns : tie.Need-returns
-returns c = to_z_pos w32 (omega arith) ∙ lower 31 c.before.args.x (omega arith)
+returns : tie.Need-returns-then-x-lt2147483648
+returns c = to_z_pos w32 (omega arith) ∙ lower 31 c.args.x (omega arith)
 
-returns-2 : tie.Need-returns-2
-returns-2 c = narrow_back 4294967295 c.before.args.x (omega arith) (omega arith) (omega arith) ∙ upper 31 c.before.args.x (omega arith)
+returns-2 : tie.Need-returns-else-x-lt2147483648
+returns-2 c = narrow_back 4294967295 c.args.x (omega arith) (omega arith) (omega arith) ∙ upper 31 c.args.x (omega arith)
 
-pub signed32-spec : {M : Type 1} → statement M
-signed32-spec =
+pub signed32_spec : {M : Type 1} → statement M
+signed32_spec =
     tie.close (tie.spec cast-result cast-result-2 sub-result cast-result-3 returns returns-2)

@@ -5,11 +5,11 @@ use Rattle.wide_sums.proofs.Floors.{halves_fit}
 use Rattle.wide_sums.proofs.cut.Statement.{statement}
 use Rattle.wide_sums.proofs.cut.Tie as tie
 
-mul_low : tie.Need-overflow-mul-low
+mul_low : tie.Need-overflow_mul-low
 unfolding cut_at
 mul_low c = let f = halves_fit c.args.x c.ranges.x in simp (to_z-of_z, c.ranges.x, f.high) f.multiple
 
-sub_low : tie.Need-overflow-sub-low
+sub_low : tie.Need-overflow_sub-low
 unfolding cut_at
 sub_low c = let f = halves_fit c.args.x c.ranges.x in simp (to_z-of_z, c.ranges.x, f.high, f.multiple) f.low
 

@@ -17,7 +17,7 @@ use Rattle.wide_sums.proofs.is_zero.Statement.{statement}
 use Rattle.wide_sums.proofs.is_zero.Tie as tie
 
 -- the two halves of the sum, as numbers and not as their bits
-module _ (c : tie.After-cut) where
+module _ (c : tie.After-cut-l) where
   abbrev s : tie.Start
   s = c.before.before
 
@@ -32,38 +32,38 @@ module _ (c : tie.After-cut) where
   m = pos 0 -ℤ (halves_of a).high
 
   a-fits : SFits w64 a
-  a-fits = sfits_of c.before.cut-arg.given
+  a-fits = sfits_of c.cut-arg-1.given
 
-  cut-is : c.cut.result ≡ halves_of a
-  cut-is = rw (to_z-of_z a-fits) at c.cut.ensures
+  cut-is : c.cut-l.result ≡ halves_of a
+  cut-is = rw (to_z-of_z a-fits) at c.cut-l.ensures
 
-returns : tie.Need-returns
+returns : tie.Need-returns-then-l-ne0
 returns c =
-    let l = c.before.before.before in
+    let l = c in
     record {
       yes = λ e. absurd (let z : ◌≡◌ {A = ℕ} 0 1 = cc in omega arith);
-      no = λ _ e. c.if1.true (rw (cut-is l, (zero_halves (g l) (a l) e).0));
+      no = λ _ e. c.if-l-ne0.true (rw (cut-is l.before.before.before, (zero_halves (g l.before.before.before) (a l.before.before.before) e).0));
     }
 
-sub-result : tie.Need-overflow-sub-result
+sub-result : tie.Need-overflow_sub-result
 sub-result c =
-    let l = c.before.before.before.before.before.before in
-    rw (cut-is l, to_z-of_z (halves_fit (a l) (a-fits l)).high) (minus_fits (a l) (a-fits l))
+    let l = c in
+    rw (cut-is l.before.before.before.before.before.before, to_z-of_z (halves_fit (a l.before.before.before.before.before.before) (a-fits l.before.before.before.before.before.before)).high) (minus_fits (a l.before.before.before.before.before.before) (a-fits l.before.before.before.before.before.before))
 
-returns-2 : tie.Need-returns-2
+returns-2 : tie.Need-returns
 returns-2 c =
-    let l = c.before.before.before.before.before.before in
-    let z = zero_bits (halves_fit (a l) (a-fits l)).low (rw (cut-is l) at c.before.before.before.if1.false) in
-    let p : SFits w64 (g l) = sfits_of c.before.before.result.given in
-    let q = minus_fits (a l) (a-fits l) in
-    rw (cut-is l, to_z-of_z (halves_fit (a l) (a-fits l)).high)
+    let l = c in
+    let z = zero_bits (halves_fit (a l.before.before.before.before.before.before) (a-fits l.before.before.before.before.before.before)).low (rw (cut-is l.before.before.before.before.before.before) at c.if-l-ne0.false) in
+    let p : SFits w64 (g l.before.before.before.before.before.before) = sfits_of c.result-1.given in
+    let q = minus_fits (a l.before.before.before.before.before.before) (a-fits l.before.before.before.before.before.before) in
+    rw (cut-is l.before.before.before.before.before.before, to_z-of_z (halves_fit (a l.before.before.before.before.before.before) (a-fits l.before.before.before.before.before.before)).high)
     record {
-      yes = λ e. halves_zero (g l) (a l) z (sym (to_z-of_z p) ∙ ap (to_z w64) (eqb-true (of_z w64 (g l)) (of_z w64 (m l)) e) ∙ to_z-of_z q);
-      no = λ e f. eqb-false (of_z w64 (g l)) (of_z w64 (m l)) e (ap (of_z w64) (zero_halves (g l) (a l) f).1);
+      yes = λ e. halves_zero (g l.before.before.before.before.before.before) (a l.before.before.before.before.before.before) z (sym (to_z-of_z p) ∙ ap (to_z w64) (eqb-true (of_z w64 (g l.before.before.before.before.before.before)) (of_z w64 (m l.before.before.before.before.before.before)) e) ∙ to_z-of_z q);
+      no = λ e f. eqb-false (of_z w64 (g l.before.before.before.before.before.before)) (of_z w64 (m l.before.before.before.before.before.before)) e (ap (of_z w64) (zero_halves (g l.before.before.before.before.before.before) (a l.before.before.before.before.before.before) f).1);
     }
 
-pub is-zero-spec : {M : Type 1} → statement M
-is-zero-spec =
+pub is_zero_spec : {M : Type 1} → statement M
+is_zero_spec =
     tie.close
     (tie.spec
     (λ c. search rules)
