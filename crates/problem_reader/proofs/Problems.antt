@@ -1,5 +1,4 @@
 -- Laws of a problem's lists: what a command leaves of them, and what it adds.
-use denote.Enum.Declared.{tag_of}
 use mathlib.Core.Path.{◌≡◌, refl, sym, ap, ◌∙◌}
 use mathlib.Core.Bool.{true, false}
 use mathlib.Core.List.{List, [], ◌∷◌, ◌++◌}
@@ -11,13 +10,12 @@ use lib.IntN.{ℤ, pos}
 use lib.ListN.{length, get_or, length-set, get_or-eq_default}
 use lib.Seq.{get_or-set_same, get_or-set_other, get_or_at}
 use Rattle.counting.proofs.Cases.{clash}
-use Rattle.polynomial.specs.Terms.{Term, term}
+use Rattle.polynomial.specs.Terms.{term}
 use Rattle.format.specs.Commands.{first_refusal}
 use Rattle.format.specs.declared.problem.Instruction.{Instruction}
 use Rattle.format.specs.declared.problem.Instruction.TheVariants as I
 use Rattle.format.specs.declared.problem.Kind.{Kind}
 use Rattle.format.specs.declared.problem.Kind.TheVariants as K
-use Rattle.format.specs.contracts.problem.Instruction.{the_type}
 use Rattle.format.specs.ProblemRules.{Condition, Problem, no_condition, last_condition, append_at, conditions_full, with_term, problem_applied}
 use Rattle.format.proofs.Parts.{with_begun}
 use Rattle.format.specs.ProblemBases.{basis_of, multiplier, kind_of}
@@ -90,17 +88,9 @@ unfolding condition_of
 condition_none p zero h = absurd (omega arith)
 condition_none p (suc j) h = get_or-eq_default p.conditions no_condition {n = j} (omega arith)
 
--- ---- the commands that begin a condition, by the variants' numbers, and what they do
-pub begins : (i : Instruction) → (tag_of the_type i ≡ 2) ⊎ (tag_of the_type i ≡ 6) → (k : Kind) × (i ≡ beginning k)
-begins I.Inequality h = (K.Inequality, refl)
-begins I.Equality h = (K.Equality, refl)
-begins (I.Variables n) h = absurd (⊎_elim (λ e. omega arith) (λ e. omega arith) h)
-begins (I.Objective k c) h = absurd (⊎_elim (λ e. omega arith) (λ e. omega arith) h)
-begins (I.Term k c) h = absurd (⊎_elim (λ e. omega arith) (λ e. omega arith) h)
-begins (I.Member j k) h = absurd (⊎_elim (λ e. omega arith) (λ e. omega arith) h)
-begins I.End h = absurd (⊎_elim (λ e. omega arith) (λ e. omega arith) h)
-begins (I.Rule r) h = absurd (⊎_elim (λ e. omega arith) (λ e. omega arith) h)
-begins (I.Order k) h = absurd (⊎_elim (λ e. omega arith) (λ e. omega arith) h)
+-- ---- the commands that begin a condition, and what they do
+pub begins : (i : Instruction) → (i ≡ I.Inequality) ⊎ (i ≡ I.Equality) → (k : Kind) × (i ≡ beginning k)
+begins i h = ⊎_elim (λ e. (K.Inequality, e)) (λ e. (K.Equality, e)) h
 
 pub begins_on : (k : Kind) → I.End ≡ beginning k → ⊥
 begins_on K.Inequality e = clash (cc)
