@@ -16,8 +16,7 @@ use Rattle.format.specs.declared.problem.Instruction.{Instruction}
 use Rattle.format.specs.declared.problem.Instruction.TheVariants as I
 use Rattle.format.specs.declared.problem.Kind.{Kind}
 use Rattle.format.specs.declared.problem.Kind.TheVariants as K
-use Rattle.format.specs.ProblemRules.{Condition, Problem, no_condition, last_condition, append_at, conditions_full, with_term, problem_applied}
-use Rattle.format.proofs.Parts.{with_begun}
+use Rattle.format.specs.ProblemRules.{Condition, Problem, no_condition, last_condition, append_at, conditions_full, with_condition, with_term, problem_applied}
 use Rattle.format.specs.ProblemBases.{basis_of, multiplier, kind_of}
 use Rattle.flat.specs.Flat.{kind_number}
 use Rattle.problem_commands.specs.Checks.{late}
@@ -97,7 +96,7 @@ begins_on K.Inequality e = clash (cc)
 begins_on K.Equality e = clash (cc)
 
 module _ (p : Problem) where
-  pub begins_applied : (k : Kind) → problem_applied p (beginning k) ≡ with_begun p k
+  pub begins_applied : (k : Kind) → problem_applied p (beginning k) ≡ with_condition p k
   unfolding problem_applied
   begins_applied K.Inequality = refl
   begins_applied K.Equality = refl
@@ -116,12 +115,12 @@ module _ (p : Problem) where
   member_other j k i d = appended_other p.bases j k i d
 
   -- ---- a condition begun
-  pub begun_other : (k : Kind) (j : ℕ) → j ≢ length p.conditions + 1 → condition_of (with_begun p k) j ≡ condition_of p j
+  pub begun_other : (k : Kind) (j : ℕ) → j ≢ length p.conditions + 1 → condition_of (with_condition p k) j ≡ condition_of p j
   unfolding condition_of
   begun_other k zero h = refl
   begun_other k (suc j) h = more_other p.conditions _ no_condition j (λ e. h (omega arith))
 
-  pub begun_here : (k : Kind) → condition_of (with_begun p k) (length p.conditions + 1) ≡ record { kind = k; terms = [] }
+  pub begun_here : (k : Kind) → condition_of (with_condition p k) (length p.conditions + 1) ≡ record { kind = k; terms = [] }
   unfolding condition_of
   begun_here k = rw (add-one (length p.conditions)) (get_or_at p.conditions _ [] no_condition (length p.conditions) refl)
 
