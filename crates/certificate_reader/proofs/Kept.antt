@@ -168,7 +168,7 @@ pub held_as : (p : Problem) (s : List ℕ) {t t' : Header} {g g' : Progress} (st
 held_as p s starts e f h k = rw (e, f, h) k
 
 -- ---- a run of entries
-pub run_from : {sizes s : List ℕ} {g h : Progress} {from at : ℕ} → EntriesRead sizes s g from h at → from ≤ at
+pub run_from : {sizes s : List ℕ} {g : Progress} {from : ℕ} {h : Progress} {at : ℕ} → EntriesRead sizes s g from h at → from ≤ at
 run_from none = omega arith
 run_from (more w e v) = omega (arith, run_from w)
 

@@ -6,11 +6,11 @@ use borrow.Author.Tests.{eqb-true, ltb-true}
 use Rattle.certificate_reader.proofs.is_entry.Statement.{statement}
 use Rattle.certificate_reader.proofs.is_entry.Tie as tie
 
-returns : tie.Need-returns
-returns c = λ t. record { inside = c.before.if1.true; byte = eqb-true _ 0x12 t }
+returns : tie.Need-returns-then-at-s
+returns c = λ t. record { inside = c.if-at-s.true; byte = eqb-true _ 0x12 t }
 
-returns-2 : tie.Need-returns-2
-returns-2 c = λ t. absurd (omega (arith, ltb-true c.before.args.at (length c.before.args.s.now) t))
+returns-2 : tie.Need-returns-else-at-s
+returns-2 c = λ t. absurd (omega (arith, ltb-true c.args.at (length c.args.s.now) t))
 
-pub is-entry-spec : {M : Type 1} → statement M
-is-entry-spec = tie.close (tie.spec (λ c. search rules) returns returns-2)
+pub is_entry_spec : {M : Type 1} → statement M
+is_entry_spec = tie.close (tie.spec (λ c. search rules) returns returns-2)

@@ -3,19 +3,19 @@ use borrow.Author.Rules.{rules}
 use Rattle.certificate_reader.proofs.verdict_at.Statement.{statement}
 use Rattle.certificate_reader.proofs.verdict_at.Tie as tie
 
-row-verdict-requires : tie.Need-row-verdict-requires
-row-verdict-requires c κs = (c.before.before.before.before.requires, c.if1.true)
+row_verdict-requires : tie.Need-row_verdict-requires
+row_verdict-requires c κs = (c.requires, c.if-byte-eq17.true)
 
-verdict-of-requires : tie.Need-verdict-of-requires
-verdict-of-requires c κs = (c.before.before.before.before.before.requires, c.command-of.ensures)
+verdict_of-requires : tie.Need-verdict_of-requires
+verdict_of-requires c κs = (c.requires, c.command_of.ensures)
 
-pub verdict-at-spec : {M : Type 1} → statement M
-verdict-at-spec =
+pub verdict_at_spec : {M : Type 1} → statement M
+verdict_at_spec =
     tie.close
     (tie.spec
     (λ c. search rules)
-    row-verdict-requires
-    (λ c. c.row-verdict.ensures)
+    row_verdict-requires
+    (λ c. c.row_verdict.ensures)
     (λ c κs. search rules)
-    verdict-of-requires
-    (λ c. c.verdict-of.ensures))
+    verdict_of-requires
+    (λ c. c.verdict_of.ensures))
