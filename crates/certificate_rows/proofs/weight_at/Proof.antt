@@ -1,12 +1,12 @@
 -- `weight_at`: the second operand, a number of 16 bits, fits; where the command is 14 it has a sign.
 use mathlib.Core.Path.{ap, ◌∙◌}
 use native.Mathlib.Omega.{arith}
-use lib.IntN.{pos}
+use lib.IntN.{ℤ, pos}
 use mir.Facts.{to_z-of_z, sfits_widen}
 use mir.Syntax.{w32, w64}
 use mir.Val.{SFits}
 use borrow.Author.Rules.{sfits_of, rules}
-use borrow.Author.Tests.{ne_eqb}
+use borrow.Author.Tests.{eq-eqb, ne_eqb}
 use Rattle.format.specs.Operands.{signed}
 use Rattle.certificate_rows.proofs.weight_at.Statement.{statement}
 use Rattle.certificate_rows.proofs.weight_at.Tie as tie
