@@ -1,6 +1,8 @@
 // The calls for programs in other languages, as C functions: each lent slice is a pointer and a length. Every field of a
 // verdict goes into a lent run of numbers, at the places that crates/verdict_numbers defines; what else a function
 // leaves behind it is what the call leaves. A run that is too short is refused with 1, as a short work table is.
+#![tactic(auto)]
+
 ghost use Rattle.std.specs.Prelude.{◌≡◌, ◌<◌, length};
 ghost use Rattle.calls.specs.Tables.{tables, tables_short, TablesLeft};
 ghost use Rattle.calls.specs.Blocks.{blocks_short, blocks_verdict, bytes_left};

@@ -1,8 +1,10 @@
 // The commands of the certificate stream, one by one: which a byte names, how long it is, what it says, and the checks
 // that it may be refused by.
+#![tactic(auto)]
+
 ghost use Rattle.std.specs.Prelude.{◌≡◌, ◌+◌, ◌≤◌, length};
 ghost use Rattle.format.specs.ProblemRules.{Problem};
-ghost use Rattle.format.proofs.Lengths.{ZeroUnknown};
+ghost use Rattle.format.specs.Layouts.{ZeroUnknown};
 ghost use Rattle.format.specs.declared.certificate.Command.TheVariants as C;
 ghost use Rattle.format.specs.CertificateLayout.{certificate_command, certificate_size, certificate_decoded};
 ghost use Rattle.format.specs.CertificateRules.{Certificate, entry_placed, certificate_placed, entry_fits, certificate_operands_fit, index_repeated, certificate_repeated, rows_full, certificate_full};
@@ -12,7 +14,7 @@ use format::certificate::{Command, Header, Instruction};
 
 // What the checks of a command look at: how many rows have begun, the basis of the row begun last, and the least index
 // that its next entry may have.
-#[derive(Drop)]
+#[derive(Clone, Copy)]
 pub struct Progress {
     pub rows: usize,
     pub basis: usize,

@@ -1,4 +1,6 @@
 // Fractions: two are compared by cross products, the gap and the sum of two bounds, and what stands for a gap below 0.
+#![tactic(auto)]
+
 ghost use Rattle.std.specs.Prelude.{◌≡◌, ◌+◌, ◌*◌, ◌^◌, ◌<◌, ◌≤◌, ltb, pos, nat_abs, ◌*ℤ◌};
 ghost use Rattle.fractions.specs.Ranges.{Bound};
 ghost use Rattle.calls.specs.Fractions.{fraction, is_less, gap_of, is_negative, unless_negative, none};

@@ -5,6 +5,8 @@
 // and their number), the problem (keys, coefficients and sizes, as in the crate flat) and the compared keys (a table,
 // how many they are, and their index); then the two tables of sums. A struct cannot hold the slices, so the functions
 // that need all three have more than eight parameters.
+#![tactic(auto)]
+
 ghost use Rattle.std.specs.Prelude.{◌≡◌, false, ◌*◌, ◌^◌, ◌≤◌, ◌<◌, ◌*ℤ◌, length};
 ghost use Rattle.format.specs.ProblemLimits.{most_bases};
 ghost use Rattle.key_set.specs.Table.{divisor_in};
@@ -13,7 +15,7 @@ ghost use Rattle.certificate_rows.specs.Offsets.{rows_by};
 ghost use Rattle.row_outer.specs.Frame.{share, spread_at, Framed, Entered};
 ghost use Rattle.row_outer.specs.Outer.{gathered_most};
 ghost use Rattle.row_folding.specs.Fold.{folded_most, FoldedTable};
-ghost use Rattle.counting.proofs.Bounded.{Bounded};
+ghost use Rattle.counting.specs.Counting.{Bounded};
 ghost use Rattle.identity_sums.specs.Tables.{Ready, SumsGrown};
 ghost use Rattle.identity_sums.specs.Tables.{Slots};
 ghost use Rattle.identity_rows.specs.Spread.{entry_unit, table_unit, Spreadable, Spread};

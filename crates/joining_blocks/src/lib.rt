@@ -2,6 +2,8 @@
 // that follows it in its block, or 255: a block's list begins with its number. Two blocks that are made one add their
 // cross products to the support at once, behind the members that the joining looks at, so that it always has the products
 // of every pair in one block.
+#![tactic(auto)]
+
 ghost use Rattle.std.specs.Prelude.{◌≡◌, ◌⊎◌, true, false, ◌/◌, ◌%◌, ◌≤◌, ◌<◌, length};
 ghost use Rattle.joining_rule.specs.Join.{merged};
 ghost use Rattle.round_laws.specs.Joins.{Two};
@@ -13,7 +15,7 @@ use joining_products::Cross;
 // How far a joining is: it looks at the members of the support from `since` on, before `until`; the support has `len`
 // keys, 2,049 where they are too many, and the basis `blocks` blocks. No sum of a pair has other bits than `bits`,
 // where the basis is not small. `adds` says whether its products are added.
-#[derive(Drop)]
+#[derive(Clone, Copy)]
 pub struct Reach {
     pub since: usize,
     pub until: usize,

@@ -12,7 +12,7 @@ use Rattle.joining_pairs.specs.Pairs.{pair_at, sum_at, told_at, AllPairs, Slots}
 
 -- up to so many monomials a basis has no index of its pairs
 abbrev pub plain : ℕ
-plain = 10
+plain = 16
 
 -- of a sum of which it is told, every t + s is in S
 pub record DoneTold (T B S pairs : List ℕ) : Type 0 where

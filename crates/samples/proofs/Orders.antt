@@ -21,15 +21,14 @@ use Rattle.format.specs.CertificateLayout.{certificate_command}
 use Rattle.format.specs.CertificateRules.{Entry, Row, certificate_refusal_at, certificate_applied, certificate_next, read_certificate}
 use Rattle.format.specs.Cut.{Whole, cut_from, commands_of}
 use Rattle.format.specs.Permuted.{exchanged}
-use Rattle.format.specs.RowOrder.{EntryCommand, IsRow, rows_bytes, HeaderCommand, OtherOrder}
-use Rattle.format.proofs.RowRuns.{entries_at, row_at, rows_at}
+use Rattle.format.specs.RowOrder.{EntryCommand, IsRow, rows_bytes, HeaderCommand, OtherOrder, entries_at, row_at, rows_at}
 use Rattle.format.specs.PutIn.{IsPiece, whole, eight, sent, plain, PutIn}
 use Rattle.joining_rule.specs.Sets.{member, different, insert, insert_all}
 use Rattle.joining_rule.specs.Join.{linked, merged, join_pair, join}
 use Rattle.joining_rule.specs.Extend.{add_terms, add_pair, extend}
 use Rattle.joining_rule.specs.Rounds.{singles, start, join_all, extend_to, adding_bases, round, same, same_all, same_state, close_from, most_rounds, closing_of, blocks_in, counted_keys}
-use Rattle.joining_rule.specs.Joining.{start_set, closing, too_large}
-use Rattle.accepting.specs.Identity.{square, squares, claim, block_of}
+use Rattle.joining_rule.specs.Joining.{start_from, start_set, closing, too_large}
+use Rattle.accepting.specs.Identity.{square, squares, claim_of, block_of}
 use Rattle.accepting.specs.Judgement.{first_outside, row_split, split_by, first_difference, compared_keys, difference_key, judge_read, judge}
 use Rattle.calls.specs.Fractions.{fraction}
 use Rattle.calls.specs.Checks.{problem_of}
@@ -106,7 +105,7 @@ bounds = record {
 
 pub verdicts :
     pair_verdict false problem_f low_f high_f ∷ pair_verdict false problem_f turned_f high_f ∷ [] ≡ bounds ∷ bounds ∷ []
-unfolding listed from_to sum_to number signed first_refusal run read_whole degree_of degree within among keys_of problem_command append_at fitting problem_applied problem_refusal_at problem_next read_problem basis_of multiplier multiplier_of kind_of member insert linked merged join_pair join add_terms add_pair extend different singles start join_all extend_to adding_bases round same same_all same_state close_from blocks_in counted_keys most_rounds closing_of insert_all start_set closing too_large certificate_command certificate_refusal_at certificate_applied certificate_next read_certificate coefficient square squares claim block_of first_outside row_split split_by first_difference compared_keys difference_key judge_read judge problem_of pair_sides pair_verdict
+unfolding listed from_to sum_to number signed first_refusal run read_whole degree_of degree within among keys_of problem_command append_at fitting problem_applied problem_refusal_at problem_next read_problem basis_of multiplier multiplier_of kind_of member insert linked merged join_pair join add_terms add_pair extend different singles start join_all extend_to adding_bases round same same_all same_state close_from blocks_in counted_keys most_rounds closing_of insert_all start_from start_set closing too_large certificate_command certificate_refusal_at certificate_applied certificate_next read_certificate coefficient square squares claim_of block_of first_outside row_split split_by first_difference compared_keys difference_key judge_read judge problem_of pair_sides pair_verdict
 verdicts = refl
 
 -- ---- sample A's certificate with notes put in
