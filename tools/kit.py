@@ -5,6 +5,8 @@ home prints the kit's folder. crates prints the crates that these crates rest on
 uses, a line for each: program, library or staticlib, and the name. words prints, one a line, the call that builds a crate over the
 libraries that stand in crates/*/out, as `rt lib` makes it; what is left to say are --toolchain and -o, and --incremental, if any.
 tools/prove and tools/module call it; tools/twins and tools/mutate are built on the same functions."""
+import hashlib
+import os
 import pathlib
 import shutil
 import sys
@@ -45,6 +47,13 @@ def below(name):
 def library(name):
     """Where the library of a proved crate stands."""
     return ROOT / "crates" / name / "out" / "rlib" / f"{name}.rlib"
+
+
+def room(name):
+    """A folder for copies of crates, that of this name and this checkout among the user's: `rt ci` takes no .rt and no .antt file of a
+    checkout outside its crates."""
+    cache = pathlib.Path(os.environ.get("XDG_CACHE_HOME") or pathlib.Path.home() / ".cache")
+    return cache / "zamiachisel" / f"{name}-{hashlib.sha256(str(ROOT).encode()).hexdigest()[:12]}"
 
 
 def of_kit(names):

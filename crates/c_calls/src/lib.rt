@@ -1,6 +1,6 @@
-// The calls for programs in other languages; crates/c_calls_c exports each to C. Every field of a verdict goes into a
-// lent run of numbers, at the places that crates/verdict_numbers defines; what else a function leaves behind it is what
-// the call leaves. A run that is too short is refused with 1, as a short work table is.
+// The calls for programs in other languages, which crates/c_calls_c exports. Every field of a verdict goes into a lent
+// run of numbers, at the places that crates/verdict_numbers defines; what else a function leaves behind it is what the
+// call leaves. A run that is too short is refused with 1, as a short work table is.
 #![tactic(auto)]
 
 ghost use Rattle.std.specs.Prelude.{◌≡◌, ◌<◌, length};
