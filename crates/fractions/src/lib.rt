@@ -1,4 +1,6 @@
 // Fractions: two are compared by cross products, the gap and the sum of two bounds, and what stands for a gap below 0.
+#![tactic(auto)]
+
 ghost use Rattle.std.specs.Prelude.{◌≡◌, ◌+◌, ◌*◌, ◌^◌, ◌<◌, ◌≤◌, ltb, pos, nat_abs, ◌*ℤ◌};
 ghost use Rattle.fractions.specs.Ranges.{Bound};
 ghost use Rattle.calls.specs.Fractions.{fraction, is_less, gap_of, is_negative, unless_negative, none};
@@ -139,7 +141,11 @@ pub fn is_negative(f: Fraction) -> bool
 pub fn unless_negative(f: Fraction) -> Fraction
     ensures { result ≡ unless_negative f }
 {
-    if is_negative(f) {
+    let copy = Fraction {
+        num: f.num,
+        den: f.den,
+    };
+    if is_negative(copy) {
         return NONE;
     }
     f

@@ -2,6 +2,8 @@
 // that follows it in its block, or 255: a block's list begins with its number. Two blocks that are made one add their
 // cross products to the support at once, behind the members that the joining looks at, so that it always has the products
 // of every pair in one block.
+#![tactic(auto)]
+
 ghost use Rattle.std.specs.Prelude.{◌≡◌, ◌⊎◌, true, false, ◌/◌, ◌%◌, ◌≤◌, ◌<◌, length};
 ghost use Rattle.joining_rule.specs.Join.{merged};
 ghost use Rattle.round_laws.specs.Joins.{Two};

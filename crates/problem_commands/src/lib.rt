@@ -1,5 +1,7 @@
 // The commands of the problem stream, one by one: which a byte names, how long it is, whether it may stand at its place,
 // what it says, and whether its operands keep their rules.
+#![tactic(auto)]
+
 ghost use Rattle.std.specs.Prelude.{◌≡◌, ◌+◌, ◌≤◌, ◌<◌, length};
 ghost use Rattle.format.proofs.Lengths.{ZeroUnknown};
 ghost use Rattle.format.specs.declared.problem.Command.TheVariants as C;

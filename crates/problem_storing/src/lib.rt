@@ -1,5 +1,7 @@
 // What one command leaves in the arrays of the crate flat: a monomial more, a term of the objective more, and a condition
 // that is laid out whole.
+#![tactic(auto)]
+
 ghost use Rattle.std.specs.Prelude.{◌≡◌, ◌+◌, ◌^◌, ◌≤◌, ◌<◌, length, get_or, [], ◌∷◌, pos};
 ghost use Rattle.format.specs.declared.problem.Kind.{Kind};
 ghost use Rattle.std.proofs.Math.Seq.{paste};

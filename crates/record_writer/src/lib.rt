@@ -1,5 +1,7 @@
 // The record of 32 bytes that a pair's verdict gives: one for each pair of a report (request 07), and the one that a C
 // program lends (request 14).
+#![tactic(auto)]
+
 ghost use Rattle.std.specs.Prelude.{◌≡◌, ◌++◌, ◌≤◌, length, drop};
 ghost use Rattle.calls.specs.Report.{little_endian, unsigned, fields_of, record_bytes, record_length};
 

@@ -1,7 +1,7 @@
 -- The bits of the sums of a basis: a number that has others is no sum of two of its keys. x − t is taken modulo 2^64,
 -- so it needs no test whether t is above x.
 use mathlib.Core.Path.{◌≡◌, refl, sym, ap, ◌∙◌}
-use Prim.Native.Nat.{ℕ, ◌+◌, ◌-◌, ◌/◌, ◌%◌, ◌^◌, ◌≤◌, ◌<◌, max}
+use Prim.Native.Nat.{ℕ, ◌+◌, ◌/◌, ◌%◌, ◌^◌, ◌≤◌, ◌<◌, max}
 use native.Mathlib.Omega.{arith}
 use lib.Arith.{bin_ind, digits_div, digits_mod}
 use lib.Bits.{bit_or, or_step, or_comm, or_self, or_add_and, and_le_r}

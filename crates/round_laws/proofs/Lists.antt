@@ -1,8 +1,8 @@
 -- Laws of blocks as lists: single blocks, and one block put behind the first index of another.
-use mathlib.Core.Path.{◌≡◌, refl, sym, ◌∙◌}
+use mathlib.Core.Path.{◌≡◌, refl, sym, subst, ◌∙◌}
 use mathlib.Core.Logic.{◌⊎◌, inl, inr, ⊎_elim}
 use mathlib.Core.List.{List, [], ◌∷◌, ◌++◌}
-use Prim.Native.Nat.{ℕ, ◌+◌, ◌≤◌, ◌<◌}
+use Prim.Native.Nat.{ℕ, ◌≤◌, ◌<◌}
 use native.Mathlib.Omega.{arith}
 use lib.ListN.{length, get_or, set, length-set}
 use lib.Seq.{get_or-set_same}
@@ -119,8 +119,9 @@ module _ (follow L : List ℕ) (s : Lists follow L) (a b : ℕ) (below : a < b) 
         let e = list_leads follow b (s.at b hb ob).ends in
         leads_set (set follow z (get_or follow a 0)) a b b (list_from follow b) (get_or follow a 0)
         (λ m. omega (arith, apart a b a ha oa hb ob (in_own a ha oa) m))
-        (rw (first b hb ob, ← at_last)
-        (leads_last follow (get_or follow a 0) b b behind e.end (omega (arith, at_last, z_low)) (rw (first b hb ob) at (s.at b hb ob).once) (rw (first b hb ob) at e.leads)))
+        (subst (λ w. Leads (set follow w (get_or follow a 0)) b (list_from follow b) (get_or follow a 0)) at_last
+        (rw (first b hb ob)
+        (leads_last follow (get_or follow a 0) b b behind e.end (omega (arith, at_last, z_low)) (rw (first b hb ob) at (s.at b hb ob).once) (rw (first b hb ob) at e.leads))))
 
     through_rest : Ended follow' (get_or follow a 0) rest
     through_rest =

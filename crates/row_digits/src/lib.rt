@@ -1,5 +1,7 @@
 // The digits of a factor. One of 32 bits is l = h * 2^16 + l0 with -2^15 <= l0 < 2^15, and so its products have three
 // parts. A factor of 16 bits is its own l0, and has the first alone.
+#![tactic(auto)]
+
 ghost use Rattle.std.specs.Prelude.{◌≡◌, ◌≤◌, length};
 ghost use Rattle.row_digits.specs.Digits.{high_digit, low_digit, HoldsDigits};
 

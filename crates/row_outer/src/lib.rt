@@ -1,5 +1,7 @@
 // The table of sums, 64 places to an index: the products w * d * d' of the digits of one row are summed by their indices,
 // on and above the diagonal.
+#![tactic(auto)]
+
 ghost use Rattle.std.specs.Prelude.{◌*◌, ◌^◌, ◌≤◌, ◌<◌, nat_abs, ◌*ℤ◌, length, get_or};
 ghost use Rattle.polynomial.specs.Algebra.{match};
 ghost use Rattle.flat.specs.TermArrays.{terms_in};

@@ -1,7 +1,7 @@
 -- The zeros of a verdict stand in its run: field by field, by what the verdict itself is proved to have.
 use borrow.Author.Tests.{ne_eqb}
 use native.Mathlib.Omega.{arith}
-use mathlib.Core.Path.{◌≡◌, refl, ap}
+use mathlib.Core.Path.{refl, ap}
 use mathlib.Core.List.{List}
 use Prim.Native.Nat.{ℕ}
 use Rattle.calls.specs.Report.{unsigned}

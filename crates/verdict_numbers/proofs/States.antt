@@ -1,11 +1,10 @@
 -- The numbers that a push leaves stand for the window with the new gap, and 65 zeros for the window before any arrival.
-use borrow.Author.Tests.{le-ltb, leb-false}
+use borrow.Author.Tests.{leb-false}
 use native.Mathlib.Omega.{arith}
 use mathlib.Core.Path.{◌≡◌, refl, sym, ap, ap₂, ◌∙◌}
 use mathlib.Core.Bool.{Bool, true, false, cond, ◌||◌}
-use mathlib.Core.List.{List, [], ◌∷◌, ◌++◌}
+use mathlib.Core.List.{List, ◌∷◌, ◌++◌}
 use Prim.Native.Nat.{ℕ, zero, suc, min, ◌+◌, ◌*◌, ◌^◌, ◌≤◌, ◌<◌}
-use lib.Dec.{leb, eqb}
 use lib.IntN.{ℤ, pos, negsuc}
 use lib.Signed.{lt_z, le_z}
 use lib.ListN.{length, get_or, take, drop, replicate, get_or-append}
@@ -17,10 +16,9 @@ use Rattle.format.specs.Operands.{signed}
 use Rattle.format.proofs.Numbers.{lower}
 use Rattle.calls.specs.Report.{unsigned}
 use Rattle.calls.specs.Fractions.{fraction, none}
-use Rattle.calls.specs.Window.{is_refused, push_verdict, window_after, with_newest, StandsFor, empty_window}
+use Rattle.calls.specs.Window.{is_refused, window_after, with_newest, empty_window}
 use Rattle.calls.specs.declared.Fraction.{Fraction}
-use Rattle.calls.specs.declared.GapWindow.{GapWindow}
-use Rattle.calls.proofs.Windows.{after_arrivals, stands_empty}
+use Rattle.calls.proofs.Windows.{after_arrivals}
 use Rattle.verdict_numbers.specs.States.{gap_in, window_in, window_verdict, with_newest_numbers, state_left, StateArrivals}
 
 or_left : (a b : Bool) → (a || b) ≡ false → a ≡ false

@@ -1,4 +1,6 @@
 // The work tables that every call borrows: whether one is too short, and clearing. Also the clearing of lent bytes.
+#![tactic(auto)]
+
 ghost use Rattle.std.specs.Prelude.{◌≡◌, false, ◌||◌, ◌++◌, ◌≤◌, ltb, pos, length, drop, replicate};
 ghost use Rattle.calls.specs.Tables.{table_length, tables, TablesLeft};
 ghost use Rattle.work_tables.specs.Tables.{Long};

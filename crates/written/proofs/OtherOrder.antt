@@ -3,7 +3,7 @@
 use mathlib.Core.Path.{◌≡◌, refl, sym, ap, ◌∙◌}
 use mathlib.Core.Bool.{Bool, true, false, cond}
 use mathlib.Core.List.{List, [], ◌∷◌, ◌++◌}
-use Prim.Native.Nat.{ℕ, suc, ◌-◌, ◌<◌}
+use Prim.Native.Nat.{ℕ, suc, ◌<◌}
 use native.Mathlib.Omega.{arith}
 use lib.Dec.{eqb}
 use lib.ListN.{length, get_or, length-set}
@@ -15,8 +15,7 @@ use Rattle.polynomial.specs.Terms.{Term, term}
 use Rattle.format.specs.Commands.{given}
 use Rattle.format.specs.declared.problem.Instruction.{Instruction}
 use Rattle.format.specs.declared.problem.Instruction.TheVariants as I
-use Rattle.format.specs.declared.problem.Kind.{Kind}
-use Rattle.format.specs.ProblemRules.{Condition, Problem, no_problem, with_condition, with_last, append_at, problem_applied, read_problem}
+use Rattle.format.specs.ProblemRules.{Problem, no_problem, with_condition, with_last, append_at, problem_applied, read_problem}
 use Rattle.written.specs.ProblemWritten.{in_stream}
 use Rattle.written.specs.CommandOrder.{InPlace, of_part, OtherOrder, AnyOrder}
 use Rattle.written.proofs.ProblemReading.{after}

@@ -21,14 +21,14 @@ module _ (c : tie.Start) where
   fits : SFits w64 (c.args.n *ℤ pos c.args.d)
   fits = abs_fits (omega (arith, small))
 
-cast-result : tie.Need-overflow-cast-result
+cast-result : tie.Need-overflow_cast-result
 cast-result c = search rules
 
-mul-result : tie.Need-overflow-mul-result
+mul-result : tie.Need-overflow_mul-result
 mul-result c = simp (to_z-of_z, c.ranges.n, d c) (fits c)
 
 returns : tie.Need-returns
 returns c = simp (to_z-of_z, c.ranges.n, d c, fits c) (refl, omega (arith, small c))
 
-pub cross-spec : {M : Type 1} → statement M
-cross-spec = tie.close (tie.spec cast-result mul-result returns)
+pub cross_spec : {M : Type 1} → statement M
+cross_spec = tie.close (tie.spec cast-result mul-result returns)

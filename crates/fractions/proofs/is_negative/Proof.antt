@@ -9,7 +9,7 @@ less-requires : tie.Need-less-requires
 less-requires c κs = search rules
 
 returns : tie.Need-returns
-returns c = let f = c.before.args.f in c.less.ensures ∙ below_zero f.den f.num
+returns c = let f = c.args.f in c.less.ensures ∙ below_zero f.den f.num
 
-pub is-negative-spec : {M : Type 1} → statement M
-is-negative-spec = tie.close (tie.spec less-requires returns)
+pub is_negative_spec : {M : Type 1} → statement M
+is_negative_spec = tie.close (tie.spec less-requires returns)

@@ -5,28 +5,28 @@ use Rattle.fractions.proofs.Products.{same_high, other_high}
 use Rattle.fractions.proofs.less_products.Statement.{statement}
 use Rattle.fractions.proofs.less_products.Tie as tie
 
-product-requires : tie.Need-product-requires
+product-requires : tie.Need-product-a-requires
 product-requires c κs = search rules
 
-product-requires-2 : tie.Need-product-requires-2
+product-requires-2 : tie.Need-product-b-requires
 product-requires-2 c κs = search rules
 
-returns : tie.Need-returns
+returns : tie.Need-returns-then-a-b
 returns c =
-    let t = c.before.before in
-    let k = t.before in
-    let b = k.before.before in
-    same_high b.before.product.ensures b.product2.ensures (omega (arith, k.before.struct_known.given.1.0))
-    (omega (arith, k.struct-known2.given.1.0)) t.if1.true
+    let t = c in
+    let k = t in
+    let b = k in
+    same_high b.product-a.ensures b.product-b.ensures (omega (arith, k.struct_known-1.given.1.0))
+    (omega (arith, k.struct_known-2-1.given.1.0)) t.if-a-b.true
 
-returns-2 : tie.Need-returns-2
+returns-2 : tie.Need-returns
 returns-2 c =
-    let t = c.before.before in
-    let k = t.before in
-    let b = k.before.before in
-    other_high b.before.product.ensures b.product2.ensures
-    (omega (arith, k.before.struct_known.given.1.0)) (omega (arith, k.struct-known2.given.1.0)) t.if1.false
+    let t = c in
+    let k = t in
+    let b = k in
+    other_high b.product-a.ensures b.product-b.ensures
+    (omega (arith, k.struct_known-1.given.1.0)) (omega (arith, k.struct_known-2-1.given.1.0)) t.if-a-b.false
 
-pub less-products-spec : {M : Type 1} → statement M
-less-products-spec =
+pub less_products_spec : {M : Type 1} → statement M
+less_products_spec =
     tie.close (tie.spec product-requires product-requires-2 returns returns-2)

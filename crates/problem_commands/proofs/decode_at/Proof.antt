@@ -8,67 +8,67 @@ use Rattle.format.specs.ProblemLayout.{problem_size}
 use Rattle.problem_commands.proofs.decode_at.Statement.{statement}
 use Rattle.problem_commands.proofs.decode_at.Tie as tie
 
-number-at-requires : tie.Need-number-at-requires
-number-at-requires c κs = let e = ap problem_size c.enum_told.given.1 in omega arith
+number-at-requires : tie.Need-number_at-requires
+number-at-requires c κs = let e = ap problem_size c.in-Variables.is in omega arith
 
-number-at-requires-2 : tie.Need-number-at-requires-2
-number-at-requires-2 c κs = let e = ap problem_size c.enum-told2.given.1 in omega arith
+number-at-requires-2 : tie.Need-number_at-requires-in-Objective
+number-at-requires-2 c κs = let e = ap problem_size c.in-Objective.is in omega arith
 
-number-at-requires-3 : tie.Need-number-at-requires-3
-number-at-requires-3 c κs = let e = ap problem_size c.before.enum-told2.given.1 in omega arith
+number-at-requires-3 : tie.Need-number_at-requires-in-Objective-2
+number-at-requires-3 c κs = let e = ap problem_size c.in-Objective.is in omega arith
 
-number-at-requires-4 : tie.Need-number-at-requires-4
-number-at-requires-4 c κs = let e = ap problem_size c.enum-told4.given.1 in omega arith
+number-at-requires-4 : tie.Need-number_at-requires-in-Term
+number-at-requires-4 c κs = let e = ap problem_size c.in-Term.is in omega arith
 
-number-at-requires-5 : tie.Need-number-at-requires-5
-number-at-requires-5 c κs = let e = ap problem_size c.before.enum-told4.given.1 in omega arith
+number-at-requires-5 : tie.Need-number_at-requires-in-Term-2
+number-at-requires-5 c κs = let e = ap problem_size c.in-Term.is in omega arith
 
-number-at-requires-6 : tie.Need-number-at-requires-6
-number-at-requires-6 c κs = let e = ap problem_size c.enum-told5.given.1 in omega arith
+number-at-requires-6 : tie.Need-number_at-requires-in-Member
+number-at-requires-6 c κs = let e = ap problem_size c.in-Member.is in omega arith
 
-number-at-requires-7 : tie.Need-number-at-requires-7
-number-at-requires-7 c κs = let e = ap problem_size c.before.enum-told5.given.1 in omega arith
+number-at-requires-7 : tie.Need-number_at-requires-in-Member-2
+number-at-requires-7 c κs = let e = ap problem_size c.in-Member.is in omega arith
 
-number-at-requires-8 : tie.Need-number-at-requires-8
-number-at-requires-8 c κs = let e = ap problem_size c.enum-told9.given.1 in omega arith
+number-at-requires-8 : tie.Need-number_at-requires-in-Rule
+number-at-requires-8 c κs = let e = ap problem_size c.in-Rule.is in omega arith
 
-number-at-requires-9 : tie.Need-number-at-requires-9
-number-at-requires-9 c κs = let e = ap problem_size c.enum-told10.given.1 in omega arith
+number-at-requires-9 : tie.Need-number_at-requires-in-Order
+number-at-requires-9 c κs = let e = ap problem_size c.in-Order.is in omega arith
 
-returns : tie.Need-returns
-returns c = rw (c.before.enum_told.given.1, c.number_at.ensures.0)
+returns : tie.Need-returns-in-Variables
+returns c = rw (c.in-Variables.is, c.number_at.ensures.0)
 
-returns-2 : tie.Need-returns-2
+returns-2 : tie.Need-returns-in-Objective
 returns-2 c =
     rw (
-      c.before.before.before.enum-told2.given.1,
-      to_z-of_z {w = w32} (sfits_of c.signed32.type-inv),
-      c.before.before.number-at2.ensures.0,
+      c.in-Objective.is,
+      to_z-of_z {w = w32} (sfits_of c.signed32.type_inv),
+      c.number_at-in-Objective.ensures.0,
       c.signed32.ensures,
-      c.before.number-at3.ensures.0,
+      c.number_at-in-Objective-2.ensures.0,
     )
 
-returns-4 : tie.Need-returns-4
+returns-4 : tie.Need-returns-in-Term
 returns-4 c =
     rw (
-      c.before.before.before.enum-told4.given.1,
-      to_z-of_z {w = w32} (sfits_of c.signed16.type-inv),
-      c.before.before.number-at4.ensures.0,
+      c.in-Term.is,
+      to_z-of_z {w = w32} (sfits_of c.signed16.type_inv),
+      c.number_at-in-Term.ensures.0,
       c.signed16.ensures,
-      c.before.number-at5.ensures.0,
+      c.number_at-in-Term-2.ensures.0,
     )
 
-returns-5 : tie.Need-returns-5
-returns-5 c = rw (c.before.before.enum-told5.given.1, c.before.number-at6.ensures.0, c.number-at7.ensures.0)
+returns-5 : tie.Need-returns-in-Member
+returns-5 c = rw (c.in-Member.is, c.number_at-in-Member.ensures.0, c.number_at-in-Member-2.ensures.0)
 
-returns-9 : tie.Need-returns-9
-returns-9 c = rw (c.before.enum-told9.given.1, c.number-at8.ensures.0)
+returns-9 : tie.Need-returns-in-Rule
+returns-9 c = rw (c.in-Rule.is, c.number_at-in-Rule.ensures.0)
 
-returns-10 : tie.Need-returns-10
-returns-10 c = rw (c.before.enum-told10.given.1, c.number-at9.ensures.0)
+returns-10 : tie.Need-returns-in-Order
+returns-10 c = rw (c.in-Order.is, c.number_at-in-Order.ensures.0)
 
-pub decode-at-spec : {M : Type 1} → statement M
-decode-at-spec =
+pub decode_at_spec : {M : Type 1} → statement M
+decode_at_spec =
     tie.close
     (tie.spec
     (λ c. search rules)

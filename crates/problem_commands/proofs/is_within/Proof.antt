@@ -22,13 +22,13 @@ beyond n k h l =
     let b : k / 256 ^ n < 1 = (div-lt_iff_lt-mul (pow-le-pow_right {n = 256} (lit< tt) {i = 0} {j = n} (omega arith))).1 (omega arith) in
     omega arith
 
-returns : tie.Need-returns
+returns : tie.Need-returns-then-n-gt7
 unfolding within
-returns c = let s = c.before in sym (eq-eqb _ 0 (beyond s.args.n s.args.key c.if1.true s.ranges.key.fits))
+returns c = let s = c in sym (eq-eqb _ 0 (beyond s.args.n s.args.key c.if-n-gt7.true s.ranges.key.fits))
 
-returns-2 : tie.Need-returns-2
+returns-2 : tie.Need-returns
 unfolding within
-returns-2 c = rw (shift_is c.before.args.n)
+returns-2 c = rw (shift_is c.args.n)
 
-pub is-within-spec : {M : Type 1} → statement M
-is-within-spec = tie.close (tie.spec returns (λ c. omega arith) (λ c. omega arith) returns-2)
+pub is_within_spec : {M : Type 1} → statement M
+is_within_spec = tie.close (tie.spec returns (λ c. omega arith) (λ c. omega arith) returns-2)

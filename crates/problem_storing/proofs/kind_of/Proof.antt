@@ -28,14 +28,14 @@ other : (k : Kind) (i : Instruction) → i ≡ beginning k → OneOf others (tag
 other K.Inequality i e h = refl
 other K.Equality i e h = absurd (miss others 6 tt (rw e at h))
 
-enum_told : tie.Need-enum-told
+enum_told : tie.Need-enum_told-1
 enum_told c = search rules
 
-returns : tie.Need-returns
-returns c = λ k e. equality k (sym c.enum_told.given.1 ∙ e)
+returns : tie.Need-returns-in-Equality
+returns c = λ k e. equality k (sym c.in-Equality.is ∙ e)
 
-returns-2 : tie.Need-returns-2
-returns-2 c = λ k e. other k _ e c.match.keys2
+returns-2 : tie.Need-returns-in_default
+returns-2 c = λ k e. other k _ e c.in_default.in_default-own.keys2
 
-pub kind-of-spec : {M : Type 1} → statement M
-kind-of-spec = tie.close (tie.spec enum_told returns returns-2)
+pub kind_of_spec : {M : Type 1} → statement M
+kind_of_spec = tie.close (tie.spec enum_told returns returns-2)

@@ -13,40 +13,40 @@ use Rattle.flat.specs.Flat.{exponents_at, coefficients_at}
 use Rattle.problem_storing.proofs.lay_out.Statement.{statement}
 use Rattle.problem_storing.proofs.lay_out.Tie as tie
 
-abbrev invariant-loop : tie.invariant-loop
+abbrev invariant-loop : tie.invariant-loop-i
 invariant-loop keys₀ coefficients₀ j from with n i₀ keys coefficients i =
     (i ≤ n) × (keys ≡ paste keys₀ (exponents_at j) from i) × (coefficients ≡ paste coefficients₀ (coefficients_at j) with i)
 
-abbrev decreases-loop : tie.decreases-loop
+abbrev decreases-loop : tie.decreases-loop-i
 decreases-loop keys₀ coefficients₀ j from with n i₀ keys coefficients i = n - i
 
-loop-holds : tie.Need-loop-init invariant-loop decreases-loop
+loop-holds : tie.Need-loop-i-init invariant-loop decreases-loop
 loop-holds c =
     let a = c.args in
     (zero-le, paste-zero a.keys.now (exponents_at a.j) a.from.now, paste-zero a.coefficients.now (coefficients_at a.j) a.with.now)
 
-loop-again : tie.Need-loop-preserved invariant-loop decreases-loop
+loop-again : tie.Need-loop-i-preserved invariant-loop decreases-loop
 loop-again c =
-    let l = c.before.before.before in
-    let a = l.before.args in
-    let i = l.loop.i in
-    let f = l.before.requires.3 in
+    let l = c in
+    let a = l.args in
+    let i = l.loop-i.i in
+    let f = l.requires.3 in
     let h : i < a.n = omega arith in
     let e : 576 + (32 * a.j + i) ≡ exponents_at a.j + i = omega arith in
     let z : to_z w32 (of_z w32 (get_or a.with.now i (pos 0))) ≡ get_or a.with.now i (pos 0) = search rules in (
       omega arith,
-      rw (e, l.loop.invariant.1, add-one i) (paste-suc a.keys.now (exponents_at a.j) a.from.now i 0 (omega arith) (omega arith)),
-      rw (z, l.loop.invariant.2, add-one i) (paste-suc a.coefficients.now (coefficients_at a.j) a.with.now i (pos 0) (omega arith) (omega arith)),
+      rw (e, l.loop-i.invariant.1, add-one i) (paste-suc a.keys.now (exponents_at a.j) a.from.now i 0 (omega arith) (omega arith)),
+      rw (z, l.loop-i.invariant.2, add-one i) (paste-suc a.coefficients.now (coefficients_at a.j) a.with.now i (pos 0) (omega arith) (omega arith)),
     )
 
 returns : tie.Need-returns invariant-loop decreases-loop
 returns c =
-    let l = c.before in
-    let e : l.loop.i ≡ l.before.args.n = omega arith in
-    (rw e at l.loop.invariant.1, rw e at l.loop.invariant.2)
+    let l = c in
+    let e : l.loop-i.i ≡ l.args.n = omega arith in
+    (rw e at l.loop-i.invariant.1, rw e at l.loop-i.invariant.2)
 
-pub lay-out-spec : {M : Type 1} → statement M
-lay-out-spec =
+pub lay_out_spec : {M : Type 1} → statement M
+lay_out_spec =
     tie.close
     (tie.spec
     invariant-loop

@@ -2,7 +2,7 @@
 use borrow.Author.Rules.{rules}
 use native.Mathlib.Omega.{arith}
 use mathlib.Core.Path.{◌≡◌, refl, sym, ◌∙◌}
-use Prim.Native.Nat.{◌+◌, ◌-◌, ◌≤◌, ◌<◌}
+use Prim.Native.Nat.{◌+◌, ◌≤◌, ◌<◌}
 use borrow.Author.Tests.{ne_eqb}
 use Rattle.problem_commands.specs.Checks.{late_in}
 use Rattle.problem_commands.proofs.Checks.{space}
@@ -10,25 +10,25 @@ use lib.ListN.{get_or}
 use Rattle.problem_storing.proofs.put.Statement.{statement}
 use Rattle.problem_storing.proofs.put.Tie as tie
 
-returns : tie.Need-returns
+returns : tie.Need-returns-then-found-gt0
 returns c =
-    let e = ne_eqb c.before.check-room.result 0 (λ e. omega arith) in
-    (c.before.check-room.ensures, rw e, rw e)
+    let e = ne_eqb c.check_room-found.result 0 (λ e. omega arith) in
+    (c.check_room-found.ensures, rw e, rw e)
 
 -- past the checks
-none : (c : tie.Else1) → let a = c.before.before.before.before.before.args in late_in a.keys.now a.from (get_or a.sizes.now a.which 0) a.key a.limit ≡ 0
-none c = let e : c.before.check-room.result ≡ 0 = omega arith in sym c.before.check-room.ensures ∙ e
+none : (c : tie.Else-found-gt0) → let a = c.args in late_in a.keys.now a.from (get_or a.sizes.now a.which 0) a.key a.limit ≡ 0
+none c = let e : c.check_room-found.result ≡ 0 = omega arith in sym c.check_room-found.ensures ∙ e
 
-element-write-keys : tie.Need-element-write-keys
+element-write-keys : tie.Need-bounds-keys-from
 element-write-keys c =
-    let s = c.before.before.before.before.before in
+    let s = c in
     let a = s.args in
-    let h : get_or a.sizes.now a.which 0 < a.limit = space a.keys.now a.from (get_or a.sizes.now a.which 0) a.key a.limit (none c) in
+    let h : get_or a.sizes.now a.which 0 < a.limit = space a.keys.now a.from (get_or a.sizes.now a.which 0) a.key a.limit (none c.before) in
     let q : a.from + a.limit ≤ 1120 = s.requires.2 in
     omega arith
 
-returns-2 : tie.Need-returns-2
-returns-2 c = (sym (none c), refl, refl)
+returns-2 : tie.Need-returns
+returns-2 c = (sym (none c.before), refl, refl)
 
 pub put_spec : {M : Type 1} → statement M
 put_spec =

@@ -10,60 +10,60 @@ use Rattle.record_writer.proofs.Written.{next, kept}
 use Rattle.record_writer.proofs.put_record.Statement.{statement}
 use Rattle.record_writer.proofs.put_record.Tie as tie
 
-abbrev invariant-loop : tie.invariant-loop
+abbrev invariant-loop : tie.invariant-loop-k
 invariant-loop part₀ fields k₀ part k =
     (k ≤ 8)
     × ((part ≡ flat_map (little_endian 4) (take k fields) ++ drop (4 * k) part₀)
     × ((length part ≡ length part₀) × (length fields ≡ 8)))
 
-abbrev decreases-loop : tie.decreases-loop
+abbrev decreases-loop : tie.decreases-loop-k
 decreases-loop part₀ fields k₀ part k = 8 - k
 
-loop-holds : tie.Need-loop-init invariant-loop decreases-loop
+loop-holds : tie.Need-loop-k-init invariant-loop decreases-loop
 unfolding flat_map fields_of
-loop-holds c = (omega arith, (refl, (refl, ap length c.fields-of.ensures)))
+loop-holds c = (omega arith, (refl, (refl, ap length c.fields_of-fields.ensures)))
 
-sub-put-field : tie.Need-overflow-sub-put-field invariant-loop decreases-loop
-sub-put-field c = omega (arith, c.before.before.before.before.requires)
+sub-put-field : tie.Need-slice_bounds-put_field-count invariant-loop decreases-loop
+sub-put-field c = omega (arith, c.requires)
 
-put-field-requires : tie.Need-put-field-requires invariant-loop decreases-loop
+put-field-requires : tie.Need-put_field-requires invariant-loop decreases-loop
 put-field-requires c κs =
-    let s = c.before.before in
-    simp (length-take, length-drop) (omega (arith, s.before.before.before.requires))
+    let s = c in
+    simp (length-take, length-drop) (omega (arith, s.requires))
 
-loop-again : tie.Need-loop-preserved invariant-loop decreases-loop
+loop-again : tie.Need-loop-k-preserved invariant-loop decreases-loop
 loop-again c =
-    let s = c.before.before.before.before.before in
-    let l = s.loop in
-    let f = s.before.fields-of.result in
-    let out = s.before.before.before.args.part.now in
+    let s = c in
+    let l = s.loop-k in
+    let f = s.fields_of-fields.result in
+    let out = s.args.part.now in
     let h : l.k < length f = omega arith in
     let g =
-    next (little_endian 4) 4 (λ x. refl) f l.k out l.part 0 c.before.before.put-field.new.0 h
-    l.invariant.1.0 c.before.before.put-field.ensures in (
+    next (little_endian 4) 4 (λ x. refl) f l.k out l.part 0 c.put_field.new.part h
+    l.invariant.1.0 c.put_field.ensures in (
       omega arith,
       (
         g,
         (
           kept (little_endian 4) 4 (λ x. refl) f (l.k + 1) out _ (omega arith)
-              (omega (arith, s.before.before.before.requires)) g,
+              (omega (arith, s.requires)) g,
           l.invariant.1.1.1,
         ),
       ),
     )
 
-same_length : tie.Need-same-length invariant-loop decreases-loop
-same_length c = c.before.loop.invariant.1.1.0
+same_length : tie.Need-shape_of-part invariant-loop decreases-loop
+same_length c = c.loop-k.invariant.1.1.0
 
 returns : tie.Need-returns invariant-loop decreases-loop
 unfolding fields_of
 returns c =
-    let s = c.before in
-    let k : s.loop.k ≡ 8 = omega arith in
-    s.loop.invariant.1.0 ∙ simp (k, s.before.fields-of.ensures)
+    let s = c in
+    let k : s.loop-k.k ≡ 8 = omega arith in
+    s.loop-k.invariant.1.0 ∙ simp (k, s.fields_of-fields.ensures)
 
-pub put-record-spec : {M : Type 1} → statement M
-put-record-spec =
+pub put_record_spec : {M : Type 1} → statement M
+put_record_spec =
     tie.close
     (tie.spec
     invariant-loop

@@ -11,13 +11,13 @@ module _ (c : tie.Start) where
   wide : SFits w64 c.args.l
   wide = sfits_widen tt c.ranges.l
 
-cast-result : tie.Need-overflow-cast-result
+cast-result : tie.Need-overflow_cast-result
 cast-result c = simp (to_z-of_z c.ranges.l) (wide c)
 
-add-result : tie.Need-overflow-add-result
+add-result : tie.Need-overflow_add-result
 add-result c = simp (to_z-of_z, c.ranges.l, wide c) (moved_fits c.ranges.l)
 
-cast-result-2 : tie.Need-overflow-cast-result-2
+cast-result-2 : tie.Need-overflow_cast-result-2
 unfolding high_digit
 cast-result-2 c = simp (to_z-of_z, c.ranges.l, wide c, moved_fits c.ranges.l, high_fits c.ranges.l) (high_narrow c.ranges.l)
 
@@ -25,5 +25,5 @@ returns : tie.Need-returns
 unfolding high_digit
 returns c = simp (to_z-of_z, c.ranges.l, wide c, moved_fits c.ranges.l, high_fits c.ranges.l, high_narrow c.ranges.l)
 
-pub high-digit-spec : {M : Type 1} → statement M
-high-digit-spec = tie.close (tie.spec cast-result add-result cast-result-2 returns)
+pub high_digit_spec : {M : Type 1} → statement M
+high_digit_spec = tie.close (tie.spec cast-result add-result cast-result-2 returns)

@@ -20,13 +20,13 @@ use Rattle.row_outer.proofs.add_products.Tie as tie
 abbrev Along : List ℕ → List ℤ → ℕ → ℤ → List ℤ → ℕ → List ℤ → Type 0
 Along indices factors first a G k g = Raising G (λ x. above x (get_or indices first 0)) a indices factors k g
 
-abbrev invariant-loop : tie.invariant-loop
+abbrev invariant-loop : tie.invariant-loop-k
 invariant-loop g₀ indices factors count first a i twice k₀ g k =
     (first < k)
     × (k ≤ count)
     × ((G : List ℤ) → Along indices factors first (to_z w64 a) G (first + 1) g₀ → Along indices factors first (to_z w64 a) G k g)
 
-abbrev decreases-loop : tie.decreases-loop
+abbrev decreases-loop : tie.decreases-loop-k
 decreases-loop g₀ indices factors count first a i twice k₀ g k = count - k
 
 module _ (s : tie.Start invariant-loop decreases-loop) where
@@ -40,56 +40,56 @@ module _ (s : tie.Start invariant-loop decreases-loop) where
   Added = Along s.args.indices.now s.args.factors.now s.args.first s.args.a s.args.g.now
 
   row : HasRow (length s.args.g.now) i
-  row = s.pre.0.inside s.args.first s.pre.2
+  row = s.requires.0.inside s.args.first s.requires.2
 
   twice-small : nat_abs (pos 2 *ℤ s.args.a) ≤ 2 * (weight_most * digit_most)
-  twice-small = abs_mul_le (pos 2) s.args.a 2 (weight_most * digit_most) (omega arith) s.pre.3
+  twice-small = abs_mul_le (pos 2) s.args.a 2 (weight_most * digit_most) (omega arith) s.requires.3
 
   fits-twice : SFits w64 (pos 2 *ℤ s.args.a)
   fits-twice = abs_fits (omega (arith, twice-small))
 
 -- the product of the first entry with itself
-module _ (c : tie.After-add-at-arg2 invariant-loop decreases-loop) where
+module _ (c : tie.After-add_at-arg-2-1 invariant-loop decreases-loop) where
   abbrev s : tie.Start invariant-loop decreases-loop
-  s = c.before.before.before
+  s = c.before.before.before.before
 
   fits-first : SFits w32 (factor s s.args.first)
-  fits-first = sfits_of c.add-at-arg2.given
+  fits-first = sfits_of c.add_at-arg-2-1.given
 
-added : (c : tie.After-add-at invariant-loop decreases-loop) → Added (s c.before) ((s c.before).args.first + 1) c.add_at.new.0
+added : (c : tie.After-add_at invariant-loop decreases-loop) → Added (s c.before) ((s c.before).args.first + 1) c.add_at.new.g
 added c =
-    let b = c.before in
-    raising_more (raising_from (before_none _ _ _ _ (s b).requires.0 (s b).args.first (s b).requires.2))
-    (added_once (s b).args.a _ (i (s b)) (simp (to_z-of_z, (s b).ranges.a, fits-first b) at c.add_at.ensures))
+    let b = c in
+    raising_more (raising_from (before_none _ _ _ _ (s b.before).requires.0 (s b.before).args.first (s b.before).requires.2))
+    (added_once (s b.before).args.a _ (i (s b.before)) (simp (to_z-of_z, (s b.before).ranges.a, fits-first b.before) at c.add_at.ensures))
 
 -- the products with those after it
-module _ (l : tie.At-loop invariant-loop decreases-loop) where
+module _ (l : tie.At-loop-k invariant-loop decreases-loop) where
   abbrev t : tie.Start invariant-loop decreases-loop
   t = s l.before.before.before
 
-  turning : Added t l.loop.k l.loop.g
-  turning = simp (to_z-of_z t.fits.a) at l.loop.inv.2 t.args.g.now (added l.before.before)
+  turning : Added t l.loop-k.k l.loop-k.g
+  turning = simp (to_z-of_z t.ranges.a) at l.loop-k.invariant.2 t.args.g.now (added l.before.before)
 
-  module _ (here : l.loop.k < t.args.count) where
-    column : HasRow (length t.args.g.now) (get_or t.args.indices.now l.loop.k 0)
-    column = t.pre.0.inside l.loop.k here
+  module _ (here : l.loop-k.k < t.args.count) where
+    column : HasRow (length t.args.g.now) (get_or t.args.indices.now l.loop-k.k 0)
+    column = t.requires.0.inside l.loop-k.k here
 
-    below : Below (2 ^ 60 + outer_unit) l.loop.g
-    below = raising_below (2 ^ 60) outer_unit turning t.pre.1 (λ y. inner_bound _ _ _ _ t.pre.0 t.args.a t.pre.3 y (i t) l.loop.k (omega arith))
+    below : Below (2 ^ 60 + outer_unit) l.loop-k.g
+    below = raising_below (2 ^ 60) outer_unit turning t.requires.1 (λ y. inner_bound _ _ _ _ t.requires.0 t.args.a t.requires.3 y (i t) l.loop-k.k (omega arith))
 
-element-copy-out-i : tie.Need-element-copy-out-i invariant-loop decreases-loop
+element-copy-out-i : tie.Need-bounds-indices-first invariant-loop decreases-loop
 element-copy-out-i c = omega (arith, c.requires.0.few, c.requires.2)
 
-cast-i : tie.Need-overflow-cast-i invariant-loop decreases-loop
-cast-i c = omega (arith, row c.before)
+cast-i : tie.Need-overflow_cast-i invariant-loop decreases-loop
+cast-i c = omega (arith, row c.before.before)
 
-mul-add-at : tie.Need-overflow-mul-add-at invariant-loop decreases-loop
-mul-add-at c = omega (arith, row c.before.before)
+mul-add-at : tie.Need-overflow_mul-i invariant-loop decreases-loop
+mul-add-at c = omega (arith, row c.before.before.before)
 
-element-copy-out-add-at : tie.Need-element-copy-out-add-at invariant-loop decreases-loop
-element-copy-out-add-at c = let s = c.before.before in omega (arith, s.requires.0.few, s.requires.2)
+element-copy-out-add-at : tie.Need-bounds-factors-first invariant-loop decreases-loop
+element-copy-out-add-at c = let s = c in omega (arith, s.requires.0.few, s.requires.2)
 
-add-at-requires : tie.Need-add-at-requires invariant-loop decreases-loop
+add-at-requires : tie.Need-add_at-requires invariant-loop decreases-loop
 add-at-requires c κs =
     let p = (s c).requires in (
       omega (arith, row (s c)),
@@ -98,60 +98,60 @@ add-at-requires c κs =
       simp (to_z-of_z (fits-first c)) (p.0.factors_small (s c).args.first p.2),
     )
 
-mul-twice : tie.Need-overflow-mul-twice invariant-loop decreases-loop
-mul-twice c = let s = s c.before.before in simp (to_z-of_z s.fits.a) (fits-twice s)
+mul-twice : tie.Need-overflow_mul-twice invariant-loop decreases-loop
+mul-twice c = let s = s c.before.before in simp (to_z-of_z s.ranges.a) (fits-twice s)
 
-add-k : tie.Need-overflow-add-k invariant-loop decreases-loop
-add-k c = let s = s c.before.before in omega (arith, s.pre.0.few, s.pre.2)
+add-k : tie.Need-overflow_add-k invariant-loop decreases-loop
+add-k c = let s = s c.before.before in omega (arith, s.requires.0.few, s.requires.2)
 
-loop-holds : tie.Need-loop-init invariant-loop decreases-loop
-loop-holds c = (omega arith, omega (arith, (s c.before.before).pre.2), λ G h. h)
+loop-holds : tie.Need-loop-k-init invariant-loop decreases-loop
+loop-holds c = (omega arith, omega (arith, (s c.before.before).requires.2), λ G h. h)
 
-mul-add-at-3 : tie.Need-overflow-mul-add-at-3 invariant-loop decreases-loop
+mul-add-at-3 : tie.Need-overflow_mul-i-in-loop-k invariant-loop decreases-loop
 mul-add-at-3 c = omega (arith, row (t c.before.before))
 
-cast-add-at : tie.Need-overflow-cast-add-at invariant-loop decreases-loop
-cast-add-at c = let n = c.before.before in omega (arith, column n.before n.loop-test.true)
+cast-add-at : tie.Need-overflow_cast-indices invariant-loop decreases-loop
+cast-add-at c = let n = c in omega (arith, column n.before.before.before.before n.loop-k-test.true)
 
-add-add-at : tie.Need-overflow-add-add-at invariant-loop decreases-loop
-add-add-at c = let n = c.before.before in omega (arith, row (t n.before), column n.before n.loop-test.true)
+add-add-at : tie.Need-overflow_add-i invariant-loop decreases-loop
+add-add-at c = let n = c in omega (arith, row (t n.before.before.before.before), column n.before.before.before.before n.loop-k-test.true)
 
-fits-later : (c : tie.After-add-at-arg5 invariant-loop decreases-loop) → let l = c.before.before.before.before in SFits w32 (factor (t l) l.loop.k)
-fits-later c = sfits_of c.add-at-arg5.given
+fits-later : (c : tie.After-add_at-arg-in-loop-k-3-1 invariant-loop decreases-loop) → let l = c in SFits w32 (factor (t l.before.before.before.before.before) l.loop-k.k)
+fits-later c = sfits_of c.add_at-arg-in-loop-k-3-1.given
 
-add-at-requires-2 : tie.Need-add-at-requires-2 invariant-loop decreases-loop
+add-at-requires-2 : tie.Need-add_at-requires-in-loop-k invariant-loop decreases-loop
 add-at-requires-2 c κs =
-    let n = c.before.before.before in
-    let l = n.before in
-    let h = n.loop-test.true in (
-      omega (arith, row (t l), column l h, (turning l).raised.long),
-      λ x. omega (arith, below l h x),
-      simp (to_z-of_z, (t l).ranges.a, fits-twice (t l)) (omega (arith, twice-small (t l))),
-      simp (to_z-of_z (fits-later c)) ((t l).requires.0.factors_small l.loop.k h),
+    let n = c in
+    let l = n in
+    let h = n.loop-k-test.true in (
+      omega (arith, row (t l.before.before.before.before.before), column l.before.before.before.before.before h, (turning l.before.before.before.before.before).raised.long),
+      λ x. omega (arith, below l.before.before.before.before.before h x),
+      simp (to_z-of_z, (t l.before.before.before.before.before).ranges.a, fits-twice (t l.before.before.before.before.before)) (omega (arith, twice-small (t l.before.before.before.before.before))),
+      simp (to_z-of_z (fits-later c)) ((t l.before.before.before.before.before).requires.0.factors_small l.loop-k.k h),
     )
 
-loop-again : tie.Need-loop-preserved invariant-loop decreases-loop
+loop-again : tie.Need-loop-k-preserved invariant-loop decreases-loop
 loop-again c =
-    let b = c.before.before in
-    let n = b.before.before.before in
-    let l = n.before in
-    let h = n.loop-test.true in (
+    let b = c in
+    let n = b in
+    let l = n in
+    let h = n.loop-k-test.true in (
       omega arith,
       omega (arith, h),
-      λ G r. raising_more (l.loop.invariant.2 G r)
-          (simp (to_z-of_z (t l).ranges.a)
-          (added_twice (t l).args.a _ (i (t l)) _ ((t l).requires.0.rising (t l).args.first l.loop.k l.loop.invariant.0 h)
-          (simp (to_z-of_z, (t l).ranges.a, fits-twice (t l), fits-later b) at c.before.add-at2.ensures))),
+      λ G r. raising_more (l.loop-k.invariant.2 G r)
+          (simp (to_z-of_z (t l.before.before.before.before.before.before.before).ranges.a)
+          (added_twice (t l.before.before.before.before.before.before.before).args.a _ (i (t l.before.before.before.before.before.before.before)) _ ((t l.before.before.before.before.before.before.before).requires.0.rising (t l.before.before.before.before.before.before.before).args.first l.loop-k.k l.loop-k.invariant.0 h)
+          (simp (to_z-of_z, (t l.before.before.before.before.before.before.before).ranges.a, fits-twice (t l.before.before.before.before.before.before.before), fits-later b.before.before) at c.add_at-in-loop-k.ensures))),
     )
 
-same_length : tie.Need-same-length invariant-loop decreases-loop
+same_length : tie.Need-shape_of-g invariant-loop decreases-loop
 same_length c = (turning c.before).raised.long
 
 returns : tie.Need-returns invariant-loop decreases-loop
-returns c = let l = c.before in raising_end (turning l) (omega (arith, l.loop.invariant.1, c.loop-test.false))
+returns c = let l = c in raising_end (turning l.before) (omega (arith, l.loop-k.invariant.1, c.loop-k-test.false))
 
-pub add-products-spec : {M : Type 1} → statement M
-add-products-spec =
+pub add_products_spec : {M : Type 1} → statement M
+add_products_spec =
     tie.close
     (tie.spec
     invariant-loop

@@ -3,33 +3,33 @@ use Rattle.work_tables.proofs.Fills.{fill_more}
 use native.Mathlib.Omega.{arith}
 use mathlib.Core.Path.{◌≡◌, refl, ap, ◌∙◌}
 use mathlib.Core.List.{List, ◌++◌}
-use Prim.Native.Nat.{ℕ, ◌+◌, ◌-◌, ◌≤◌}
+use Prim.Native.Nat.{ℕ, ◌-◌, ◌≤◌}
 use lib.ListN.{length, drop, set, length-set, replicate}
 use lib.IntN.{ℤ, pos}
 use borrow.Author.Rules.{rules}
 use Rattle.work_tables.proofs.clear_signed.Statement.{statement}
 use Rattle.work_tables.proofs.clear_signed.Tie as tie
 
-abbrev invariant-loop : tie.invariant-loop
+abbrev invariant-loop : tie.invariant-loop-i
 invariant-loop t₀ n i₀ t i = (i ≤ n) × (length t ≡ length t₀) × (t ≡ replicate i (pos 0) ++ drop i t₀)
 
-abbrev decreases-loop : tie.decreases-loop
+abbrev decreases-loop : tie.decreases-loop-i
 decreases-loop t₀ n i₀ t i = n - i
 
-loop-holds : tie.Need-loop-init invariant-loop decreases-loop
+loop-holds : tie.Need-loop-i-init invariant-loop decreases-loop
 loop-holds c = (omega arith, refl, refl)
 
-loop-again : tie.Need-loop-preserved invariant-loop decreases-loop
-loop-again c = let v = c.before.loop.invariant in (omega arith, simp length-set v.1, ap (λ (l : List ℤ). set l c.before.loop.i (pos 0)) v.2 ∙ fill_more (pos 0) c.before.loop.i c.before.before.args.t.now (omega (arith, c.before.before.requires)))
+loop-again : tie.Need-loop-i-preserved invariant-loop decreases-loop
+loop-again c = let v = c.loop-i.invariant in (omega arith, simp length-set v.1, ap (λ (l : List ℤ). set l c.loop-i.i (pos 0)) v.2 ∙ fill_more (pos 0) c.loop-i.i c.args.t.now (omega (arith, c.requires)))
 
-same_length : tie.Need-same-length invariant-loop decreases-loop
-same_length c = c.before.loop.invariant.1
+same_length : tie.Need-shape_of-t invariant-loop decreases-loop
+same_length c = c.loop-i.invariant.1
 
 returns : tie.Need-returns invariant-loop decreases-loop
-returns c = let v = c.before.loop.invariant in let e : c.before.loop.i ≡ c.before.before.args.n = omega arith in v.2 ∙ ap (λ (i : ℕ). replicate i (pos 0) ++ drop i c.before.before.args.t.now) e
+returns c = let v = c.loop-i.invariant in let e : c.loop-i.i ≡ c.args.n = omega arith in v.2 ∙ ap (λ (i : ℕ). replicate i (pos 0) ++ drop i c.args.t.now) e
 
-pub clear-signed-spec : {M : Type 1} → statement M
-clear-signed-spec =
+pub clear_signed_spec : {M : Type 1} → statement M
+clear_signed_spec =
     tie.close
     (tie.spec
     invariant-loop

@@ -2,7 +2,7 @@
 use borrow.Author.Rules.{rules}
 use native.Mathlib.Omega.{arith}
 use mathlib.Core.Path.{refl}
-use Prim.Native.Nat.{◌-◌, ◌*◌, ◌^◌}
+use Prim.Native.Nat.{◌*◌, ◌^◌}
 use lib.IntN.{pos}
 use lib.ListN.{replicate}
 use Rattle.flat.specs.TermArrays.{terms_in}
@@ -12,16 +12,16 @@ use Rattle.flat.proofs.TermArrays.{small_zeros, small_set}
 use Rattle.problem_storing.proofs.Polynomial.one.Statement.{statement}
 use Rattle.problem_storing.proofs.Polynomial.one.Tie as tie
 
-empty-requires : tie.Need-empty-requires
+empty-requires : tie.Need-empty-q-requires
 empty-requires c κs = search rules
 
-element-set-of-q : tie.Need-element-set-of-q
+element-set-of-q : tie.Need-bounds-q-0
 element-set-of-q c = search rules
 
 returns : tie.Need-returns
 unfolding terms_in listed
 returns c =
-    rw c.empty.ensures (
+    rw c.empty-q.ensures (
       record {
         count_low = omega arith;
         keys_length = refl;
