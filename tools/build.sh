@@ -31,6 +31,9 @@ kit_home() {
     (cd "$(dirname "$(readlink -f "$(command -v rt)")")/.." && pwd -P)
 }
 
+# kit_words: what the kit passes to its clang for every machine, as it hands it a module: steps of the compiler that it leaves out.
+kit_words=(-mllvm -trap-unreachable -mllvm -disable-machine-licm -mllvm -disable-postra-machine-licm -mllvm -sink-common-insts=false)
+
 # sum_of_sources: a sum of the kit's name and of all that a proof reads here.
 sum_of_sources() {
     {
