@@ -14,8 +14,8 @@ use Rattle.format.proofs.WithinLimits.{Limits}
 use Rattle.format.specs.CertificateRules.{Certificate, read_certificate, Row}
 use Rattle.format.proofs.CertificateLimits.{Sound, read_sound}
 use Rattle.format.proofs.All.{all_map}
-use Rattle.accepting.specs.Identity.{squares, claim, Identity, KeepsBlocks}
-use Rattle.accepting.specs.Judgement.{split_place, SplitAt, difference_key, Smallest, refused, accepted, by_identity, by_blocks, judge_read, judge_outcome, judge, Accepted}
+use Rattle.accepting.specs.Identity.{Identity, KeepsBlocks}
+use Rattle.accepting.specs.Judgement.{split_place, difference_key, refused, accepted, by_identity, by_blocks, judge_read, judge_outcome, judge, Accepted, Splits, Differs}
 use Rattle.accepting.proofs.Blocks.{split_none, split_kept, split_some}
 use Rattle.accepting.proofs.Difference.{identity_none, none_identity, difference_smallest}
 use Rattle.accepting.specs.Bounds.{BoundedBelow, BoundedAbove}
@@ -40,18 +40,6 @@ judged d c none none e = record { split_none = refl; difference_none = refl; sam
 nonneg_of_one : (w : ℤ) → pos 1 ≤ℤ w → pos 0 ≤ℤ w
 nonneg_of_one (pos n) h = nonneg_pos n
 nonneg_of_one (negsuc n) h = absurd h.le
-
--- refusal 8 at the place of the first entry outside its row's first block
-pub record Splits (p : Problem) (s : List ℕ) (c : Certificate) : Type 0 where
-  pub place : ℕ
-  pub refusal : judge p s ≡ refused 8 place 0
-  pub split : SplitAt p c.rows place
-
--- refusal 9 at a key, which is the smallest that differs
-pub record Differs (p : Problem) (s : List ℕ) (c : Certificate) : Type 0 where
-  pub key : ℕ
-  pub refusal : judge p s ≡ refused 9 0 key
-  pub smallest : Smallest (claim p c.header) (squares p c.rows) key
 
 module _ (p : Problem) where
   -- ---- an accepted stream gives a certificate with every row in one block and the identity true

@@ -33,7 +33,7 @@ use Rattle.format.proofs.WithinLimits.{ConditionTerms, Limits}
 use Rattle.format.proofs.ProblemLimits.{all_at, monomials_none, terms_none}
 use Rattle.format.specs.CertificateRules.{Entry, Row, Certificate}
 use Rattle.format.specs.declared.certificate.Header.{Header}
-use Rattle.accepting.specs.Identity.{combination, square, squares, turned, claim, Identity}
+use Rattle.accepting.specs.Identity.{combination, square, squares, turned, claim_of, claim, Identity}
 use Rattle.accepting.specs.Bounds.{Meets, Allowed, objective_value, objective_scale, BoundedBelow, BoundedAbove, WithinGap}
 use Rattle.accepting.specs.RingBounds.{MeetsIn}
 use Rattle.accepting.proofs.Reach.{keys_all}
@@ -111,7 +111,7 @@ module _ {A : Type 0} (N : Numbers A) (O : Order N.ring) where
     claim_value : (h : Header) → value_of 32 (claim p h)
         ≡ whole (pos h.scale) * (whole (turned h.side (pos h.q)) * value_of 32 p.objective
         + whole (turned h.side (neg_ℤ h.p)) * m 32 0)
-    unfolding claim
+    unfolding claim_of
     claim_value h = simp (scale_in N (m 32), append_in N (m 32), +-zero)
 
     -- ---- where the point is allowed

@@ -27,11 +27,11 @@ use Rattle.joining_rule.proofs.Closing.{closing_starts, closing_rising}
 use Rattle.joining_rule.proofs.Counted.{counted_full, counted_extends, counted_zero, counted_rising, products_nothing}
 use Rattle.joining_rule.proofs.Rounds.{adding_all}
 use Rattle.joining_rule.proofs.Bound.{most_positive}
-use Rattle.joining_rule.specs.Joining.{bases_of, multiples, start_set, closing, reached_support}
-use Rattle.joining_rule.proofs.Start.{insert_all_extends, start_rises}
+use Rattle.joining_rule.specs.Joining.{bases_of, multiples, start_from, start_set, closing, reached_support}
+use Rattle.joining_rule.proofs.Start.{insert_all_extends, start_rising}
 use Rattle.format.specs.CertificateRules.{Entry, Row}
 use Rattle.format.specs.declared.certificate.Header.{Header}
-use Rattle.accepting.specs.Identity.{combination, square, squares, turned, claim, block_of, OneBlock, KeepsBlocks}
+use Rattle.accepting.specs.Identity.{combination, square, squares, turned, claim_of, claim, block_of, OneBlock, KeepsBlocks}
 use Rattle.accepting.specs.Judgement.{compared_keys}
 
 -- ---- the monomials of a polynomial, as a list
@@ -91,16 +91,20 @@ module _ (p : Problem) where
         (row_reach r (omega (arith, limits.conditions, f.0.basis)) f.0 o.0) (squares_reach rs f.1 o.1)
 
   -- ---- the claim
+  start_rises : Rising (start_set p)
+  unfolding start_set
+  start_rises = start_rising (keys_of p.objective) (bases_of p)
+
   -- "S starts as all exponents of the objective ..", and never loses one
   objective_in : (k : ℕ) → In k (keys_of p.objective) → In k (reached_support p)
-  unfolding closing start_set
+  unfolding closing start_set start_from
   objective_in k m =
       closing_starts p.rule _ (bases_of p) (start_set p) k ((insert_all_extends (multiples 2 (basis_of p 0)) _).keeps k
       ((from_to_extends (λ j. insert_all (multiplier_of p j)) (λ j X. insert_all_extends (multiplier_of p j) X) 1 9 (insert_all (keys_of p.objective) [])).keeps k (insert_all_in k (keys_of p.objective) [] m)))
 
   -- the claim has no monomial but those of the S reached and the zero exponent
   pub claim_reach : (h : Header) → Keys (λ k. In k (compared_keys p)) (claim p h)
-  unfolding claim compared_keys
+  unfolding claim_of compared_keys
   claim_reach h =
       let x = turned h.side (pos h.q) in
       let y = term 0 (turned h.side (neg_ℤ h.p)) ∷ [] in
@@ -111,7 +115,7 @@ module _ (p : Problem) where
   -- ---- outside the compared keys
   pub compared_rising : Rising (compared_keys p)
   unfolding compared_keys closing
-  compared_rising = counted_rising (bases_of p) (closing p).state (closing_rising p.rule _ (bases_of p) (start_set p) (start_rises p))
+  compared_rising = counted_rising (bases_of p) (closing p).state (closing_rising p.rule _ (bases_of p) (start_set p) start_rises)
 
   pub claim_outside : (h : Header) (k : ℕ) → (In k (compared_keys p) → ⊥) → coefficient k (claim p h) ≡ pos 0
   claim_outside h k f = coefficient_none (λ k. In k (compared_keys p)) k (claim p h) (claim_reach h) f
@@ -123,4 +127,4 @@ module _ (p : Problem) where
   pub compared_one : p.rule ≡ 1 → compared_keys p ≡ insert 0 (reached_support p)
   unfolding compared_keys closing
   compared_one e =
-      products_nothing p.rule _ (bases_of p) (start_set p) (start_rises p) (most_positive p.order) (adding_all p.rule (λ q. omega arith))
+      products_nothing p.rule _ (bases_of p) (start_set p) start_rises (most_positive p.order) (adding_all p.rule (λ q. omega arith))

@@ -15,8 +15,7 @@ use Rattle.format.specs.ProblemBases.{basis_of}
 use Rattle.format.specs.CertificateRules.{Entry, Row, Certificate}
 use Rattle.format.specs.Permuted.{Permuted}
 use Rattle.format.specs.Permuted as Runs
-use Rattle.format.specs.RowOrder.{RowRun, OtherOrder, run_bytes}
-use Rattle.format.proofs.RowRuns.{entries_at, row_at, rows_at}
+use Rattle.format.specs.RowOrder.{RowRun, OtherOrder, entries_at, row_at, rows_at, run_bytes}
 use Rattle.format.proofs.RowOrder.{OrderRead, order_read}
 use Rattle.accepting.specs.Identity.{combination, square, squares, claim, Identity, block_of, OneBlock, KeepsBlocks}
 use Rattle.accepting.specs.Judgement.{Accepted}

@@ -11,12 +11,11 @@ use Rattle.format.specs.All.{All}
 use Rattle.format.specs.ProblemRules.{Problem}
 use Rattle.format.specs.ProblemBases.{basis_of}
 use Rattle.format.specs.CertificateRules.{Entry, Row, Certificate}
-use Rattle.format.specs.declared.certificate.Header.{Header}
 use Rattle.format.proofs.WithinLimits.{Limits}
 use Rattle.format.proofs.CertificateLimits.{SoundRow, read_sound}
 use Rattle.format.proofs.Alike.{Alike, alike_basis, alike_multiplier, alike_certificate}
 use Rattle.joining_rule.proofs.Rules.{JoinsMore, problem_below}
-use Rattle.accepting.specs.Identity.{square, squares, claim, Identity, block_of, OneBlock}
+use Rattle.accepting.specs.Identity.{square, squares, claim_of, Identity, block_of, OneBlock}
 use Rattle.accepting.specs.Judgement.{Accepted}
 use Rattle.accepting.proofs.Reach.{all_both}
 
@@ -34,14 +33,10 @@ module _ (p q : Problem) (more : JoinsMore p q) where
   squares_same [] = refl
   squares_same (w ∷ ws) = ap₂ (λ (x y : List Term). x ++ y) (square_same w) (squares_same ws)
 
-  claim_same : (h : Header) → claim q h ≡ claim p h
-  unfolding claim
-  claim_same h = rw a.objective
-
   identity_same : (c : Certificate) → Identity p c → Identity q c
   unfolding Identity
   identity_same c h k =
-      ap (coefficient k) (claim_same c.header)
+      ap (λ (ts : List Term). coefficient k (claim_of ts c.header)) a.objective
       ∙ h k
       ∙ sym (ap (coefficient k) (squares_same c.rows))
 

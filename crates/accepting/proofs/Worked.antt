@@ -23,7 +23,7 @@ use Rattle.format.specs.declared.problem.Kind.TheVariants as K
 use Rattle.format.specs.ProblemRules.{Problem}
 use Rattle.format.specs.ProblemBases.{basis_of, multiplier, kind_of}
 use Rattle.format.specs.CertificateRules.{Entry, Certificate}
-use Rattle.accepting.specs.Identity.{square, squares, claim, Identity}
+use Rattle.accepting.specs.Identity.{square, squares, claim_of, claim, Identity}
 use Rattle.accepting.specs.Bounds.{BoundedBelow}
 use Rattle.accepting.proofs.Bounds.{identity_below}
 
@@ -149,7 +149,7 @@ low_f = record {
 -- twice
 pub claim_f :
     map (λ (k : ℕ). coefficient k (claim problem_f low_f.header)) (0 ∷ 1 ∷ 2 ∷ []) ≡ pos 2 ∷ pos 2 ∷ pos 0 ∷ []
-unfolding claim coefficient
+unfolding claim_of coefficient
 claim_f = refl
 
 pub squares_f :
@@ -159,7 +159,7 @@ squares_f = refl
 
 -- no term has another key, so the identity holds
 identity_f : Identity problem_f low_f
-unfolding Identity claim squares square multiplier basis_of coefficient
+unfolding Identity claim_of squares square multiplier basis_of coefficient
 identity_f =
     three_keys (claim problem_f low_f.header) (squares problem_f low_f.rows) (omega arith) (omega arith)
     refl refl refl
@@ -182,7 +182,7 @@ low_equal = record {
 }
 
 identity_equal : Identity problem_equal low_equal
-unfolding Identity claim squares square multiplier basis_of coefficient
+unfolding Identity claim_of squares square multiplier basis_of coefficient
 identity_equal =
     three_keys (claim problem_equal low_equal.header) (squares problem_equal low_equal.rows)
     (omega arith) (omega arith) refl refl refl

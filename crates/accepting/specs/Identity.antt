@@ -31,10 +31,13 @@ turned zero x = x
 turned (suc side) x = neg_ℤ x
 
 -- "D × (q × objective − p)" for side 0, and "D × (p − q × objective)" for side 1
-unfoldable pub claim : Problem → Header → List Term
-claim p h =
+unfoldable pub claim_of : List Term → Header → List Term
+claim_of objective h =
     scale (pos h.scale)
-    (scale (turned h.side (pos h.q)) p.objective ++ (term 0 (turned h.side (neg_ℤ h.p)) ∷ []))
+    (scale (turned h.side (pos h.q)) objective ++ (term 0 (turned h.side (neg_ℤ h.p)) ∷ []))
+
+abbrev pub claim : Problem → Header → List Term
+claim p h = claim_of p.objective h
 
 -- "Equality is per monomial, on exact whole numbers": at every key, also those that no term has
 unfoldable pub Identity : Problem → Certificate → Type 0

@@ -105,3 +105,15 @@ pub record Accepted (p : Problem) (s : List ℕ) (c : Certificate) : Type 0 wher
   pub read : read_certificate p s ≡ Stream.given c
   pub blocks : KeepsBlocks p c.rows
   pub identity : Identity p c
+
+-- refusal 8 at the place of the first entry outside its row's first block
+pub record Splits (p : Problem) (s : List ℕ) (c : Certificate) : Type 0 where
+  pub place : ℕ
+  pub refusal : judge p s ≡ refused 8 place 0
+  pub split : SplitAt p c.rows place
+
+-- refusal 9 at a key, which is the smallest that differs
+pub record Differs (p : Problem) (s : List ℕ) (c : Certificate) : Type 0 where
+  pub key : ℕ
+  pub refusal : judge p s ≡ refused 9 0 key
+  pub smallest : Smallest (claim p c.header) (squares p c.rows) key

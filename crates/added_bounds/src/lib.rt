@@ -1,13 +1,12 @@
 // Request 12, two errors added: two problems over one region, with a pair for each. The public call is `sum`. Both
 // pairs are the checker's own.
 ghost use Rattle.std.specs.Prelude.{◌≡◌, ◌≤◌};
-ghost use Rattle.format.specs.Commands.{given};
-ghost use Rattle.format.specs.ProblemRules.{Problem, read_problem};
+ghost use Rattle.format.specs.ProblemRules.{read_problem};
 ghost use Rattle.fractions.specs.Ranges.{Bound};
 ghost use Rattle.calls.specs.Tables.{tables, tables_short, TablesLeft};
 ghost use Rattle.calls.specs.Promises.{RuleUsed};
-ghost use Rattle.calls.specs.Outcome.{told};
-ghost use Rattle.calls.specs.AddedBounds.{refused_sum, accepted_sum, of_second, sum_after, sum_verdict};
+ghost use Rattle.calls.specs.Pair.{pair_verdict};
+ghost use Rattle.calls.specs.AddedBounds.{same_region_read, refused_sum, accepted_sum, of_second, sum_second, sum_verdict};
 ghost use Rattle.calls.specs.AddedBounds.{streams, SumNumbered, SumExactly, FifteenExactly, PairRefusals, HoldsBetween};
 ghost use Rattle.calls.specs.AddedBounds.{SumKept};
 ghost use Rattle.calls.specs.Rules.{UnderOne, AtLarger};
@@ -77,9 +76,10 @@ fn sum_second(
 ) -> SumVerdict
     requires { Bound v.lower × Bound v.upper }
     ensures verdict { let lent = tables keys.old high.old low.old in
-        let b = streams problem2.now low2.now high2.now in
-        ((p : Problem) → read_problem problem1.now ≡ given p
-        → result ≡ told refused_sum (sum_after (tables_short lent) p v b)) }
+        let second = problem2.now in
+        let same = same_region_read (read_problem problem1.now) (read_problem second) in
+        let w = pair_verdict (tables_short lent) second low2.now high2.now in
+        result ≡ sum_second same v w }
     ensures tables { let lent = tables keys.old high.old low.old in
         let left = tables keys.new high.new low.new in
         TablesLeft (tables_short lent) lent left }

@@ -1,19 +1,17 @@
 -- The verdict from what the check says, and the range of the bound that the check returns.
-use mathlib.Core.Path.{◌≡◌, sym, ap}
+use mathlib.Core.Path.{◌≡◌, ap}
 use mathlib.Core.Bool.{Bool}
 use mathlib.Core.List.{List}
 use Prim.Native.Nat.{ℕ}
-use Rattle.counting.proofs.Bounded.{Bounded}
+use borrow.Author.Tests.{eq-eqb, ne_eqb}
+use Rattle.counting.specs.Counting.{Bounded}
+use Rattle.format.specs.ProblemRules.{read_problem}
 use Rattle.format.proofs.HeaderRange.{read_ranged}
-use Rattle.format.specs.Commands as Stream
-use Rattle.format.specs.ProblemRules.{Problem, read_problem}
 use Rattle.fractions.specs.Ranges.{Bound}
 use Rattle.calls.specs.declared.CheckVerdict.{CheckVerdict}
-use Rattle.calls.specs.Outcome.{told}
 use Rattle.calls.specs.Check.{bound_of, check_verdict}
-use Rattle.calls.specs.Adjusted.{refused_adjusted, adjusted_for, adjusted_verdict}
+use Rattle.calls.specs.Adjusted.{refused_adjusted, adjusted_read, adjusted_checked, adjusted_verdict}
 use Rattle.calls.proofs.Checking.{check_found}
-use Rattle.calls.proofs.Adjusting.{check_first, check_passed}
 
 module _ (short : Bool) (s t : List ℕ) (v : CheckVerdict) (is : v ≡ check_verdict short s t) where
   -- p of 32 bits over q of 16
@@ -26,9 +24,16 @@ module _ (short : Bool) (s t : List ℕ) (v : CheckVerdict) (is : v ≡ check_ve
       rw e (record { num = g.p; den = g.q })
 
   module _ (changes : List ℕ) where
-    pub refused : (v.refusal.number ≡ 0 → ⊥) → refused_adjusted v.refusal ≡ adjusted_verdict short s t changes
-    refused = rw is (λ h. sym (check_first short s t changes h))
+    of_check : adjusted_checked s v changes ≡ adjusted_verdict short s t changes
+    unfolding adjusted_verdict
+    of_check = ap (λ (w : CheckVerdict). adjusted_checked s w changes) is
 
-    pub passed : v.refusal.number ≡ 0 → (p : Problem) → read_problem s ≡ Stream.given p
-        → told refused_adjusted (adjusted_for p v.side v.bound changes) ≡ adjusted_verdict short s t changes
-    passed = rw is (λ h p read. sym (check_passed short s t changes h p read))
+    pub check_refused_lem : (v.refusal.number ≡ 0 → ⊥)
+        → refused_adjusted v.refusal ≡ adjusted_verdict short s t changes
+    unfolding adjusted_checked
+    check_refused_lem h = rw (ne_eqb v.refusal.number 0 h) at of_check
+
+    pub check_passed : v.refusal.number ≡ 0
+        → adjusted_read (read_problem s) v changes ≡ adjusted_verdict short s t changes
+    unfolding adjusted_checked
+    check_passed h = rw (eq-eqb v.refusal.number 0 h) at of_check

@@ -2,17 +2,15 @@
 // changes are looked at, then the boxes, in the problem read once more, and then the side.
 ghost use Rattle.std.specs.Prelude.{◌≡◌, ◌&&◌, List, ℕ, ◌^◌, ◌≤◌, ◌<◌, negsuc};
 ghost use Rattle.polynomial.specs.Terms.{Term, term};
-ghost use Rattle.format.specs.Commands.{given};
 ghost use Rattle.format.specs.ProblemRules.{Problem, read_problem};
 ghost use Rattle.flat.specs.Flat.{FlatLimits, FlatProblem};
 ghost use Rattle.fractions.specs.Ranges.{Bound};
 ghost use Rattle.calls.specs.Refusals.{problem_refusal};
 ghost use Rattle.calls.specs.Tables.{tables, tables_short, TablesLeft};
-ghost use Rattle.calls.specs.Outcome.{refusal_of, told};
-ghost use Rattle.calls.specs.Adjusted.{change_count, changes_of, most_changes, change_refusal, first_unfit, unless_unfit};
-ghost use Rattle.calls.specs.Adjusted.{changes_for, square_key, unit, has_box, boxed_to, absolute_sum};
+ghost use Rattle.calls.specs.Adjusted.{change_count, changes_of, most_changes, change_refusal, first_unfit, unfit_refusal};
+ghost use Rattle.calls.specs.Adjusted.{changes_refusal, square_key, unit, has_box, boxed_to, absolute_sum};
 ghost use Rattle.calls.specs.SameTerms.{same_term};
-ghost use Rattle.calls.specs.Adjusted.{moved_bound, refused_adjusted, adjusted_for, adjusted_verdict};
+ghost use Rattle.calls.specs.Adjusted.{moved_bound, refused_adjusted, adjusted_of, adjusted_read, adjusted_verdict};
 ghost use Rattle.calls.specs.Adjusted.{AdjustedNumber, AdjustedExactly, HoldsChanged, InOrder, AdjustedKept};
 ghost use Rattle.calls.specs.Rules.{UnderOne, AtLarger};
 ghost use Rattle.calls.specs.Zeros.{AdjustedZeros};
@@ -36,8 +34,7 @@ fn change_refusal(number: u8, index: usize) -> Refusal
 
 // Refusal 4 of the first change that does not fit, or none.
 fn check_fit(n: usize, changes: &[u8]) -> Refusal
-    ensures { let l = changes_of changes.now in
-        result ≡ refusal_of (unless_unfit (first_unfit n 0 l) l) }
+    ensures { result ≡ unfit_refusal (first_unfit n 0 (changes_of changes.now)) }
 {
     let count = changes.len() / 12;
     let mut i = 0;
@@ -58,7 +55,7 @@ fn check_fit(n: usize, changes: &[u8]) -> Refusal
 
 // The refusal of the changes, in n variables, or none.
 fn check_changes(n: usize, changes: &[u8]) -> Refusal
-    ensures { result ≡ refusal_of (changes_for n changes.now) }
+    ensures { result ≡ changes_refusal n changes.now }
 {
     let count = changes.len() / 12;
     if 0 < changes.len() % 12 {
@@ -202,8 +199,7 @@ fn decide(
 ) -> AdjustedVerdict
     requires { FlatLimits keys.now coefficients.now sizes.now × (1 ≤ n) × (n ≤ 8) × Bound v.bound }
     ensures { (p : Problem) → FlatProblem p keys.now coefficients.now sizes.now
-        → p.variables ≡ n
-        → result ≡ told refused_adjusted (adjusted_for p v.side v.bound changes.now) }
+        → p.variables ≡ n → result ≡ adjusted_of p v changes.now }
 {
     let f = check_changes(n, changes);
     if f.number != 0 {
@@ -232,8 +228,7 @@ fn decide(
 // second byte.
 fn answer(problem: &[u8], v: CheckVerdict, changes: &[u8]) -> AdjustedVerdict
     requires { Bound v.bound }
-    ensures { (p : Problem) → read_problem problem.now ≡ given p
-        → result ≡ told refused_adjusted (adjusted_for p v.side v.bound changes.now) }
+    ensures { result ≡ adjusted_read (read_problem problem.now) v changes.now }
 {
     let mut keys = [0u64; 1120];
     let mut coefficients = [0i32; 544];

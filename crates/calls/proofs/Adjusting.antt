@@ -1,144 +1,126 @@
--- The clauses of the call on changes, by how it ends.
-use mathlib.Core.Path.{◌≡◌, refl, sym, ap, ◌∙◌}
-use mathlib.Core.Bool.{Bool, true, false, not}
+-- The clauses of the call on changes, from its equation.
+use mathlib.Core.Path.{◌≡◌, refl, sym, ap, ◌∙◌, subst}
+use mathlib.Core.Bool.{Bool, true, false, cond}
 use mathlib.Core.List.{List}
 use mathlib.Core.Logic.{inl, inr, ⊎_elim}
 use Prim.Native.Nat.{ℕ, ◌≤◌, ◌<◌}
 use native.Mathlib.Omega.{arith}
 use lib.Dec.{eqb}
-use borrow.Author.Tests.{eqb-true, eqb-false}
-use Rattle.counting.proofs.Cases.{clash, never}
+use borrow.Author.Tests.{eqb-true, eqb-false, eq-eqb, ne_eqb}
+use Rattle.counting.proofs.Cases.{clash}
 use Rattle.counting.proofs.Listed.{same_or_not}
-use Rattle.polynomial.specs.Terms.{Term}
-use Rattle.format.specs.Commands as Stream
+use Rattle.format.specs.Commands.{given}
 use Rattle.format.specs.ProblemRules.{Problem, read_problem}
 use Rattle.format.specs.CertificateRules.{Certificate}
 use Rattle.format.proofs.ProblemLimits.{read_limits}
 use Rattle.accepting.specs.Judgement as J
 use Rattle.accepting.proofs.Accepted.{accepted_below}
 use Rattle.calls.specs.declared.CheckVerdict.{CheckVerdict}
-use Rattle.calls.specs.declared.Fraction.{Fraction}
 use Rattle.calls.specs.declared.Refusal.{Refusal}
 use Rattle.calls.specs.declared.AdjustedVerdict.{AdjustedVerdict}
 use Rattle.calls.specs.Refusals.{no_refusal, problem_refusal}
-use Rattle.calls.specs.Outcome.{Outcome, refused, given, ◌then◌, refuse_if, told}
-use Rattle.calls.specs.Check.{refused_check, bound_of, check_verdict}
+use Rattle.calls.specs.Check.{bound_of, check_verdict}
+use Rattle.calls.specs.Superseding.{is_accepted}
 use Rattle.calls.specs.Promises.{Reads, Within}
-use Rattle.calls.specs.Adjusted.{changes_of, changes_for, boxed_to, moved_bound, refused_adjusted, found_bound}
-use Rattle.calls.specs.Adjusted.{adjusted_for, adjusted_verdict}
+use Rattle.calls.specs.Adjusted.{changes_of, change_refusal, changes_refusal, boxed_to, moved_bound, refused_adjusted, found_bound}
+use Rattle.calls.specs.Adjusted.{adjusted_by, adjusted_of, adjusted_read, adjusted_checked, adjusted_verdict}
 use Rattle.calls.specs.Adjusted.{AdjustedNumber, HoldsChanged, ChangesFit, Box, EveryBox, Adjusts, Moved}
 use Rattle.calls.specs.Adjusted.{AdjustedExactly, InOrder, AdjustedKept}
 use Rattle.calls.specs.Rules.{UnderOne, AtLarger}
 use Rattle.calls.specs.Zeros.{RefusalZeros, AdjustedZeros}
-use Rattle.calls.specs.RowOrder.{Rearranged, AdjustedAnyOrder, adjusted_number}
-use Rattle.calls.proofs.Zeros.{none_zeros, problem_zeros, refused_zeros, zero_fraction}
+use Rattle.calls.specs.RowOrder.{AdjustedAnyOrder}
+use Rattle.calls.proofs.AnyOrder.{adjusted_any_order}
+use Rattle.calls.proofs.Zeros.{none_zeros, problem_zeros, zero_fraction}
 use Rattle.calls.proofs.Rules.{AllLead, under_leads, larger_leads}
-use Rattle.calls.proofs.RowOrder.{rearranged_back, check_alike}
 use Rattle.calls.proofs.Stays.{AllSeven, AllStay, Decides, decides_kept}
-use Rattle.calls.proofs.Refusing.{reads_at, problem_within}
-use Rattle.calls.proofs.Endings.{accepted_given, CheckRefused, after_check, check_accepted_by}
+use Rattle.calls.proofs.Refusing.{reads_at}
+use Rattle.calls.proofs.Checking.{Checked, check_found, check_clauses, check_opens, check_zeros}
+use Rattle.calls.proofs.Superseded.{accepted_states}
 use Rattle.calls.proofs.Boxes.{boxes_found, found_boxes}
-use Rattle.calls.proofs.Changes.{ChangesRefused, changes_refuses, changes_gives, fit_given, cut_refused, many_refused, unfit_refused}
+use Rattle.calls.proofs.Changes.{unrefused_fit, fit_unrefused, changes_number, cut_refused, many_refused, unfit_refused, changes_zeros}
 use Rattle.calls.proofs.AdjustedBounds.{changed_below}
 
--- ---- after the check, by the side and the bound that the certificate states
-module _ (p : Problem) (side : ℕ) (bound : Fraction) (changes : List ℕ) where
-  for_by : (P : AdjustedVerdict → Type 0)
-      → ((r : Refusal) → ChangesRefused r → changes_for p.variables changes ≡ refused r → P (refused_adjusted r))
-      → (boxed_to p.variables p.conditions ≡ false → P (refused_adjusted (problem_refusal 16 0)))
-      → (EveryBox p → (side ≡ 0 → ⊥) → P (refused_adjusted (problem_refusal 17 0)))
-      → (ChangesFit p.variables changes → EveryBox p → side ≡ 0
-      → P (found_bound (moved_bound bound (changes_of changes))))
-      → P (told refused_adjusted (adjusted_for p side bound changes))
-  unfolding adjusted_for
-  for_by P unfit unboxed upper moved = by_changes (changes_for p.variables changes) refl
+-- ---- how an accepted certificate ends, by the check's verdict w on it
+module _ (p : Problem) (w : CheckVerdict) (changes : List ℕ) where
+  abbrev told : Refusal
+  told = changes_refusal p.variables changes
+
+  data Decided (v : AdjustedVerdict) : Type 0 where
+    unfit : (told.number ≡ 0 → ⊥) → v ≡ refused_adjusted told → Decided v
+    unboxed : ChangesFit p.variables changes → boxed_to p.variables p.conditions ≡ false
+        → v ≡ refused_adjusted (problem_refusal 16 0) → Decided v
+    upper : ChangesFit p.variables changes → EveryBox p → (w.side ≡ 0 → ⊥)
+        → v ≡ refused_adjusted (problem_refusal 17 0) → Decided v
+    moved : ChangesFit p.variables changes → EveryBox p → w.side ≡ 0
+        → v ≡ found_bound (moved_bound w.bound (changes_of changes)) → Decided v
+
+  decided : Decided (adjusted_of p w changes)
+  unfolding adjusted_of adjusted_by
+  decided = go (eqb told.number 0) (boxed_to p.variables p.conditions) (eqb w.side 0) refl refl refl
     where
-      last : ChangesFit p.variables changes → (b c : Bool) → boxed_to p.variables p.conditions ≡ b → eqb side 0 ≡ c
-          → P (told refused_adjusted (refuse_if (not b) (problem_refusal 16 0)
-          (refuse_if (not c) (problem_refusal 17 0) (given (found_bound (moved_bound bound (changes_of changes)))))))
-      last f false c e g = unboxed e
-      last f true false e g = upper (boxes_found p.variables p.conditions e) (eqb-false _ _ g)
-      last f true true e g = moved f (boxes_found p.variables p.conditions e) (eqb-true _ _ g)
+      go : (a b c : Bool) → eqb told.number 0 ≡ a → boxed_to p.variables p.conditions ≡ b → eqb w.side 0 ≡ c
+          → Decided (cond a
+          (cond b (cond c (found_bound (moved_bound w.bound (changes_of changes))) (refused_adjusted (problem_refusal 17 0)))
+          (refused_adjusted (problem_refusal 16 0)))
+          (refused_adjusted told))
+      go false b c e f g = unfit (eqb-false _ _ e) refl
+      go true false c e f g = unboxed (unrefused_fit p.variables changes (eqb-true _ _ e)) f refl
+      go true true false e f g =
+          upper (unrefused_fit p.variables changes (eqb-true _ _ e)) (boxes_found p.variables p.conditions f)
+          (eqb-false _ _ g) refl
+      go true true true e f g =
+          moved (unrefused_fit p.variables changes (eqb-true _ _ e)) (boxes_found p.variables p.conditions f)
+          (eqb-true _ _ g) refl
 
-      by_changes : (o : Outcome (List Term)) → changes_for p.variables changes ≡ o
-          → P (told refused_adjusted (o then λ l.
-          refuse_if (not (boxed_to p.variables p.conditions)) (problem_refusal 16 0)
-          (refuse_if (not (eqb side 0)) (problem_refusal 17 0) (given (found_bound (moved_bound bound l))))))
-      by_changes (refused r) e = unfit r ((changes_refuses p.variables changes).by r e) e
-      by_changes (given l) e =
-          let k = (changes_gives p.variables changes).by l e in
-          rw k.terms (last k.fit (boxed_to p.variables p.conditions) (eqb side 0) refl refl)
-
-  unfit_told : {r : Refusal} → changes_for p.variables changes ≡ refused r
-      → told refused_adjusted (adjusted_for p side bound changes) ≡ refused_adjusted r
-  unfolding adjusted_for
-  unfit_told e = rw e
-
-module _ (short : Bool) (s t changes : List ℕ) where
+module _ (short : Bool) (s t changes : List ℕ) (v : AdjustedVerdict) (is : v ≡ adjusted_verdict short s t changes) where
   abbrev said : CheckVerdict
   said = check_verdict short s t
 
-  abbrev v : AdjustedVerdict
-  v = adjusted_verdict short s t changes
+  -- ---- the check comes first
+  by_check : (said.refusal.number ≡ 0 → ⊥) → v ≡ refused_adjusted said.refusal
+  unfolding adjusted_verdict adjusted_checked
+  by_check h = is ∙ rw (ne_eqb said.refusal.number 0 h)
 
-  by_end : (P : AdjustedVerdict → Type 0)
-      → ((r : Refusal) → CheckRefused short s t r → said ≡ refused_check r → P (refused_adjusted r))
-      → ((p : Problem) → Within short s p → (c : Certificate) → J.Accepted p t c
-      → P (told refused_adjusted (adjusted_for p c.header.side (bound_of c.header) changes)))
-      → P v
-  unfolding adjusted_verdict
-  by_end = after_check short s t refused_adjusted (λ p c. adjusted_for p c.header.side (bound_of c.header) changes)
+  by_problem : said.refusal.number ≡ 0 → (p : Problem) → read_problem s ≡ given p → v ≡ adjusted_of p said changes
+  unfolding adjusted_verdict adjusted_checked
+  by_problem h p read = is ∙ rw (eq-eqb said.refusal.number 0 h, read)
 
-  -- ---- by what the check says: "After the check"
-  pub check_first : (said.refusal.number ≡ 0 → ⊥) → v ≡ refused_adjusted said.refusal
-  check_first =
-      by_end (λ v. (said.refusal.number ≡ 0 → ⊥) → v ≡ refused_adjusted said.refusal)
-      (λ r b e h. ap (λ (x : CheckVerdict). refused_adjusted x.refusal) (sym e))
-      (λ p w c a h. absurd (h (ap (λ (x : CheckVerdict). x.refusal.number) (check_accepted_by short s t p c w a))))
+  number_is : (w : AdjustedVerdict) → v ≡ w → v.refusal.number ≡ w.refusal.number
+  number_is w e = ap (λ (x : AdjustedVerdict). x.refusal.number) e
 
-  pub check_passed : said.refusal.number ≡ 0 → (p : Problem) → read_problem s ≡ Stream.given p
-      → v ≡ told refused_adjusted (adjusted_for p said.side said.bound changes)
-  check_passed =
-      by_end (λ v. said.refusal.number ≡ 0 → (p : Problem) → read_problem s ≡ Stream.given p
-      → v ≡ told refused_adjusted (adjusted_for p said.side said.bound changes))
-      (λ r b e h. absurd (omega (arith, b.least, ap (λ (x : CheckVerdict). x.refusal.number) e)))
-      (λ q w c a h p read.
-      let i = w.read in
-      let same : q ≡ p = cc in
-      rw (check_accepted_by short s t q c w a)
-      (ap (λ (x : Problem). told refused_adjusted (adjusted_for x c.header.side (bound_of c.header) changes)) same))
+  refusal_is : (w : AdjustedVerdict) → v ≡ w → v.refusal ≡ w.refusal
+  refusal_is w e = ap (λ (x : AdjustedVerdict). x.refusal) e
 
   -- ---- where nothing is refused
   passed : v.refusal.number ≡ 0 → said.refusal.number ≡ 0
   passed h =
-      ⊎_elim (λ e. e) (λ n. absurd (n (sym (ap (λ (x : AdjustedVerdict). x.refusal.number) (check_first n)) ∙ h)))
-      (same_or_not said.refusal.number 0)
-
-  opens : v.refusal.number ≡ 0 → Reads s (Within short s)
-  opens =
-      by_end (λ v. v.refusal.number ≡ 0 → Reads s (Within short s)) (λ r b e h. absurd (omega (arith, b.least)))
-      (λ p w c a h. record { problem = p; read = w.read; holds = w })
-
-  unrefused : v.refusal.number ≡ 0 → v.refusal ≡ no_refusal
-  unrefused =
-      by_end (λ v. v.refusal.number ≡ 0 → v.refusal ≡ no_refusal) (λ r b e h. absurd (omega (arith, b.least)))
-      (λ p w c a.
-      for_by p _ _ changes (λ v. v.refusal.number ≡ 0 → v.refusal ≡ no_refusal) (λ r b e h. absurd (omega (arith, b.least)))
-      (λ e h. absurd (omega arith)) (λ b n h. absurd (omega arith)) (λ f b l h. refl))
+      ⊎_elim (λ e. e) (λ n. absurd (n (sym (number_is _ (by_check n)) ∙ h))) (same_or_not said.refusal.number 0)
 
   found : v.refusal.number ≡ 0 → Reads s (λ p. Moved p t changes v.bound)
-  found =
-      by_end (λ v. v.refusal.number ≡ 0 → Reads s (λ p. Moved p t changes v.bound))
-      (λ r b e h. absurd (omega (arith, b.least)))
-      (λ p w c a.
-      for_by p _ _ changes (λ v. v.refusal.number ≡ 0 → Reads s (λ p. Moved p t changes v.bound))
-      (λ r b e h. absurd (omega (arith, b.least))) (λ e h. absurd (omega arith)) (λ b n h. absurd (omega arith))
-      (λ f b l h. record {
-        problem = p;
-        read = w.read;
-        holds =
-            record { certificate = c; adjusts = record { accepted = a; fit = f; boxes = b; lower = l }; bound = refl };
-      }))
+  found h =
+      let r = check_found short s t said refl (passed h) in
+      let p = r.problem in
+      record { problem = p; read = r.read; holds = at p r.holds (by_problem (passed h) p r.read) }
+    where
+      at : (p : Problem) → Checked p t said → v ≡ adjusted_of p said changes → Moved p t changes v.bound
+      at p k e = go (subst (Decided p said changes) (sym e) (decided p said changes))
+        where
+          go : Decided p said changes v → Moved p t changes v.bound
+          go (unfit n e) = absurd (n (sym (number_is _ e) ∙ h))
+          go (unboxed f b e) = absurd (omega (arith, number_is _ e))
+          go (upper f b u e) = absurd (omega (arith, number_is _ e))
+          go (moved f b l e) = record {
+            certificate = k.certificate;
+            adjusts = record {
+              accepted = k.accepted;
+              fit = f;
+              boxes = b;
+              lower = sym (ap (λ (x : CheckVerdict). x.side) k.verdict) ∙ l;
+            };
+            bound =
+                ap (λ (x : AdjustedVerdict). x.bound) e
+                ∙ ap (λ (x : CheckVerdict). moved_bound x.bound (changes_of changes)) k.verdict;
+          }
 
   holds : HoldsChanged s changes v.refusal.number v.bound
   holds p read h =
@@ -150,47 +132,63 @@ module _ (short : Bool) (s t changes : List ℕ) where
 
   -- ---- the numbers
   numbered : AdjustedNumber v.refusal.number
-  numbered =
-      by_end (λ v. AdjustedNumber v.refusal.number) (λ r b e. inl b.most)
-      (λ p w c a.
-      for_by p _ _ changes (λ v. AdjustedNumber v.refusal.number) (λ r b e. inl (omega (arith, b.most)))
-      (λ e. inr (inl refl)) (λ b n. inr (inr refl)) (λ f b l. inl (omega arith)))
+  numbered = ⊎_elim accepted refused (same_or_not said.refusal.number 0)
+    where
+      refused : (said.refusal.number ≡ 0 → ⊥) → AdjustedNumber v.refusal.number
+      refused n = inl (omega (arith, number_is _ (by_check n), (check_clauses short s t said refl).0))
+
+      at : (p : Problem) → Decided p said changes v → AdjustedNumber v.refusal.number
+      at p (unfit n e) = inl (omega (arith, number_is _ e, changes_number p.variables changes))
+      at p (unboxed f b e) = inr (inl (number_is _ e))
+      at p (upper f b u e) = inr (inr (number_is _ e))
+      at p (moved f b l e) = inl (omega (arith, number_is _ e))
+
+      accepted : said.refusal.number ≡ 0 → AdjustedNumber v.refusal.number
+      accepted h =
+          let r = check_found short s t said refl h in
+          let p = r.problem in
+          at p (subst (Decided p said changes) (sym (by_problem h p r.read)) (decided p said changes))
 
   -- ---- a certificate that the check accepts
   module _ (p : Problem) (c : Certificate) (w : Within short s p) (a : J.Accepted p t c) where
-    of_problem : v ≡ told refused_adjusted (adjusted_for p c.header.side (bound_of c.header) changes)
-    unfolding adjusted_verdict
-    of_problem = rw (problem_within short s p w, accepted_given 1 p t c a)
+    of_problem : v ≡ adjusted_of p said changes
+    of_problem = by_problem (accepted_states short s t p w c a).number p w.read
 
-    by_changes : {r : Refusal} → changes_for p.variables changes ≡ refused r → v.refusal ≡ r
-    by_changes e = ap (λ (x : AdjustedVerdict). x.refusal) (of_problem ∙ unfit_told p _ _ changes e)
+    by_changes : ((told p said changes).number ≡ 0 → ⊥) → v.refusal ≡ told p said changes
+    unfolding adjusted_of
+    by_changes h =
+        refusal_is (refused_adjusted (told p said changes)) (of_problem ∙ rw (ne_eqb (told p said changes).number 0 h))
 
     module _ (fit : ChangesFit p.variables changes) where
-      -- the changes are not refused
-      by_boxes : (P : AdjustedVerdict → Type 0)
-          → (boxed_to p.variables p.conditions ≡ false → P (refused_adjusted (problem_refusal 16 0)))
-          → (EveryBox p → (c.header.side ≡ 0 → ⊥) → P (refused_adjusted (problem_refusal 17 0)))
-          → (EveryBox p → c.header.side ≡ 0 → P (found_bound (moved_bound (bound_of c.header) (changes_of changes))))
-          → P v
-      by_boxes P x y z =
-          rw of_problem (for_by p _ _ changes P
-          (λ r b e. let g = fit_given p.variables changes fit in clash (cc)) x y (λ f. z))
+      by_boxes : v ≡ adjusted_by p said (changes_of changes)
+      unfolding adjusted_of
+      by_boxes = of_problem ∙ rw (fit_unrefused p.variables changes fit)
 
       unboxed_refused : (i : ℕ) → 1 ≤ i → i ≤ p.variables → (Box i p.conditions → ⊥)
           → v.refusal ≡ problem_refusal 16 0
-      unboxed_refused i l u n =
-          by_boxes (λ v. v.refusal ≡ problem_refusal 16 0) (λ e. refl) (λ b k. absurd (n (b i l u))) (λ b k. absurd (n (b i l u)))
+      unfolding adjusted_by
+      unboxed_refused i l u n = go (boxed_to p.variables p.conditions) refl
+        where
+          go : (b : Bool) → boxed_to p.variables p.conditions ≡ b → v.refusal ≡ problem_refusal 16 0
+          go true e = absurd (n (boxes_found p.variables p.conditions e i l u))
+          go false e = refusal_is (refused_adjusted (problem_refusal 16 0)) (by_boxes ∙ rw e)
 
       module _ (boxes : EveryBox p) where
-        boxed : {X : Type 0} → boxed_to p.variables p.conditions ≡ false → X
-        boxed e = never (sym e ∙ found_boxes p.variables p.conditions boxes)
+        by_side : (b : Bool) → eqb said.side 0 ≡ b
+            → v ≡ cond b (found_bound (moved_bound said.bound (changes_of changes)))
+            (refused_adjusted (problem_refusal 17 0))
+        unfolding adjusted_by
+        by_side b e = by_boxes ∙ rw (found_boxes p.variables p.conditions boxes, e)
 
         upper_refused : c.header.side ≡ 1 → v.refusal ≡ problem_refusal 17 0
         upper_refused u =
-            by_boxes (λ v. v.refusal ≡ problem_refusal 17 0) (λ e. boxed e) (λ b n. refl) (λ b l. absurd (omega arith))
+            let d = (accepted_states short s t p w c a).side in
+            refusal_is _ (by_side false (ne_eqb said.side 0 (λ z. omega arith)))
 
         lower_accepted : c.header.side ≡ 0 → v.refusal.number ≡ 0
-        lower_accepted l = by_boxes (λ v. v.refusal.number ≡ 0) (λ e. boxed e) (λ b n. absurd (n l)) (λ b k. refl)
+        lower_accepted l =
+            let d = (accepted_states short s t p w c a).side in
+            number_is _ (by_side true (eq-eqb _ 0 (d ∙ l)))
 
   exactly : AdjustedExactly short s t changes v
   exactly = record {
@@ -198,85 +196,101 @@ module _ (short : Bool) (s t changes : List ℕ) where
     always = λ p c w a. lower_accepted p c w a.accepted a.fit a.boxes a.lower;
   }
 
+  not_zero : (f : Refusal) (number index : ℕ) → f ≡ change_refusal number index → 0 < number → f.number ≡ 0 → ⊥
+  not_zero f number index e h z = omega (arith, ap (λ (g : Refusal). g.number) e)
+
   in_order : InOrder short s t changes v.refusal
   in_order = record {
-    check = λ h. ap (λ (x : AdjustedVerdict). x.refusal) (check_first h);
-    cut = λ p c w a h. by_changes p c w a (cut_refused p.variables changes h);
-    many = λ p c w a k h. by_changes p c w a (many_refused p.variables changes k h);
-    unfit = λ p c w a k l i h. by_changes p c w a (unfit_refused p.variables changes k l i h);
+    check = λ h. refusal_is _ (by_check h);
+    cut = λ p c w a h.
+        let e = cut_refused p.variables changes h in
+        by_changes p c w a (not_zero _ _ _ e (omega arith)) ∙ e;
+    many = λ p c w a k h.
+        let e = many_refused p.variables changes k h in
+        by_changes p c w a (not_zero _ _ _ e (omega arith)) ∙ e;
+    unfit = λ p c w a k l i h.
+        let e = unfit_refused p.variables changes k l i h in
+        by_changes p c w a (not_zero _ _ _ e (omega arith)) ∙ e;
     unboxed = unboxed_refused;
     upper = upper_refused;
   }
 
   -- ---- the zeros
+  unrefused : v.refusal.number ≡ 0 → v.refusal ≡ no_refusal
+  unrefused h =
+      let r = check_found short s t said refl (passed h) in
+      let p = r.problem in
+      go p (subst (Decided p said changes) (sym (by_problem (passed h) p r.read)) (decided p said changes))
+    where
+      go : (p : Problem) → Decided p said changes v → v.refusal ≡ no_refusal
+      go p (unfit n e) = absurd (n (sym (number_is _ e) ∙ h))
+      go p (unboxed f b e) = absurd (omega (arith, number_is _ e))
+      go p (upper f b u e) = absurd (omega (arith, number_is _ e))
+      go p (moved f b l e) = refusal_is _ e
+
   zeros : AdjustedZeros v
-  zeros =
-      by_end AdjustedZeros (λ r b e. with_refusal_lem r (refused_zeros r b.least b.key))
-      (λ p w c a.
-      for_by p _ _ changes AdjustedZeros (λ r b e. with_refusal_lem r (refused_zeros r b.least (λ _. b.key)))
-      (λ e. with_refusal_lem _ (problem_zeros 16 0 (omega arith))) (λ b n. with_refusal_lem _ (problem_zeros 17 0 (omega arith)))
-      (λ f b l. record { refusal = none_zeros; bound = λ h. absurd (omega arith) }))
+  zeros = ⊎_elim accepted refused (same_or_not said.refusal.number 0)
     where
       with_refusal_lem : (r : Refusal) → RefusalZeros r → AdjustedZeros (refused_adjusted r)
       with_refusal_lem r z = record { refusal = z; bound = λ _. zero_fraction }
 
--- ---- other streams: the call looks at the variables and conditions of the problem, and at the side and the bound of
--- the check
-same_adjusted : (p q : Problem) {side side' : ℕ} {bound bound' : Fraction} (changes : List ℕ) → q.variables ≡ p.variables
-    → q.conditions ≡ p.conditions → side' ≡ side → bound' ≡ bound
-    → adjusted_for q side' bound' changes ≡ adjusted_for p side bound changes
-unfolding adjusted_for
-same_adjusted p q changes n c e f = rw (n, c, e, f)
+      refused : (said.refusal.number ≡ 0 → ⊥) → AdjustedZeros v
+      refused n = rw (by_check n) (with_refusal_lem _ (check_zeros short s t said refl).refusal)
 
--- under rule 1, or at a larger order
+      at : (p : Problem) → Decided p said changes v → AdjustedZeros v
+      at p (unfit n e) = rw e (with_refusal_lem _ (changes_zeros p.variables changes))
+      at p (unboxed f b e) = rw e (with_refusal_lem _ (problem_zeros 16 0 (omega arith)))
+      at p (upper f b u e) = rw e (with_refusal_lem _ (problem_zeros 17 0 (omega arith)))
+      at p (moved f b l e) = rw e (record { refusal = none_zeros; bound = λ h. absurd (omega arith) })
+
+      accepted : said.refusal.number ≡ 0 → AdjustedZeros v
+      accepted h =
+          let r = check_found short s t said refl h in
+          let p = r.problem in
+          at p (subst (Decided p said changes) (sym (by_problem h p r.read)) (decided p said changes))
+
+-- ---- under rule 1, or at a larger order
+-- the call looks at the variables and conditions of the problem, and at the side and the bound of the check
+same_adjusted : (p q : Problem) (v w : CheckVerdict) (changes : List ℕ) → q.variables ≡ p.variables
+    → q.conditions ≡ p.conditions → w.side ≡ v.side → w.bound ≡ v.bound
+    → adjusted_of q w changes ≡ adjusted_of p v changes
+unfolding adjusted_of adjusted_by
+same_adjusted p q v w changes n c side bound = rw (n, c, side, bound)
+
 pub adjusted_decides : (short : Bool) (s t changes : List ℕ)
     → Decides (problem_refusal 7 0) (λ w. w.refusal) (λ w u. w.bound ≡ u.bound) (λ u. adjusted_verdict short u t changes) short s
-adjusted_decides short s t changes = record { opens = opens short s t changes; refuses = refuses; accepts = accepts }
+adjusted_decides short s t changes = record { opens = opens; refuses = refuses; accepts = accepts }
   where
     of : List ℕ → AdjustedVerdict
     of u = adjusted_verdict short u t changes
+
+    opens : (of s).refusal.number ≡ 0 → Reads s (Within short s)
+    opens h = check_opens short s t _ refl (passed short s t changes _ refl h)
 
     refuses : (u : List ℕ) → AllSeven short u → (of s).refusal.number ≡ 0 → (of u).refusal ≡ problem_refusal 7 0
     refuses u a h =
         let e = ap (λ (x : CheckVerdict). x.refusal) (a.check t) in
         ap (λ (x : AdjustedVerdict). x.refusal)
-        (check_first short u t changes (λ z. omega (arith, ap (λ (r : Refusal). r.number) e)))
+        (by_check short u t changes _ refl (λ z. omega (arith, ap (λ (r : Refusal). r.number) e)))
         ∙ e
 
     accepts : (u : List ℕ) → AllStay short s u → (of s).refusal.number ≡ 0
         → ((of u).refusal ≡ no_refusal) × ((of u).bound ≡ (of s).bound)
     accepts u a h =
-        let z = passed short s t changes h in
+        let z = passed short s t changes _ refl h in
         let k = a.check t z in
         let e : of u ≡ of s =
-        check_passed short u t changes (ap (λ (r : Refusal). r.number) k.0) a.other a.other_read
-        ∙ ap (told refused_adjusted)
-        (same_adjusted a.problem a.other changes a.variables a.conditions k.1.0 k.1.1)
-        ∙ sym (check_passed short s t changes z a.problem a.read) in (
-          ap (λ (x : AdjustedVerdict). x.refusal) e ∙ unrefused short s t changes h,
+        by_problem short u t changes _ refl (ap (λ (r : Refusal). r.number) k.0) a.other a.other_read
+        ∙ same_adjusted a.problem a.other _ _ changes a.variables a.conditions k.1.0 k.1.1
+        ∙ sym (by_problem short s t changes _ refl z a.problem a.read) in (
+          ap (λ (x : AdjustedVerdict). x.refusal) e ∙ unrefused short s t changes _ refl h,
           ap (λ (x : AdjustedVerdict). x.bound) e,
         )
 
--- with the rows in another order
-module _ (short : Bool) (s changes : List ℕ) where
-  adjusted_order : {t u : List ℕ} → Rearranged t u → adjusted_number (adjusted_verdict short s t changes) ≡ 0
-      → adjusted_verdict short s u changes ≡ adjusted_verdict short s t changes
-  adjusted_order {t} {u} o h =
-      let z = passed short s t changes h in
-      let e = (check_alike short s o).accepted z in
-      let r = opens short s t changes h in
-      check_passed short s u changes (ap (λ (x : CheckVerdict). x.refusal.number) e ∙ z) r.problem r.read
-      ∙ ap (λ (x : CheckVerdict). told refused_adjusted (adjusted_for r.problem x.side x.bound changes)) e
-      ∙ sym (check_passed short s t changes z r.problem r.read)
-
-  adjusted_any_order : (t : List ℕ) → AdjustedAnyOrder short s t changes (adjusted_verdict short s t changes)
-  adjusted_any_order t u o = record { accepted = adjusted_order o; back = adjusted_order (rearranged_back o) }
-
 -- all of them
 module _ (short : Bool) (s t changes : List ℕ) (v : AdjustedVerdict) (is : v ≡ adjusted_verdict short s t changes) where
-  kept : (R : List ℕ → List ℕ → Type 0) → ((u : List ℕ) → R s u → AllLead s u)
-      → AdjustedKept R short s t changes (adjusted_verdict short s t changes)
-  kept R leads = decides_kept (adjusted_decides short s t changes) R leads
+  kept : (R : List ℕ → List ℕ → Type 0) → ((u : List ℕ) → R s u → AllLead s u) → AdjustedKept R short s t changes v
+  kept R leads = rw is (decides_kept (adjusted_decides short s t changes) R leads)
 
   pub adjusted_clauses : AdjustedNumber v.refusal.number
       × (AdjustedExactly short s t changes v
@@ -285,23 +299,22 @@ module _ (short : Bool) (s t changes : List ℕ) (v : AdjustedVerdict) (is : v �
       × (AdjustedZeros v
       × (AdjustedKept UnderOne short s t changes v
       × (AdjustedKept AtLarger short s t changes v × AdjustedAnyOrder short s t changes v))))))
-  adjusted_clauses =
-      rw is (
-        numbered short s t changes,
+  adjusted_clauses = (
+    numbered short s t changes v is,
+    (
+      exactly short s t changes v is,
+      (
+        holds short s t changes v is,
         (
-          exactly short s t changes,
+          in_order short s t changes v is,
           (
-            holds short s t changes,
+            zeros short s t changes v is,
             (
-              in_order short s t changes,
-              (
-                zeros short s t changes,
-                (
-                  kept UnderOne (under_leads s),
-                  (kept AtLarger (larger_leads s), adjusted_any_order short s changes t),
-                ),
-              ),
+              kept UnderOne (under_leads s),
+              (kept AtLarger (larger_leads s), adjusted_any_order short s t changes v is),
             ),
           ),
         ),
-      )
+      ),
+    ),
+  )

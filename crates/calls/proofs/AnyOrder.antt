@@ -11,25 +11,29 @@ use borrow.Author.Tests.{eq-eqb, ne_eqb, eqb-true, ltb-false, lt-ltb}
 use Rattle.counting.proofs.Cases.{clash}
 use Rattle.counting.proofs.Listed.{same_or_not}
 use Rattle.format.specs.Commands.{Outcome, refused, given}
+use Rattle.format.specs.ProblemRules.{Problem, read_problem}
 use Rattle.format.specs.Notes.{note_text, without_notes}
 use Rattle.calls.specs.Refusals.{no_refusal}
 use Rattle.calls.specs.Check.{check_verdict}
 use Rattle.calls.specs.Pair.{pair_verdict}
-use Rattle.calls.specs.Superseding.{is_accepted, part_of, superseding_verdict}
+use Rattle.calls.specs.Superseding.{is_accepted, tighter_of, comes_back, none_back, superseding_of, part_of, superseding_verdict}
 use Rattle.calls.specs.Report.{Runs, pair_on, record_length, with_room, records_of, checked_records, with_verdict, with_accepted, none_accepted, result_of, report_verdict}
+use Rattle.calls.specs.AddedBounds.{Streams, sum_second, sum_pairs, sum_verdict, same_region_read}
+use Rattle.calls.specs.Adjusted.{adjusted_checked, adjusted_verdict}
 use Rattle.calls.specs.Office.{note_count, refused_notes, verdict_sent, office_of, office_verdict}
 use Rattle.calls.specs.declared.Refusal.{Refusal}
 use Rattle.calls.specs.declared.CheckVerdict.{CheckVerdict}
 use Rattle.calls.specs.declared.Chosen.TheVariants as Chosen
 use Rattle.calls.specs.declared.PairVerdict.{PairVerdict}
 use Rattle.calls.specs.declared.SupersedingVerdict.{SupersedingVerdict}
+use Rattle.calls.specs.declared.SumVerdict.{SumVerdict}
+use Rattle.calls.specs.declared.AdjustedVerdict.{AdjustedVerdict}
 use Rattle.calls.specs.declared.OfficeVerdict.{OfficeVerdict}
 use Rattle.calls.specs.declared.ReportVerdict.{ReportVerdict}
-use Rattle.calls.specs.RowOrder.{Rearranged, Alike, check_number, pair_number, superseding_number, office_number}
-use Rattle.calls.specs.RowOrder.{CheckAnyOrder, PairAnyOrder, SameBack, SupersedingAnyOrder, RecordsRearranged, none, more, ReportAnyOrder, OfficeAnyOrder}
-use Rattle.calls.proofs.RowOrder.{alike_number, rearranged_back, check_alike, pair_alike}
+use Rattle.calls.specs.RowOrder.{Rearranged, Alike, check_number, pair_number, superseding_number, office_number, sum_number, adjusted_number}
+use Rattle.calls.specs.RowOrder.{CheckAnyOrder, PairAnyOrder, SameBack, SupersedingAnyOrder, RecordsRearranged, none, more, ReportAnyOrder, OfficeAnyOrder, StreamsRearranged, SumAnyOrder, AdjustedAnyOrder}
+use Rattle.calls.proofs.RowOrder.{alike_same, alike_then, alike_told, alike_number, rearranged_back, check_alike, pair_alike}
 use Rattle.calls.proofs.Checking.{check_found}
-use Rattle.calls.proofs.Superseded.{decided_by, superseding_said}
 use Rattle.calls.proofs.Office.{sent_number, sent_other, office_refused_lem}
 
 -- ---- the check and the pair
@@ -47,22 +51,22 @@ module _ {a a' b b' : CheckVerdict} (o : Alike check_number a a') (u : Alike che
   refused_other : {v w : CheckVerdict} → Alike check_number v w → (check_number v ≡ 0 → ⊥) → is_accepted w ≡ false
   refused_other q n = ne_eqb _ _ (λ h. n ((alike_number check_number q).1 h))
 
-  superseding_of_lem : superseding_number (decided_by a b) ≡ 0 → decided_by a' b' ≡ decided_by a b
-  unfolding decided_by
+  superseding_of_lem : superseding_number (superseding_of a b) ≡ 0 → superseding_of a' b' ≡ superseding_of a b
+  unfolding superseding_of
   superseding_of_lem h = ⊎_elim first_in first_out (same_or_not (check_number a) 0)
     where
-      first_in : check_number a ≡ 0 → decided_by a' b' ≡ decided_by a b
+      first_in : check_number a ≡ 0 → superseding_of a' b' ≡ superseding_of a b
       first_in z =
           let e = o.accepted z in
           ⊎_elim
-          (λ y. ap (λ x. decided_by x b') e ∙ ap (decided_by a) (u.accepted y))
-          (λ y. ap (λ x. decided_by x b') e ∙ rw (eq-eqb (check_number a) 0 z, ne_eqb (check_number b) 0 y, refused_other u y))
+          (λ y. ap (λ x. superseding_of x b') e ∙ ap (superseding_of a) (u.accepted y))
+          (λ y. ap (λ x. superseding_of x b') e ∙ rw (eq-eqb (check_number a) 0 z, ne_eqb (check_number b) 0 y, refused_other u y))
           (same_or_not (check_number b) 0)
 
-      first_out : (check_number a ≡ 0 → ⊥) → decided_by a' b' ≡ decided_by a b
+      first_out : (check_number a ≡ 0 → ⊥) → superseding_of a' b' ≡ superseding_of a b
       first_out n =
           ⊎_elim
-          (λ y. ap (decided_by a') (u.accepted y) ∙ rw (ne_eqb (check_number a) 0 n, refused_other o n, eq-eqb (check_number b) 0 y))
+          (λ y. ap (superseding_of a') (u.accepted y) ∙ rw (ne_eqb (check_number a) 0 n, refused_other o n, eq-eqb (check_number b) 0 y))
           (λ y. absurd (n (rw (ne_eqb (check_number a) 0 n, ne_eqb (check_number b) 0 y) at h)))
           (same_or_not (check_number b) 0)
 
@@ -72,11 +76,11 @@ alike_back a = record { accepted = a.back; back = a.accepted }
 module _ (short : Bool) (s : List ℕ) where
   pub superseding_alike : {first first' second second' : List ℕ} → Rearranged first first' → Rearranged second second'
       → Alike superseding_number (superseding_verdict short s first second) (superseding_verdict short s first' second')
-  superseding_alike {first} {first'} {second} {second'} o u =
+  unfolding superseding_verdict
+  superseding_alike o u =
       let a = check_alike short s o in
       let b = check_alike short s u in
-      rw (superseding_said short s first second, superseding_said short s first' second')
-      (record { accepted = superseding_of_lem a b; back = superseding_of_lem (alike_back a) (alike_back b) })
+      record { accepted = superseding_of_lem a b; back = superseding_of_lem (alike_back a) (alike_back b) }
 
   -- f is the refusal that is returned, and part what comes back
   pub superseding_any_order : (first second part : List ℕ) (f : Refusal) → f
@@ -93,6 +97,41 @@ module _ (short : Bool) (s : List ℕ) where
             (ap superseding_number q ∙ z, g ∙ ap (λ (x : SupersedingVerdict). part_of x.chosen first second) (sym q));
         back = λ h. n ∙ (alike_number superseding_number a).1 h;
       }
+
+  -- ---- request 13
+  adjusted_only : (changes : List ℕ) (v : CheckVerdict) → adjusted_number (adjusted_checked s v changes) ≡ 0
+      → check_number v ≡ 0
+  unfolding adjusted_checked
+  adjusted_only changes v h = ⊎_elim (λ z. z) (λ n. absurd (n (rw (ne_eqb (check_number v) 0 n) at h))) (same_or_not (check_number v) 0)
+
+  pub adjusted_any_order : (t changes : List ℕ) (v : AdjustedVerdict) → v ≡ adjusted_verdict short s t changes
+      → AdjustedAnyOrder short s t changes v
+  unfolding adjusted_verdict
+  adjusted_any_order t changes v e u o =
+      rw e (alike_told check_number (λ w. adjusted_checked s w changes) adjusted_number (adjusted_only changes) (check_alike short s o))
+
+-- ---- request 12
+module _ (same : Bool) where
+  sum_first : (w v : PairVerdict) → sum_number (sum_pairs same v w) ≡ 0 → pair_number v ≡ 0
+  unfolding sum_pairs
+  sum_first w v h = ⊎_elim (λ z. z) (λ n. absurd (n (rw (ne_eqb (pair_number v) 0 n) at h))) (same_or_not (pair_number v) 0)
+
+  sum_second_lem : (v w : PairVerdict) → sum_number (sum_pairs same v w) ≡ 0 → pair_number w ≡ 0
+  unfolding sum_pairs sum_second
+  sum_second_lem v w h =
+      let z = sum_first w v h in
+      ⊎_elim (λ y. y) (λ n. absurd (n (rw (eq-eqb (pair_number v) 0 z, ne_eqb (pair_number w) 0 n) at h))) (same_or_not (pair_number w) 0)
+
+pub sum_any_order : (short : Bool) (a b : Streams) (v : SumVerdict) → v ≡ sum_verdict short a b → SumAnyOrder short a b v
+unfolding sum_verdict
+sum_any_order short a b v e a' b' o u =
+    let same = same_region_read (read_problem a.problem) (read_problem b.problem) in
+    let first = pair_alike short a.problem o.low o.high in
+    let second = pair_alike short b.problem u.low u.high in
+    rw (e, o.problem, u.problem)
+    (alike_then sum_number
+    (alike_told pair_number (λ x. sum_pairs same x (pair_verdict short b.problem b.low b.high)) sum_number (sum_first same _) first)
+    (alike_told pair_number (sum_pairs same (pair_verdict short a.problem a'.low a'.high)) sum_number (sum_second_lem same _) second))
 
 -- ---- request 07
 -- a record counts in both or in neither

@@ -1,5 +1,5 @@
 -- What the refusals of the changes say: none exactly where they fit, and the first that does not fit by its index.
-use mathlib.Core.Path.{◌≡◌, refl, ap, subst, ◌∙◌}
+use mathlib.Core.Path.{◌≡◌, refl, ap, ◌∙◌}
 use mathlib.Core.Bool.{Bool, true, false, cond}
 use mathlib.Core.List.{List, [], ◌∷◌}
 use mathlib.Core.Option.{Option, none, some}
@@ -12,21 +12,11 @@ use Rattle.counting.proofs.Cases.{clash}
 use Rattle.counting.proofs.Listed.{listed_length, listed_at}
 use Rattle.polynomial.specs.Terms.{Term}
 use Rattle.calls.specs.declared.Refusal.{Refusal}
-use Rattle.calls.specs.Outcome.{Outcome, refused, given, refuse_if, refusal_of}
+use Rattle.calls.specs.Refusals.{no_refusal}
 use Rattle.calls.specs.Adjusted.{change_size, change_at, change_count, changes_of, most_changes, change_refusal}
-use Rattle.calls.specs.Adjusted.{change_fits, first_unfit, unless_unfit, changes_for, ChangesFit, FirstUnfit}
-use Rattle.calls.proofs.Outcomes.{Refuses, Gives, given_refuses, if_refuses, given_gives, if_gives}
-
--- what a refusal of the changes says
-pub record ChangesRefused (r : Refusal) : Type 0 where
-  pub least : 1 ≤ r.number
-  pub most : r.number ≤ 6
-  pub key : r.key ≡ 0
-
--- and the terms that are given
-pub record ChangesGiven (n : ℕ) (s : List ℕ) (l : List Term) : Type 0 where
-  pub terms : l ≡ changes_of s
-  pub fit : ChangesFit n s
+use Rattle.calls.specs.Adjusted.{change_fits, first_unfit, unfit_refusal, changes_refusal, ChangesFit, FirstUnfit}
+use Rattle.calls.specs.Zeros.{RefusalZeros}
+use Rattle.calls.proofs.Zeros.{none_zeros, certificate_zeros}
 
 -- ---- the first that does not fit
 module _ (n : ℕ) (d : Term) where
@@ -73,80 +63,77 @@ module _ (n : ℕ) (s : List ℕ) where
   unfolding changes_of
   changes_length = listed_length (change_count s) (change_at s)
 
-  -- ---- what is refused, and what is given
-  change_refused : (k i : ℕ) → 1 ≤ k → k ≤ 6 → ChangesRefused (change_refusal k i)
-  change_refused k i l m = record { least = l; most = m; key = refl }
+  -- ---- none is refused exactly where they fit
+  by_first : (o : Option ℕ) → first ≡ o → length s % change_size ≡ 0 → change_count s ≤ most_changes
+      → (unfit_refusal o).number ≡ 0 → ChangesFit n s
+  by_first none e whole few h = record {
+    whole = whole;
+    few = few;
+    fit = λ i b. rw (change_is i b) at (none_unfit n no_term (changes_of s) 0 e i (omega (arith, changes_length)));
+  }
+  by_first (some i) e whole few h = absurd (omega arith)
 
-  pub changes_refuses : Refuses ChangesRefused (changes_for n s)
-  unfolding changes_for
-  changes_refuses =
-      if_refuses (ltb 0 (length s % change_size)) _ (λ _. change_refused 2 (change_count s) (omega arith) (omega arith)) (λ _.
-      if_refuses (ltb most_changes (change_count s)) _ (λ _. change_refused 6 most_changes (omega arith) (omega arith)) (λ _.
-      go first))
+  pub unrefused_fit : (changes_refusal n s).number ≡ 0 → ChangesFit n s
+  unfolding changes_refusal
+  unrefused_fit = go (ltb 0 (length s % change_size)) (ltb most_changes (change_count s)) refl refl
     where
-      go : (o : Option ℕ) → Refuses ChangesRefused (unless_unfit o (changes_of s))
-      go none = given_refuses
-      go (some i) = record {
-        by = λ r e.
-            let z : change_refusal 4 i ≡ r = cc in
-            subst ChangesRefused z (change_refused 4 i (omega arith) (omega arith));
-      }
-
-  pub changes_gives : Gives (ChangesGiven n s) (changes_for n s)
-  unfolding changes_for
-  changes_gives =
-      if_gives (ltb 0 (length s % change_size)) _ (λ e.
-      if_gives (ltb most_changes (change_count s)) _ (λ f.
-      let w = ltb-false 0 (length s % change_size) e in
-      go first refl (omega arith) (ltb-false most_changes (change_count s) f)))
-    where
-      go : (o : Option ℕ) → first ≡ o → length s % change_size ≡ 0 → change_count s ≤ most_changes
-          → Gives (ChangesGiven n s) (unless_unfit o (changes_of s))
-      go none e whole few =
-          given_gives (record {
-            terms = refl;
-            fit = record {
-              whole = whole;
-              few = few;
-              fit = λ i b. rw (change_is i b) at (none_unfit n no_term (changes_of s) 0 e i (omega (arith, changes_length)));
-            };
-          })
-      go (some i) e whole few = record { by = λ l h. clash (cc) }
-
-  -- a refusal with number 0 is none
-  pub unrefused_fit : (refusal_of (changes_for n s)).number ≡ 0 → ChangesFit n s
-  unrefused_fit = go (changes_for n s) refl
-    where
-      go : (o : Outcome (List Term)) → changes_for n s ≡ o → (refusal_of o).number ≡ 0 → ChangesFit n s
-      go (refused r) e h = absurd (omega (arith, (changes_refuses.by r e).least))
-      go (given l) e h = (changes_gives.by l e).fit
+      go : (b d : Bool) → ltb 0 (length s % change_size) ≡ b → ltb most_changes (change_count s) ≡ d
+          → (cond b (change_refusal 2 (change_count s)) (cond d (change_refusal 6 most_changes) (unfit_refusal first))).number ≡ 0
+          → ChangesFit n s
+      go true d e f h = absurd (omega arith)
+      go false true e f h = absurd (omega arith)
+      go false false e f h =
+          let w = ltb-false 0 (length s % change_size) e in
+          by_first first refl (omega arith) (ltb-false most_changes (change_count s) f) h
 
   -- ---- each refusal
-  pub cut_refused : 0 < length s % change_size → changes_for n s ≡ refused (change_refusal 2 (change_count s))
-  unfolding changes_for
+  pub changes_number : (changes_refusal n s).number ≤ 6
+  unfolding changes_refusal
+  changes_number = go (ltb 0 (length s % change_size)) (ltb most_changes (change_count s)) first
+    where
+      go : (b d : Bool) (o : Option ℕ)
+          → (cond b (change_refusal 2 (change_count s)) (cond d (change_refusal 6 most_changes) (unfit_refusal o))).number ≤ 6
+      go true d o = omega arith
+      go false true o = omega arith
+      go false false none = omega arith
+      go false false (some i) = omega arith
+
+  pub changes_zeros : RefusalZeros (changes_refusal n s)
+  unfolding changes_refusal
+  changes_zeros = go (ltb 0 (length s % change_size)) (ltb most_changes (change_count s)) first
+    where
+      go : (b d : Bool) (o : Option ℕ)
+          → RefusalZeros (cond b (change_refusal 2 (change_count s)) (cond d (change_refusal 6 most_changes) (unfit_refusal o)))
+      go true d o = certificate_zeros 2 2 (change_count s) 0 (omega arith) (λ _. refl)
+      go false true o = certificate_zeros 2 6 most_changes 0 (omega arith) (λ _. refl)
+      go false false none = none_zeros
+      go false false (some i) = certificate_zeros 2 4 i 0 (omega arith) (λ _. refl)
+
+  pub cut_refused : 0 < length s % change_size → changes_refusal n s ≡ change_refusal 2 (change_count s)
+  unfolding changes_refusal
   cut_refused h = rw (lt-ltb 0 (length s % change_size) h)
 
   module _ (w : length s % change_size ≡ 0) where
     whole_is : ltb 0 (length s % change_size) ≡ false
     whole_is = le-ltb 0 (length s % change_size) (omega arith)
 
-    pub many_refused : most_changes < change_count s → changes_for n s ≡ refused (change_refusal 6 most_changes)
-    unfolding changes_for
+    pub many_refused : most_changes < change_count s → changes_refusal n s ≡ change_refusal 6 most_changes
+    unfolding changes_refusal
     many_refused h = rw (whole_is, lt-ltb most_changes (change_count s) h)
 
     module _ (h : change_count s ≤ most_changes) where
-      by_unfit : (o : Option ℕ) → first ≡ o → changes_for n s ≡ unless_unfit o (changes_of s)
-      unfolding changes_for
+      by_unfit : (o : Option ℕ) → first ≡ o → changes_refusal n s ≡ unfit_refusal o
+      unfolding changes_refusal
       by_unfit o e = rw (whole_is, le-ltb most_changes (change_count s) h, e)
 
-      pub unfit_refused : (i : ℕ) → FirstUnfit n s i → changes_for n s ≡ refused (change_refusal 4 i)
+      pub unfit_refused : (i : ℕ) → FirstUnfit n s i → changes_refusal n s ≡ change_refusal 4 i
       unfit_refused i u =
           let b = u.within in
           let z : 0 + i ≡ i = omega arith in
           by_unfit (some i) (unfit_at n no_term (changes_of s) 0 i (omega (arith, changes_length))
           (rw (change_is i b) u.unfit) (λ j k. rw (change_is j (omega arith)) (u.before j k)) ∙ ap some z)
 
-  pub fit_given : ChangesFit n s → changes_for n s ≡ given (changes_of s)
-  fit_given h =
+  pub fit_unrefused : ChangesFit n s → changes_refusal n s ≡ no_refusal
+  fit_unrefused h =
       by_unfit h.whole h.few none (all_fit n no_term (changes_of s) 0
       (λ i b. let l : i < change_count s = omega (arith, changes_length) in rw (change_is i l) (h.fit i l)))

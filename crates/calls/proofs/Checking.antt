@@ -24,7 +24,7 @@ use Rattle.calls.specs.Check.{refused_check, accepted_check, check_for, check_ve
 use Rattle.calls.specs.Promises.{NumberedTo, RoundsTaken, FewRounds, RuleUsed, Reads, DiffersAt, IdentityFalse, Within, AcceptedExactly, SevenExactly, SplitsAt, CheckSplits, CheckDiffers, HoldsBelow, HoldsAbove, HoldsBySide}
 use Rattle.calls.specs.declared.TwoChecks.{TwoChecks}
 use Rattle.calls.specs.Zeros.{CheckZeros, TwoZeros}
-use Rattle.calls.specs.Rules.{UnderOne, AtLarger, UnlessSeven, SameBound, CheckKept}
+use Rattle.calls.specs.Rules.{UnderOne, AtLarger, UnlessSeven, SameBound, CheckKept, CheckUnderOne, CheckAtLarger}
 use Rattle.calls.proofs.Promised.{promise_rounds, promise_few}
 use Rattle.calls.specs.RowOrder.{CheckAnyOrder}
 use Rattle.calls.proofs.RowOrder.{check_alike}
@@ -187,7 +187,7 @@ module _ (short : Bool) (s t : List ℕ) (v : CheckVerdict) (is : v ≡ check_ve
       go (both b) = inr (check_stays s' b h)
 
   -- all of them
-  pub check_clauses : NumberedTo 9 v.refusal.number × (AcceptedExactly short s t v × (CheckDiffers short s t v.refusal × (HoldsBySide s v × (RoundsTaken s v.refusal.number v.rounds × (FewRounds s v.refusal.number v.rounds × (RuleUsed s v.refusal.number v.rule × (CheckKept UnderOne short s t v × (CheckKept AtLarger short s t v × (CheckZeros v × (SevenExactly short s v.refusal × (CheckSplits short s t v.refusal × CheckAnyOrder short s t v)))))))))))
+  pub check_clauses : NumberedTo 9 v.refusal.number × (AcceptedExactly short s t v × (CheckDiffers short s t v.refusal × (HoldsBySide s v × (RoundsTaken s v.refusal.number v.rounds × (FewRounds s v.refusal.number v.rounds × (RuleUsed s v.refusal.number v.rule × (CheckUnderOne short s t v × (CheckAtLarger short s t v × (CheckZeros v × (SevenExactly short s v.refusal × (CheckSplits short s t v.refusal × CheckAnyOrder short s t v)))))))))))
   check_clauses = (check_numbered, (check_exactly, (check_differs, (check_holds, (check_rounds, (check_few, (check_rule, (check_kept UnderOne (under_leads s), (check_kept AtLarger (larger_leads s), (check_zeros, (check_seven, (check_splits, λ u o. rw is (check_alike short s o)))))))))))))
 
 -- of two certificates for one problem

@@ -1,5 +1,5 @@
 -- How the check and the pair end: a refusal, and what it says, or what was accepted. Each clause is a case of these.
-use mathlib.Core.Path.{◌≡◌, refl, sym, ap, subst, ◌∙◌}
+use mathlib.Core.Path.{◌≡◌, refl, ap, ◌∙◌}
 use mathlib.Core.Bool.{Bool, true, false, not}
 use mathlib.Core.List.{List}
 use mathlib.Core.Logic.{◌⊎◌, inl, inr}
@@ -20,13 +20,13 @@ use Rattle.calls.specs.declared.Refusal.{Refusal}
 use Rattle.calls.specs.declared.CheckVerdict.{CheckVerdict}
 use Rattle.calls.specs.declared.PairVerdict.{PairVerdict}
 use Rattle.calls.specs.Refusals.{problem_refusal, certificate_refusal}
-use Rattle.calls.specs.Outcome.{Outcome, refused, given, ◌then◌, of_judgement, told}
+use Rattle.calls.specs.Outcome.{refused, given, ◌then◌, of_judgement, told}
 use Rattle.calls.specs.Checks.{problem_of, certificate_of}
 use Rattle.calls.specs.Check.{refused_check, accepted_check, check_for, check_verdict}
 use Rattle.calls.specs.Pair.{refused_pair, accepted_pair, pair_sides, pair_for, pair_verdict}
 use Rattle.calls.specs.Promises.{Reads, Within, SplitsAt, DiffersAt, BothHold, SecondSplits, SecondDiffers, WrongSides}
 use Rattle.calls.proofs.Outcomes.{Refuses, Gives, given_refuses, if_refuses, then_refuses, given_gives, if_gives, then_gives, told_by}
-use Rattle.calls.proofs.Refusing.{ProblemRefused, CertificateRefused, Seven, seven_of, problem_refuses, problem_gives, problem_by, told_within, told_large, certificate_refuses, certificate_gives}
+use Rattle.calls.proofs.Refusing.{ProblemRefused, CertificateRefused, Seven, seven_of, problem_by, told_within, told_large, certificate_refuses, certificate_gives}
 
 -- a certificate that is accepted is given
 pub accepted_given : (stream : ℕ) (p : Problem) (t : List ℕ) (c : Certificate) → J.Accepted p t c → certificate_of stream p t ≡ given c
@@ -70,51 +70,22 @@ module _ (short : Bool) (s t : List ℕ) where
     nine = λ h. (b.stream_is, record { problem = p; read = w.read; holds = b.nine h });
   }
 
-  -- by what became of the problem, and of the certificate
-  pub check_unless : {r : Refusal} → problem_of short s ≡ refused r → check_verdict short s t ≡ refused_check r
-  unfolding check_verdict
-  check_unless e = rw e
-
-  pub check_unaccepted : {p : Problem} {r : Refusal} → problem_of short s ≡ given p → certificate_of 1 p t ≡ refused r
-      → check_verdict short s t ≡ refused_check r
-  unfolding check_verdict
-  check_unaccepted e f = rw (e, f)
-
-  pub check_given : {p : Problem} {c : Certificate} → problem_of short s ≡ given p → certificate_of 1 p t ≡ given c
-      → check_verdict short s t ≡ accepted_check c.header (closing p).rounds p.rule
-  unfolding check_verdict
-  check_given e f = rw (e, f)
-
-  -- a call that goes on after the check, by how that ends
-  module _ {X : Type 0} (refuse : Refusal → X) (next : Problem → Certificate → Outcome X) where
-    pub after_check : (P : X → Type 0)
-        → ((r : Refusal) → CheckRefused short s t r → check_verdict short s t ≡ refused_check r → P (refuse r))
-        → ((p : Problem) → Within short s p → (c : Certificate) → J.Accepted p t c → P (told refuse (next p c)))
-        → P (told refuse (problem_of short s then λ p. certificate_of 1 p t then λ c. next p c))
-    after_check P refuses accepts = by_problem (problem_of short s) refl
-      where
-        by_certificate : (p : Problem) → problem_of short s ≡ given p → (o : Outcome Certificate) → certificate_of 1 p t ≡ o
-            → P (told refuse (o then λ c. next p c))
-        by_certificate p e (refused r) f =
-            let w = (problem_gives short s).by p e in
-            refuses r (check_refused_lem p w r ((certificate_refuses 1 p t (read_limits s p w.read)).by r f)) (check_unaccepted e f)
-        by_certificate p e (given c) f =
-            let w = (problem_gives short s).by p e in
-            accepts p w c ((certificate_gives 1 p t (read_limits s p w.read)).by c f)
-
-        by_problem : (o : Outcome Problem) → problem_of short s ≡ o
-            → P (told refuse (o then λ p. certificate_of 1 p t then λ c. next p c))
-        by_problem (refused r) e = refuses r (check_unread r ((problem_refuses short s).by r e)) (check_unless e)
-        by_problem (given p) e = by_certificate p e (certificate_of 1 p t) refl
-
   pub check_by_lem : (P : CheckVerdict → Type 0) → ((r : Refusal) → CheckRefused short s t r → P (refused_check r))
       → ((p : Problem) → Within short s p → (c : Certificate) → J.Accepted p t c
       → P (accepted_check c.header (closing p).rounds p.rule))
       → P (check_verdict short s t)
   unfolding check_verdict
   check_by_lem P refuses accepts =
-      after_check refused_check (λ p c. given (accepted_check c.header (closing p).rounds p.rule)) P (λ r b _. refuses r b)
-      accepts
+      problem_by short s (λ o. P (told refused_check (o then λ p. check_for p t))) (λ r b. refuses r (check_unread r b)) (λ p w.
+      let l = read_limits s p w.read in
+      told_by P refused_check (check_for p t)
+      (then_refuses (record { by = λ r e. refuses r (check_refused_lem p w r ((certificate_refuses 1 p t l).by r e)) }) (record { by = λ c e. given_refuses }))
+      (then_gives (record { by = λ c e. given_gives (accepts p w c ((certificate_gives 1 p t l).by c e)) })))
+
+  -- by what became of the problem
+  pub check_unless : {r : Refusal} → problem_of short s ≡ refused r → check_verdict short s t ≡ refused_check r
+  unfolding check_verdict
+  check_unless e = rw e
 
   pub check_judged : {p : Problem} → problem_of short s ≡ given p → check_verdict short s t ≡ check_by p (J.judge p t)
   unfolding check_verdict
@@ -150,13 +121,6 @@ pub record PairRefused (short : Bool) (s low high : List ℕ) (r : Refusal) : Ty
       → ((r.stream ≡ 1) × Reads s (λ p. DiffersAt p low r.key))
       ⊎ ((r.stream ≡ 2) × Reads s (λ p. SecondDiffers p low high r.key))
   pub ten : r.number ≡ 10 → (r.place ≡ 0) × Reads s (λ p. WrongSides p low high r.stream)
-
--- two certificates that hold, and the verdict that says so
-pub record Paired (p : Problem) (low high : List ℕ) (v : PairVerdict) : Type 0 where
-  pub first : Certificate
-  pub second : Certificate
-  pub hold : BothHold p low high first second
-  pub verdict : v ≡ accepted_pair first.header second.header (closing p).rounds p.rule
 
 not_true : (b : Bool) → not b ≡ true → b ≡ false
 not_true true e = clash (cc)
@@ -223,77 +187,24 @@ module _ (short : Bool) (s low high : List ℕ) where
           );
         }
 
-        sides_refuse : Refuses (PairRefused short s low high) (pair_sides c.header d.header (closing p).rounds p.rule)
+        sides_refuse : {P : Refusal → Type 0} → ((r : Refusal) → PairRefused short s low high r → P r)
+            → Refuses P (pair_sides c.header d.header (closing p).rounds p.rule)
         unfolding pair_sides
-        sides_refuse =
-            if_refuses (not (eqb c.header.side 0)) _ (λ x. wrong_side 1 (omega arith) (inl (refl, eqb-false _ _ (not_true _ x))))
+        sides_refuse refuses =
+            if_refuses (not (eqb c.header.side 0)) _ (λ x. refuses _ (wrong_side 1 (omega arith) (inl (refl, eqb-false _ _ (not_true _ x)))))
             (λ x.
             if_refuses (not (eqb d.header.side 1)) _
-            (λ y. wrong_side 2 (omega arith) (inr (refl, (eqb-true _ _ (not_false _ x), eqb-false _ _ (not_true _ y)))))
+            (λ y. refuses _ (wrong_side 2 (omega arith) (inr (refl, (eqb-true _ _ (not_false _ x), eqb-false _ _ (not_true _ y))))))
             (λ _. given_refuses))
 
-        sides_give : Gives (Paired p low high) (pair_sides c.header d.header (closing p).rounds p.rule)
+        sides_give : {P : PairVerdict → Type 0}
+            → (BothHold p low high c d → P (accepted_pair c.header d.header (closing p).rounds p.rule))
+            → Gives P (pair_sides c.header d.header (closing p).rounds p.rule)
         unfolding pair_sides
-        sides_give =
+        sides_give accepts =
             if_gives (not (eqb c.header.side 0)) _ (λ x.
             if_gives (not (eqb d.header.side 1)) _ (λ y.
-            given_gives (record {
-              first = c;
-              second = d;
-              hold = record { first = a; second = b; lower = eqb-true _ _ (not_false _ x); upper = eqb-true _ _ (not_false _ y) };
-              verdict = refl;
-            })))
-
-  -- the two certificates of a problem that is given
-  module _ (p : Problem) (w : Within short s p) where
-    pub pair_refuses : Refuses (PairRefused short s low high) (pair_for p low high)
-    pair_refuses =
-        let l = read_limits s p w.read in
-        then_refuses (record { by = λ r e. first_refused p w r ((certificate_refuses 1 p low l).by r e) })
-        (record {
-          by = λ c e.
-              let a = (certificate_gives 1 p low l).by c e in
-              then_refuses (record { by = λ r f. second_refused p w c a r ((certificate_refuses 2 p high l).by r f) })
-              (record { by = λ d f. sides_refuse p w c a d ((certificate_gives 2 p high l).by d f) });
-        })
-
-    pub pair_gives : Gives (Paired p low high) (pair_for p low high)
-    pair_gives =
-        let l = read_limits s p w.read in
-        then_gives (record {
-          by = λ c e.
-              then_gives (record { by = λ d f. sides_give p w c ((certificate_gives 1 p low l).by c e) d ((certificate_gives 2 p high l).by d f) });
-        })
-
-  pair_unless : {r : Refusal} → problem_of short s ≡ refused r → pair_verdict short s low high ≡ refused_pair r
-  unfolding pair_verdict
-  pair_unless e = rw e
-
-  pair_is : {p : Problem} (o : Outcome PairVerdict) → problem_of short s ≡ given p → pair_for p low high ≡ o
-      → pair_verdict short s low high ≡ told refused_pair o
-  unfolding pair_verdict
-  pair_is o e f = rw e (ap (told refused_pair) f)
-
-  -- a call that goes on after the pair, by how that ends
-  module _ {X : Type 0} (refuse : Refusal → X) (next : Problem → PairVerdict → Outcome X) where
-    pub after_pair : (P : X → Type 0)
-        → ((r : Refusal) → PairRefused short s low high r → pair_verdict short s low high ≡ refused_pair r → P (refuse r))
-        → ((p : Problem) → Within short s p → (v : PairVerdict) → Paired p low high v → pair_verdict short s low high ≡ v
-        → P (told refuse (next p v)))
-        → P (told refuse (problem_of short s then λ p. pair_for p low high then λ v. next p v))
-    after_pair P refuses accepts = by_problem (problem_of short s) refl
-      where
-        by_pair : (p : Problem) → problem_of short s ≡ given p → (o : Outcome PairVerdict) → pair_for p low high ≡ o
-            → P (told refuse (o then λ v. next p v))
-        by_pair p e (refused r) f = refuses r ((pair_refuses p ((problem_gives short s).by p e)).by r f) (pair_is (refused r) e f)
-        by_pair p e (given v) f =
-            let w = (problem_gives short s).by p e in
-            accepts p w v ((pair_gives p w).by v f) (pair_is (given v) e f)
-
-        by_problem : (o : Outcome Problem) → problem_of short s ≡ o
-            → P (told refuse (o then λ p. pair_for p low high then λ v. next p v))
-        by_problem (refused r) e = refuses r (pair_unread r ((problem_refuses short s).by r e)) (pair_unless e)
-        by_problem (given p) e = by_pair p e (pair_for p low high) refl
+            given_gives (accepts (record { first = a; second = b; lower = eqb-true _ _ (not_false _ x); upper = eqb-true _ _ (not_false _ y) }))))
 
   pub pair_by_lem : (P : PairVerdict → Type 0) → ((r : Refusal) → PairRefused short s low high r → P (refused_pair r))
       → ((p : Problem) → Within short s p → (c d : Certificate) → BothHold p low high c d
@@ -302,12 +213,22 @@ module _ (short : Bool) (s low high : List ℕ) where
   unfolding pair_verdict
   pair_by_lem P refuses accepts =
       problem_by short s (λ o. P (told refused_pair (o then λ p. pair_for p low high))) (λ r b. refuses r (pair_unread r b)) (λ p w.
-      told_by P refused_pair (pair_for p low high) (record { by = λ r e. refuses r ((pair_refuses p w).by r e) })
+      let l = read_limits s p w.read in
+      told_by P refused_pair (pair_for p low high)
+      (then_refuses (record { by = λ r e. refuses r (first_refused p w r ((certificate_refuses 1 p low l).by r e)) })
       (record {
-        by = λ v e.
-            let k = (pair_gives p w).by v e in
-            subst P (sym k.verdict) (accepts p w k.first k.second k.hold);
+        by = λ c e.
+            let a = (certificate_gives 1 p low l).by c e in
+            then_refuses (record { by = λ r f. refuses r (second_refused p w c a r ((certificate_refuses 2 p high l).by r f)) })
+            (record { by = λ d f. sides_refuse p w c a d ((certificate_gives 2 p high l).by d f) refuses });
       }))
+      (then_gives (record {
+        by = λ c e.
+            then_gives (record {
+              by = λ d f.
+                  sides_give p w c ((certificate_gives 1 p low l).by c e) d ((certificate_gives 2 p high l).by d f) (accepts p w c d);
+            });
+      })))
 
   -- a problem that is too large meets 7, whatever the certificates
   pub pair_large : (p : Problem) → short ≡ false → read_problem s ≡ Stream.given p → too_large p ≡ true

@@ -19,7 +19,7 @@ use Rattle.format.specs.ProblemBases.{basis_of, multiplier, multiplier_of}
 use Rattle.format.proofs.WithinLimits.{Limits}
 use Rattle.format.proofs.ProblemLimits.{all_at}
 use Rattle.joining_rule.specs.Sets.{In, insert_all}
-use Rattle.joining_rule.specs.Joining.{bases_of, multiples, start_set, closing}
+use Rattle.joining_rule.specs.Joining.{bases_of, multiples, start_from, start_set, closing}
 use Rattle.joining_rule.proofs.Elements.{not_nil, in_cons, append_in, append_keeps}
 use Rattle.joining_rule.proofs.Insertions.{insert_all_from}
 use Rattle.joining_rule.proofs.Least.{Equivalence, JoinedIn, AddedIn, Within}
@@ -85,7 +85,7 @@ module _ (p : Problem) (limits : Limits p) where
         (λ w. double_even l x h.1 w) (in_cons x (2 * k) (multiples 2 l) m)
 
     start_even : Within Q (start_set p)
-    unfolding start_set
+    unfolding start_set start_from
     start_even =
         inserted _ _ (λ x m. double_even (basis_of p 0) x (basis_degrees p limits 0) m)
         (from_to_keeps (Within Q) _ 9 1 (λ j S _ _ w. inserted _ S (λ x m. multiplier_even j x m) w) _

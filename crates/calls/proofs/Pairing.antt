@@ -32,10 +32,10 @@ use Rattle.calls.specs.Checks.{certificate_of}
 use Rattle.calls.specs.Pair.{refused_pair, accepted_pair, pair_sides, pair_for, pair_verdict}
 use Rattle.calls.specs.Promises.{NumberedTo, RoundsTaken, FewRounds, RuleUsed, Reads, DiffersAt, Within, BothHold, Stated, PairExactly, SevenExactly, SplitsAt, SecondSplits, PairSplits, WrongSides, TenExactly, SecondDiffers, PairDiffers, HoldsBelow, HoldsAbove, HoldsGap, NoPoints}
 use Rattle.calls.specs.Zeros.{PairZeros}
-use Rattle.calls.specs.Rules.{UnderOne, AtLarger, UnlessSeven, SameBounds, PairKept}
+use Rattle.calls.specs.Rules.{UnderOne, AtLarger, UnlessSeven, SameBounds, PairKept, PairUnderOne, PairAtLarger}
 use Rattle.calls.proofs.Promised.{promise_rounds, promise_few}
 use Rattle.calls.proofs.Refusing.{reads_at, Seven, seven_exactly}
-use Rattle.calls.proofs.Endings.{accepted_given, Paired, PairRefused, pair_by_lem, pair_large, pair_decided, pair_accepted_by}
+use Rattle.calls.proofs.Endings.{accepted_given, PairRefused, pair_by_lem, pair_large, pair_decided, pair_accepted_by}
 use Rattle.calls.proofs.Zeros.{refused_zeros, pair_refused_lem, pair_accepted_lem}
 use Rattle.calls.proofs.Rules.{AllLead, under_leads, larger_leads, BothWithin, Under, large, both, under}
 
@@ -43,6 +43,13 @@ use Rattle.calls.proofs.Rules.{AllLead, under_leads, larger_leads, BothWithin, U
 no_point : (p : Problem) (z : ℤ) (y : ℕ) → lt_z z (pos 0) ≡ true → WithinGap p z y → (a : Point) → Allowed p a → ⊥
 no_point p (pos x) y e h a g = absurd (omega (arith, ltb-true x 0 e))
 no_point p (negsuc n) y e h a g = below_zero_empty p n y h a g
+
+-- two certificates that hold, and the verdict that says so
+record Paired (p : Problem) (low high : List ℕ) (v : PairVerdict) : Type 0 where
+  first : Certificate
+  second : Certificate
+  hold : BothHold p low high first second
+  verdict : v ≡ accepted_pair first.header second.header (closing p).rounds p.rule
 
 module _ (short : Bool) (s low high : List ℕ) (v : PairVerdict) (is : v ≡ pair_verdict short s low high) where
   by_end : (P : PairVerdict → Type 0) → ((r : Refusal) → PairRefused short s low high r → P (refused_pair r))
@@ -282,7 +289,7 @@ module _ (short : Bool) (s low high : List ℕ) (v : PairVerdict) (is : v ≡ pa
 
   -- all of them, and what more is promised
   abbrev pub PairClauses : Type 0 → Type 0
-  PairClauses P = NumberedTo 10 v.refusal.number × (PairExactly short s low high v × (PairDiffers short s low high v.refusal × (HoldsBelow s v.refusal.number v.lower × (HoldsAbove s v.refusal.number v.upper × (HoldsGap s v.refusal.number v.empty v.gap × (NoPoints s v × (RoundsTaken s v.refusal.number v.rounds × (FewRounds s v.refusal.number v.rounds × (RuleUsed s v.refusal.number v.rule × (PairKept UnderOne short s low high v × (PairKept AtLarger short s low high v × (PairZeros v × (SevenExactly short s v.refusal × (PairSplits short s low high v.refusal × (TenExactly short s low high v.refusal × P)))))))))))))))
+  PairClauses P = NumberedTo 10 v.refusal.number × (PairExactly short s low high v × (PairDiffers short s low high v.refusal × (HoldsBelow s v.refusal.number v.lower × (HoldsAbove s v.refusal.number v.upper × (HoldsGap s v.refusal.number v.empty v.gap × (NoPoints s v × (RoundsTaken s v.refusal.number v.rounds × (FewRounds s v.refusal.number v.rounds × (RuleUsed s v.refusal.number v.rule × (PairUnderOne short s low high v × (PairAtLarger short s low high v × (PairZeros v × (SevenExactly short s v.refusal × (PairSplits short s low high v.refusal × (TenExactly short s low high v.refusal × P)))))))))))))))
 
   pub pair_clauses_and : {P : Type 0} → P → PairClauses P
   pair_clauses_and more = (pair_numbered, (pair_exactly, (pair_differs, (below, (above, (gap, (empty, (pair_rounds, (pair_few, (pair_rule, (pair_kept UnderOne (under_leads s), (pair_kept AtLarger (larger_leads s), (pair_zeros, (pair_seven, (pair_splits, (pair_ten, more))))))))))))))))

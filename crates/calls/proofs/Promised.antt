@@ -29,7 +29,7 @@ use Rattle.joining_rule.proofs.Closing.{closing_shaped, closing_state}
 use Rattle.joining_rule.proofs.Bound.{few_rounds, order_done}
 use Rattle.joining_rule.proofs.Meaning.{label_of, full_closed, closing_least, least_tests, closing_lowest}
 use Rattle.joining_rule.specs.Joining.{bases_of, start_set, closing, reached_support, too_large, block_total}
-use Rattle.joining_rule.proofs.Start.{start_rises}
+use Rattle.joining_rule.proofs.Start.{start_rising}
 use Rattle.joining_rule.proofs.Rules.{large_other}
 use Rattle.calls.specs.declared.Refusal.{Refusal}
 use Rattle.calls.specs.declared.BlocksVerdict.{BlocksVerdict}
@@ -38,7 +38,7 @@ use Rattle.calls.specs.Outcome.{given, ◌then◌, told}
 use Rattle.calls.specs.Blocks.{refused_blocks, found_blocks, blocks_verdict, written_bytes, bytes_left}
 use Rattle.calls.specs.Promises.{NumberedTo, BlocksClosed, BlocksLeast, BlocksLowest, BlocksAfter, BlocksCounted, RoundsTaken, FewRounds, SevenExactly, RuleUsed, Reads, Within}
 use Rattle.calls.specs.Zeros.{BlocksZeros}
-use Rattle.calls.specs.Rules.{UnderOne, AtLarger, UnlessSeven, BlocksInside, BlocksKept}
+use Rattle.calls.specs.Rules.{UnderOne, AtLarger, UnlessSeven, BlocksInside, BlocksKept, BlocksUnderOne, BlocksAtLarger}
 use Rattle.calls.proofs.Refusing.{ProblemRefused, Seven, seven_of, reads_at, problem_by, problem_within, problem_large, seven_exactly}
 use Rattle.calls.proofs.Zeros.{refused_zeros, blocks_refused_lem, blocks_accepted}
 use Rattle.calls.proofs.Rules.{AllLead, under_leads, larger_leads, BothWithin, Under, large, both, under, bytes_inside}
@@ -88,7 +88,8 @@ module _ (s : List ℕ) (p : Problem) (read : read_problem s ≡ Stream.given p)
   small = basis_few p limits
 
   rising : Rising (start_set p)
-  rising = start_rises p
+  unfolding start_set
+  rising = start_rising _ (bases_of p)
 
   -- the order that the stream names
   named : p.order ≡ order_named s
@@ -221,10 +222,10 @@ module _ (short : Bool) (s out : List ℕ) where
   kept : (R : List ℕ → List ℕ → Type 0) → ((t : List ℕ) → R s t → AllLead s t) → BlocksKept R short s out number (bytes_left short s out)
   kept R leads = record { inside = λ t u. under_inside short s out t (leads t u); seven = λ t u. under_seven short s out t (leads t u) }
 
-  clause_under : BlocksKept UnderOne short s out number (bytes_left short s out)
+  clause_under : BlocksUnderOne short s out number (bytes_left short s out)
   clause_under = kept UnderOne (under_leads s)
 
-  clause_larger : BlocksKept AtLarger short s out number (bytes_left short s out)
+  clause_larger : BlocksAtLarger short s out number (bytes_left short s out)
   clause_larger = kept AtLarger (larger_leads s)
 
   clause_closed : BlocksClosed s number (bytes_left short s out)
@@ -270,5 +271,5 @@ module _ (short : Bool) (s out : List ℕ) where
 
   -- all of them, of a verdict and bytes that are the definitions'
   pub clauses : (v : BlocksVerdict) (bytes : List ℕ) → v ≡ blocks_verdict short s → bytes ≡ bytes_left short s out
-      → NumberedTo 7 v.refusal.number × (BlocksClosed s v.refusal.number bytes × (BlocksLeast s v.refusal.number bytes × (BlocksLowest s v.refusal.number bytes × (BlocksCounted s v.refusal.number bytes v.blocks × (RoundsTaken s v.refusal.number v.rounds × (FewRounds s v.refusal.number v.rounds × (SevenExactly short s v.refusal × (RuleUsed s v.refusal.number v.rule × (BlocksKept UnderOne short s out v.refusal.number bytes × (BlocksAfter s v.refusal.number bytes v.rounds × (BlocksKept AtLarger short s out v.refusal.number bytes × BlocksZeros v)))))))))))
+      → NumberedTo 7 v.refusal.number × (BlocksClosed s v.refusal.number bytes × (BlocksLeast s v.refusal.number bytes × (BlocksLowest s v.refusal.number bytes × (BlocksCounted s v.refusal.number bytes v.blocks × (RoundsTaken s v.refusal.number v.rounds × (FewRounds s v.refusal.number v.rounds × (SevenExactly short s v.refusal × (RuleUsed s v.refusal.number v.rule × (BlocksUnderOne short s out v.refusal.number bytes × (BlocksAfter s v.refusal.number bytes v.rounds × (BlocksAtLarger short s out v.refusal.number bytes × BlocksZeros v)))))))))))
   clauses v bytes e f = rw (e, f) (clause_numbered, (clause_closed, (clause_least, (clause_lowest, (clause_counted, (clause_rounds, (clause_few, (clause_seven, (clause_rule, (clause_under, (clause_after, (clause_larger, clause_zeros))))))))))))

@@ -10,7 +10,7 @@ use lib.Dec.{eqb, leb}
 use lib.IntN.{ℤ, pos, negsuc, neg_ℤ, nat_abs, ◌*ℤ◌}
 use lib.Signed.{lt_z, le_z}
 use borrow.Author.Tests.{le-ltb, lt-leb, ne_eqb}
-use Rattle.counting.proofs.Bounded.{Bounded}
+use Rattle.counting.specs.Counting.{Bounded}
 use Rattle.counting.proofs.Cases.{clash}
 use Rattle.integers.proofs.Ranges.{abs_sum, abs_neg, abs_mul_le}
 use Rattle.format.specs.CertificateRules.{Certificate}

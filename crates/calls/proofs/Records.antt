@@ -11,7 +11,7 @@ use lib.Dec.{leb, lit<}
 use lib.ListN.{length, take, drop, get_or, length-append}
 use lib.Seq.{drop-cons, get_or_at}
 use borrow.Author.Tests.{ltb-false, leb-true, leb-false, lt-ltb, le-ltb, le-leb, lt-leb}
-use Rattle.counting.proofs.Bounded.{Bounded}
+use Rattle.counting.specs.Counting.{Bounded}
 use Rattle.counting.proofs.Cases.{clash}
 use Rattle.format.specs.Commands.{Outcome, refused, given}
 use Rattle.format.specs.Operands.{number}

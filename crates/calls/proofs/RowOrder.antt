@@ -1,5 +1,5 @@
 -- The order of a certificate's rows has no effect on acceptance, in any call. One law: a certificate with its rows in
--- another order is judged alike, so that the check and the pair accept both or neither, with one verdict.
+-- another order is judged alike, and what is told of a verdict that accepts is told of that verdict alone.
 use mathlib.Core.Path.{◌≡◌, refl, sym, ap, ap₂, ◌∙◌}
 use mathlib.Core.Bool.{Bool, true, false, cond, ◌&&◌}
 use mathlib.Core.List.{List, [], ◌∷◌}
@@ -28,6 +28,23 @@ use Rattle.calls.proofs.Endings.{check_by_lem, check_accepted_by, pair_by_lem, p
 
 -- ---- verdicts that are alike
 module _ {A : Type 0} (number : A → ℕ) where
+  pub alike_same : (v : A) → Alike number v v
+  alike_same v = record { accepted = λ h. refl; back = λ h. refl }
+
+  pub alike_then : {u v w : A} → Alike number u v → Alike number v w → Alike number u w
+  alike_then a b = record {
+    accepted = λ h. let e = a.accepted h in b.accepted (ap number e ∙ h) ∙ e;
+    back = λ h. let e = b.back h in a.back (ap number e ∙ h) ∙ e;
+  }
+
+  -- the law: what is told of a verdict, and accepts only where that does, is alike
+  pub alike_told : {B : Type 0} (told : A → B) (count : B → ℕ) → ((v : A) → count (told v) ≡ 0 → number v ≡ 0)
+      → {v w : A} → Alike number v w → Alike count (told v) (told w)
+  alike_told told count only {v} {w} a = record {
+    accepted = λ h. ap told (a.accepted (only v h));
+    back = λ h. ap told (a.back (only w h));
+  }
+
   -- both accept, or neither does
   pub alike_number : {v w : A} → Alike number v w → (number v ≡ 0 → number w ≡ 0) × (number w ≡ 0 → number v ≡ 0)
   alike_number a = (λ h. ap number (a.accepted h) ∙ h, λ h. ap number (a.back h) ∙ h)

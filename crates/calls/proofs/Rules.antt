@@ -9,8 +9,7 @@ use lib.ListN.{length, get_or, get_or-append, get_or-eq_default}
 use Rattle.counting.proofs.Cases.{lt_or_le, default_any}
 use Rattle.format.specs.Commands.{given}
 use Rattle.format.specs.Operands.{number}
-use Rattle.format.specs.ProblemRules.{Problem, read_problem}
-use Rattle.format.proofs.Parts.{with_rule, with_order}
+use Rattle.format.specs.ProblemRules.{Problem, with_rule, with_order, read_problem}
 use Rattle.format.specs.ProblemBases.{basis_of}
 use Rattle.format.specs.ProblemRule.{rule_named}
 use Rattle.format.proofs.ProblemRule.{read_rule}

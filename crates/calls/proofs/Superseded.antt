@@ -1,6 +1,6 @@
 -- The clauses of the call on two certificates, from its equations.
 use mathlib.Core.Path.{◌≡◌, refl, sym, ap, ◌∙◌}
-use mathlib.Core.Bool.{Bool, true, false, cond, not}
+use mathlib.Core.Bool.{Bool, true, false, cond}
 use mathlib.Core.List.{List, [], ◌∷◌}
 use mathlib.Core.Logic.{inl, inr}
 use Prim.Native.Nat.{ℕ, suc, ◌≤◌, ◌<◌}
@@ -9,16 +9,13 @@ use lib.Dec.{eqb}
 use lib.IntN.{ℤ, pos, negsuc, ◌*ℤ◌}
 use lib.ListN.{length}
 use lib.Signed.{lt_z}
-use borrow.Author.Tests.{eqb-true, eqb-false, ne_eqb, ltb-true, le-ltb}
+use borrow.Author.Tests.{eqb-true, eqb-false, ltb-true, le-ltb}
 use Rattle.counting.proofs.Cases.{clash, never}
-use Rattle.format.specs.Commands as Stream
-use Rattle.format.specs.Commands.{run, read_whole}
+use Rattle.format.specs.Commands.{given, run, read_whole}
 use Rattle.format.specs.ProblemRules.{Problem}
 use Rattle.format.proofs.ProblemLimits.{read_limits}
 use Rattle.format.specs.CertificateRules.{Certificate, read_certificate}
 use Rattle.format.proofs.CertificateLimits.{read_sound}
-use Rattle.format.specs.declared.certificate.Header.{Header}
-use Rattle.joining_rule.specs.Joining.{closing}
 use Rattle.accepting.specs.Judgement as J
 use Rattle.accepting.proofs.Accepted.{accepted_below, accepted_above}
 use Rattle.calls.specs.declared.CheckVerdict.{CheckVerdict}
@@ -29,9 +26,7 @@ use Rattle.calls.specs.declared.Chosen.TheVariants as Chosen
 use Rattle.calls.specs.declared.SupersedingVerdict.{SupersedingVerdict}
 use Rattle.calls.specs.Fractions.{is_less}
 use Rattle.calls.specs.Refusals.{no_refusal, certificate_refusal}
-use Rattle.calls.specs.Outcome.{Outcome, refused, given, ◌then◌, refuse_if, told}
-use Rattle.calls.specs.Checks.{problem_of, certificate_of}
-use Rattle.calls.specs.Check.{accepted_check, bound_of, check_verdict}
+use Rattle.calls.specs.Check.{bound_of, check_verdict}
 use Rattle.calls.specs.Promises.{Reads, Within}
 use Rattle.calls.specs.Superseding.{is_tighter, comes_back, none_back, tighter_of, is_accepted}
 use Rattle.calls.specs.Superseding.{superseding_of, superseding_verdict, part_of}
@@ -40,8 +35,7 @@ use Rattle.calls.specs.Superseding.{Tightest, TighterBack}
 use Rattle.calls.specs.Superseding.{AloneBack, FirstRefusal, SidesDiffer, ElevenExactly}
 use Rattle.calls.specs.Superseding.{SupersedingNumbered, ChosenZeros, PartZeros}
 use Rattle.calls.proofs.Zeros.{none_zeros, certificate_zeros}
-use Rattle.calls.proofs.Refusing.{reads_at, problem_refuses, problem_gives, certificate_refuses}
-use Rattle.calls.proofs.Endings.{check_unless, check_unaccepted, check_given}
+use Rattle.calls.proofs.Refusing.{reads_at}
 use Rattle.calls.proofs.Checking.{Checked, given_once, check_found, check_clauses, check_zeros}
 
 -- ---- how two verdicts of the check are decided on
@@ -55,100 +49,38 @@ outdone a b = is_tighter a.side b.bound a.bound
 abbrev pub eleven_back : SupersedingVerdict
 eleven_back = none_back (certificate_refusal 2 11 0 0)
 
--- "If only one is accepted, that one comes back. If neither is, the first one's refusal comes": by what the check says
--- of each by itself
-abbrev pub tighter_by : CheckVerdict → CheckVerdict → SupersedingVerdict
-tighter_by a b =
-    cond (eqb a.side b.side) (cond (outdone a b) (comes_back Chosen.Second) (comes_back Chosen.First)) eleven_back
+pub data Decided (a b : CheckVerdict) (v : SupersedingVerdict) : Type 0 where
+  first_tighter : Passed a → Passed b → a.side ≡ b.side → outdone a b ≡ false → v ≡ comes_back Chosen.First
+      → Decided a b v
+  second_tighter : Passed a → Passed b → a.side ≡ b.side → outdone a b ≡ true → v ≡ comes_back Chosen.Second
+      → Decided a b v
+  sides_differ : Passed a → Passed b → (a.side ≡ b.side → ⊥) → v ≡ eleven_back → Decided a b v
+  first_alone : Passed a → (Passed b → ⊥) → v ≡ comes_back Chosen.First → Decided a b v
+  second_alone : (Passed a → ⊥) → Passed b → v ≡ comes_back Chosen.Second → Decided a b v
+  neither : (Passed a → ⊥) → (Passed b → ⊥) → v ≡ none_back a.refusal → Decided a b v
 
-unfoldable pub decided_by : CheckVerdict → CheckVerdict → SupersedingVerdict
-decided_by a b =
-    cond (is_accepted a) (cond (is_accepted b) (tighter_by a b) (comes_back Chosen.First))
-    (cond (is_accepted b) (comes_back Chosen.Second) (none_back a.refusal))
+module _ (a b : CheckVerdict) where
+  both : (x y : Bool) → Passed a → Passed b → eqb a.side b.side ≡ x → outdone a b ≡ y
+      → Decided a b (cond x (cond y (comes_back Chosen.Second) (comes_back Chosen.First)) eleven_back)
+  both true true h k e f = second_tighter h k (eqb-true _ _ e) f refl
+  both true false h k e f = first_tighter h k (eqb-true _ _ e) f refl
+  both false y h k e f = sides_differ h k (eqb-false _ _ e) refl
 
-module _ (short : Bool) (s first second : List ℕ) where
-  both_said : (t u : Header) (rounds rule : ℕ)
-      → told none_back (tighter_of t u) ≡ tighter_by (accepted_check t rounds rule) (accepted_check u rounds rule)
-  unfolding tighter_of
-  both_said t u rounds rule = go (eqb t.side u.side) (is_tighter t.side (bound_of u) (bound_of t))
+  decided : Decided a b (superseding_of a b)
+  unfolding superseding_of tighter_of
+  decided = go (is_accepted a) (is_accepted b) refl refl
     where
-      go : (x y : Bool)
-          → told none_back (refuse_if (not x) (certificate_refusal 2 11 0 0)
-          (given (comes_back (cond y Chosen.Second Chosen.First))))
-          ≡ cond x (cond y (comes_back Chosen.Second) (comes_back Chosen.First)) eleven_back
-      go true true = refl
-      go true false = refl
-      go false y = refl
-
-  above_zero : (r : Refusal) → 1 ≤ r.number → eqb r.number 0 ≡ false
-  above_zero r l = ne_eqb r.number 0 (λ z. omega arith)
-
-  pub superseding_said : superseding_verdict short s first second
-      ≡ decided_by (check_verdict short s first) (check_verdict short s second)
-  unfolding superseding_verdict decided_by
-  superseding_said = by_problem (problem_of short s) refl
-    where
-      by_both : (p : Problem) → problem_of short s ≡ given p → (o q : Outcome Certificate) → certificate_of 1 p first ≡ o
-          → certificate_of 1 p second ≡ q
-          → told none_back (superseding_of o q) ≡ decided_by (check_verdict short s first) (check_verdict short s second)
-      by_both p e (refused r) (refused f) g h =
-          let l = read_limits s p ((problem_gives short s).by p e).read in
-          rw (
-            check_unaccepted short s first e g,
-            check_unaccepted short s second e h,
-            above_zero r ((certificate_refuses 1 p first l).by r g).least,
-            above_zero f ((certificate_refuses 1 p second l).by f h).least,
-          )
-      by_both p e (refused r) (given d) g h =
-          let l = read_limits s p ((problem_gives short s).by p e).read in
-          rw (
-            check_unaccepted short s first e g,
-            check_given short s second e h,
-            above_zero r ((certificate_refuses 1 p first l).by r g).least,
-          )
-      by_both p e (given c) (refused f) g h =
-          let l = read_limits s p ((problem_gives short s).by p e).read in
-          rw (
-            check_given short s first e g,
-            check_unaccepted short s second e h,
-            above_zero f ((certificate_refuses 1 p second l).by f h).least,
-          )
-      by_both p e (given c) (given d) g h =
-          rw (check_given short s first e g, check_given short s second e h)
-          (both_said c.header d.header (closing p).rounds p.rule)
-
-      by_problem : (o : Outcome Problem) → problem_of short s ≡ o
-          → told none_back (o then λ p. superseding_of (certificate_of 1 p first) (certificate_of 1 p second))
-          ≡ decided_by (check_verdict short s first) (check_verdict short s second)
-      by_problem (refused r) e =
-          rw (check_unless short s first e, check_unless short s second e, above_zero r ((problem_refuses short s).by r e).least)
-      by_problem (given p) e = by_both p e (certificate_of 1 p first) (certificate_of 1 p second) refl refl
-
--- by how the two are decided on
-decided : (a b : CheckVerdict) (P : SupersedingVerdict → Type 0)
-    → (Passed a → (Passed b → (a.side ≡ b.side) × (outdone a b ≡ false)) → P (comes_back Chosen.First))
-    → (Passed b → (Passed a → (a.side ≡ b.side) × (outdone a b ≡ true)) → P (comes_back Chosen.Second))
-    → (Passed a → Passed b → (a.side ≡ b.side → ⊥) → P eleven_back)
-    → ((Passed a → ⊥) → (Passed b → ⊥) → P (none_back a.refusal))
-    → P (decided_by a b)
-unfolding decided_by
-decided a b P first second differ none = go (is_accepted a) (is_accepted b) refl refl
-  where
-    both : (x y : Bool) → Passed a → Passed b → eqb a.side b.side ≡ x → outdone a b ≡ y
-        → P (cond x (cond y (comes_back Chosen.Second) (comes_back Chosen.First)) eleven_back)
-    both true true h k e f = second k (λ _. (eqb-true _ _ e, f))
-    both true false h k e f = first h (λ _. (eqb-true _ _ e, f))
-    both false y h k e f = differ h k (eqb-false _ _ e)
-
-    go : (x y : Bool) → is_accepted a ≡ x → is_accepted b ≡ y
-        → P (cond x (cond y (tighter_by a b) (comes_back Chosen.First)) (cond y (comes_back Chosen.Second) (none_back a.refusal)))
-    go true true e f = both (eqb a.side b.side) (outdone a b) (eqb-true _ _ e) (eqb-true _ _ f) refl refl
-    go true false e f = first (eqb-true _ _ e) (λ z. absurd (eqb-false _ _ f z))
-    go false true e f = second (eqb-true _ _ f) (λ z. absurd (eqb-false _ _ e z))
-    go false false e f = none (eqb-false _ _ e) (eqb-false _ _ f)
+      go : (x y : Bool) → is_accepted a ≡ x → is_accepted b ≡ y
+          → Decided a b
+          (cond x (cond y (tighter_of a b) (comes_back Chosen.First))
+          (cond y (comes_back Chosen.Second) (none_back a.refusal)))
+      go true true e f = both (eqb a.side b.side) (outdone a b) (eqb-true _ _ e) (eqb-true _ _ f) refl refl
+      go true false e f = first_alone (eqb-true _ _ e) (eqb-false _ _ f) refl
+      go false true e f = second_alone (eqb-false _ _ e) (eqb-true _ _ f) refl
+      go false false e f = neither (eqb-false _ _ e) (eqb-false _ _ f) refl
 
 -- ---- one certificate, and what the check says of it
-nonempty : (p : Problem) (t : List ℕ) (c : Certificate) → read_certificate p t ≡ Stream.given c → 0 < length t
+nonempty : (p : Problem) (t : List ℕ) (c : Certificate) → read_certificate p t ≡ given c → 0 < length t
 unfolding read_certificate read_whole run
 nonempty p [] c e = clash (cc)
 nonempty p (x ∷ t) c e = omega arith
@@ -246,66 +178,95 @@ module _ (side : ℕ) (f g : Fraction) where
       go true = h
       go false = k
 
-module _ (short : Bool) (s first second : List ℕ) where
+module _ (short : Bool) (s first second : List ℕ) (v : SupersedingVerdict)
+    (is : v ≡ superseding_verdict short s first second) where
   abbrev a : CheckVerdict
   a = check_verdict short s first
 
   abbrev b : CheckVerdict
   b = check_verdict short s second
 
-  abbrev v : SupersedingVerdict
-  v = superseding_verdict short s first second
+  abbrev part : List ℕ
+  part = part_of v.chosen first second
 
-  abbrev part : SupersedingVerdict → List ℕ
-  part v = part_of v.chosen first second
+  pub ended : Decided a b v
+  unfolding superseding_verdict
+  ended = rw is (decided a b)
 
-  pub by_end : (P : SupersedingVerdict → Type 0)
-      → (Passed a → (Passed b → (a.side ≡ b.side) × (outdone a b ≡ false)) → P (comes_back Chosen.First))
-      → (Passed b → (Passed a → (a.side ≡ b.side) × (outdone a b ≡ true)) → P (comes_back Chosen.Second))
-      → (Passed a → Passed b → (a.side ≡ b.side → ⊥) → P eleven_back)
-      → ((Passed a → ⊥) → (Passed b → ⊥) → P (none_back a.refusal))
-      → P v
-  by_end P x y z u = rw (superseding_said short s first second) (decided a b P x y z u)
+  pub number_is : (w : SupersedingVerdict) → v ≡ w → v.refusal.number ≡ w.refusal.number
+  number_is w e = ap (λ (x : SupersedingVerdict). x.refusal.number) e
+
+  pub part_is : (w : SupersedingVerdict) → v ≡ w → part ≡ part_of w.chosen first second
+  part_is w e = ap (λ (x : SupersedingVerdict). part_of x.chosen first second) e
 
   check_most : (t : List ℕ) → (check_verdict short s t).refusal.number ≤ 9
   check_most t = (check_clauses short s t _ refl).0
 
   pub numbered : SupersedingNumbered v.refusal.number
-  numbered =
-      by_end (λ v. SupersedingNumbered v.refusal.number) (λ h k. inl (omega arith)) (λ h k. inl (omega arith)) (λ h k i. inr refl)
-      (λ h k. inl (check_most first))
+  numbered = go ended
+    where
+      go : Decided a b v → SupersedingNumbered v.refusal.number
+      go (first_tighter h k i f e) = inl (omega (arith, number_is _ e))
+      go (second_tighter h k i f e) = inl (omega (arith, number_is _ e))
+      go (sides_differ h k i e) = inr (number_is _ e)
+      go (first_alone h k e) = inl (omega (arith, number_is _ e))
+      go (second_alone h k e) = inl (omega (arith, number_is _ e))
+      go (neither h k e) = inl (omega (arith, number_is _ e, check_most first))
 
   -- ---- the zeros
   pub chosen_zeros : ChosenZeros v.refusal v.chosen
-  chosen_zeros =
-      by_end (λ v. ChosenZeros v.refusal v.chosen) (λ h k. back Chosen.First) (λ h k. back Chosen.Second)
-      (λ h k i. record { refusal = certificate_zeros 2 11 0 0 (omega arith) (λ _. refl); none = λ h. refl })
-      (λ h k. record { refusal = (check_zeros short s first a refl).refusal; none = λ h. refl })
+  chosen_zeros = go ended
     where
       back : (c : Chosen) → ChosenZeros no_refusal c
       back c = record { refusal = none_zeros; none = λ h. absurd (omega arith) }
 
-  pub part_zeros : PartZeros v.refusal (part v)
+      go : Decided a b v → ChosenZeros v.refusal v.chosen
+      go (first_tighter h k i f e) = rw e (back Chosen.First)
+      go (second_tighter h k i f e) = rw e (back Chosen.Second)
+      go (sides_differ h k i e) =
+          rw e (record { refusal = certificate_zeros 2 11 0 0 (omega arith) (λ _. refl); none = λ h. refl })
+      go (first_alone h k e) = rw e (back Chosen.First)
+      go (second_alone h k e) = rw e (back Chosen.Second)
+      go (neither h k e) = rw e (record { refusal = (check_zeros short s first a refl).refusal; none = λ h. refl })
+
+  pub part_zeros : PartZeros v.refusal part
   part_zeros = record {
     refusal = chosen_zeros.refusal;
     empty = λ h. ap (λ (c : Chosen). part_of c first second) (chosen_zeros.none h);
   }
 
-  pub zero_exactly : ZeroExactly (part v) v.refusal
-  zero_exactly =
-      by_end (λ v. ZeroExactly (part v) v.refusal) (λ h k. record { only = λ _. long short s first h; always = λ _. refl })
-      (λ h k. record { only = λ _. long short s second h; always = λ _. refl })
-      (λ h k i. record { only = λ z. absurd (omega arith); always = λ l. absurd (omega arith) })
-      (λ h k. record { only = λ z. absurd (h z); always = λ l. absurd (omega arith) })
+  pub zero_exactly : ZeroExactly part v.refusal
+  zero_exactly = record { only = λ z. only z ended; always = λ l. always l ended }
+    where
+      only : v.refusal.number ≡ 0 → Decided a b v → 0 < length part
+      only z (first_tighter h k i f e) = rw (part_is _ e) (long short s first h)
+      only z (second_tighter h k i f e) = rw (part_is _ e) (long short s second k)
+      only z (sides_differ h k i e) = absurd (omega (arith, number_is _ e))
+      only z (first_alone h k e) = rw (part_is _ e) (long short s first h)
+      only z (second_alone h k e) = rw (part_is _ e) (long short s second k)
+      only z (neither h k e) = absurd (h (sym (number_is _ e) ∙ z))
 
-  pub holds_back : HoldsBack s (part v)
-  holds_back =
-      by_end (λ v. HoldsBack s (part v)) (λ h k _. holding short s first h) (λ h k _. holding short s second h)
-      (λ h k i l. absurd (omega arith)) (λ h k l. absurd (omega arith))
+      always : 0 < length part → Decided a b v → v.refusal ≡ no_refusal
+      always l (first_tighter h k i f e) = rw e refl
+      always l (second_tighter h k i f e) = rw e refl
+      always l (sides_differ h k i e) = absurd (omega (arith, ap length (part_is _ e)))
+      always l (first_alone h k e) = rw e refl
+      always l (second_alone h k e) = rw e refl
+      always l (neither h k e) = absurd (omega (arith, ap length (part_is _ e)))
+
+  pub holds_back : HoldsBack s part
+  holds_back l = go ended
+    where
+      go : Decided a b v → Reads s (λ p. HoldingPart p part)
+      go (first_tighter h k i f e) = rw (part_is _ e) (holding short s first h)
+      go (second_tighter h k i f e) = rw (part_is _ e) (holding short s second k)
+      go (sides_differ h k i e) = absurd (omega (arith, ap length (part_is _ e)))
+      go (first_alone h k e) = rw (part_is _ e) (holding short s first h)
+      go (second_alone h k e) = rw (part_is _ e) (holding short s second k)
+      go (neither h k e) = absurd (omega (arith, ap length (part_is _ e)))
 
   -- ---- both accepted with one side
-  module _ (p : Problem) (c d : Certificate) (w : Within short s p) (both : BothAccepted p first second c d)
-      (same : c.header.side ≡ d.header.side) where
+  module _ (p : Problem) (c d : Certificate) (w : Within short s p) (both : BothAccepted p first second c d) where
     abbrev x : States short s first c
     x = accepted_states short s first p w c both.one
 
@@ -316,92 +277,147 @@ module _ (short : Bool) (s first second : List ℕ) where
     outdone_is : outdone a b ≡ is_tighter c.header.side (bound_of d.header) (bound_of c.header)
     outdone_is = rw (x.side, x.bound, y.bound)
 
-    by_bounds : (P : SupersedingVerdict → Type 0)
-        → (is_tighter c.header.side (bound_of d.header) (bound_of c.header) ≡ false → P (comes_back Chosen.First))
-        → (is_tighter c.header.side (bound_of d.header) (bound_of c.header) ≡ true → P (comes_back Chosen.Second)) → P v
-    by_bounds P l m =
-        by_end P (λ h k. l (sym outdone_is ∙ (k y.number).1)) (λ h k. m (sym outdone_is ∙ (k x.number).1))
-        (λ h k i. absurd (i (x.side ∙ same ∙ sym y.side))) (λ h k. absurd (h x.number))
+    tightest : c.header.side ≡ d.header.side → Tightest p part c d
+    tightest same = go ended
+      where
+        go : Decided a b v → Tightest p part c d
+        go (first_tighter h k i f e) =
+            let g = bound_of d.header in
+            rw (part_is _ e)
+            (record {
+              certificate = c;
+              accepted = both.one;
+              side = refl;
+              one = as_tight_itself _ _ g;
+              other = kept _ _ _ (sym outdone_is ∙ f);
+            })
+        go (second_tighter h k i f e) =
+            let g = bound_of c.header in
+            rw (part_is _ e)
+            (record {
+              certificate = d;
+              accepted = both.other;
+              side = sym same;
+              one = outdoes _ _ _ (sym outdone_is ∙ f);
+              other = as_tight_itself _ _ g;
+            })
+        go (sides_differ h k i e) = absurd (i (x.side ∙ same ∙ sym y.side))
+        go (first_alone h k e) = absurd (k y.number)
+        go (second_alone h k e) = absurd (h x.number)
+        go (neither h k e) = absurd (h x.number)
 
-    tightest : Tightest p (part v) c d
-    tightest =
-        by_bounds (λ v. Tightest p (part v) c d)
-        (λ f. record {
-          certificate = c;
-          accepted = both.one;
-          side = refl;
-          one = as_tight_itself _ _ (bound_of d.header);
-          other = kept _ _ _ f;
-        })
-        (λ f. record {
-          certificate = d;
-          accepted = both.other;
-          side = sym same;
-          one = outdoes _ _ _ f;
-          other = as_tight_itself _ _ (bound_of c.header);
-        })
+    equal : c.header.side ≡ d.header.side → is_less (bound_of c.header) (bound_of d.header) ≡ false
+        → is_less (bound_of d.header) (bound_of c.header) ≡ false → part ≡ first
+    equal same no_less no_more = go ended
+      where
+        go : Decided a b v → part ≡ first
+        go (first_tighter h k i f e) = part_is _ e
+        go (second_tighter h k i f e) = never (sym (not_tighter _ _ _ no_less no_more) ∙ sym outdone_is ∙ f)
+        go (sides_differ h k i e) = absurd (i (x.side ∙ same ∙ sym y.side))
+        go (first_alone h k e) = absurd (k y.number)
+        go (second_alone h k e) = absurd (h x.number)
+        go (neither h k e) = absurd (h x.number)
 
-    equal : is_less (bound_of c.header) (bound_of d.header) ≡ false
-        → is_less (bound_of d.header) (bound_of c.header) ≡ false → part v ≡ first
-    equal no_less no_more =
-        by_bounds (λ v. part v ≡ first) (λ f. refl) (λ f. never (sym (not_tighter _ _ _ no_less no_more) ∙ f))
-
-  pub tighter_back : TighterBack short s first second (part v)
+  pub tighter_back : TighterBack short s first second part
   tighter_back = record { tightest = tightest; equal = equal }
 
-  -- ---- one of them accepted: a certificate that the check does not refuse is accepted for this problem
-  accepted_for : {X : Type 0} (p : Problem) → Within short s p → (t : List ℕ) → Passed (check_verdict short s t)
-      → ((c : Certificate) → J.Accepted p t c → ⊥) → X
-  accepted_for p w t h none =
-      let k = reads_at s (λ q. Checked q t (check_verdict short s t)) (found short s t h) p w.read in
-      absurd (none k.certificate k.accepted)
+  -- ---- one of them accepted
+  module _ (p : Problem) (w : Within short s p) where
+    -- a certificate that the check does not refuse is accepted for this problem
+    accepted_for : (t : List ℕ) → Passed (check_verdict short s t) → ((c : Certificate) → J.Accepted p t c → ⊥) → ⊥
+    accepted_for t h none =
+        let k = reads_at s (λ q. Checked q t (check_verdict short s t)) (found short s t h) p w.read in
+        none k.certificate k.accepted
 
-  pub alone_back : AloneBack short s first second (part v)
-  alone_back = record {
-    one = λ p c w one none.
-        by_end (λ v. part v ≡ first) (λ h k. refl) (λ h k. accepted_for p w second h none)
-        (λ h k i. accepted_for p w second k none) (λ h k. absurd (h (accepted_states short s first p w c one).number));
-    other = λ p d w other none.
-        by_end (λ v. part v ≡ second) (λ h k. accepted_for p w first h none) (λ h k. refl)
-        (λ h k i. accepted_for p w first h none) (λ h k. absurd (k (accepted_states short s second p w d other).number));
-  }
+    alone_first : (c : Certificate) → J.Accepted p first c → ((d : Certificate) → J.Accepted p second d → ⊥)
+        → part ≡ first
+    alone_first c one none = go ended
+      where
+        go : Decided a b v → part ≡ first
+        go (first_tighter h k i f e) = part_is _ e
+        go (second_tighter h k i f e) = absurd (accepted_for second k none)
+        go (sides_differ h k i e) = absurd (accepted_for second k none)
+        go (first_alone h k e) = part_is _ e
+        go (second_alone h k e) = absurd (accepted_for second k none)
+        go (neither h k e) = absurd (h (accepted_states short s first p w c one).number)
+
+    alone_second : (d : Certificate) → J.Accepted p second d → ((c : Certificate) → J.Accepted p first c → ⊥)
+        → part ≡ second
+    alone_second d other none = go ended
+      where
+        go : Decided a b v → part ≡ second
+        go (first_tighter h k i f e) = absurd (accepted_for first h none)
+        go (second_tighter h k i f e) = part_is _ e
+        go (sides_differ h k i e) = absurd (accepted_for first h none)
+        go (first_alone h k e) = absurd (accepted_for first h none)
+        go (second_alone h k e) = part_is _ e
+        go (neither h k e) = absurd (k (accepted_states short s second p w d other).number)
+
+  pub alone_back : AloneBack short s first second part
+  alone_back = record { one = λ p c w. alone_first p w c; other = λ p d w. alone_second p w d }
 
   -- ---- refusals
   pub first_refusal_lem : FirstRefusal short s first v.refusal
-  first_refusal_lem =
-      by_end (λ v. FirstRefusal short s first v.refusal) (λ h k n o. absurd (n refl)) (λ h k n o. absurd (n refl))
-      (λ h k i n o. absurd (o refl)) (λ h k n o. refl)
-
-  -- both are accepted with other sides, by the verdicts
-  differ : Passed a → Passed b → (a.side ≡ b.side → ⊥) → Reads s (λ p. SidesDiffer p first second)
-  differ h k i =
-      let r = found short s first h in
-      let m = r.holds in
-      let n = reads_at s (λ q. Checked q second b) (found short s second k) r.problem r.read in
-      let e = ap (λ (u : CheckVerdict). u.side) m.verdict in
-      let f = ap (λ (u : CheckVerdict). u.side) n.verdict in
-      record {
-        problem = r.problem;
-        read = r.read;
-        holds =
-            record {
-              one = m.certificate;
-              other = n.certificate;
-              both = record { one = m.accepted; other = n.accepted };
-              differ = λ same. i (e ∙ same ∙ sym f);
-            };
-      }
+  first_refusal_lem nonzero others = go ended
+    where
+      go : Decided a b v → v.refusal ≡ a.refusal
+      go (first_tighter h k i f e) = absurd (nonzero (number_is _ e))
+      go (second_tighter h k i f e) = absurd (nonzero (number_is _ e))
+      go (sides_differ h k i e) = absurd (others (number_is _ e))
+      go (first_alone h k e) = absurd (nonzero (number_is _ e))
+      go (second_alone h k e) = absurd (nonzero (number_is _ e))
+      go (neither h k e) = rw e refl
 
   pub eleven : ElevenExactly short s first second v.refusal
-  eleven = record {
-    only =
-        by_end (λ v. v.refusal.number ≡ 11
-        → (v.refusal ≡ certificate_refusal 2 11 0 0) × Reads s (λ p. SidesDiffer p first second)) (λ h k n. absurd (omega arith))
-        (λ h k n. absurd (omega arith)) (λ h k i n. (refl, differ h k i)) (λ h k n. absurd (omega (arith, check_most first)));
-    always = λ p w d.
-        let x = accepted_states short s first p w d.one d.both.one in
-        let y = accepted_states short s second p w d.other d.both.other in
-        let sides : a.side ≡ b.side → ⊥ = λ e. d.differ (sym x.side ∙ e ∙ y.side) in
-        by_end (λ v. v.refusal.number ≡ 11) (λ h k. absurd (sides (k y.number).0)) (λ h k. absurd (sides (k x.number).0))
-        (λ h k i. refl) (λ h k. absurd (h x.number));
-  }
+  eleven = record { only = λ h. only h ended; always = λ p w d. always p w d ended }
+    where
+      differ : Passed a → Passed b → (a.side ≡ b.side → ⊥) → Reads s (λ p. SidesDiffer p first second)
+      differ h k i =
+          let r = found short s first h in
+          let m = r.holds in
+          let n = reads_at s (λ q. Checked q second b) (found short s second k) r.problem r.read in
+          let e = ap (λ (u : CheckVerdict). u.side) m.verdict in
+          let f = ap (λ (u : CheckVerdict). u.side) n.verdict in
+          record {
+            problem = r.problem;
+            read = r.read;
+            holds =
+                record {
+                  one = m.certificate;
+                  other = n.certificate;
+                  both = record { one = m.accepted; other = n.accepted };
+                  differ = λ same. i (e ∙ same ∙ sym f);
+                };
+          }
+
+      -- equal sides in the verdicts are equal sides of the certificates
+      sides : (p : Problem) → Within short s p → (d : SidesDiffer p first second) → a.side ≡ b.side
+          → d.one.header.side ≡ d.other.header.side
+      sides p w d i =
+          let x = accepted_states short s first p w d.one d.both.one in
+          let y = accepted_states short s second p w d.other d.both.other in
+          sym x.side ∙ i ∙ y.side
+
+      first_passed : (p : Problem) → Within short s p → SidesDiffer p first second → Passed a
+      first_passed p w d = (accepted_states short s first p w d.one d.both.one).number
+
+      second_passed : (p : Problem) → Within short s p → SidesDiffer p first second → Passed b
+      second_passed p w d = (accepted_states short s second p w d.other d.both.other).number
+
+      only : v.refusal.number ≡ 11 → Decided a b v
+          → (v.refusal ≡ certificate_refusal 2 11 0 0) × Reads s (λ p. SidesDiffer p first second)
+      only n (first_tighter h k i f e) = absurd (omega (arith, number_is _ e))
+      only n (second_tighter h k i f e) = absurd (omega (arith, number_is _ e))
+      only n (sides_differ h k i e) = (rw e refl, differ h k i)
+      only n (first_alone h k e) = absurd (omega (arith, number_is _ e))
+      only n (second_alone h k e) = absurd (omega (arith, number_is _ e))
+      only n (neither h k e) = absurd (omega (arith, number_is _ e, check_most first))
+
+      always : (p : Problem) → Within short s p → SidesDiffer p first second → Decided a b v
+          → v.refusal.number ≡ 11
+      always p w d (first_tighter h k i f e) = absurd (d.differ (sides p w d i))
+      always p w d (second_tighter h k i f e) = absurd (d.differ (sides p w d i))
+      always p w d (sides_differ h k i e) = number_is _ e
+      always p w d (first_alone h k e) = absurd (k (second_passed p w d))
+      always p w d (second_alone h k e) = absurd (h (first_passed p w d))
+      always p w d (neither h k e) = absurd (h (first_passed p w d))

@@ -10,7 +10,8 @@ use lib.Dec.{lit<, eqb}
 use lib.IntN.{pos, negsuc, ◌-ℤ◌}
 use lib.ListN.{get_or}
 use borrow.Author.Tests.{lt-ltb}
-use Rattle.counting.proofs.Bounded.{Bounded, bounded_part}
+use Rattle.counting.specs.Counting.{Bounded}
+use Rattle.counting.proofs.Bounded.{bounded_part}
 use Rattle.counting.proofs.Cases.{lt_or_le}
 use Rattle.format.specs.All.{All}
 use Rattle.format.specs.Commands.{given}

@@ -1,8 +1,8 @@
 -- Request 12 of document 02, "Two errors added": what the call on two problems with a pair for each returns, for all
 -- inputs; then what it promises.
-use Rattle.std.specs.Prelude.{◌≡◌, Bool, true, false, not, ◌&&◌, List, [], ◌∷◌, ◌⊎◌, ℕ, ◌+◌, ◌*◌, ◌≤◌, eqb, ℤ, pos, ◌+ℤ◌, ◌*ℤ◌, ◌≤ℤ◌}
+use Rattle.std.specs.Prelude.{◌≡◌, Bool, true, false, cond, ◌&&◌, List, [], ◌∷◌, ◌⊎◌, ℕ, ◌+◌, ◌*◌, ◌≤◌, eqb, ℤ, pos, ◌+ℤ◌, ◌*ℤ◌, ◌≤ℤ◌}
 use Rattle.polynomial.specs.Point.{Point}
-use Rattle.format.specs.Commands as Stream
+use Rattle.format.specs.Commands.{Outcome, refused, given}
 use Rattle.format.specs.declared.problem.Kind.{Kind}
 use Rattle.format.specs.declared.problem.Kind.TheVariants as K
 use Rattle.format.specs.ProblemRules.{Condition, Problem, read_problem}
@@ -11,10 +11,8 @@ use Rattle.accepting.specs.Bounds.{Allowed, objective_value, objective_scale}
 use Rattle.calls.specs.Fractions.{fraction, none}
 use Rattle.calls.specs.SameTerms.{same_terms}
 use Rattle.calls.specs.Refusals.{no_refusal, problem_refusal}
-use Rattle.calls.specs.Outcome.{Outcome, refused, given, ◌then◌, refuse_if, told}
-use Rattle.calls.specs.Checks.{problem_of}
 use Rattle.calls.specs.Check.{bound_of}
-use Rattle.calls.specs.Pair.{pair_for, pair_verdict}
+use Rattle.calls.specs.Pair.{pair_verdict}
 use Rattle.calls.specs.Promises.{Within, BothHold, Stated}
 use Rattle.calls.specs.Rules.{Kept, KeptUnless}
 use Rattle.calls.specs.declared.Fraction.{Fraction}
@@ -45,6 +43,12 @@ same_conditions (g ∷ gs) (h ∷ hs) =
 unfoldable pub same_region : Problem → Problem → Bool
 same_region p q = eqb p.variables q.variables && same_conditions p.conditions q.conditions
 
+-- of what two streams give. It is asked "after both pairs", where both give a problem
+abbrev pub same_region_read : Outcome Problem → Outcome Problem → Bool
+same_region_read (given p) (given q) = same_region p q
+same_region_read (given p) (refused number place) = false
+same_region_read (refused number place) o = false
+
 -- ---- the verdict
 abbrev pub rules_used : ℕ → ℕ → RulesUsed
 rules_used first second = record { first = first; second = second }
@@ -66,9 +70,16 @@ accepted_sum v w = record {
 abbrev pub of_second : Refusal → Refusal
 of_second f = record { number = f.number; stream = f.stream + 3; place = f.place; key = f.key }
 
-abbrev pub as_second : {A : Type 0} → Outcome A → Outcome A
-as_second (refused f) = refused (of_second f)
-as_second (given a) = given a
+-- the second pair, after the first was accepted; 15 "after both pairs, with stream and place 0"
+unfoldable pub sum_second : Bool → PairVerdict → PairVerdict → SumVerdict
+sum_second same v w =
+    cond (eqb w.refusal.number 0)
+    (cond same (accepted_sum v w) (refused_sum (problem_refusal 15 0)))
+    (refused_sum (of_second w.refusal))
+
+-- "Refusals of the first problem's pair come before the second's"
+unfoldable pub sum_pairs : Bool → PairVerdict → PairVerdict → SumVerdict
+sum_pairs same v w = cond (eqb v.refusal.number 0) (sum_second same v w) (refused_sum v.refusal)
 
 -- "two problems and a pair for each": the streams of one of them
 pub record Streams : Type 0 where
@@ -82,19 +93,10 @@ streams problem low high = record { problem = problem; low = low; high = high }
 abbrev pub pair_by : Bool → Streams → PairVerdict
 pair_by short a = pair_verdict short a.problem a.low a.high
 
--- the second problem and its pair, after the first problem p with the verdict v on its pair; 15 "after both pairs, with
--- stream and place 0"
-unfoldable pub sum_after : Bool → Problem → PairVerdict → Streams → Outcome SumVerdict
-sum_after short p v b =
-    as_second (problem_of short b.problem) then λ q.
-    as_second (pair_for q b.low b.high) then λ w.
-    refuse_if (not (same_region p q)) (problem_refusal 15 0) (given (accepted_sum v w))
-
--- "Refusals of the first problem's pair come before the second's". Refusal 1 is the first pair's
+-- refusal 1 is the first pair's
 unfoldable pub sum_verdict : Bool → Streams → Streams → SumVerdict
 sum_verdict short a b =
-    told refused_sum
-    (problem_of short a.problem then λ p. pair_for p a.low a.high then λ v. sum_after short p v b)
+    sum_pairs (same_region_read (read_problem a.problem) (read_problem b.problem)) (pair_by short a) (pair_by short b)
 
 -- ---- what the call promises. a and b are the streams of the two problems, v is what is returned, and f its refusal;
 -- short is true where a work table is too short
@@ -166,7 +168,7 @@ pub record SumBetween (p q : Problem) (lower upper : Fraction) : Type 0 where
 -- where nothing is refused
 abbrev pub HoldsBetween : Streams → Streams → SumVerdict → Type 0
 HoldsBetween a b v =
-    (p q : Problem) → read_problem a.problem ≡ Stream.given p → read_problem b.problem ≡ Stream.given q
+    (p q : Problem) → read_problem a.problem ≡ given p → read_problem b.problem ≡ given q
     → v.refusal.number ≡ 0 → SumBetween p q v.lower v.upper
 
 -- ---- between two streams that differ in the joining rule, or in the sparse order (Rules.antt has the relations R)

@@ -5,10 +5,11 @@ use Rattle.std.proofs.Math.Option.{Option, none, some}
 use Rattle.counting.specs.Counting.{listed}
 use Rattle.polynomial.specs.Terms.{Term, term}
 use Rattle.polynomial.specs.Point.{Point, value}
+use Rattle.format.specs.Commands.{Outcome, refused, given}
 use Rattle.format.specs.Operands.{number, signed}
 use Rattle.format.specs.Layouts.{E, i32}
 use Rattle.format.specs.ProblemLimits.{most_objective_degree}
-use Rattle.format.specs.ProblemRules.{Condition, no_condition, Problem, fitting}
+use Rattle.format.specs.ProblemRules.{Condition, no_condition, Problem, fitting, read_problem}
 use Rattle.format.specs.ProblemBases.{is_equality}
 use Rattle.format.specs.declared.problem.Kind.TheVariants as K
 use Rattle.format.specs.CertificateRules.{Certificate}
@@ -18,13 +19,13 @@ use Rattle.calls.specs.Fractions.{fraction}
 use Rattle.calls.specs.Fractions as F
 use Rattle.calls.specs.SameTerms.{same_terms}
 use Rattle.calls.specs.Refusals.{no_refusal, problem_refusal}
-use Rattle.calls.specs.Outcome.{Outcome, refused, given, ◌then◌, refuse_if, told}
-use Rattle.calls.specs.Checks.{problem_of, certificate_of}
 use Rattle.calls.specs.Check.{bound_of, check_verdict}
+use Rattle.calls.specs.Superseding.{is_accepted}
 use Rattle.calls.specs.Promises.{WhereAccepted, Reads, Within}
 use Rattle.calls.specs.Rules.{Kept}
 use Rattle.calls.specs.declared.Fraction.{Fraction}
 use Rattle.calls.specs.declared.Refusal.{Refusal}
+use Rattle.calls.specs.declared.CheckVerdict.{CheckVerdict}
 use Rattle.calls.specs.declared.AdjustedVerdict.{AdjustedVerdict}
 
 -- ---- the changes: "A change is 12 bytes, E then d, added to the objective", with "d as i32"
@@ -59,17 +60,17 @@ unfoldable pub first_unfit : ℕ → ℕ → List Term → Option ℕ
 first_unfit n i [] = none
 first_unfit n i (t ∷ l) = cond (change_fits n t) (first_unfit n (i + 1) l) (some i)
 
-abbrev pub unless_unfit : Option ℕ → List Term → Outcome (List Term)
-unless_unfit none l = given l
-unless_unfit (some i) l = refused (change_refusal 4 i)
+abbrev pub unfit_refusal : Option ℕ → Refusal
+unfit_refusal none = no_refusal
+unfit_refusal (some i) = change_refusal 4 i
 
 -- "a last change cut short meets refusal 2, then more than 256 changes meet refusal 6, then exponents against n or
--- degree 32 meet 4"; or the terms that are added
-unfoldable pub changes_for : ℕ → List ℕ → Outcome (List Term)
-changes_for n s =
-    refuse_if (ltb 0 (length s % change_size)) (change_refusal 2 (change_count s))
-    (refuse_if (ltb most_changes (change_count s)) (change_refusal 6 most_changes)
-    (unless_unfit (first_unfit n 0 (changes_of s)) (changes_of s)))
+-- degree 32 meet 4"
+unfoldable pub changes_refusal : ℕ → List ℕ → Refusal
+changes_refusal n s =
+    cond (ltb 0 (length s % change_size)) (change_refusal 2 (change_count s))
+    (cond (ltb most_changes (change_count s)) (change_refusal 6 most_changes)
+    (unfit_refusal (first_unfit n 0 (changes_of s))))
 
 -- ---- refusal 16: "unless for every variable some inequality is exactly 1 − x_i²"
 -- the key of x_i²: "A monomial's key is the sum of e_i × 256^(i−1)"
@@ -113,20 +114,32 @@ refused_adjusted r = record { refusal = r; bound = F.none }
 abbrev pub found_bound : Fraction → AdjustedVerdict
 found_bound f = record { refusal = no_refusal; bound = f }
 
--- the changes, then 16 and 17, of a problem and the side and bound that an accepted certificate states: "16 ..; 17 for
--- an upper certificate; both last, in this order, with stream and place 0"
-unfoldable pub adjusted_for : Problem → ℕ → Fraction → List ℕ → Outcome AdjustedVerdict
-adjusted_for p side bound changes =
-    changes_for p.variables changes then λ l.
-    refuse_if (not (boxed_to p.variables p.conditions)) (problem_refusal 16 0)
-    (refuse_if (not (eqb side 0)) (problem_refusal 17 0) (given (found_bound (moved_bound bound l))))
+-- "16 ..; 17 for an upper certificate; both last, in this order, with stream and place 0"
+unfoldable pub adjusted_by : Problem → CheckVerdict → List Term → AdjustedVerdict
+adjusted_by p v l =
+    cond (boxed_to p.variables p.conditions)
+    (cond (eqb v.side 0) (found_bound (moved_bound v.bound l)) (refused_adjusted (problem_refusal 17 0)))
+    (refused_adjusted (problem_refusal 16 0))
+
+-- a certificate that the check accepts: the refusals of the changes come before 16 and 17. v is the check's verdict
+unfoldable pub adjusted_of : Problem → CheckVerdict → List ℕ → AdjustedVerdict
+adjusted_of p v changes =
+    let f = changes_refusal p.variables changes in
+    cond (eqb f.number 0) (adjusted_by p v (changes_of changes)) (refused_adjusted f)
+
+-- the check accepts nothing for a stream that gives no problem
+abbrev pub adjusted_read : Outcome Problem → CheckVerdict → List ℕ → AdjustedVerdict
+adjusted_read (refused number place) v changes = refused_adjusted (problem_refusal number place)
+adjusted_read (given p) v changes = adjusted_of p v changes
+
+-- where the check refuses, its refusal
+unfoldable pub adjusted_checked : List ℕ → CheckVerdict → List ℕ → AdjustedVerdict
+adjusted_checked s v changes =
+    cond (is_accepted v) (adjusted_read (read_problem s) v changes) (refused_adjusted v.refusal)
 
 -- "After the check"
 unfoldable pub adjusted_verdict : Bool → List ℕ → List ℕ → List ℕ → AdjustedVerdict
-adjusted_verdict short s t changes =
-    told refused_adjusted
-    (problem_of short s then λ p.
-    certificate_of 1 p t then λ c. adjusted_for p c.header.side (bound_of c.header) changes)
+adjusted_verdict short s t changes = adjusted_checked s (check_verdict short s t) changes
 
 -- ---- what the call promises. s is the problem stream, t the certificate, and f what is returned as refusal
 -- the number is 0, one of the check's 1 to 9, 16 or 17

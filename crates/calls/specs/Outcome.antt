@@ -5,7 +5,7 @@ use Rattle.format.specs.Commands as Stream
 use Rattle.accepting.specs.Judgement as J
 use Rattle.format.specs.CertificateRules.{Certificate}
 use Rattle.calls.specs.declared.Refusal.{Refusal}
-use Rattle.calls.specs.Refusals.{no_refusal, certificate_refusal}
+use Rattle.calls.specs.Refusals.{certificate_refusal}
 
 pub data Outcome (A : Type 0) : Type 0 where
   refused : Refusal → Outcome A
@@ -30,11 +30,6 @@ of_stream stream (Stream.given a) = given a
 abbrev pub of_judgement : ℕ → J.Judgement → Outcome Certificate
 of_judgement stream (J.refused number place key) = refused (certificate_refusal stream number place key)
 of_judgement stream (J.accepted c) = given c
-
--- the refusal by itself: number 0 where a thing is given
-abbrev pub refusal_of : {A : Type 0} → Outcome A → Refusal
-refusal_of (refused r) = r
-refusal_of (given a) = no_refusal
 
 -- what a call returns is told of its outcome: refuse makes a verdict of a refusal, in which "all other fields are 0"
 abbrev pub told : {A : Type 0} → (Refusal → A) → Outcome A → A

@@ -41,13 +41,19 @@ abbrev pub BlocksInside : List ℕ → List ℕ → Type 0
 BlocksInside a b =
     (j i k : ℕ) → j < 9 → i < 64 → k < 64 → block_at a j i ≡ block_at a j k → block_at b j i ≡ block_at b j k
 
--- the blocks of s lie inside those of t, as "Blocks of rule 2 lie inside those of rule 1"; and where 7 applies to s it
--- applies to t
+-- the blocks of s lie inside those of t; and where 7 applies to s it applies to t
 pub record BlocksKept (R : List ℕ → List ℕ → Type 0) (short : Bool) (s out : List ℕ) (number : ℕ) (bytes : List ℕ)
     : Type 0 where
   pub inside : (t : List ℕ) → R s t → number ≡ 0
       → UnlessSeven (blocks_verdict short t).refusal (BlocksInside bytes (bytes_left short t out))
   pub seven : (t : List ℕ) → R s t → number ≡ 7 → (blocks_verdict short t).refusal ≡ problem_refusal 7 0
+
+-- "Blocks of rule 2 lie inside those of rule 1"
+abbrev pub BlocksUnderOne : Bool → List ℕ → List ℕ → ℕ → List ℕ → Type 0
+BlocksUnderOne short s out number bytes = BlocksKept UnderOne short s out number bytes
+
+abbrev pub BlocksAtLarger : Bool → List ℕ → List ℕ → ℕ → List ℕ → Type 0
+BlocksAtLarger short s out number bytes = BlocksKept AtLarger short s out number bytes
 
 -- ---- every call: what is accepted with s is accepted with t, unless a refusal g is given there. v is the call's
 -- verdict with s, and `of t` that with t in its place; `refusal` is a verdict's refusal, and `same w v` says what w
@@ -70,6 +76,12 @@ abbrev pub CheckKept : (List ℕ → List ℕ → Type 0) → Bool → List ℕ 
 CheckKept R short s certificate v =
     Kept (λ w. w.refusal) SameBound (λ t. check_verdict short t certificate) R s v
 
+abbrev pub CheckUnderOne : Bool → List ℕ → List ℕ → CheckVerdict → Type 0
+CheckUnderOne short s certificate v = CheckKept UnderOne short s certificate v
+
+abbrev pub CheckAtLarger : Bool → List ℕ → List ℕ → CheckVerdict → Type 0
+CheckAtLarger short s certificate v = CheckKept AtLarger short s certificate v
+
 -- ---- the pair: with both bounds and the gap, or its mark
 abbrev pub SameBounds : PairVerdict → PairVerdict → Type 0
 SameBounds w v = (w.lower ≡ v.lower) × ((w.upper ≡ v.upper) × ((w.gap ≡ v.gap) × (w.empty ≡ v.empty)))
@@ -77,3 +89,9 @@ SameBounds w v = (w.lower ≡ v.lower) × ((w.upper ≡ v.upper) × ((w.gap ≡ 
 abbrev pub PairKept : (List ℕ → List ℕ → Type 0) → Bool → List ℕ → List ℕ → List ℕ → PairVerdict → Type 0
 PairKept R short s low high v =
     Kept (λ w. w.refusal) SameBounds (λ t. pair_verdict short t low high) R s v
+
+abbrev pub PairUnderOne : Bool → List ℕ → List ℕ → List ℕ → PairVerdict → Type 0
+PairUnderOne short s low high v = PairKept UnderOne short s low high v
+
+abbrev pub PairAtLarger : Bool → List ℕ → List ℕ → List ℕ → PairVerdict → Type 0
+PairAtLarger short s low high v = PairKept AtLarger short s low high v

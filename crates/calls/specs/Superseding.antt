@@ -1,15 +1,12 @@
 -- Request 02 of document 02, "The certificate that supersedes": which of two certificates for one problem comes back,
 -- and what the four lent numbers receive, for all inputs; then what the call promises.
-use Rattle.std.specs.Prelude.{◌≡◌, Bool, false, cond, not, List, [], ◌⊎◌, ℕ, ◌≤◌, ◌<◌, eqb, length, take}
+use Rattle.std.specs.Prelude.{◌≡◌, Bool, false, cond, List, [], ◌⊎◌, ℕ, ◌≤◌, ◌<◌, eqb, length, take}
 use Rattle.format.specs.ProblemRules.{Problem}
 use Rattle.format.specs.CertificateRules.{Certificate}
-use Rattle.format.specs.declared.certificate.Header.{Header}
 use Rattle.accepting.specs.Judgement as J
 use Rattle.accepting.specs.Bounds.{BoundedBelow, BoundedAbove}
 use Rattle.calls.specs.Fractions.{is_less}
 use Rattle.calls.specs.Refusals.{no_refusal, problem_refusal, certificate_refusal}
-use Rattle.calls.specs.Outcome.{Outcome, refused, given, ◌then◌, refuse_if, told}
-use Rattle.calls.specs.Checks.{problem_of, certificate_of}
 use Rattle.calls.specs.Check.{bound_of, check_verdict}
 use Rattle.calls.specs.Promises.{Reads, Within}
 use Rattle.calls.specs.Rules.{SameBound}
@@ -35,26 +32,25 @@ abbrev pub none_back : Refusal → SupersedingVerdict
 none_back r = record { refusal = r; chosen = Chosen.Neither }
 
 -- both are accepted; "11 when both are accepted and their sides differ, last in order, stream 2 and place 0"
-unfoldable pub tighter_of : Header → Header → Outcome SupersedingVerdict
-tighter_of t u =
-    refuse_if (not (eqb t.side u.side)) (certificate_refusal 2 11 0 0)
-    (given (comes_back (cond (is_tighter t.side (bound_of u) (bound_of t)) Chosen.Second Chosen.First)))
+unfoldable pub tighter_of : CheckVerdict → CheckVerdict → SupersedingVerdict
+tighter_of a b =
+    cond (eqb a.side b.side)
+    (cond (is_tighter a.side b.bound a.bound) (comes_back Chosen.Second) (comes_back Chosen.First))
+    (none_back (certificate_refusal 2 11 0 0))
 
 abbrev pub is_accepted : CheckVerdict → Bool
 is_accepted a = eqb a.refusal.number 0
 
 -- "If only one is accepted, that one comes back. If neither is, the first one's refusal comes"
-abbrev pub superseding_of : Outcome Certificate → Outcome Certificate → Outcome SupersedingVerdict
-superseding_of (given c) (given d) = tighter_of c.header d.header
-superseding_of (given c) (refused f) = given (comes_back Chosen.First)
-superseding_of (refused f) (given d) = given (comes_back Chosen.Second)
-superseding_of (refused f) (refused g) = refused f
+unfoldable pub superseding_of : CheckVerdict → CheckVerdict → SupersedingVerdict
+superseding_of a b =
+    cond (is_accepted a)
+    (cond (is_accepted b) (tighter_of a b) (comes_back Chosen.First))
+    (cond (is_accepted b) (comes_back Chosen.Second) (none_back a.refusal))
 
--- each is checked by itself, as stream 1; so refusal 1, those of the problem and 7 are the first one's
+-- by what the check says of each by itself; so refusal 1, those of the problem and 7 are the first one's
 unfoldable pub superseding_verdict : Bool → List ℕ → List ℕ → List ℕ → SupersedingVerdict
-superseding_verdict short s first second =
-    told none_back
-    (problem_of short s then λ p. superseding_of (certificate_of 1 p first) (certificate_of 1 p second))
+superseding_verdict short s first second = superseding_of (check_verdict short s first) (check_verdict short s second)
 
 -- what comes back: the bytes of the one chosen, or "an empty part of the first"
 abbrev pub part_of : Chosen → List ℕ → List ℕ → List ℕ

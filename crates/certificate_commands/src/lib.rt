@@ -2,7 +2,7 @@
 // that it may be refused by.
 ghost use Rattle.std.specs.Prelude.{◌≡◌, ◌+◌, ◌≤◌, length};
 ghost use Rattle.format.specs.ProblemRules.{Problem};
-ghost use Rattle.format.proofs.Lengths.{ZeroUnknown};
+ghost use Rattle.format.specs.Layouts.{ZeroUnknown};
 ghost use Rattle.format.specs.declared.certificate.Command.TheVariants as C;
 ghost use Rattle.format.specs.CertificateLayout.{certificate_command, certificate_size, certificate_decoded};
 ghost use Rattle.format.specs.CertificateRules.{Certificate, entry_placed, certificate_placed, entry_fits, certificate_operands_fit, index_repeated, certificate_repeated, rows_full, certificate_full};

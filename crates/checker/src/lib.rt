@@ -5,6 +5,7 @@ ghost use Rattle.joining_rule.specs.Bytes.{block_byte_count};
 ghost use Rattle.calls.specs.Tables.{table_length, tables, tables_short, TablesLeft};
 ghost use Rattle.calls.specs.Refusals.{certificate_refusal};
 ghost use Rattle.calls.specs.Outcome.{told};
+ghost use Rattle.calls.specs.Fractions.{fraction};
 ghost use Rattle.calls.specs.Blocks.{blocks_short, refused_blocks, blocks_verdict, bytes_left};
 ghost use Rattle.calls.specs.Check.{refused_check, check_verdict};
 ghost use Rattle.calls.specs.Pair.{refused_pair, pair_sides, pair_verdict};
@@ -14,11 +15,13 @@ ghost use Rattle.calls.specs.Promises.{AcceptedExactly, CheckSplits, CheckDiffer
 ghost use Rattle.calls.specs.Promises.{PairExactly, PairDiffers, HoldsBelow, HoldsAbove, HoldsGap, NoPoints};
 ghost use Rattle.calls.specs.Promises.{PairSplits, TenExactly, GapPushable};
 ghost use Rattle.calls.specs.Zeros.{BlocksZeros, CheckZeros, TwoZeros, PairZeros};
-ghost use Rattle.calls.specs.Rules.{UnderOne, AtLarger, BlocksKept, CheckKept, PairKept};
+ghost use Rattle.calls.specs.Rules.{BlocksUnderOne, CheckUnderOne, PairUnderOne};
+ghost use Rattle.calls.specs.Rules.{BlocksAtLarger, CheckAtLarger, PairAtLarger};
 ghost use Rattle.calls.specs.RowOrder.{CheckAnyOrder, PairAnyOrder};
+ghost use Rattle.fractions.specs.Ranges.{Bound};
 ghost use Rattle.checker.specs.Verdicts.{check_from, pair_from};
 
-use calls::{BlocksVerdict, CheckVerdict, PairVerdict, Refusal, TwoChecks};
+use calls::{BlocksVerdict, CheckVerdict, Fraction, PairVerdict, Refusal, TwoChecks};
 use certificate_judge::Judged;
 use flat::RULE;
 use format::certificate::Header;
@@ -99,12 +102,12 @@ pub fn blocks(
     ensures rule { RuleUsed problem.now result.refusal.number result.rule }
     ensures under_one { let lent = tables keys.old high.old low.old in
         let before = out.old in
-        BlocksKept UnderOne (blocks_short before lent) problem.now before result.refusal.number
+        BlocksUnderOne (blocks_short before lent) problem.now before result.refusal.number
         out.new }
     ensures after { BlocksAfter problem.now result.refusal.number out.new result.rounds }
     ensures at_larger { let lent = tables keys.old high.old low.old in
         let before = out.old in
-        BlocksKept AtLarger (blocks_short before lent) problem.now before result.refusal.number
+        BlocksAtLarger (blocks_short before lent) problem.now before result.refusal.number
         out.new }
     ensures zeros { BlocksZeros result }
 {
@@ -117,6 +120,16 @@ pub fn blocks(
     let v = answer_blocks(problem, out, keys);
     work_tables::clear_tables(keys, high, low);
     v
+}
+
+// The bound p/q that a certificate states.
+fn bound(p: i32, q: u16) -> Fraction
+    ensures { (result ≡ fraction p q) × Bound result }
+{
+    Fraction {
+        num: p as i64,
+        den: q as u64,
+    }
 }
 
 fn refuse_check(refusal: Refusal) -> CheckVerdict
@@ -140,7 +153,7 @@ fn check_one(judged: Judged, rounds: usize, rule: usize) -> CheckVerdict
         Judged::Accepted(t) => CheckVerdict {
             refusal: certificate_judge::problem_refusal(0, 0),
             side: t.side,
-            bound: fractions::bound(t.p, t.q),
+            bound: bound(t.p, t.q),
             rounds,
             rule,
         },
@@ -197,9 +210,9 @@ pub fn check(
     ensures few_rounds { FewRounds problem.now result.refusal.number result.rounds }
     ensures rule { RuleUsed problem.now result.refusal.number result.rule }
     ensures under_one { let lent = tables keys.old high.old low.old in
-        CheckKept UnderOne (tables_short lent) problem.now certificate.now result }
+        CheckUnderOne (tables_short lent) problem.now certificate.now result }
     ensures at_larger { let lent = tables keys.old high.old low.old in
-        CheckKept AtLarger (tables_short lent) problem.now certificate.now result }
+        CheckAtLarger (tables_short lent) problem.now certificate.now result }
     ensures zeros { CheckZeros result }
     ensures seven { let lent = tables keys.old high.old low.old in
         SevenExactly (tables_short lent) problem.now result.refusal }
@@ -247,8 +260,8 @@ fn pair_sides(lower: Header, upper: Header, rounds: usize, rule: usize) -> PairV
     if upper.side != 1 {
         return refuse_side(2);
     }
-    let a = fractions::bound(lower.p, lower.q);
-    let b = fractions::bound(upper.p, upper.q);
+    let a = bound(lower.p, lower.q);
+    let b = bound(upper.p, upper.q);
     let gap = fractions::gap(a, b);
     PairVerdict {
         refusal: certificate_judge::problem_refusal(0, 0),
@@ -304,9 +317,9 @@ pub fn pair(
     ensures few_rounds { FewRounds problem.now result.refusal.number result.rounds }
     ensures rule { RuleUsed problem.now result.refusal.number result.rule }
     ensures under_one { let lent = tables keys.old high.old low.old in
-        PairKept UnderOne (tables_short lent) problem.now first.now second.now result }
+        PairUnderOne (tables_short lent) problem.now first.now second.now result }
     ensures at_larger { let lent = tables keys.old high.old low.old in
-        PairKept AtLarger (tables_short lent) problem.now first.now second.now result }
+        PairAtLarger (tables_short lent) problem.now first.now second.now result }
     ensures zeros { PairZeros result }
     ensures seven { let lent = tables keys.old high.old low.old in
         SevenExactly (tables_short lent) problem.now result.refusal }

@@ -7,17 +7,17 @@ use Prim.Native.Nat.{ℕ, ◌*◌, ◌^◌, ◌≤◌}
 use native.Mathlib.Omega.{arith}
 use lib.IntN.{ℤ}
 use lib.ListN.{get_or}
-use Rattle.counting.proofs.Bounded.{Bounded}
+use Rattle.counting.specs.Counting.{Bounded}
 use Rattle.counting.proofs.Cases.{lt_or_le}
 use Rattle.polynomial.specs.Terms.{keys_of}
 use Rattle.format.specs.ProblemRules.{Problem}
 use Rattle.flat.specs.Flat.{rule_at, order_at, FlatProblem}
 use Rattle.flat.proofs.Flat as Flat
 use Rattle.joining_rule.specs.Rounds.{State, most_rounds, closing_of, counted_keys}
-use Rattle.joining_rule.specs.Joining.{bases_of, start_set, closing}
+use Rattle.joining_rule.specs.Joining.{bases_of, start_from, start_set, closing}
 use Rattle.joining_rule.proofs.Same.{closing_same}
 use Rattle.joining_rule.proofs.Counted.{counted_same}
-use Rattle.joining_rule.proofs.Start.{start_from, start_same}
+use Rattle.joining_rule.proofs.Start.{start_same}
 use Rattle.joining_bases.specs.Parts.{bases_in, Arrays}
 use Rattle.closure.specs.Tables.{FlatKeys, start_in}
 
@@ -52,7 +52,7 @@ module _ (keys sizes : List ℕ) (k : FlatKeys keys sizes) where
 
 module _ (p : Problem) (keys : List ℕ) (coefficients : List ℤ) (sizes : List ℕ) (f : FlatProblem p keys coefficients sizes) where
   pub start_held : start_in keys sizes ≡ start_set p
-  unfolding start_set start_from
+  unfolding start_set
   start_held = ap (λ (l : List ℕ). start_from l (bases_in keys sizes)) (Flat.objective_part f) ∙ start_same (keys_of p.objective) (bases_in keys sizes) (bases_of p) f.bases (Flat.multiplier_part f)
 
   pub closing_held : (most : ℕ) (S : List ℕ) → most ≡ most_rounds (get_or sizes order_at 0) → S ≡ start_in keys sizes

@@ -4,8 +4,7 @@ use Rattle.flat.specs.Flat.{objective_number, FlatLimits}
 use Rattle.key_set.specs.Table.{keys_in, Indexed}
 use Rattle.joining_rule.specs.Rounds.{Bases, Closing, blocks_in, counted_keys}
 use Rattle.joining_rule.specs.Bytes.{block_bytes}
-use Rattle.joining_rule.specs.Joining.{most_keys}
-use Rattle.joining_rule.proofs.Start.{start_from}
+use Rattle.joining_rule.specs.Joining.{start_from, most_keys}
 use Rattle.joining_bases.specs.Parts.{exponents_in, bases_in}
 use Rattle.closure.specs.declared.Joined.{Joined}
 

@@ -1,13 +1,10 @@
--- Lists of small numbers: their parts, and lists that are put together.
+-- Laws of lists of small numbers: their parts, and lists that are put together.
 use mathlib.Core.List.{List, [], ◌∷◌, ◌++◌}
-use Prim.Native.Nat.{ℕ, zero, suc, ◌+◌, ◌≤◌}
+use Prim.Native.Nat.{ℕ, zero, suc, ◌+◌}
 use native.Mathlib.Omega.{arith}
-use lib.ListN.{get_or, take, drop, replicate}
+use lib.ListN.{take, drop, replicate}
 use lib.Seq.{get_or-drop}
-
--- each number of a list is at most m
-abbrev pub Bounded : ℕ → List ℕ → Type 0
-Bounded m l = (i : ℕ) → get_or l i 0 ≤ m
+use Rattle.counting.specs.Counting.{Bounded}
 
 module _ (m : ℕ) where
   pub bounded_zeros : (n : ℕ) → Bounded m (replicate n 0)

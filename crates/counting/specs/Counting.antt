@@ -1,5 +1,5 @@
--- What is made by counting up from a number: a list, a state, a sum.
-use Rattle.std.specs.Prelude.{List, [], ◌∷◌, ◌++◌, ℕ, zero, suc, ◌+◌, ◌-◌}
+-- What is made by counting up from a number: a list, a state, a sum. And lists of small numbers.
+use Rattle.std.specs.Prelude.{List, [], ◌∷◌, ◌++◌, ℕ, zero, suc, ◌+◌, ◌-◌, ◌≤◌, get_or}
 
 -- the list f 0, f 1, .., f (n − 1)
 unfoldable pub listed {ℓ} : {A : Type ℓ} → ℕ → (ℕ → A) → List A
@@ -19,3 +19,7 @@ from_to a n f s = steps f (n - a) a s
 unfoldable pub sum_to : ℕ → (ℕ → ℕ) → ℕ
 sum_to zero f = 0
 sum_to (suc n) f = sum_to n f + f n
+
+-- each number of a list is at most m
+abbrev pub Bounded : ℕ → List ℕ → Type 0
+Bounded m l = (i : ℕ) → get_or l i 0 ≤ m

@@ -10,7 +10,8 @@ use lib.IntN.{ℤ, pos, nat_abs}
 use lib.ListN.{length, get_or, take, drop, length-drop}
 use lib.Seq.{length-take-le, take-take, drop-drop, get_or-take, get_or-drop}
 use borrow.Author.Tests.{lt-ltb, le-ltb}
-use Rattle.counting.proofs.Bounded.{Bounded, bounded_take}
+use Rattle.counting.specs.Counting.{Bounded}
+use Rattle.counting.proofs.Bounded.{bounded_take}
 use Rattle.counting.proofs.Cases.{lt_or_le}
 use Rattle.polynomial.specs.Terms.{keys_of}
 use Rattle.format.specs.ProblemRules.{Problem}

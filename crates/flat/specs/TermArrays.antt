@@ -1,7 +1,6 @@
 -- The arrays of the code that stand for a list of terms.
 use Rattle.std.specs.Prelude.{◌≡◌, List, ℕ, ◌*◌, ◌^◌, ◌≤◌, ℤ, pos, nat_abs, get_or, length}
-use Rattle.counting.specs.Counting.{listed}
-use Rattle.counting.proofs.Bounded.{Bounded}
+use Rattle.counting.specs.Counting.{listed, Bounded}
 use Rattle.polynomial.specs.Terms.{Term, term}
 
 -- the terms that the first n places of two arrays hold

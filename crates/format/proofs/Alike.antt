@@ -6,8 +6,7 @@ use Prim.Native.Nat.{ℕ, zero, suc}
 use Rattle.format.specs.Commands.{read_whole}
 use Rattle.format.specs.declared.certificate.Instruction.{Instruction}
 use Rattle.format.specs.declared.certificate.Instruction.TheVariants as I
-use Rattle.format.specs.ProblemRules.{Problem}
-use Rattle.format.proofs.Parts.{with_rule, with_order}
+use Rattle.format.specs.ProblemRules.{Problem, with_rule, with_order}
 use Rattle.format.specs.ProblemBases.{basis_of, multiplier, kind_of}
 use Rattle.format.specs.CertificateRules.{Certificate, no_certificate, certificate_operands_fit, certificate_refusal_at, certificate_instruction_at, certificate_language, read_certificate}
 

@@ -18,8 +18,7 @@ use Rattle.format.specs.declared.problem.Command.TheVariants as C
 use Rattle.format.specs.declared.problem.Instruction.{Instruction}
 use Rattle.format.specs.declared.problem.Instruction.TheVariants as I
 use Rattle.format.specs.ProblemLayout.{problem_size, problem_decoded}
-use Rattle.format.specs.ProblemRules.{Problem, problem_placed, problem_operands_fit, problem_repeated, problem_full, problem_applied, problem_command_at, problem_refusal_at, problem_next, problem_language}
-use Rattle.format.proofs.Parts.{with_rule, with_order}
+use Rattle.format.specs.ProblemRules.{Problem, with_rule, with_order, problem_placed, problem_operands_fit, problem_repeated, problem_full, problem_applied, problem_command_at, problem_refusal_at, problem_next, problem_language}
 use Rattle.format.proofs.ProblemLimits.{taken_size}
 use Rattle.format.proofs.Run.{passes, Left, left_end, left_refused, left_extra, left_given, left_next}
 

@@ -18,8 +18,7 @@ use Rattle.format.specs.declared.problem.Command.{Command}
 use Rattle.format.specs.declared.problem.Command.TheVariants as C
 use Rattle.format.specs.ProblemLayout.{problem_command}
 use Rattle.format.specs.ProblemLimits.{most_variables, latest_rule, most_order}
-use Rattle.format.specs.ProblemRules.{Problem, no_problem, order_place, problem_placed, problem_operands_fit, problem_applied, problem_command_at, problem_instruction_at, problem_refusal_at, problem_next, problem_language, read_problem}
-use Rattle.format.proofs.Parts.{with_rule, with_order}
+use Rattle.format.specs.ProblemRules.{Problem, no_problem, with_rule, with_order, order_place, problem_placed, problem_operands_fit, problem_applied, problem_command_at, problem_instruction_at, problem_refusal_at, problem_next, problem_language, read_problem}
 use Rattle.format.specs.ProblemRule.{ruled, unruled}
 use Rattle.format.specs.ProblemOrder.{order_named, Beginning, after_variables, after_rule, ordered}
 use Rattle.format.proofs.ProblemRule.{rule_command, rule_byte, order_command, order_byte, read_order}

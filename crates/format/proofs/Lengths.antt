@@ -11,18 +11,13 @@ use native.Mathlib.Omega.{arith}
 use lib.Dec.{eqb}
 use borrow.Author.Tests.{eqb-true}
 use Rattle.counting.proofs.Cases.{clash, and_left, and_right}
-use Rattle.format.specs.Layouts.{Layout, line, none, length_of, has_byte, command_named}
+use Rattle.format.specs.Layouts.{Layout, line, none, length_of, has_byte, command_named, ZeroUnknown}
 use Rattle.format.specs.declared.problem.Command.{Command as ProblemCommand}
 use Rattle.format.specs.declared.problem.Command.TheVariants as Problem
 use Rattle.format.specs.declared.certificate.Command.{Command as CertificateCommand}
 use Rattle.format.specs.declared.certificate.Command.TheVariants as Certificate
 use Rattle.format.specs.ProblemLayout.{problem_layout, problem_commands, problem_command, problem_size}
 use Rattle.format.specs.CertificateLayout.{certificate_layout, certificate_commands, certificate_command, certificate_size}
-
--- a number is "0 exactly where the command is unknown": where k is the unknown one, and nowhere else
-pub record ZeroUnknown {A : Type 0} (unknown k : A) (r : ℕ) : Type 0 where
-  pub zero : k ≡ unknown → r ≡ 0
-  pub only : r ≡ 0 → k ≡ unknown
 
 -- ---- a test that holds at the n numbers from lo on
 abbrev pub every : (ℕ → Bool) → ℕ → ℕ → Bool

@@ -10,7 +10,6 @@ pub mod ProblemCounts
 pub mod ProblemRule
 pub mod Differing
 pub mod Exchanged
-pub mod Parts
 pub mod Alike
 pub mod All
 pub mod ProblemVariables
@@ -19,7 +18,6 @@ pub mod Walk
 pub mod Notes
 pub mod SameBytes
 pub mod Fold
-pub mod RowRuns
 pub mod RowReading
 pub mod RowOrder
 pub mod Meets

@@ -20,8 +20,7 @@ use Rattle.format.specs.declared.problem.Command.{Command}
 use Rattle.format.specs.declared.problem.Command.TheVariants as C
 use Rattle.format.specs.declared.problem.Kind.{Kind}
 use Rattle.format.specs.ProblemLayout.{problem_command, problem_size, problem_decoded}
-use Rattle.format.specs.ProblemRules.{Problem, no_problem, no_condition, append_at, conditions_full, order_place, problem_placed, nonzero, fitting, problem_operands_fit, problem_repeated, problem_full, problem_applied, problem_command_at, problem_refusal_at, problem_next, problem_language, read_problem}
-use Rattle.format.proofs.Parts.{with_begun, with_rule, with_order}
+use Rattle.format.specs.ProblemRules.{Problem, no_problem, no_condition, append_at, with_condition, with_rule, with_order, conditions_full, order_place, problem_placed, nonzero, fitting, problem_operands_fit, problem_repeated, problem_full, problem_applied, problem_command_at, problem_refusal_at, problem_next, problem_language, read_problem}
 use Rattle.format.specs.ProblemBases.{basis_of}
 use Rattle.format.specs.All.{All}
 use Rattle.format.proofs.WithinLimits.{Distinct, Monomials, Terms, ConditionTerms, Limits}
@@ -144,7 +143,7 @@ first_limits n h = record {
 }
 
 -- a condition is begun, of either kind
-begun_limits : (p : Problem) (k : Kind) → Limits p → conditions_full p ≡ false → Limits (with_begun p k)
+begun_limits : (p : Problem) (k : Kind) → Limits p → conditions_full p ≡ false → Limits (with_condition p k)
 begun_limits p k q full =
     let e = length-append p.conditions (record { kind = k; terms = [] } ∷ []) in
     record {

@@ -17,8 +17,7 @@ use Rattle.format.specs.declared.certificate.Command.TheVariants as C
 use Rattle.format.specs.CertificateRules.{Certificate, no_certificate, entry_placed, certificate_placed, read_certificate}
 use Rattle.format.specs.Cut.{command_of, Whole, commands_of}
 use Rattle.format.specs.Permuted.{Permuted}
-use Rattle.format.specs.RowOrder.{begins_row, is_entry, EntryCommand, RowRun, IsRow, in_order, HeaderCommand, OtherOrder}
-use Rattle.format.proofs.RowRuns.{rows_at}
+use Rattle.format.specs.RowOrder.{begins_row, is_entry, EntryCommand, RowRun, IsRow, in_order, HeaderCommand, OtherOrder, rows_at}
 use Rattle.format.proofs.Run.{passes}
 use Rattle.format.proofs.Lengths.{certificate_byte}
 use Rattle.format.proofs.Cut.{Cuts, read_cuts}

@@ -18,8 +18,7 @@ use Rattle.format.specs.CertificateLayout.{certificate_command, certificate_size
 use Rattle.format.specs.CertificateRules.{Row, Certificate, no_certificate, certificate_applied, certificate_instruction_at, read_certificate}
 use Rattle.format.specs.Cut.{command_of, Whole}
 use Rattle.format.specs.Permuted.{Permuted, none, same, exchanged, then}
-use Rattle.format.specs.RowOrder.{EntryCommand, RowRun, IsRow, run_bytes, rows_bytes, in_order, HeaderCommand, OtherOrder}
-use Rattle.format.proofs.RowRuns.{rows_at}
+use Rattle.format.specs.RowOrder.{EntryCommand, RowRun, IsRow, run_bytes, rows_bytes, in_order, HeaderCommand, OtherOrder, rows_at}
 use Rattle.format.proofs.Fold.{refusal_of, applied, read_commands, read_fold}
 use Rattle.format.proofs.RowReading.{row_commands, RowPasses, RowsPass, step_passed, passed_step, not_end, rows_read, read_rows}
 

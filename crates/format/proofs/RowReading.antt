@@ -21,8 +21,7 @@ use Rattle.format.specs.declared.certificate.Header.{Header}
 use Rattle.format.specs.CertificateLayout.{certificate_command, certificate_decoded}
 use Rattle.format.specs.CertificateRules.{Entry, Row, Certificate, no_certificate, last_row, certificate_placed, certificate_operands_fit, rises, certificate_repeated, most_rows, certificate_full, with_entry, certificate_applied, certificate_instruction_at}
 use Rattle.format.specs.Cut.{command_of, Whole}
-use Rattle.format.specs.RowOrder.{begins_row, is_entry, EntryCommand, RowRun, IsRow, run_bytes}
-use Rattle.format.proofs.RowRuns.{entry_by, entries_at, basis_by, row_by, row_at, rows_at}
+use Rattle.format.specs.RowOrder.{begins_row, is_entry, EntryCommand, RowRun, IsRow, run_bytes, entry_by, entries_at, basis_by, row_by, row_at, rows_at}
 use Rattle.format.proofs.Run.{Passes, passes}
 use Rattle.format.proofs.CertificateChecks.{last_append}
 use Rattle.format.proofs.Fold.{refusal_of, applied, ended_by, read_commands}

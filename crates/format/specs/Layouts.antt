@@ -1,5 +1,5 @@
 -- Layouts of commands, for both kinds of stream: a command is its byte and then its operands, without gaps.
-use Rattle.std.specs.Prelude.{Bool, false, cond, List, [], ◌∷◌, ℕ, ◌+◌, ◌-◌, ◌*◌, eqb, ℤ, get_or, take}
+use Rattle.std.specs.Prelude.{◌≡◌, Bool, false, cond, List, [], ◌∷◌, ℕ, ◌+◌, ◌-◌, ◌*◌, eqb, ℤ, get_or, take}
 use Rattle.format.specs.Operands.{number, signed}
 
 -- "u and i mean unsigned and signed with their width in bits. E is 8 exponent bytes": the widths in bytes
@@ -53,3 +53,8 @@ has_byte none byte = false
 abbrev pub command_named : {A : Type 0} → (A → Layout) → A → List A → ℕ → A
 command_named layout unknown [] byte = unknown
 command_named layout unknown (k ∷ ks) byte = cond (has_byte (layout k) byte) k (command_named layout unknown ks byte)
+
+-- a number is "0 exactly where the command is unknown": where k is the unknown one, and nowhere else
+pub record ZeroUnknown {A : Type 0} (unknown k : A) (r : ℕ) : Type 0 where
+  pub zero : k ≡ unknown → r ≡ 0
+  pub only : r ≡ 0 → k ≡ unknown

@@ -114,35 +114,81 @@ problem_full p (I.Order k) = false
 
 -- ---- what a command that is not refused does
 -- a condition begun, without terms; an equality is "numbered together with the constraints"
-abbrev pub with_condition : Kind → List Condition → List Condition
-with_condition k gs = gs ++ (record { kind = k; terms = [] } ∷ [])
+abbrev pub with_condition : Problem → Kind → Problem
+with_condition p k = record {
+  variables = p.variables;
+  rule = p.rule;
+  order = p.order;
+  objective = p.objective;
+  conditions = p.conditions ++ (record { kind = k; terms = [] } ∷ []);
+  bases = p.bases;
+}
 
--- one more term of the condition begun last
+-- the joining rule named
+abbrev pub with_rule : Problem → ℕ → Problem
+with_rule p r = record {
+  variables = p.variables;
+  rule = r;
+  order = p.order;
+  objective = p.objective;
+  conditions = p.conditions;
+  bases = p.bases;
+}
+
+-- the sparse order named
+abbrev pub with_order : Problem → ℕ → Problem
+with_order p k = record {
+  variables = p.variables;
+  rule = p.rule;
+  order = k;
+  objective = p.objective;
+  conditions = p.conditions;
+  bases = p.bases;
+}
+
+-- a condition with one more term
 abbrev pub with_term : Condition → Term → Condition
 with_term g t = record { kind = g.kind; terms = g.terms ++ (t ∷ []) }
 
-abbrev pub with_last : Term → List Condition → List Condition
-with_last t gs = set gs (length gs - 1) (with_term (last_condition gs) t)
-
--- the problem that has these parts
-abbrev pub made : ℕ → ℕ → ℕ → List Term → List Condition → List (List ℕ) → Problem
-made n r k f gs bs = record { variables = n; rule = r; order = k; objective = f; conditions = gs; bases = bs }
-
--- a command changes one part, or none: of the n variables, the rule r, the order k, the objective f, the conditions gs
--- and the bases bs
-abbrev pub applied_to : ℕ → ℕ → ℕ → List Term → List Condition → List (List ℕ) → Instruction → Problem
-applied_to n r k f gs bs (I.Variables m) = made m r k f gs bs
-applied_to n r k f gs bs (I.Objective e c) = made n r k (f ++ (term e c ∷ [])) gs bs
-applied_to n r k f gs bs I.Inequality = made n r k f (with_condition K.Inequality gs) bs
-applied_to n r k f gs bs (I.Term e c) = made n r k f (with_last (term e c) gs) bs
-applied_to n r k f gs bs (I.Member j e) = made n r k f gs (append_at bs j e)
-applied_to n r k f gs bs I.End = made n r k f gs bs
-applied_to n r k f gs bs I.Equality = made n r k f (with_condition K.Equality gs) bs
-applied_to n r k f gs bs (I.Rule s) = made n s k f gs bs
-applied_to n r k f gs bs (I.Order m) = made n r m f gs bs
-
 unfoldable pub problem_applied : Problem → Instruction → Problem
-problem_applied p i = applied_to p.variables p.rule p.order p.objective p.conditions p.bases i
+problem_applied p (I.Variables n) = record {
+  variables = n;
+  rule = p.rule;
+  order = p.order;
+  objective = p.objective;
+  conditions = p.conditions;
+  bases = p.bases;
+}
+problem_applied p (I.Objective k c) = record {
+  variables = p.variables;
+  rule = p.rule;
+  order = p.order;
+  objective = p.objective ++ (term k c ∷ []);
+  conditions = p.conditions;
+  bases = p.bases;
+}
+problem_applied p I.Inequality = with_condition p K.Inequality
+problem_applied p (I.Term k c) = record {
+  variables = p.variables;
+  rule = p.rule;
+  order = p.order;
+  objective = p.objective;
+  conditions =
+      set p.conditions (length p.conditions - 1) (with_term (last_condition p.conditions) (term k c));
+  bases = p.bases;
+}
+problem_applied p (I.Member j k) = record {
+  variables = p.variables;
+  rule = p.rule;
+  order = p.order;
+  objective = p.objective;
+  conditions = p.conditions;
+  bases = append_at p.bases j k;
+}
+problem_applied p I.End = p
+problem_applied p I.Equality = with_condition p K.Equality
+problem_applied p (I.Rule r) = with_rule p r
+problem_applied p (I.Order k) = with_order p k
 
 -- ---- the command at an offset
 abbrev pub problem_command_at : List ℕ → ℕ → Command

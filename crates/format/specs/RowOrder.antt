@@ -1,10 +1,13 @@
 -- Request 14 of document 02, "the order of a certificate's rows": a certificate stream as its header, the runs of its
--- rows and its end, and the streams that have these runs in another order.
-use Rattle.std.specs.Prelude.{◌≡◌, Bool, true, false, ℕ}
+-- rows and its end, the streams that have these runs in another order, and what a run gives where it stands.
+use Rattle.std.specs.Prelude.{◌≡◌, Bool, true, false, ℕ, ◌+◌, ℤ, pos, length}
 use mathlib.Core.List.{List, [], ◌∷◌, ◌++◌, flatten}
 use Rattle.format.specs.All.{All}
 use Rattle.format.specs.declared.certificate.Command.{Command}
 use Rattle.format.specs.declared.certificate.Command.TheVariants as C
+use Rattle.format.specs.declared.certificate.Instruction.{Instruction}
+use Rattle.format.specs.declared.certificate.Instruction.TheVariants as I
+use Rattle.format.specs.CertificateRules.{Entry, Row, certificate_instruction_at}
 use Rattle.format.specs.Cut.{command_of, Whole}
 use Rattle.format.specs.Permuted.{Permuted}
 
@@ -68,3 +71,56 @@ pub record OtherOrder (s t : List ℕ) : Type 0 where
   pub order : Permuted rows others
   pub first : s ≡ in_order header rows
   pub second : t ≡ in_order header others
+
+-- ---- what the run of a row gives where it stands: the row, and each entry at its command's offset. So a row that is
+-- moved moves the places of its entries with it
+-- the index and the factor that 12 or 15 states
+abbrev pub index_by : Instruction → ℕ
+index_by (I.Header side d x q) = 0
+index_by (I.Row j w) = 0
+index_by (I.Entry i l) = i
+index_by I.End = 0
+index_by (I.EqualityRow j w) = 0
+index_by (I.WideEntry i l) = i
+
+abbrev pub factor_by : Instruction → ℤ
+factor_by (I.Header side d x q) = pos 0
+factor_by (I.Row j w) = pos 0
+factor_by (I.Entry i l) = l
+factor_by I.End = pos 0
+factor_by (I.EqualityRow j w) = pos 0
+factor_by (I.WideEntry i l) = l
+
+abbrev pub entry_by : Instruction → ℕ → Entry
+entry_by i at = record { index = index_by i; factor = factor_by i; place = at }
+
+unfoldable pub entries_at : ℕ → List (List ℕ) → List Entry
+entries_at at [] = []
+entries_at at (e ∷ es) = entry_by (certificate_instruction_at e 0) at ∷ entries_at (at + length e) es
+
+-- the basis and the weight that 11 or 14 states
+abbrev pub basis_by : Instruction → ℕ
+basis_by (I.Header side d x q) = 0
+basis_by (I.Row j w) = j
+basis_by (I.Entry i l) = 0
+basis_by I.End = 0
+basis_by (I.EqualityRow j w) = j
+basis_by (I.WideEntry i l) = 0
+
+abbrev pub weight_by : Instruction → ℤ
+weight_by (I.Header side d x q) = pos 0
+weight_by (I.Row j w) = pos w
+weight_by (I.Entry i l) = pos 0
+weight_by I.End = pos 0
+weight_by (I.EqualityRow j w) = w
+weight_by (I.WideEntry i l) = pos 0
+
+abbrev pub row_by : Instruction → List Entry → Row
+row_by i es = record { basis = basis_by i; weight = weight_by i; entries = es }
+
+unfoldable pub row_at : ℕ → RowRun → Row
+row_at at r = row_by (certificate_instruction_at r.begin 0) (entries_at (at + length r.begin) r.entries)
+
+unfoldable pub rows_at : ℕ → List RowRun → List Row
+rows_at at [] = []
+rows_at at (r ∷ rs) = row_at at r ∷ rows_at (at + length (run_bytes r)) rs

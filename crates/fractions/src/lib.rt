@@ -141,11 +141,7 @@ pub fn is_negative(f: Fraction) -> bool
 pub fn unless_negative(f: Fraction) -> Fraction
     ensures { result ≡ unless_negative f }
 {
-    let copy = Fraction {
-        num: f.num,
-        den: f.den,
-    };
-    if is_negative(copy) {
+    if is_negative(f) {
         return NONE;
     }
     f

@@ -1,4 +1,6 @@
 // Request 11: the widest gap of the last 32. A state goes in by value and comes back; any value is a state.
+#![tactic(auto)]
+
 ghost use Rattle.std.specs.Prelude.{◌≡◌, [], min, ◌+◌, ◌≤◌};
 ghost use Rattle.calls.specs.Window.{is_refused, widest_of, held, empty_window, with_newest, window_after};
 ghost use Rattle.calls.specs.Window.{push_verdict, StandsFor, AfterArrivals, FindsWidest};

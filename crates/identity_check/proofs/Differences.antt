@@ -19,7 +19,7 @@ use Rattle.format.specs.declared.certificate.Header.{Header}
 use Rattle.joining_rule.specs.Sets.{In}
 use Rattle.joining_rule.proofs.Rising.{Rising}
 use Rattle.joining_rule.proofs.Elements.{not_nil, in_here, in_there, in_cons, above_in}
-use Rattle.accepting.specs.Identity.{squares, claim}
+use Rattle.accepting.specs.Identity.{squares, claim, claim_of}
 use Rattle.accepting.specs.Judgement.{same_number, first_difference, difference_key}
 use Rattle.accepting.proofs.Difference.{same_equal, same_self}
 use Rattle.flat.specs.TermArrays.{terms_in}
@@ -29,7 +29,7 @@ use Rattle.key_set.proofs.Keys.{keys_rising, keys_at, at_keys}
 use Rattle.wide_sums.specs.Sums.{value_at}
 use Rattle.certificate_rows.specs.Offsets.{rows_by}
 use Rattle.identity_check.specs.declared.Difference.TheVariants.{Same, Differs}
-use Rattle.identity_sums.specs.Tables.{unit, claim_of, Ready, SumsGrown}
+use Rattle.identity_sums.specs.Tables.{unit, Ready, SumsGrown}
 use Rattle.identity_check.specs.Compare.{difference_of, Nonzero, Zeroed, Smallest, Carried, Given}
 use Rattle.identity_sums.proofs.Growth.{grown_same}
 use Rattle.identity_check.proofs.Carries.{Least, reached_end}
@@ -119,7 +119,6 @@ module _ {p : Problem} {c : Certificate} {s starts : List ℕ} {rows : ℕ} {hea
     total q = value_at hi₁ lo₁ q +ℤ coefficient (get_or table q 0) (squares p (rows_by s starts rows))
 
     claim_is : (k : ℕ) → coefficient k (claim_of (terms_in (length E) E C) header) ≡ coefficient k (claim p c.header)
-    unfolding claim claim_of
     claim_is k = rw (lent, with, objective_terms given.flat, given.header_is)
 
     total_is : (q : ℕ) → q < n → total q ≡ neg_ℤ (coefficient (get_or table q 0) (claim p c.header)) +ℤ coefficient (get_or table q 0) (squares p c.rows)

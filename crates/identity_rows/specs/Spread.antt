@@ -1,6 +1,6 @@
 -- How the table of sums by indices is spread over the compared keys: what it needs, and what it at most adds.
 use Rattle.std.specs.Prelude.{◌≡◌, List, ℕ, ◌*◌, ◌^◌, ◌≤◌, ℤ, length}
-use Rattle.counting.proofs.Bounded.{Bounded}
+use Rattle.counting.specs.Counting.{Bounded}
 use Rattle.flat.specs.TermArrays.{Small}
 use Rattle.row_outer.specs.Frame.{Empty}
 use Rattle.identity_sums.specs.Tables.{unit, SumsGrown}

@@ -13,7 +13,7 @@ ghost use Rattle.certificate_rows.specs.Offsets.{rows_by};
 ghost use Rattle.row_outer.specs.Frame.{share, spread_at, Framed, Entered};
 ghost use Rattle.row_outer.specs.Outer.{gathered_most};
 ghost use Rattle.row_folding.specs.Fold.{folded_most, FoldedTable};
-ghost use Rattle.counting.proofs.Bounded.{Bounded};
+ghost use Rattle.counting.specs.Counting.{Bounded};
 ghost use Rattle.identity_sums.specs.Tables.{Ready, SumsGrown};
 ghost use Rattle.identity_sums.specs.Tables.{Slots};
 ghost use Rattle.identity_rows.specs.Spread.{entry_unit, table_unit, Spreadable, Spread};

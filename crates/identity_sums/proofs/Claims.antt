@@ -9,9 +9,9 @@ use Rattle.polynomial.specs.Terms.{Term, term}
 use Rattle.polynomial.specs.Algebra.{sum, match, coefficient, scale}
 use Rattle.polynomial.proofs.Sums.{sum_append, sum_scale}
 use Rattle.format.specs.declared.certificate.Header.{Header}
-use Rattle.accepting.specs.Identity.{turned}
+use Rattle.accepting.specs.Identity.{turned, claim_of}
 use Rattle.identity_sums.specs.declared.Negated.{Negated}
-use Rattle.identity_sums.specs.Tables.{claim_of, Negates}
+use Rattle.identity_sums.specs.Tables.{Negates}
 
 -- ---- the signs of a side
 pub minus : (a : ℤ) → pos 0 -ℤ a ≡ neg_ℤ a

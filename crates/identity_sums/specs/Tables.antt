@@ -1,14 +1,11 @@
 -- The sums at the compared keys, in two lent tables: what they need so that a number can be added, and how they grow.
 -- How large they are is counted in products: one product adds at most `unit` to either half of a sum.
-use Rattle.std.specs.Prelude.{◌≡◌, List, [], ◌∷◌, ◌++◌, ℕ, ◌*◌, ◌%◌, ◌^◌, ◌≤◌, ◌<◌, ℤ, pos, nat_abs, neg_ℤ, ◌+ℤ◌, ◌*ℤ◌, length, get_or}
+use Rattle.std.specs.Prelude.{◌≡◌, List, ℕ, ◌*◌, ◌%◌, ◌^◌, ◌≤◌, ◌<◌, ℤ, pos, nat_abs, neg_ℤ, ◌+ℤ◌, ◌*ℤ◌, length, get_or}
 use Rattle.key_set.specs.Table.{Holds, Indexed}
 use Rattle.wide_sums.specs.Sums.{value_at, HasRoom, Near}
 use Rattle.wide_sums.specs.declared.Halves.{Halves}
-use Rattle.counting.proofs.Bounded.{Bounded}
+use Rattle.counting.specs.Counting.{Bounded}
 use Rattle.flat.specs.TermArrays.{Small}
-use Rattle.polynomial.specs.Terms.{Term, term}
-use Rattle.polynomial.specs.Algebra.{scale}
-use Rattle.format.specs.declared.certificate.Header.{Header}
 use Rattle.accepting.specs.Identity.{turned}
 use Rattle.row_folding.specs.Fold.{folded_most}
 use Rattle.identity_sums.specs.declared.Negated.{Negated}
@@ -22,12 +19,6 @@ unit = 5 * 2 ^ 41
 -- the factor D × q of the claim
 abbrev pub claim_most : ℕ
 claim_most = 65535 * 65535
-
--- the claim (accepting's `claim`) on an objective that stands in arrays
-unfoldable pub claim_of : List Term → Header → List Term
-claim_of objective h =
-    scale (pos h.scale)
-    (scale (turned h.side (pos h.q)) objective ++ (term 0 (turned h.side (neg_ℤ h.p)) ∷ []))
 
 -- r is the place of a key among the first n, or n or more where it has none
 pub record Sought (keys : List ℕ) (n key r : ℕ) : Type 0 where

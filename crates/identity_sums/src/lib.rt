@@ -2,10 +2,11 @@
 // minus the claim. The compared keys are a table, how many they are, and their index.
 ghost use Rattle.std.specs.Prelude.{◌≡◌, ◌+◌, ◌*◌, ◌%◌, ◌≤◌, nat_abs, neg_ℤ, ◌*ℤ◌, length};
 ghost use Rattle.polynomial.specs.Algebra.{sum, match, coefficient};
+ghost use Rattle.accepting.specs.Identity.{claim_of};
 ghost use Rattle.key_set.specs.Table.{divisor_in, Divided};
 ghost use Rattle.wide_sums.specs.Sums.{value_of};
 ghost use Rattle.flat.specs.TermArrays.{terms_in};
-ghost use Rattle.identity_sums.specs.Tables.{unit, claim_most, claim_of, Ready, SumsGrown, Scaled};
+ghost use Rattle.identity_sums.specs.Tables.{unit, claim_most, Ready, SumsGrown, Scaled};
 ghost use Rattle.identity_sums.specs.Tables.{Slots, Addable, Negates};
 
 // Adds c times a number, in its halves, at the place of a key, where it has one.

@@ -78,7 +78,7 @@ module _ (sizes : List ℕ) (s : Sizes sizes) where
         record {
           long = replaced_long l m (64 * j) (get_or sizes j 0) e fits 255;
           others = λ i b d.
-              new_other l m (64 * j) (get_or sizes j 0) e fits (64 * i) (get_or sizes i 0)
+              new_other l m (64 * j) (get_or sizes j 0) e fits (64 * i) (get_or sizes i 0) (omega (arith, s.small i b))
               (⊎_elim (λ c. inl (omega (arith, s.small i b))) (λ c. inr (omega (arith, s.small j h))) (lt_or_le i j));
           rest = λ i x b c d.
               ⊎_elim

@@ -7,11 +7,10 @@ use Prim.Native.Nat.{ℕ, zero, suc, ◌+◌, ◌-◌, ◌*◌, ◌≤◌, ◌<�
 use native.Mathlib.Nat.{add-sub_cancel_left}
 use native.Mathlib.Numerals.{add-one}
 use native.Mathlib.Omega.{arith}
-use lib.ListN.{length, get_or, take, drop, set, length-set, length-drop}
+use lib.ListN.{length, get_or, take, drop, set, replicate, length-set, length-replicate, length-drop}
 use lib.Seq.{length-take-le, get_or-set_same, get_or-set_other}
 use Rattle.counting.specs.Counting.{from_to}
-use Rattle.counting.proofs.Bounded.{Bounded}
-use Rattle.counting.proofs.Bounded.{bounded_part}
+use Rattle.counting.proofs.Bounded.{bounded_zeros, bounded_part}
 use Rattle.counting.proofs.Listed.{same_or_not}
 use Rattle.counting.proofs.Steps.{from_to_more, from_to_done}
 use Rattle.joining_rule.specs.Extend.{extend}
@@ -23,71 +22,69 @@ use Rattle.joining_rule.proofs.Products.{AllFull}
 use Rattle.flat.specs.Flat.{basis_in}
 use Rattle.joining_pairs.specs.Pairs.{NoPairs, PairsMade}
 use Rattle.joining_products.specs.Adding.{plain}
-use Rattle.joining_bases.specs.Parts.{piece, exponents_in, Room}
+use Rattle.joining_bases.specs.Parts.{piece, exponents_in}
 use Rattle.joining_bases.specs.Nine.{AllNoted}
 use Rattle.joining_bases.proofs.Pieces.{taken_long, piece_put, piece_only}
 
 -- ---- the pairs of the bases before j are noted, and none of the others
-pub record NotedTo (keys sizes pairs₀ state₀ : List ℕ) (j : ℕ) (pairs state : List ℕ) : Type 0 where
-  pub long : length pairs ≡ length pairs₀
+pub record NotedTo (keys sizes state₀ : List ℕ) (j : ℕ) (pairs state : List ℕ) : Type 0 where
+  pub long : length pairs ≡ 56160
   pub numbers : length state ≡ 18
   pub counts : (i : ℕ) → i < 9 → get_or state i 0 ≡ get_or state₀ i 0
-  pub made : (i : ℕ) → i < j → i < 9 → plain < get_or sizes i 0 → PairsMade (exponents_in keys sizes i) (basis_in keys sizes i) (get_or state (9 + i) 0) (piece 5692 pairs i)
-  pub none : (i : ℕ) → j ≤ i → i < 9 → plain < get_or sizes i 0 → NoPairs (piece 5692 pairs i)
+  pub made : (i : ℕ) → i < j → i < 9 → plain < get_or sizes i 0 → PairsMade (exponents_in keys sizes i) (basis_in keys sizes i) (get_or state (9 + i) 0) (piece 6240 pairs i)
+  pub none : (i : ℕ) → j ≤ i → i < 9 → NoPairs (piece 6240 pairs i)
 
-module _ (keys sizes pairs₀ state₀ : List ℕ) (room : Room sizes pairs₀) where
-  pub noting_start : Bounded 0 pairs₀ → length state₀ ≡ 18 → NotedTo keys sizes pairs₀ state₀ 0 pairs₀ state₀
-  noting_start z e = record {
-    long = refl;
+module _ (keys sizes state₀ : List ℕ) where
+  pub noting_start : length state₀ ≡ 18 → NotedTo keys sizes state₀ 0 (replicate 56160 0) state₀
+  noting_start e = record {
+    long = length-replicate {A = ℕ} 56160 0;
     numbers = e;
     counts = λ i _. refl;
     made = λ i h. absurd (omega arith);
-    none = λ i _ h big.
+    none = λ i _ h.
         record {
-          long = length-take-le 5692 (drop (5692 * i) pairs₀) (simp length-drop (omega (arith, room.at i h big)));
-          zero = λ x. omega (arith, bounded_part 0 (5692 * i) 5692 pairs₀ z x);
+          long = length-take-le 6240 (drop (6240 * i) (replicate 56160 0)) (simp length-drop (omega (arith, length-replicate {A = ℕ} 56160 0)));
+          zero = λ x. omega (arith, bounded_part 0 (6240 * i) 6240 (replicate 56160 0) (bounded_zeros 0 56160) x);
         };
   }
 
-  module _ (j : ℕ) (pairs state : List ℕ) (n : NotedTo keys sizes pairs₀ state₀ j pairs state) where
+  module _ (j : ℕ) (pairs state : List ℕ) (n : NotedTo keys sizes state₀ j pairs state) where
     -- a small basis
-    pub noting_skip : get_or sizes j 0 ≤ plain → NotedTo keys sizes pairs₀ state₀ (j + 1) pairs state
+    pub noting_skip : get_or sizes j 0 ≤ plain → NotedTo keys sizes state₀ (j + 1) pairs state
     noting_skip small = record {
       long = n.long;
       numbers = n.numbers;
       counts = n.counts;
-      made = λ i h nine l. ⊎_elim (λ e. let k : get_or sizes i 0 ≤ plain = rw e small in absurd (omega arith)) (λ d. n.made i (omega arith) nine l) (same_or_not i j);
+      made = λ i h nine l. ⊎_elim (λ e. let k : get_or sizes i 0 ≤ 16 = rw e small in absurd (omega arith)) (λ d. n.made i (omega arith) nine l) (same_or_not i j);
       none = λ i h. n.none i (omega arith);
     }
 
-    module _ (h : j < 9) (big : plain < get_or sizes j 0) where
-      pub noting_room : 5692 * j + 5692 ≤ length pairs
-      noting_room = omega (arith, n.long, room.at j h big)
-
+    module _ (h : j < 9) where
       -- what is lent
-      pub noting_lent : NoPairs (take (5692 * j + 5692 - 5692 * j) (drop (5692 * j) pairs))
-      noting_lent = rw (add-sub_cancel_left (5692 * j) 5692) (n.none j (omega arith) h big)
+      pub noting_lent : NoPairs (take (6240 * j + 6240 - 6240 * j) (drop (6240 * j) pairs))
+      noting_lent = rw (add-sub_cancel_left (6240 * j) 6240) (n.none j (omega arith) h)
 
-      pub noting_next : (T B : List ℕ) → T ≡ exponents_in keys sizes j → B ≡ basis_in keys sizes j → (m : List ℕ) → length m ≡ length (take (5692 * j + 5692 - 5692 * j) (drop (5692 * j) pairs))
+      pub noting_next : (T B : List ℕ) → T ≡ exponents_in keys sizes j → B ≡ basis_in keys sizes j → (m : List ℕ) → length m ≡ length (take (6240 * j + 6240 - 6240 * j) (drop (6240 * j) pairs))
           → (bits : ℕ) → PairsMade T B bits m
-          → NotedTo keys sizes pairs₀ state₀ (j + 1) (take (5692 * j) pairs ++ (m ++ drop (5692 * j + 5692 - 5692 * j) (drop (5692 * j) pairs))) (set state (9 + j) bits)
+          → NotedTo keys sizes state₀ (j + 1) (take (6240 * j) pairs ++ (m ++ drop (6240 * j + 6240 - 6240 * j) (drop (6240 * j) pairs))) (set state (9 + j) bits)
       noting_next T B e f m k bits p =
-          let l : length m ≡ 5692 = k ∙ taken_long (5692 * j) 5692 pairs noting_room in
-          let o = piece_only 5692 j pairs m noting_room l in
+          let b : length pairs ≡ 6240 * 9 = omega (arith, n.long) in
+          let l : length m ≡ 6240 = k ∙ taken_long (6240 * j) 6240 pairs (omega (arith, n.long)) in
+          let o = piece_only 6240 j pairs m b h l in
           record {
             long = o.long ∙ n.long;
             numbers = length-set state (9 + j) bits ∙ n.numbers;
             counts = λ i c. get_or-set_other state (9 + j) i bits 0 (λ q. omega arith) ∙ n.counts i c;
-            made = λ i c nine large.
+            made = λ i c nine big.
                 ⊎_elim
-                (λ q. rw (q, piece_put 5692 j pairs m noting_room l, get_or-set_same state (9 + j) bits 0 (omega (arith, n.numbers))) (rw (e, f) at p))
-                (λ q. rw (o.others i nine q, get_or-set_other state (9 + j) (9 + i) bits 0 (λ w. q (omega arith))) (n.made i (omega arith) nine large))
+                (λ q. rw (q, piece_put 6240 j pairs m b h l, get_or-set_same state (9 + j) bits 0 (omega (arith, n.numbers))) (rw (e, f) at p))
+                (λ q. rw (o.others i nine q, get_or-set_other state (9 + j) (9 + i) bits 0 (λ w. q (omega arith))) (n.made i (omega arith) nine big))
                 (same_or_not i j);
-            none = λ i c nine large. rw (o.others i nine (λ q. omega arith)) (n.none i (omega arith) nine large);
+            none = λ i c nine. rw (o.others i nine (λ q. omega arith)) (n.none i (omega arith) nine);
           }
 
     pub noting_end : 9 ≤ j → AllNoted keys sizes pairs state
-    noting_end h = record { room = record { at = λ i c large. omega (arith, n.long, room.at i c large) }; at = λ i c. n.made i (omega arith) c }
+    noting_end h = record { room = record { at = λ _ _ _. n.long }; at = λ i c. n.made i (omega arith) c }
 
 -- ---- the products of the bases from n on
 unfoldable pub extend_from : ℕ → Bases → List (List ℕ) → List ℕ → List ℕ

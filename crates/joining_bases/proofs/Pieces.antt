@@ -3,7 +3,7 @@ use mathlib.Core.Path.{◌≡◌, refl, sym, ap, ◌∙◌}
 use mathlib.Core.Logic.{◌⊎◌, inl, inr, ⊎_elim}
 use mathlib.Core.Bool.{cond}
 use mathlib.Core.List.{List, ◌++◌}
-use Prim.Native.Nat.{ℕ, suc, ◌+◌, ◌-◌, ◌*◌, ◌≤◌, ◌<◌, min}
+use Prim.Native.Nat.{ℕ, suc, ◌+◌, ◌-◌, ◌*◌, ◌≤◌, ◌<◌}
 use native.Mathlib.Nat.{add-sub_cancel_left, mul-le-mul_left, mul-suc}
 use native.Mathlib.Omega.{arith}
 use lib.Dec.{ltb}
@@ -94,24 +94,25 @@ module _ (l m : List ℕ) (a n : ℕ) (e : length m ≡ n) (fits : a + n ≤ len
       ext_get_or 0 _ _ (k ∙ sym e)
       (λ y b. get_or-take n (drop a (new l m a n e fits 0)) y 0 (omega arith) ∙ get_or-drop a (new l m a n e fits 0) y 0 ∙ replaced_in l m a n e fits 0 y (omega arith))
 
-  -- also where it ends behind the array
-  pub new_other : (b k : ℕ) → (b + k ≤ a) ⊎ (a + n ≤ b) → take k (drop b (new l m a n e fits 0)) ≡ take k (drop b l)
-  new_other b k w =
-      let q = length-take k (drop b (new l m a n e fits 0)) in
-      let o : length (drop b (new l m a n e fits 0)) ≡ length (drop b l) = simp length-drop (omega (arith, replaced_long l m a n e fits 0)) in
-      ext_get_or 0 _ _ (q ∙ ap (min k) o ∙ sym (length-take k (drop b l)))
+  pub new_other : (b k : ℕ) → b + k ≤ length l → (b + k ≤ a) ⊎ (a + n ≤ b) → take k (drop b (new l m a n e fits 0)) ≡ take k (drop b l)
+  new_other b k h w =
+      let q = part_length b k h (new l m a n e fits 0) (replaced_long l m a n e fits 0) in
+      ext_get_or 0 _ _ (q ∙ sym (part_length b k h l refl))
       (λ y u.
-      get_or-take k (drop b (new l m a n e fits 0)) y 0 (omega (arith, q)) ∙ get_or-drop b (new l m a n e fits 0) y 0 ∙ same y (omega (arith, q)) w
-      ∙ sym (get_or-take k (drop b l) y 0 (omega (arith, q)) ∙ get_or-drop b l y 0))
+      get_or-take k (drop b (new l m a n e fits 0)) y 0 (omega arith) ∙ get_or-drop b (new l m a n e fits 0) y 0 ∙ same y (omega arith) w
+      ∙ sym (get_or-take k (drop b l) y 0 (omega arith) ∙ get_or-drop b l y 0))
     where
       same : (y : ℕ) → y < k → (b + k ≤ a) ⊎ (a + n ≤ b) → get_or (new l m a n e fits 0) (b + y) 0 ≡ get_or l (b + y) 0
       same y u (inl v) = replaced_before l m a n e fits 0 (b + y) (omega arith)
       same y u (inr v) = replaced_after l m a n e fits 0 (b + y) (omega arith)
 
--- a whole piece replaced
-module _ (w j : ℕ) (l m : List ℕ) (fits : w * j + w ≤ length l) (e : length m ≡ w) where
+-- a whole piece replaced, in an array of nine
+module _ (w j : ℕ) (l m : List ℕ) (long : length l ≡ w * 9) (h : j < 9) (e : length m ≡ w) where
   upto : (i k : ℕ) → i < k → w * i + w ≤ w * k
   upto i k b = let q : w * suc i ≤ w * k = mul-le-mul_left w b in rw (mul-suc w i) at q
+
+  fits : w * j + w ≤ length l
+  fits = omega (arith, upto j 9 h)
 
   abbrev put : List ℕ
   put = take (w * j) l ++ (m ++ drop (w * j + w - w * j) (drop (w * j) l))
@@ -123,7 +124,7 @@ module _ (w j : ℕ) (l m : List ℕ) (fits : w * j + w ≤ length l) (e : lengt
   piece_only = rw (add-sub_cancel_left (w * j) w)
       record {
         long = replaced_long l m (w * j) w e fits 0;
-        others = λ i b d. new_other l m (w * j) w e fits (w * i) w (⊎_elim (λ c. inl (upto i j c)) (λ c. inr (upto j i (omega arith))) (lt_or_le i j));
+        others = λ i b d. new_other l m (w * j) w e fits (w * i) w (omega (arith, upto i 9 b)) (⊎_elim (λ c. inl (upto i j c)) (λ c. inr (upto j i (omega arith))) (lt_or_le i j));
       }
 
 pub only_same : (w j : ℕ) (l : List ℕ) → PieceOnly w j l l

@@ -236,7 +236,7 @@ module _ (keys sizes : List ℕ) (s₀ : Nine) (asks : RoundAsks keys sizes s₀
           now_ready : (y : ℕ) → y < 9 → Ready (exponents_in keys sizes y) (basis_in keys sizes y) (standing_at sizes s' y)
           now_ready y c = ⊎_elim (λ e. rw e here) other (same_or_not y j)
             where
-              d : Ready T B (standing (labels_at sizes labels' j) (piece 64 follow' j) (piece 5692 pairs' j) t' idx' r')
+              d : Ready T B (standing (labels_at sizes labels' j) (piece 64 follow' j) (piece 6240 pairs' j) t' idx' r')
               d = (k.grew.fits b).ready
 
               v : Ready (exponents_in keys sizes y) (basis_in keys sizes y) (standing_at sizes s y)
@@ -263,7 +263,7 @@ module _ (keys sizes : List ℕ) (s₀ : Nine) (asks : RoundAsks keys sizes s₀
             ready = record {
               bytes = others_kept sizes labels u.ready.bytes j labels' k.other_labels;
               links = k.other_follow.long ∙ u.ready.links;
-              room = record { at = λ y c l. omega (arith, k.other_pairs.long, u.ready.room.at y c l) };
+              room = record { at = λ y c l. k.other_pairs.long ∙ u.ready.room.at y c l };
               numbers = length-set state j r'.blocks ∙ u.ready.numbers;
               at = now_ready;
             };

@@ -50,7 +50,7 @@ reach_at state s j = record {
 
 abbrev pub standing_at : List ℕ → Nine → ℕ → Standing
 standing_at sizes s j =
-    standing (labels_at sizes s.labels j) (piece 64 s.follow j) (piece 5692 s.pairs j) s.table s.index
+    standing (labels_at sizes s.labels j) (piece 64 s.follow j) (piece 6240 s.pairs j) s.table s.index
     (reach_at s.state s.stage j)
 
 -- the blocks when a round begins, and the support that its joinings look at
@@ -67,18 +67,18 @@ pub record AsksAt (keys sizes labels follow pairs t idx : List ℕ) (r : Reach) 
   pub links : length follow ≡ 576
   pub room : Room sizes pairs
   pub joining : JoiningAsks (exponents_in keys sizes j) (basis_in keys sizes j)
-      (standing (labels_at sizes labels j) (piece 64 follow j) (piece 5692 pairs j) t idx r)
+      (standing (labels_at sizes labels j) (piece 64 follow j) (piece 6240 pairs j) t idx r)
 
 -- what it leaves: the basis is joined by what the members before `until` link, and no other piece has changed
 pub record JoinedAt (keys sizes labels follow pairs t idx : List ℕ) (r : Reach) (j : ℕ)
     (labels' follow' pairs' t' idx' : List ℕ) (r' : Reach) : Type 0 where
   pub grew : Grew (exponents_in keys sizes j) (basis_in keys sizes j)
       (Through (exponents_in keys sizes j) (basis_in keys sizes j) (keys_in r.until t))
-      (standing (labels_at sizes labels j) (piece 64 follow j) (piece 5692 pairs j) t idx r)
-      (standing (labels_at sizes labels' j) (piece 64 follow' j) (piece 5692 pairs' j) t' idx' r')
+      (standing (labels_at sizes labels j) (piece 64 follow j) (piece 6240 pairs j) t idx r)
+      (standing (labels_at sizes labels' j) (piece 64 follow' j) (piece 6240 pairs' j) t' idx' r')
   pub other_labels : LabelsOnly sizes j labels labels'
   pub other_follow : PieceOnly 64 j follow follow'
-  pub other_pairs : PieceOnly 5692 j pairs pairs'
+  pub other_pairs : PieceOnly 6240 j pairs pairs'
 
 -- ---- a round
 -- every basis is in order
@@ -112,7 +112,7 @@ pub record Rounded (keys sizes : List ℕ) (o : State) (n : ℕ) (t : List ℕ) 
 pub record AllNoted (keys sizes pairs state : List ℕ) : Type 0 where
   pub room : Room sizes pairs
   pub at : (j : ℕ) → j < 9 → plain < get_or sizes j 0
-      → PairsMade (exponents_in keys sizes j) (basis_in keys sizes j) (get_or state (9 + j) 0) (piece 5692 pairs j)
+      → PairsMade (exponents_in keys sizes j) (basis_in keys sizes j) (get_or state (9 + j) 0) (piece 6240 pairs j)
 
 -- every index is a block of its own
 pub record AllSingle (sizes labels follow state : List ℕ) : Type 0 where

@@ -63,6 +63,6 @@ pub record SingleBlocks (sizes l : List ℕ) : Type 0 where
   pub bytes : Others255 sizes l
   pub labels : (j : ℕ) → j < 9 → labels_at sizes l j ≡ listed (get_or sizes j 0) (λ i. i)
 
--- there is room for the pairs of every basis that is not small
+-- there is room for the pairs, unless every basis is small
 pub record Room (sizes pairs : List ℕ) : Type 0 where
-  pub at : (j : ℕ) → j < 9 → plain < get_or sizes j 0 → 5692 * j + 5692 ≤ length pairs
+  pub at : (j : ℕ) → j < 9 → plain < get_or sizes j 0 → length pairs ≡ 56160

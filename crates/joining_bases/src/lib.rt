@@ -2,17 +2,14 @@
 // be missing at the end. The problem's bases and multipliers stand in `keys` and `sizes` as in the crate flat. The first
 // numbers of `table` are the support, in the order in which they came, with `index`. Byte 64j + i of `labels` is the block
 // number of index i of basis j, and byte 64j + i of `follow` the index that follows it in its block, as in the crate
-// joining_blocks. The index of the basis's pairs stands from place 5692j on in `pairs`, where the basis is not small.
+// joining_blocks. The index of the basis's pairs stands from place 6240j on in `pairs`, where the basis is not small.
 // Place j of `state` has the number of its blocks, and place 9 + j the bits of the sums of its pairs.
-#![tactic(auto)]
-
 ghost use Rattle.std.specs.Prelude.{◌≡◌, true, ℕ, ◌≤◌, ◌<◌, length, get_or, replicate};
 ghost use Rattle.counting.specs.Counting.{listed, sum_to};
-ghost use Rattle.counting.proofs.Bounded.{Bounded};
 ghost use Rattle.key_set.specs.Table.{keys_in, Stored};
 ghost use Rattle.joining_rule.specs.Rounds.{extend_to, adding_bases};
 ghost use Rattle.joining_products.specs.Adding.{plain};
-ghost use Rattle.joining_bases.specs.Parts.{bases_in, labels_in, squares_to, Sizes, Arrays, SingleBlocks, Room};
+ghost use Rattle.joining_bases.specs.Parts.{bases_in, labels_in, squares_to, Sizes, Arrays, SingleBlocks};
 ghost use Rattle.joining_bases.specs.Nine.{AllNoted};
 ghost use Rattle.joining_bases.specs.Settled.{Supported, Missing};
 
@@ -150,13 +147,9 @@ pub fn put_missing(
     n
 }
 
-// The pairs of every basis that is not small put into the index, which holds nothing, and the bits of their sums into
-// `state`.
+// The pairs of every basis that is not small put into the index, and the bits of their sums into `state`.
 pub fn note_all(pairs: &mut [u16], state: &mut [u64; 18], keys: &[u64], sizes: &[usize])
-    requires { Arrays keys.now sizes.now
-        × Bounded 0 pairs.old
-        × Room sizes.now pairs.old
-        × (length state.old ≡ 18) }
+    requires { Arrays keys.now sizes.now × (pairs.old ≡ replicate 56160 0) × (length state.old ≡ 18) }
     ensures { AllNoted keys.now sizes.now pairs.new state.new
         × (length state.new ≡ length state.old)
         × ((j : ℕ) → j < 9 → get_or state.new j 0 ≡ get_or state.old j 0) }
@@ -166,20 +159,20 @@ pub fn note_all(pairs: &mut [u16], state: &mut [u64; 18], keys: &[u64], sizes: &
         if joining_products::PLAIN < sizes[j] {
             let basis = flat::basis(keys, sizes, j);
             let exponents = flat::exponents(keys, sizes, j);
-            let a = 5692 * j;
-            let e = a + 5692;
+            let a = 6240 * j;
+            let e = a + 6240;
             state[9 + j] = joining_pairs::note(&mut pairs[a..e], basis, exponents);
         }
         j += 1;
     }
 }
 
-// Whether every basis is small, from this one on.
-pub fn are_small(sizes: &[usize], first: usize) -> bool
-    requires { (9 ≤ length sizes.now) × (first ≤ 9) }
-    ensures { result ≡ true → (j : ℕ) → first ≤ j → j < 9 → get_or sizes.now j 0 ≤ plain }
+// Whether every basis is small.
+pub fn are_small(sizes: &[usize]) -> bool
+    requires { 9 ≤ length sizes.now }
+    ensures { result ≡ true → (j : ℕ) → j < 9 → get_or sizes.now j 0 ≤ plain }
 {
-    let mut j = first;
+    let mut j = 0;
     while j < 9 {
         if joining_products::PLAIN < sizes[j] {
             return false;

@@ -54,7 +54,7 @@ module _ (T B : List ℕ) (s : ℕ) where
       -- the index of pairs, as it is after the turn
       module _ (pairs : List ℕ) (index : AllPairs B pairs) where
         abbrev next : ℕ
-        next = get_or pairs (1500 + (v - 1)) 0
+        next = get_or pairs (2048 + (v - 1)) 0
 
         pub walking_less : next < v
         walking_less = search_less index.chain (s % sum_divisor) (λ _. ⊥) (λ q e. absurd e) v w.here b
@@ -71,7 +71,7 @@ module _ (T B : List ℕ) (s : ℕ) where
       index : AllPairs B a'.pairs
       index = (going_ready T B _ a a' w.going).index.all large
 
-      pub walking_miss : (sum_at B (v - 1) ≡ s → ⊥) → Walking a a' (get_or a'.pairs (1500 + (v - 1)) 0)
+      pub walking_miss : (sum_at B (v - 1) ≡ s → ⊥) → Walking a a' (get_or a'.pairs (2048 + (v - 1)) 0)
       walking_miss d = record {
         going = going_on T B _ a a' w.going _
             (walk_more B s few v _ (walking_less a'.pairs index) (only a'.pairs index))
@@ -80,7 +80,7 @@ module _ (T B : List ℕ) (s : ℕ) where
       }
 
       module _ (e : sum_at B (v - 1) ≡ s) (a'' : Standing) (g : Grew T B (Two ((v - 1) / 64) ((v - 1) % 64)) a' a'') where
-        pub walking_hit : SameSizes a' a'' → a''.reach.len ≤ 2048 → Walking a a'' (get_or a''.pairs (1500 + (v - 1)) 0)
+        pub walking_hit : SameSizes a' a'' → a''.reach.len ≤ 2048 → Walking a a'' (get_or a''.pairs (2048 + (v - 1)) 0)
         walking_hit z c =
             let i = (g.fits c).ready.index.all large in
             record {

@@ -15,7 +15,7 @@ use joining_products::Cross;
 // How far a joining is: it looks at the members of the support from `since` on, before `until`; the support has `len`
 // keys, 2,049 where they are too many, and the basis `blocks` blocks. No sum of a pair has other bits than `bits`,
 // where the basis is not small. `adds` says whether its products are added.
-#[derive(Drop)]
+#[derive(Clone, Copy)]
 pub struct Reach {
     pub since: usize,
     pub until: usize,

@@ -37,7 +37,7 @@ module _ (B : List ℕ) where
       rw e
       (record {
         remainders = x.remainders;
-        chain = chain_skip 1500 sum_divisor (meets B) (omega arith) (n + d) pairs i.chain (λ h. meets_none h (n + d) (pair_not (n + d) (f (n + d) (omega arith) (omega arith))));
+        chain = chain_skip 2048 sum_divisor (meets B) (omega arith) (n + d) pairs i.chain (λ h. meets_none h (n + d) (pair_not (n + d) (f (n + d) (omega arith) (omega arith))));
       })
 
   pub index_to : (n m : ℕ) → n ≤ m → (pairs : List ℕ) → ((p : ℕ) → n ≤ p → p < m → p / 64 < p % 64 → p % 64 < length B → ⊥) → PairIndex B n pairs → PairIndex B m pairs
@@ -46,15 +46,15 @@ module _ (B : List ℕ) where
       rw e at (skips n (m - n) pairs (λ p l u. f p l (omega arith)) x)
 
   pub index_start : (pairs : List ℕ) → Remainders B pairs → ((q : ℕ) → q < sum_divisor → get_or pairs q 0 ≡ 0) → PairIndex B 0 pairs
-  index_start pairs r z = record { remainders = r; chain = chain_start 1500 sum_divisor (meets B) (omega arith) pairs z }
+  index_start pairs r z = record { remainders = r; chain = chain_start 2048 sum_divisor (meets B) (omega arith) pairs z }
 
   -- ---- one pair more
-  module _ (few : length B ≤ 64) (i k : ℕ) (o : i < k) (h : k < length B) (pairs : List ℕ) (x : PairIndex B (64 * i + k) pairs) (r : ℕ) (e : r ≡ (get_or pairs (5628 + i) 0 + get_or pairs (5628 + k) 0) % sum_divisor) where
+  module _ (few : length B ≤ 64) (i k : ℕ) (o : i < k) (h : k < length B) (pairs : List ℕ) (x : PairIndex B (64 * i + k) pairs) (r : ℕ) (e : r ≡ (get_or pairs (6176 + i) 0 + get_or pairs (6176 + k) 0) % sum_divisor) where
     abbrev p : ℕ
     p = 64 * i + k
 
     abbrev linked : List ℕ
-    linked = set pairs (1500 + p) (get_or pairs r 0)
+    linked = set pairs (2048 + p) (get_or pairs r 0)
 
     here : pair_at B p ≡ true
     here = place_pair B few i k o h
@@ -66,8 +66,8 @@ module _ (B : List ℕ) where
     unfolding meets
     others s d = rw (here, rest) (ne_eqb r s (λ w. d (sym w)))
 
-    same : (q : ℕ) → (q ≡ r → ⊥) → (q ≡ 1500 + p → ⊥) → get_or (set linked r (p + 1)) q 0 ≡ get_or pairs q 0
-    same q f g = get_or-set_other linked r q (p + 1) 0 f ∙ get_or-set_other pairs (1500 + p) q (get_or pairs r 0) 0 g
+    same : (q : ℕ) → (q ≡ r → ⊥) → (q ≡ 2048 + p → ⊥) → get_or (set linked r (p + 1)) q 0 ≡ get_or pairs q 0
+    same q f g = get_or-set_other linked r q (p + 1) 0 f ∙ get_or-set_other pairs (2048 + p) q (get_or pairs r 0) 0 g
 
     pub beside_next : Beside B pairs (set linked r (p + 1))
     beside_next = record {
@@ -78,10 +78,10 @@ module _ (B : List ℕ) where
     pub index_next : PairIndex B (p + 1) (set linked r (p + 1))
     index_next = record {
       remainders = record {
-        long = length-set linked r (p + 1) ∙ length-set pairs (1500 + p) (get_or pairs r 0) ∙ x.remainders.long;
-        at = λ j l. beside_next.slots (5628 + j) (omega arith) ∙ x.remainders.at j l;
+        long = length-set linked r (p + 1) ∙ length-set pairs (2048 + p) (get_or pairs r 0) ∙ x.remainders.long;
+        at = λ j l. beside_next.slots (6176 + j) (omega arith) ∙ x.remainders.at j l;
       };
-      chain = chain_next 1500 sum_divisor (meets B) (omega arith) p pairs x.chain (omega (arith, x.remainders.long)) r (omega arith)
+      chain = chain_next 2048 sum_divisor (meets B) (omega arith) p pairs x.chain (omega (arith, x.remainders.long)) r (omega arith)
           (rw (← rest) (pair_meets B (sum_at B p) p here refl)) others;
     }
 
@@ -108,10 +108,10 @@ module _ (B : List ℕ) where
       pub seeks_start : Seeks s (get_or pairs (s % sum_divisor) 0)
       seeks_start = search_start x.chain (s % sum_divisor) (SumHere s) all (omega arith)
 
-      pub seeks_less : (v : ℕ) → Seeks s v → 0 < v → get_or pairs (1500 + (v - 1)) 0 < v
+      pub seeks_less : (v : ℕ) → Seeks s v → 0 < v → get_or pairs (2048 + (v - 1)) 0 < v
       seeks_less v c b = search_less x.chain (s % sum_divisor) (SumHere s) all v c b
 
-      pub seeks_step : (v : ℕ) → Seeks s v → 0 < v → (sum_at B (v - 1) ≡ s → ⊥) → Seeks s (get_or pairs (1500 + (v - 1)) 0)
+      pub seeks_step : (v : ℕ) → Seeks s v → 0 < v → (sum_at B (v - 1) ≡ s → ⊥) → Seeks s (get_or pairs (2048 + (v - 1)) 0)
       seeks_step v c b f = search_step x.chain (s % sum_divisor) (SumHere s) all v c b (λ e. f e.sum)
 
     -- a pair from v on has another sum
@@ -143,7 +143,7 @@ module _ (B : List ℕ) where
   pub marked_same : (s : ℕ) (pairs : List ℕ) → Marked B s pairs pairs
   marked_same s pairs = record { long = refl; rest = λ q _. refl; index = λ a. a; done = λ q _ d. inl d; met = λ q _ m. m }
 
-  pub marked_one : length B ≤ 64 → (s p : ℕ) → pair_at B p ≡ true → sum_at B p ≡ s → (pairs : List ℕ) → length pairs ≡ 5692 → Marked B s pairs (set pairs (told_at p) 1)
+  pub marked_one : length B ≤ 64 → (s p : ℕ) → pair_at B p ≡ true → sum_at B p ≡ s → (pairs : List ℕ) → length pairs ≡ 6240 → Marked B s pairs (set pairs (told_at p) 1)
   marked_one few s p f e pairs long = record {
     long = length-set pairs (told_at p) 1;
     rest = told_rest B few p f pairs 1;

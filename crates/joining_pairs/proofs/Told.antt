@@ -11,7 +11,7 @@ use Rattle.joining_pairs.specs.Pairs.{pair_at, sum_divisor, told_at, meets, AllP
 use Rattle.joining_pairs.proofs.Places.{pair_order, meets_pair}
 
 module _ (B : List ℕ) (few : length B ≤ 64) (p : ℕ) (e : pair_at B p ≡ true) where
-  pub told_low : told_at p < 5596
+  pub told_low : told_at p < 6144
   told_low = let o = pair_order B p e in omega (arith, o.0, o.1)
 
   told_once : (q : ℕ) → pair_at B q ≡ true → told_at q ≡ told_at p → q ≡ p
@@ -22,7 +22,7 @@ module _ (B : List ℕ) (few : length B ≤ 64) (p : ℕ) (e : pair_at B p ≡ t
 
   -- v is told of the pair at p
   module _ (pairs : List ℕ) (v : ℕ) where
-    pub told_rest : (q : ℕ) → 5596 ≤ q → get_or (set pairs (told_at p) v) q 0 ≡ get_or pairs q 0
+    pub told_rest : (q : ℕ) → 6144 ≤ q → get_or (set pairs (told_at p) v) q 0 ≡ get_or pairs q 0
     told_rest q h = get_or-set_other pairs (told_at p) q v 0 (λ f. omega (arith, told_low))
 
     pub told_other : (q : ℕ) → pair_at B q ≡ true → (q ≡ p → ⊥) → get_or (set pairs (told_at p) v) (told_at q) 0 ≡ get_or pairs (told_at q) 0
@@ -32,9 +32,9 @@ module _ (B : List ℕ) (few : length B ≤ 64) (p : ℕ) (e : pair_at B p ≡ t
     told_index a = record {
       remainders = record {
         long = length-set pairs (told_at p) v ∙ a.remainders.long;
-        at = λ i h. told_rest (5628 + i) (omega arith) ∙ a.remainders.at i h;
+        at = λ i h. told_rest (6176 + i) (omega arith) ∙ a.remainders.at i h;
       };
-      chain = chain_set 1500 sum_divisor (meets B) (omega arith) (64 * length B) pairs a.chain (told_at p) v (omega arith)
+      chain = chain_set 2048 sum_divisor (meets B) (omega arith) (64 * length B) pairs a.chain (told_at p) v (omega arith)
           (λ h q b m g.
           let o = pair_order B p e in
           let w = pair_order B q (meets_pair B h q m) in
@@ -42,4 +42,4 @@ module _ (B : List ℕ) (few : length B ≤ 64) (p : ℕ) (e : pair_at B p ≡ t
     }
 
     pub told_slots : (T : List ℕ) → Slots T pairs → Slots T (set pairs (told_at p) v)
-    told_slots T a = record { long = length-set pairs (told_at p) v ∙ a.long; at = λ i h. told_rest (5596 + i) (omega arith) ∙ a.at i h }
+    told_slots T a = record { long = length-set pairs (told_at p) v ∙ a.long; at = λ i h. told_rest (6144 + i) (omega arith) ∙ a.at i h }

@@ -1,6 +1,6 @@
 -- What the functions over one basis ask of its keys and of the support, so that t + b + b' fits 64 bits.
 use Rattle.std.specs.Prelude.{List, ℕ, ◌*◌, ◌^◌, ◌≤◌, length}
-use Rattle.counting.proofs.Bounded.{Bounded}
+use Rattle.counting.specs.Counting.{Bounded}
 use Rattle.key_set.specs.Table.{Holds, Indexed}
 
 -- at most 64 monomials of degree at most 8: a key is at most its degree × 256^7

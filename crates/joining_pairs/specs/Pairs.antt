@@ -12,9 +12,9 @@ pair_at B p = cond (ltb (p / 64) (p % 64)) (ltb (p % 64) (length B)) false
 abbrev pub sum_at : List ℕ → ℕ → ℕ
 sum_at B p = get_or B (p / 64) 0 + get_or B (p % 64) 0
 
--- what a sum is divided by. Any number up to 1,500 would do; with this one few sums share a place
+-- what a sum is divided by. Any number up to 2,048 would do; with this one few sums share a place
 abbrev pub sum_divisor : ℕ
-sum_divisor = 1499
+sum_divisor = 2039
 
 -- whether a place belongs to a pair whose sum has the remainder h
 unfoldable pub meets : List ℕ → ℕ → ℕ → Bool
@@ -22,35 +22,35 @@ meets B h p = cond (pair_at B p) (eqb (sum_at B p % sum_divisor) h) false
 
 -- where it is told what was done with the sum of the pair at place p: the place of 64k + i, which is no pair's
 abbrev pub told_at : ℕ → ℕ
-told_at p = 1500 + (64 * (p % 64) + p / 64)
+told_at p = 2048 + (64 * (p % 64) + p / 64)
 
--- the remainders of the keys stand from 5,628 on
+-- the remainders of the keys stand from 6,176 on
 pub record Remainders (B pairs : List ℕ) : Type 0 where
-  pub long : length pairs ≡ 5692
-  pub at : (i : ℕ) → i < length B → get_or pairs (5628 + i) 0 ≡ get_or B i 0 % sum_divisor
+  pub long : length pairs ≡ 6240
+  pub at : (i : ℕ) → i < length B → get_or pairs (6176 + i) 0 ≡ get_or B i 0 % sum_divisor
 
 -- the index of the pairs at the places before m
 pub record PairIndex (B : List ℕ) (m : ℕ) (pairs : List ℕ) : Type 0 where
   pub remainders : Remainders B pairs
-  pub chain : Chain 1500 sum_divisor (meets B) m pairs
+  pub chain : Chain 2048 sum_divisor (meets B) m pairs
 
 -- and of all pairs
 abbrev pub AllPairs : List ℕ → List ℕ → Type 0
 AllPairs B pairs = PairIndex B (64 * length B) pairs
 
--- the slots of the exponents, by the divisor that an index has as a rule, stand from 5,596 on
+-- the slots of the exponents, by the divisor that an index has as a rule, stand from 6,144 on
 pub record Slots (T pairs : List ℕ) : Type 0 where
-  pub long : length pairs ≡ 5692
-  pub at : (i : ℕ) → i < length T → get_or pairs (5596 + i) 0 ≡ get_or T i 0 % first
+  pub long : length pairs ≡ 6240
+  pub at : (i : ℕ) → i < length T → get_or pairs (6144 + i) 0 ≡ get_or T i 0 % first
 
 -- it holds nothing
 pub record NoPairs (pairs : List ℕ) : Type 0 where
-  pub long : length pairs ≡ 5692
+  pub long : length pairs ≡ 6240
   pub zero : (i : ℕ) → get_or pairs i 0 ≡ 0
 
 -- what stands beside the pairs that are put in stays
 pub record Beside (B pairs pairs' : List ℕ) : Type 0 where
-  pub slots : (q : ℕ) → 5596 ≤ q → get_or pairs' q 0 ≡ get_or pairs q 0
+  pub slots : (q : ℕ) → 6144 ≤ q → get_or pairs' q 0 ≡ get_or pairs q 0
   pub told : (p : ℕ) → pair_at B p ≡ true → get_or pairs' (told_at p) 0 ≡ get_or pairs (told_at p) 0
 
 -- the index of all pairs, where nothing is told yet, and the bits of their sums
@@ -78,7 +78,7 @@ pub record ToldSum (B : List ℕ) (s v : ℕ) (pairs : List ℕ) : Type 0 where
 -- pairs' is pairs, where 1 may have come to be told of the sum s
 pub record Marked (B : List ℕ) (s : ℕ) (pairs pairs' : List ℕ) : Type 0 where
   pub long : length pairs' ≡ length pairs
-  pub rest : (q : ℕ) → 5596 ≤ q → get_or pairs' q 0 ≡ get_or pairs q 0
+  pub rest : (q : ℕ) → 6144 ≤ q → get_or pairs' q 0 ≡ get_or pairs q 0
   pub index : AllPairs B pairs → AllPairs B pairs'
   pub done : (q : ℕ) → pair_at B q ≡ true → 1 ≤ get_or pairs' (told_at q) 0
       → (1 ≤ get_or pairs (told_at q) 0) ⊎ (sum_at B q ≡ s)

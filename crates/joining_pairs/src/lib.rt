@@ -1,41 +1,39 @@
-// The index of a basis's pairs i < k by their sums, which a basis above 10 monomials joins by: `basis` has the keys of its
-// monomials, `exponents` those of its multiplier. Place s % 1499 of `pairs` has one more than the place 64i + k of the
+// The index of a basis's pairs i < k by their sums, which a basis above 16 monomials joins by: `basis` has the keys of its
+// monomials, `exponents` those of its multiplier. Place s % 2039 of `pairs` has one more than the place 64i + k of the
 // last pair whose sum has that remainder, or 0, and place LINKS + 64i + k has the same for the pairs before it. Place
 // LINKS + 64k + i has, for the last pair with its sum s, 1 when every t + s is in the support, and 2 when all pairs with
 // that sum are in one block. Behind stand the slots of the exponents and the remainders of the basis: those of a sum are
 // found by adding.
-#![tactic(auto)]
-
 ghost use Rattle.std.specs.Prelude.{◌≡◌, ℕ, ◌+◌, ◌*◌, ◌/◌, ◌%◌, ◌≤◌, ◌<◌, length, get_or};
 ghost use Rattle.round_laws.specs.Fits.{SumBits};
 ghost use Rattle.joining_pairs.specs.Limits.{SmallBasis, OneBasis};
 ghost use Rattle.joining_pairs.specs.Pairs.{sum_at, sum_divisor, told_at, Remainders, PairIndex, AllPairs, Slots, NoPairs, FindsSum, DoneBefore, Beside, PairsMade};
 
-pub const LINKS: usize = 1500;
+pub const LINKS: usize = 2048;
 
-pub const SLOTS: usize = 5596;
+pub const SLOTS: usize = 6144;
 
-const REMAINDERS: usize = 5628;
+const REMAINDERS: usize = 6176;
 
 // The remainder of a sum.
 pub fn remainder(s: u64) -> usize
     ensures { result ≡ s % sum_divisor }
 {
-    (s % 1499) as usize
+    (s % 2039) as usize
 }
 
 // That of the sum of two indices, from theirs.
 fn remainder_of(pairs: &[u16], i: usize, k: usize) -> usize
-    requires { (length pairs.now ≡ 5692)
-        × ((i < 64) × (get_or pairs.now (5628 + i) 0 < sum_divisor))
-        × ((k < 64) × (get_or pairs.now (5628 + k) 0 < sum_divisor)) }
-    ensures { result ≡ (get_or pairs.now (5628 + i) 0 + get_or pairs.now (5628 + k) 0) % sum_divisor }
+    requires { (length pairs.now ≡ 6240)
+        × ((i < 64) × (get_or pairs.now (6176 + i) 0 < sum_divisor))
+        × ((k < 64) × (get_or pairs.now (6176 + k) 0 < sum_divisor)) }
+    ensures { result ≡ (get_or pairs.now (6176 + i) 0 + get_or pairs.now (6176 + k) 0) % sum_divisor }
 {
     let sum = pairs[REMAINDERS + i] as usize + pairs[REMAINDERS + k] as usize;
-    if sum < 1499 {
+    if sum < 2039 {
         return sum;
     }
-    sum - 1499
+    sum - 2039
 }
 
 // The sum of the pair at a place.
@@ -148,7 +146,7 @@ fn note_pairs(pairs: &mut [u16], basis: &[u64]) -> u64
 fn note_slots(pairs: &mut [u16], exponents: &[u64])
     requires { NoPairs pairs.old × (length exponents.now ≤ 32) }
     ensures { Slots exponents.now pairs.new
-        × ((q : ℕ) → q < 5596 → get_or pairs.new q 0 ≡ 0) }
+        × ((q : ℕ) → q < 6144 → get_or pairs.new q 0 ≡ 0) }
 {
     let mut i = 0;
     while i < exponents.len() {
@@ -159,9 +157,9 @@ fn note_slots(pairs: &mut [u16], exponents: &[u64])
 
 // The remainders of the basis put into it.
 fn note_remainders(pairs: &mut [u16], basis: &[u64])
-    requires { (length pairs.old ≡ 5692) × (length basis.now ≤ 64) }
+    requires { (length pairs.old ≡ 6240) × (length basis.now ≤ 64) }
     ensures { Remainders basis.now pairs.new
-        × ((q : ℕ) → q < 5628 → get_or pairs.new q 0 ≡ get_or pairs.old q 0) }
+        × ((q : ℕ) → q < 6176 → get_or pairs.new q 0 ≡ get_or pairs.old q 0) }
 {
     let mut i = 0;
     while i < basis.len() {

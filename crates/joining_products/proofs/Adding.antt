@@ -47,7 +47,7 @@ module _ (T B : List ℕ) where
       pub marked_slots : Slots T pairs'
       marked_slots =
           let z = a.index.slots b in
-          record { long = m.long ∙ z.long; at = λ i h. m.rest (5596 + i) (omega arith) ∙ z.at i h }
+          record { long = m.long ∙ z.long; at = λ i h. m.rest (6144 + i) (omega arith) ∙ z.at i h }
 
       -- from now on it is told of the sum
       pub added_marked : (r : ℕ) (t' idx' : List ℕ) → Stored n after t r t' idx' → AddedAll T B after n t pairs r t' idx' pairs'

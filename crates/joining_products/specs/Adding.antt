@@ -1,6 +1,6 @@
 -- Products put into the support where the index of pairs tells of some sums that theirs are in. S is the support, T, B
 -- and L are as in Join.antt of joining_rule.
-use Rattle.std.specs.Prelude.{◌≡◌, true, List, ℕ, ◌*◌, ◌≤◌, ◌<◌, length, get_or}
+use Rattle.std.specs.Prelude.{◌≡◌, true, List, ℕ, ◌+◌, ◌*◌, ◌≤◌, ◌<◌, length, get_or}
 use Rattle.counting.specs.Counting.{from_to}
 use Rattle.joining_rule.specs.Sets.{In}
 use Rattle.joining_rule.specs.Extend.{add_terms}
@@ -12,7 +12,7 @@ use Rattle.joining_pairs.specs.Pairs.{pair_at, sum_at, told_at, AllPairs, Slots}
 
 -- up to so many monomials a basis has no index of its pairs
 abbrev pub plain : ℕ
-plain = 10
+plain = 16
 
 -- of a sum of which it is told, every t + s is in S
 pub record DoneTold (T B S pairs : List ℕ) : Type 0 where

@@ -2,8 +2,6 @@
 // pair in one block. Byte i of `follow` is the index that follows i in its block, or 255. The first numbers of `table` are
 // the support, with `index`. Products that are there already, by what the index of pairs tells, are not looked for. Loops
 // that put many products in end with `key_set::shorten`, so that no search in the support is long.
-#![tactic(auto)]
-
 ghost use Rattle.std.specs.Prelude.{◌≡◌, ◌+◌, ◌≤◌, ◌<◌, length, get_or};
 ghost use Rattle.joining_rule.specs.Extend.{add_terms, add_row, extend};
 ghost use Rattle.key_set.specs.Table.{keys_in, Stored};
@@ -14,10 +12,10 @@ ghost use Rattle.joining_pairs.specs.Pairs.{Slots};
 ghost use Rattle.joining_products.specs.Adding.{AddingAsks, AddedAll, add_squares, IndexList};
 
 // Up to so many monomials a basis joins by its pairs: that is faster than making their index.
-pub const PLAIN: usize = 10;
+pub const PLAIN: usize = 16;
 
 // Two blocks, by their numbers, the lower one first; or a block and an index.
-#[derive(Clone, Copy)]
+#[derive(Drop)]
 pub struct Cross {
     pub a: u8,
     pub b: u8,

@@ -1,6 +1,4 @@
 // One round of the joining rule, basis by basis, in the arrays of joining_bases.
-#![tactic(auto)]
-
 ghost use Rattle.std.specs.Prelude.{◌≡◌, ℕ};
 ghost use Rattle.joining_rule.specs.Rounds.{adding_bases, round};
 ghost use Rattle.joining_bases.specs.Parts.{bases_in};
@@ -37,8 +35,8 @@ fn join_at(
         let mut none = [0u16; 1];
         return joining_basis::join(part, links, basis, exponents, &mut none, table, index, r);
     }
-    let p = 5692 * j;
-    let q = p + 5692;
+    let p = 6240 * j;
+    let q = p + 6240;
     joining_basis::join(
         part,
         links,

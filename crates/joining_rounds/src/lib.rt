@@ -1,10 +1,6 @@
 // The joining rule over all nine bases, round by round, in the arrays of joining_bases.
-#![tactic(auto)]
-
-ghost use Rattle.std.specs.Prelude.{ℕ, ◌≤◌, ◌<◌, get_or};
 ghost use Rattle.key_set.specs.Table.{keys_in};
 ghost use Rattle.joining_rule.specs.Rounds.{closing_of};
-ghost use Rattle.joining_products.specs.Adding.{plain};
 ghost use Rattle.joining_bases.specs.Parts.{bases_in};
 ghost use Rattle.joining_bases.specs.Nine.{AllNoted, AllSingle};
 ghost use Rattle.joining_bases.specs.Settled.{Starting, Settled};
@@ -79,7 +75,7 @@ fn run(
     }
 }
 
-// The rounds, with the index of the pairs of every basis.
+// The rounds, with the index of the pairs.
 fn run_indexed(
     labels: &mut [u8],
     follow: &mut [u8],
@@ -97,33 +93,7 @@ fn run_indexed(
         (keys_in support.len table.old)) support.len table.old result table.new
         index.new labels.new }
 {
-    let mut pairs = [0u16; 51228];
-    joining_bases::note_all(&mut pairs, state, keys, sizes);
-    run(
-        labels, follow, keys, sizes, &mut pairs, table, index, state, support,
-    )
-}
-
-// The same where no basis but 0 is large. Most problems are so, and a ninth of the room is to be cleared for them.
-fn run_first(
-    labels: &mut [u8],
-    follow: &mut [u8],
-    keys: &[u64],
-    sizes: &[usize],
-    table: &mut [u64],
-    index: &mut [u16],
-    state: &mut [u64; 18],
-    support: Support,
-) -> Closed
-    requires { Starting table.old index.old support keys.now sizes.now
-        × AllSingle sizes.now labels.old follow.old state.old
-        × ((j : ℕ) → 1 ≤ j → j < 9 → get_or sizes.now j 0 ≤ plain) }
-    ensures { Settled
-        (closing_of support.rule support.most (bases_in keys.now sizes.now)
-        (keys_in support.len table.old)) support.len table.old result table.new
-        index.new labels.new }
-{
-    let mut pairs = [0u16; 5692];
+    let mut pairs = [0u16; 56160];
     joining_bases::note_all(&mut pairs, state, keys, sizes);
     run(
         labels, follow, keys, sizes, &mut pairs, table, index, state, support,
@@ -149,19 +119,19 @@ pub fn close(
     let mut follow = [255u8; 576];
     joining_bases::start_blocks(labels, sizes);
     let mut state = joining_bases::start_state(sizes);
-    if joining_bases::are_small(sizes, 1) {
-        if joining_products::PLAIN < sizes[0] {
-            return run_first(
-                labels,
-                &mut follow,
-                keys,
-                sizes,
-                table,
-                index,
-                &mut state,
-                support,
-            );
-        }
+    if joining_products::PLAIN < sizes[0] {
+        return run_indexed(
+            labels,
+            &mut follow,
+            keys,
+            sizes,
+            table,
+            index,
+            &mut state,
+            support,
+        );
+    }
+    if joining_bases::are_small(sizes) {
         let mut none = [0u16; 1];
         return run(
             labels,

@@ -11,19 +11,18 @@ use borrow.Author.Tests.{lt-ltb, ltb-true}
 use Rattle.counting.proofs.Cases.{lt_or_le}
 use Rattle.polynomial.specs.Terms.{Term, keys_of}
 use Rattle.format.specs.ProblemLimits.{most_order}
-use Rattle.format.specs.ProblemRules.{Problem}
-use Rattle.format.proofs.Parts.{with_rule, with_order}
+use Rattle.format.specs.ProblemRules.{Problem, with_rule, with_order}
 use Rattle.format.specs.ProblemBases.{multiplier_of}
 use Rattle.format.proofs.Alike.{Alike, ruled_alike, ordered_alike, alike_basis, alike_multiplier}
 use Rattle.joining_rule.specs.Rounds.{adding_bases, most_rounds, closing_of, counted_keys}
-use Rattle.joining_rule.specs.Joining.{bases_of, start_set, closing, most_keys, too_large}
+use Rattle.joining_rule.specs.Joining.{bases_of, start_from, start_set, closing, most_keys, too_large}
 use Rattle.joining_rule.proofs.Rising.{Rising}
 use Rattle.joining_rule.proofs.Closing.{closing_shaped, closing_rising}
 use Rattle.joining_rule.proofs.Monotone.{Below, closing_below}
 use Rattle.joining_rule.proofs.Bound.{most_none, most_some}
 use Rattle.joining_rule.proofs.Only.{rising_shorter}
 use Rattle.joining_rule.proofs.Same.{closing_same}
-use Rattle.joining_rule.proofs.Start.{start_from, start_rises, start_same}
+use Rattle.joining_rule.proofs.Start.{start_rising, start_same}
 use Rattle.joining_rule.proofs.Counted.{counted_rising, counted_inside, counted_same}
 
 -- q joins no less than p
@@ -68,7 +67,7 @@ module _ (p q : Problem) (more : JoinsMore p q) where
 
   -- they have the same bases and the same start
   alike_start : start_set q ≡ start_set p
-  unfolding start_set start_from
+  unfolding start_set
   alike_start =
       ap (λ (ts : List Term). start_from (keys_of ts) (bases_of q)) a.objective
       ∙ start_same (keys_of p.objective) (bases_of q) (bases_of p) (λ j _. alike_basis p q a j) (λ j _. same_exponents j)
@@ -85,7 +84,8 @@ module _ (p q : Problem) (more : JoinsMore p q) where
   problem_below = rw alike_closing (closing_below (bases_of p) p.rule q.rule more.adds (start_set p) _ _ more.rounds)
 
   rising : Rising (start_set p)
-  rising = start_rises p
+  unfolding start_set
+  rising = start_rising (keys_of p.objective) (bases_of p)
 
   -- and no more keys are counted
   keys_fewer : length (counted_keys (bases_of p) (closing p).state) ≤ length (counted_keys (bases_of q) (closing q).state)

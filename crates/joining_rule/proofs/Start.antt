@@ -3,15 +3,13 @@ use mathlib.Core.Path.{◌≡◌, refl, ap, ◌∙◌}
 use mathlib.Core.List.{List, [], ◌∷◌}
 use Prim.Native.Nat.{ℕ, ◌*◌, ◌<◌}
 use native.Mathlib.Omega.{arith}
-use Rattle.polynomial.specs.Terms.{keys_of}
-use Rattle.format.specs.ProblemRules.{Problem}
 use Rattle.joining_rule.specs.Sets.{insert, insert_all}
 use Rattle.joining_rule.proofs.Rising.{Rising}
 use Rattle.joining_rule.proofs.Extending.{Extends, extends_refl, extends_trans, insert_extends, from_to_extends}
 use Rattle.counting.specs.Counting.{from_to}
 use Rattle.counting.proofs.Steps.{from_to_same}
 use Rattle.joining_rule.specs.Rounds.{Bases}
-use Rattle.joining_rule.specs.Joining.{bases_of, multiples, start_set}
+use Rattle.joining_rule.specs.Joining.{multiples, start_from}
 
 pub insert_all_extends : (ks S : List ℕ) → Extends S (insert_all ks S)
 unfolding insert_all
@@ -22,21 +20,13 @@ pub multiples_one : (ks : List ℕ) → multiples 1 ks ≡ ks
 multiples_one [] = refl
 multiples_one (k ∷ ks) = let e : 1 * k ≡ k = omega arith in rw (e, multiples_one ks)
 
--- ---- the start, of the objective's exponents and bases that are given: of a problem, `start_set`
-unfoldable pub start_from : List ℕ → Bases → List ℕ
-start_from objective g =
-    insert_all (multiples 2 (g.basis 0)) (from_to 1 9 (λ j. insert_all (g.multiplier j)) (insert_all objective []))
-
-start_rising : (objective : List ℕ) (g : Bases) → Rising (start_from objective g)
+-- ---- the start
+pub start_rising : (objective : List ℕ) (g : Bases) → Rising (start_from objective g)
 unfolding start_from
 start_rising objective g =
     (insert_all_extends (multiples 2 (g.basis 0)) _).rising
     ((from_to_extends (λ j. insert_all (g.multiplier j)) (λ j X. insert_all_extends (g.multiplier j) X) 1 9 _).rising
     ((insert_all_extends objective []).rising tt))
-
-pub start_rises : (p : Problem) → Rising (start_set p)
-unfolding start_set start_from
-start_rises p = start_rising (keys_of p.objective) (bases_of p)
 
 -- bases that agree have the same start
 pub start_same : (objective : List ℕ) (g h : Bases) → ((j : ℕ) → j < 9 → g.basis j ≡ h.basis j) → ((j : ℕ) → j < 9 → g.multiplier j ≡ h.multiplier j) → start_from objective g ≡ start_from objective h

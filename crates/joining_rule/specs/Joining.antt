@@ -16,12 +16,14 @@ bases_of p = record { basis = basis_of p; multiplier = multiplier_of p }
 abbrev pub multiples : ℕ → List ℕ → List ℕ
 multiples c ks = map (λ (k : ℕ). c * k) ks
 
--- "S starts as all exponents of the objective and constraints, and 2b for each b in basis 0": the constraints,
--- equalities among them, are the multipliers 1 to 8
+-- "S starts as all exponents of the objective and constraints, and 2b for each b in basis 0": the objective's exponents
+-- are given, and the constraints, equalities among them, are the multipliers 1 to 8
+unfoldable pub start_from : List ℕ → Bases → List ℕ
+start_from objective g =
+    insert_all (multiples 2 (g.basis 0)) (from_to 1 9 (λ j. insert_all (g.multiplier j)) (insert_all objective []))
+
 unfoldable pub start_set : Problem → List ℕ
-start_set p =
-    insert_all (multiples 2 (basis_of p 0))
-    (from_to 1 9 (λ j. insert_all (multiplier_of p j)) (insert_all (keys_of p.objective) []))
+start_set p = start_from (keys_of p.objective) (bases_of p)
 
 -- the blocks, S and the number of rounds when the joining rule that the problem names has ended, or its order has ended
 -- it: "the blocks reported and used are those after the last round"

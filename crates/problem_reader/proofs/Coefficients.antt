@@ -2,7 +2,7 @@
 use mathlib.Core.List.{List}
 use Prim.Native.Nat.{ℕ, ◌+◌, ◌^◌, ◌≤◌}
 use lib.IntN.{nat_abs}
-use Rattle.counting.proofs.Bounded.{Bounded}
+use Rattle.counting.specs.Counting.{Bounded}
 use Rattle.format.specs.ProblemLayout.{problem_decoded}
 use Rattle.format.specs.ProblemRules.{Problem, problem_command_at}
 use Rattle.format.specs.declared.problem.Command.{Command}

@@ -17,8 +17,7 @@ use Rattle.polynomial.specs.Terms.{Term, term}
 use Rattle.format.specs.declared.problem.Instruction.TheVariants as I
 use Rattle.format.specs.declared.problem.Kind.{Kind}
 use Rattle.format.specs.declared.problem.Kind.TheVariants as K
-use Rattle.format.specs.ProblemRules.{Problem, problem_applied, no_problem}
-use Rattle.format.proofs.Parts.{with_rule, with_order, with_begun}
+use Rattle.format.specs.ProblemRules.{Problem, with_rule, with_order, with_condition, problem_applied, no_problem}
 use Rattle.format.proofs.ProblemLimits.{nothing_basis}
 use Rattle.format.specs.ProblemBases.{basis_of}
 use Rattle.flat.specs.TermArrays.{terms_in, FilledTerms}
@@ -358,15 +357,15 @@ module _ {p : Problem} {keys : List ℕ} {coefficients : List ℤ} {sizes : List
   kind_few K.Inequality h = zero-le
   kind_few K.Equality h = rw (kind_most (20 + (n + 1)) (omega arith) (omega arith)) (omega arith)
 
-  pub held_condition : (k : Kind) → n < 8 → Held (with_begun p k) laid_keys laid_coefficients (set laid_sizes (20 + (n + 1)) (kind_number k)) v no_terms (n + 1)
+  pub held_condition : (k : Kind) → n < 8 → Held (with_condition p k) laid_keys laid_coefficients (set laid_sizes (20 + (n + 1)) (kind_number k)) v no_terms (n + 1)
   unfolding basis_of terms_in listed
   held_condition k h =
       let i = 20 + (n + 1) in
       let far : 19 ≤ i = omega arith in
       let few = kind_few k h in
       let e = held.count in
-      let here : condition_of (with_begun p k) (n + 1) ≡ record { kind = k; terms = [] } = rw e at (begun_here p k) in
-      let other : (j : ℕ) → j ≢ n + 1 → condition_of (with_begun p k) j ≡ condition_of p j = rw e at (begun_other p k) in
+      let here : condition_of (with_condition p k) (n + 1) ≡ record { kind = k; terms = [] } = rw e at (begun_here p k) in
+      let other : (j : ℕ) → j ≢ n + 1 → condition_of (with_condition p k) j ≡ condition_of p j = rw e at (begun_other p k) in
       record {
         limits = stored_limits i _ far few;
         variables = held.variables;

@@ -1,5 +1,4 @@
 -- Laws of a problem's lists: what a command leaves of them, and what it adds.
-use denote.Enum.Declared.{tag_of}
 use mathlib.Core.Path.{◌≡◌, refl, sym, ap, ◌∙◌}
 use mathlib.Core.Bool.{true, false}
 use mathlib.Core.List.{List, [], ◌∷◌, ◌++◌}
@@ -11,15 +10,13 @@ use lib.IntN.{ℤ, pos}
 use lib.ListN.{length, get_or, length-set, get_or-eq_default}
 use lib.Seq.{get_or-set_same, get_or-set_other, get_or_at}
 use Rattle.counting.proofs.Cases.{clash}
-use Rattle.polynomial.specs.Terms.{Term, term}
+use Rattle.polynomial.specs.Terms.{term}
 use Rattle.format.specs.Commands.{first_refusal}
 use Rattle.format.specs.declared.problem.Instruction.{Instruction}
 use Rattle.format.specs.declared.problem.Instruction.TheVariants as I
 use Rattle.format.specs.declared.problem.Kind.{Kind}
 use Rattle.format.specs.declared.problem.Kind.TheVariants as K
-use Rattle.format.specs.contracts.problem.Instruction.{the_type}
-use Rattle.format.specs.ProblemRules.{Condition, Problem, no_condition, last_condition, append_at, conditions_full, with_term, problem_applied}
-use Rattle.format.proofs.Parts.{with_begun}
+use Rattle.format.specs.ProblemRules.{Condition, Problem, no_condition, last_condition, append_at, conditions_full, with_condition, with_term, problem_applied}
 use Rattle.format.specs.ProblemBases.{basis_of, multiplier, kind_of}
 use Rattle.flat.specs.Flat.{kind_number}
 use Rattle.problem_commands.specs.Checks.{late}
@@ -90,24 +87,16 @@ unfolding condition_of
 condition_none p zero h = absurd (omega arith)
 condition_none p (suc j) h = get_or-eq_default p.conditions no_condition {n = j} (omega arith)
 
--- ---- the commands that begin a condition, by the variants' numbers, and what they do
-pub begins : (i : Instruction) → (tag_of the_type i ≡ 2) ⊎ (tag_of the_type i ≡ 6) → (k : Kind) × (i ≡ beginning k)
-begins I.Inequality h = (K.Inequality, refl)
-begins I.Equality h = (K.Equality, refl)
-begins (I.Variables n) h = absurd (⊎_elim (λ e. omega arith) (λ e. omega arith) h)
-begins (I.Objective k c) h = absurd (⊎_elim (λ e. omega arith) (λ e. omega arith) h)
-begins (I.Term k c) h = absurd (⊎_elim (λ e. omega arith) (λ e. omega arith) h)
-begins (I.Member j k) h = absurd (⊎_elim (λ e. omega arith) (λ e. omega arith) h)
-begins I.End h = absurd (⊎_elim (λ e. omega arith) (λ e. omega arith) h)
-begins (I.Rule r) h = absurd (⊎_elim (λ e. omega arith) (λ e. omega arith) h)
-begins (I.Order k) h = absurd (⊎_elim (λ e. omega arith) (λ e. omega arith) h)
+-- ---- the commands that begin a condition, and what they do
+pub begins : (i : Instruction) → (i ≡ I.Inequality) ⊎ (i ≡ I.Equality) → (k : Kind) × (i ≡ beginning k)
+begins i h = ⊎_elim (λ e. (K.Inequality, e)) (λ e. (K.Equality, e)) h
 
 pub begins_on : (k : Kind) → I.End ≡ beginning k → ⊥
 begins_on K.Inequality e = clash (cc)
 begins_on K.Equality e = clash (cc)
 
 module _ (p : Problem) where
-  pub begins_applied : (k : Kind) → problem_applied p (beginning k) ≡ with_begun p k
+  pub begins_applied : (k : Kind) → problem_applied p (beginning k) ≡ with_condition p k
   unfolding problem_applied
   begins_applied K.Inequality = refl
   begins_applied K.Equality = refl
@@ -126,12 +115,12 @@ module _ (p : Problem) where
   member_other j k i d = appended_other p.bases j k i d
 
   -- ---- a condition begun
-  pub begun_other : (k : Kind) (j : ℕ) → j ≢ length p.conditions + 1 → condition_of (with_begun p k) j ≡ condition_of p j
+  pub begun_other : (k : Kind) (j : ℕ) → j ≢ length p.conditions + 1 → condition_of (with_condition p k) j ≡ condition_of p j
   unfolding condition_of
   begun_other k zero h = refl
   begun_other k (suc j) h = more_other p.conditions _ no_condition j (λ e. h (omega arith))
 
-  pub begun_here : (k : Kind) → condition_of (with_begun p k) (length p.conditions + 1) ≡ record { kind = k; terms = [] }
+  pub begun_here : (k : Kind) → condition_of (with_condition p k) (length p.conditions + 1) ≡ record { kind = k; terms = [] }
   unfolding condition_of
   begun_here k = rw (add-one (length p.conditions)) (get_or_at p.conditions _ [] no_condition (length p.conditions) refl)
 

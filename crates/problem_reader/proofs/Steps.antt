@@ -9,7 +9,7 @@ use lib.IntN.{ℤ, pos}
 use lib.ListN.{length, drop, set, get_or, length-drop}
 use lib.Seq.{paste}
 use borrow.Author.Tests.{le-leb, lt-leb, leb-true, ltb-true, eqb-true, eqb-false}
-use Rattle.counting.proofs.Bounded.{Bounded}
+use Rattle.counting.specs.Counting.{Bounded}
 use Rattle.counting.proofs.Cases.{clash, and_left, and_right}
 use Rattle.format.specs.Commands.{first_refusal, refused}
 use Rattle.format.proofs.Run.{Left, left_start, left_end, left_refused, left_extra, left_given, left_next}

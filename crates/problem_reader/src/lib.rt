@@ -1,4 +1,6 @@
 // The reader of the problem stream.
+#![tactic(auto)]
+
 ghost use Rattle.problem_reader.specs.Storing.{ReadFlat};
 ghost use Rattle.flat.specs.Flat.{FlatZero};
 

@@ -1,11 +1,10 @@
 // Whether two problems have one region: what refusal 15 compares. Both streams are read into arrays, and these are
 // compared.
 ghost use Rattle.std.specs.Prelude.{◌≡◌, ◌≤◌, ◌<◌, length};
-ghost use Rattle.format.specs.Commands.{given};
 ghost use Rattle.format.specs.ProblemRules.{Problem, read_problem};
 ghost use Rattle.flat.specs.TermArrays.{terms_in};
 ghost use Rattle.flat.specs.Flat.{FlatLimits, FlatProblem};
-ghost use Rattle.calls.specs.AddedBounds.{same_region};
+ghost use Rattle.calls.specs.AddedBounds.{same_region_read};
 ghost use Rattle.regions.specs.Compared.{Tells, SameCondition};
 
 use flat::{CONDITIONS, KINDS};
@@ -101,8 +100,7 @@ fn same_conditions(
 // Whether two streams give problems over one region: the same number of variables, which is the second byte, and the
 // same conditions.
 pub fn is_same(problem1: &[u8], problem2: &[u8]) -> bool
-    ensures { (p q : Problem) → read_problem problem1.now ≡ given p → read_problem problem2.now ≡ given q
-        → result ≡ same_region p q }
+    ensures { result ≡ same_region_read (read_problem problem1.now) (read_problem problem2.now) }
 {
     let mut keys1 = [0u64; 1120];
     let mut coefficients1 = [0i32; 544];

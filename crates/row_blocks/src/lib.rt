@@ -1,5 +1,7 @@
 // Refusal 8: whether each row of a certificate that was read keeps to one block, and the place of the first entry that
 // does not. The rows are walked by their offsets.
+#![tactic(auto)]
+
 ghost use Rattle.std.specs.Prelude.{◌≡◌, ◌+◌, ◌*◌, ◌^◌, ◌<◌, length};
 ghost use Rattle.format.specs.Commands.{given};
 ghost use Rattle.format.specs.ProblemRules.{Problem};

@@ -13,8 +13,7 @@ use lib.IntN.{ℤ, pos, nat_abs, ◌+ℤ◌, +ℤ_comm, +ℤ_assoc}
 use lib.ListN.{length, get_or, set, take, length-append, length-set}
 use lib.Seq.{take-suc, take_all}
 use Rattle.integers.proofs.Ranges.{abs_sum}
-use Rattle.counting.specs.Counting.{listed}
-use Rattle.counting.proofs.Bounded.{Bounded}
+use Rattle.counting.specs.Counting.{listed, Bounded}
 use Rattle.counting.proofs.Cases.{clash}
 use Rattle.counting.proofs.Listed.{listed_at}
 use Rattle.polynomial.specs.Terms.{Term, term}

@@ -5,8 +5,8 @@ use mathlib.Core.Bool.{false}
 use Prim.Native.Nat.{ℕ}
 use lib.IntN.{pos, negsuc}
 use Rattle.counting.specs.Counting.{listed}
-use Rattle.calls.specs.Adjusted.{change_at, changes_of, first_unfit, changes_for, is_one_minus_square, has_box, boxed_to}
-use Rattle.calls.specs.Adjusted.{absolute_sum, moved_bound, adjusted_for, adjusted_verdict}
+use Rattle.calls.specs.Adjusted.{change_at, changes_of, first_unfit, changes_refusal, is_one_minus_square, has_box, boxed_to}
+use Rattle.calls.specs.Adjusted.{absolute_sum, moved_bound, adjusted_by, adjusted_of, adjusted_checked, adjusted_verdict}
 use Rattle.samples.proofs.Computing.{checking}
 use Rattle.samples.specs.Streams.{problem_a, problem_f, certificate_a, low_f, half_f, high_f, exponents, small, minus, variables, inequality, equality, condition_minus, end, header, finish}
 use Rattle.samples.specs.Sums.{one, minus_square, linear}
@@ -32,7 +32,7 @@ second = condition_minus (exponents 0 2) 255
 
 -- what the call computes through, after the check
 adjusting : Unit {0}
-unfolding change_at changes_of first_unfit changes_for is_one_minus_square has_box boxed_to absolute_sum moved_bound adjusted_for adjusted_verdict
+unfolding change_at changes_of first_unfit changes_refusal is_one_minus_square has_box boxed_to absolute_sum moved_bound adjusted_by adjusted_of adjusted_checked adjusted_verdict
 adjusting = tt
 
 -- the lower bound of case F is −1, and as −2/2 it moves by 2 × 5. Without changes it stays; 5x and −5x move it by 10,

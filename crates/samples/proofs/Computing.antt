@@ -16,8 +16,8 @@ use Rattle.joining_rule.specs.Join.{linked, merged, join_pair, join}
 use Rattle.joining_rule.specs.Extend.{add_terms, add_pair, extend}
 use Rattle.joining_rule.specs.Rounds.{singles, start, join_all, extend_to, adding_bases, round, after, same, same_all, same_state, close_from, most_rounds, closing_of, blocks_in, counted_keys}
 use Rattle.joining_rule.specs.Bytes.{block_bytes}
-use Rattle.joining_rule.specs.Joining.{start_set, closing, too_large, block_total}
-use Rattle.accepting.specs.Identity.{square, squares, claim, block_of}
+use Rattle.joining_rule.specs.Joining.{start_from, start_set, closing, too_large, block_total}
+use Rattle.accepting.specs.Identity.{square, squares, claim_of, block_of}
 use Rattle.accepting.specs.Judgement.{first_outside, row_split, split_by, first_difference, compared_keys, difference_key, judge_read, judge}
 use Rattle.calls.specs.Checks.{problem_of}
 use Rattle.calls.specs.Blocks.{blocks_verdict, bytes_left}
@@ -32,7 +32,7 @@ reading = tt
 
 -- the joining rule ends, its keys are counted, and the problem has its outcome
 unfoldable pub joining : Unit {0}
-unfolding reading member different insert insert_all linked merged join_pair join add_terms add_pair extend singles start join_all extend_to adding_bases round after same same_all same_state close_from most_rounds closing_of blocks_in counted_keys start_set closing too_large problem_of
+unfolding reading member different insert insert_all linked merged join_pair join add_terms add_pair extend singles start join_all extend_to adding_bases round after same same_all same_state close_from most_rounds closing_of blocks_in counted_keys start_from start_set closing too_large problem_of
 joining = tt
 
 -- the blocks call
@@ -42,7 +42,7 @@ blocking = tt
 
 -- a certificate is read and judged
 unfoldable pub judging : Unit {0}
-unfolding joining certificate_command certificate_refusal_at certificate_applied certificate_next read_certificate coefficient square squares claim block_of first_outside row_split split_by first_difference compared_keys difference_key judge_read judge
+unfolding joining certificate_command certificate_refusal_at certificate_applied certificate_next read_certificate coefficient square squares claim_of block_of first_outside row_split split_by first_difference compared_keys difference_key judge_read judge
 judging = tt
 
 -- the check

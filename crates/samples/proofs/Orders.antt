@@ -1,11 +1,12 @@
 -- Rows in another order, and notes put in: two streams each, from their bytes to whole verdicts, and the relations that
 -- the promises speak of.
 use mathlib.Core.Path.{◌≡◌, refl}
-use mathlib.Core.List.{List, [], ◌∷◌, flatten}
+use mathlib.Core.List.{List, [], ◌∷◌, ◌++◌, flatten}
 use mathlib.Core.Bool.{false}
 use Prim.Native.Nat.{ℕ, ◌+◌}
 use native.Mathlib.Omega.{arith}
 use lib.IntN.{pos, negsuc}
+use lib.ListN.{length}
 use Rattle.counting.specs.Counting.{listed, from_to, sum_to}
 use Rattle.polynomial.specs.Monomial.{degree_of, degree, within, among}
 use Rattle.polynomial.specs.Terms.{keys_of}
@@ -18,23 +19,22 @@ use Rattle.format.specs.ProblemRules.{append_at, fitting, problem_applied, probl
 use Rattle.format.specs.ProblemBases.{basis_of, multiplier_of, multiplier, kind_of}
 use Rattle.format.specs.CertificateLayout.{certificate_command}
 use Rattle.format.specs.CertificateRules.{Entry, Row, certificate_refusal_at, certificate_applied, certificate_next, read_certificate}
-use Rattle.format.specs.Cut.{cut_from, commands_of}
+use Rattle.format.specs.Cut.{Whole, cut_from, commands_of}
 use Rattle.format.specs.Permuted.{exchanged}
-use Rattle.format.specs.RowOrder.{rows_bytes, OtherOrder}
-use Rattle.format.proofs.RowRuns.{entries_at, row_at, rows_at}
-use Rattle.format.specs.PutIn.{whole, eight, sent, plain, PutIn}
+use Rattle.format.specs.RowOrder.{EntryCommand, IsRow, rows_bytes, HeaderCommand, OtherOrder, entries_at, row_at, rows_at}
+use Rattle.format.specs.PutIn.{IsPiece, whole, eight, sent, plain, PutIn}
 use Rattle.joining_rule.specs.Sets.{member, different, insert, insert_all}
 use Rattle.joining_rule.specs.Join.{linked, merged, join_pair, join}
 use Rattle.joining_rule.specs.Extend.{add_terms, add_pair, extend}
 use Rattle.joining_rule.specs.Rounds.{singles, start, join_all, extend_to, adding_bases, round, same, same_all, same_state, close_from, most_rounds, closing_of, blocks_in, counted_keys}
-use Rattle.joining_rule.specs.Joining.{start_set, closing, too_large}
-use Rattle.accepting.specs.Identity.{square, squares, claim, block_of}
+use Rattle.joining_rule.specs.Joining.{start_from, start_set, closing, too_large}
+use Rattle.accepting.specs.Identity.{square, squares, claim_of, block_of}
 use Rattle.accepting.specs.Judgement.{first_outside, row_split, split_by, first_difference, compared_keys, difference_key, judge_read, judge}
 use Rattle.calls.specs.Fractions.{fraction}
 use Rattle.calls.specs.Checks.{problem_of}
 use Rattle.calls.specs.Pair.{pair_sides, pair_verdict}
 use Rattle.calls.specs.declared.PairVerdict.{PairVerdict}
-use Rattle.samples.specs.Streams.{problem_f, header_minus, row, entry, entry_minus, finish, low_f, high_f, certificate_a}
+use Rattle.samples.specs.Streams.{problem_f, header_minus, header, row, entry, entry_minus, finish, low_f, high_f, certificate_a}
 use Rattle.samples.specs.Noted.{noted_a, header_a}
 use Rattle.samples.specs.Orders.{turned_f, row_on_zero, row_on_one, pieces_a}
 
@@ -105,7 +105,7 @@ bounds = record {
 
 pub verdicts :
     pair_verdict false problem_f low_f high_f ∷ pair_verdict false problem_f turned_f high_f ∷ [] ≡ bounds ∷ bounds ∷ []
-unfolding listed from_to sum_to number signed first_refusal run read_whole degree_of degree within among keys_of problem_command append_at fitting problem_applied problem_refusal_at problem_next read_problem basis_of multiplier multiplier_of kind_of member insert linked merged join_pair join add_terms add_pair extend different singles start join_all extend_to adding_bases round same same_all same_state close_from blocks_in counted_keys most_rounds closing_of insert_all start_set closing too_large certificate_command certificate_refusal_at certificate_applied certificate_next read_certificate coefficient square squares claim block_of first_outside row_split split_by first_difference compared_keys difference_key judge_read judge problem_of pair_sides pair_verdict
+unfolding listed from_to sum_to number signed first_refusal run read_whole degree_of degree within among keys_of problem_command append_at fitting problem_applied problem_refusal_at problem_next read_problem basis_of multiplier multiplier_of kind_of member insert linked merged join_pair join add_terms add_pair extend different singles start join_all extend_to adding_bases round same same_all same_state close_from blocks_in counted_keys most_rounds closing_of insert_all start_from start_set closing too_large certificate_command certificate_refusal_at certificate_applied certificate_next read_certificate coefficient square squares claim_of block_of first_outside row_split split_by first_difference compared_keys difference_key judge_read judge problem_of pair_sides pair_verdict
 verdicts = refl
 
 -- ---- sample A's certificate with notes put in

@@ -4,7 +4,7 @@ use mathlib.Core.Path.{◌≡◌, refl}
 use mathlib.Core.List.{[], ◌∷◌, ◌++◌}
 use mathlib.Core.Bool.{true, false}
 use lib.IntN.{pos, negsuc}
-use Rattle.calls.specs.AddedBounds.{streams, same_region, sum_after, sum_verdict}
+use Rattle.calls.specs.AddedBounds.{streams, same_region, sum_second, sum_pairs, sum_verdict}
 use Rattle.samples.proofs.Computing.{pairing}
 use Rattle.samples.specs.Streams.{inequality, equality, problem_f, low_f, high_f}
 use Rattle.samples.specs.Sums.{case_f, halves_f, ruled_f, without, one, minus_square, linear}
@@ -43,5 +43,5 @@ pub sums :
     ∷ sum_refused 10 1 0 0
     ∷ sum_refused 1 0 0 0
     ∷ []
-unfolding pairing same_region sum_after sum_verdict
+unfolding pairing same_region sum_second sum_pairs sum_verdict
 sums = refl

@@ -4,7 +4,7 @@ use mathlib.Core.Path.{◌≡◌, refl}
 use mathlib.Core.List.{List, [], ◌∷◌}
 use mathlib.Core.Bool.{Bool, true, false}
 use Prim.Native.Nat.{ℕ}
-use Rattle.calls.specs.Superseding.{is_tighter, tighter_of, superseding_verdict, part_of, stream_of}
+use Rattle.calls.specs.Superseding.{is_tighter, tighter_of, superseding_of, superseding_verdict, part_of, stream_of}
 use Rattle.calls.specs.declared.Refusal.{Refusal}
 use Rattle.samples.proofs.Computing.{checking}
 use Rattle.samples.specs.Streams.{problem_f, problem_fWith, rule, low_f, half_f, loose_low_f, high_f, loose_high_f, certificate_i}
@@ -64,5 +64,5 @@ pub superseding :
     ∷ nothing (refusal 4 0 2 0)
     ∷ nothing (refusal 1 0 0 0)
     ∷ []
-unfolding checking is_tighter tighter_of superseding_verdict
+unfolding checking is_tighter tighter_of superseding_of superseding_verdict
 superseding = refl

@@ -1,20 +1,16 @@
 // Request 02, the certificate that supersedes: of two certificates for one problem the tighter one comes back. What to
-// do is a match on what became of each; then four lent numbers are set, and the part is chosen.
+// do is decided on plain values first; then four lent numbers are set, and the part is chosen.
 ghost use Rattle.std.specs.Prelude.{◌≡◌};
 ghost use Rattle.calls.specs.declared.Chosen.TheVariants as Chosen;
 ghost use Rattle.calls.specs.Tables.{tables, tables_short, TablesLeft};
 ghost use Rattle.calls.specs.Rules.{UnderOne, AtLarger};
 ghost use Rattle.calls.specs.RowOrder.{SupersedingAnyOrder};
-ghost use Rattle.calls.specs.Outcome.{told};
-ghost use Rattle.calls.specs.Superseding.{is_tighter, comes_back, none_back, tighter_of, superseding_verdict};
+ghost use Rattle.calls.specs.Superseding.{is_tighter, comes_back, none_back, tighter_of, superseding_of, superseding_verdict};
 ghost use Rattle.calls.specs.Superseding.{part_of, refusal_in};
 ghost use Rattle.calls.specs.Superseding.{SupersedingNumbered, ZeroExactly, ChosenZeros, PartZeros, HoldsBack};
 ghost use Rattle.calls.specs.Superseding.{TighterBack, AloneBack, FirstRefusal, ElevenExactly, TighterKept};
-ghost use Rattle.superseding.specs.Decided.{chosen_from};
 
-use calls::{Chosen, Fraction, Refusal, SupersedingVerdict};
-use certificate_judge::Judged;
-use format::certificate::Header;
+use calls::{CheckVerdict, Chosen, Fraction, Refusal, SupersedingVerdict};
 
 // Whether a bound is tighter than another of the same side: the larger lower bound or the smaller upper bound.
 fn is_tighter(side: usize, f: Fraction, g: Fraction) -> bool
@@ -52,8 +48,8 @@ fn none_back(refusal: Refusal) -> SupersedingVerdict
 }
 
 // Two that are accepted: the tighter one, the first when equal; or refusal 11.
-fn tighter_of(a: Header, b: Header) -> SupersedingVerdict
-    ensures { result ≡ told none_back (tighter_of a b) }
+fn tighter_of(a: CheckVerdict, b: CheckVerdict) -> SupersedingVerdict
+    ensures { result ≡ tighter_of a b }
 {
     if a.side != b.side {
         return none_back(Refusal {
@@ -63,29 +59,29 @@ fn tighter_of(a: Header, b: Header) -> SupersedingVerdict
             key: 0,
         });
     }
-    let f = fractions::bound(a.p, a.q);
-    let g = fractions::bound(b.p, b.q);
-    let second = is_tighter(a.side, g, f);
+    let second = is_tighter(a.side, b.bound, a.bound);
     if second {
         return comes_back(Chosen::Second);
     }
     comes_back(Chosen::First)
 }
 
-// Which of two certificates comes back, by what became of each.
-fn decide(a: Judged, b: Judged) -> SupersedingVerdict
-    ensures { result ≡ chosen_from a b }
+// What becomes of two certificates, by what the check says of each.
+fn decide(a: CheckVerdict, b: CheckVerdict) -> SupersedingVerdict
+    ensures { result ≡ superseding_of a b }
 {
-    match a {
-        Judged::Refused(f) => match b {
-            Judged::Refused(_) => none_back(f),
-            Judged::Accepted(_) => comes_back(Chosen::Second),
-        },
-        Judged::Accepted(t) => match b {
-            Judged::Refused(_) => comes_back(Chosen::First),
-            Judged::Accepted(u) => tighter_of(t, u),
-        },
+    let f = a.refusal;
+    let g = b.refusal;
+    if f.number == 0 {
+        if g.number == 0 {
+            return tighter_of(a, b);
+        }
+        return comes_back(Chosen::First);
     }
+    if g.number == 0 {
+        return comes_back(Chosen::Second);
+    }
+    none_back(f)
 }
 
 // Which of two certificates for one problem comes back. The four numbers receive the refusal; `keys`, `high` and `low`
@@ -116,7 +112,7 @@ pub fn choose(
     ensures zeros { let f = refusal_in number.new stream.new place.new key.new in
         ChosenZeros f result }
 {
-    let two = problem_judge::judge_two(1, problem, first, second, keys, high, low);
+    let two = checker::check_two(problem, first, second, keys, high, low);
     let a = two.first;
     let b = two.second;
     let v = decide(a, b);

@@ -1,5 +1,7 @@
 // A verdict as a run of 64-bit numbers: the numbers of each kind of verdict, in an array of their own, and what a lent
 // run is left with.
+#![tactic(auto)]
+
 ghost use Rattle.std.specs.Prelude.{◌≡◌, ◌≤◌, ◌<◌, length, get_or};
 ghost use Rattle.verdict_numbers.specs.Numbers.{mark_number, blocks_numbers, check_numbers, pair_numbers, two_numbers};
 ghost use Rattle.verdict_numbers.specs.Numbers.{symmetries_numbers, report_numbers, office_numbers};

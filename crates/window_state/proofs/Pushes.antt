@@ -1,12 +1,12 @@
 -- The state that a push leaves, by the verdict: as it was with a refusal, with the new gap without one.
 use native.Mathlib.Omega.{arith}
-use mathlib.Core.Path.{◌≡◌, refl, sym, ap, ◌∙◌}
+use mathlib.Core.Path.{◌≡◌, refl}
 use mathlib.Core.Bool.{Bool, true, false, cond}
-use mathlib.Core.List.{List, ◌∷◌, ◌++◌}
+use mathlib.Core.List.{List}
 use Prim.Native.Nat.{ℕ, min, ◌+◌, ◌≤◌}
-use lib.ListN.{length, get_or, take, drop, set}
+use lib.ListN.{length, get_or, set}
 use Rattle.calls.specs.Report.{unsigned}
-use Rattle.calls.specs.Window.{is_refused, push_verdict, window_after, with_newest}
+use Rattle.calls.specs.Window.{is_refused, push_verdict, window_after}
 use Rattle.calls.specs.declared.Fraction.{Fraction}
 use Rattle.calls.specs.declared.GapWindow.{GapWindow}
 use Rattle.calls.specs.declared.Pushed.{Pushed}

@@ -1,4 +1,6 @@
 // The state of a window of gaps (request 11) in lent numbers: the window that they stand for, and a push of a gap.
+#![tactic(auto)]
+
 ghost use Rattle.std.specs.Prelude.{◌≡◌, ◌++◌, ◌+◌, ◌*◌, ◌≤◌, ◌<◌, length, take, drop, false};
 ghost use Rattle.format.specs.Operands.{signed};
 ghost use Rattle.calls.specs.Window.{push_verdict};

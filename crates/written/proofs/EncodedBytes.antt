@@ -2,7 +2,7 @@
 use mathlib.Core.List.{List, [], ◌∷◌, ◌++◌, flat_map}
 use Prim.Native.Nat.{ℕ, zero, suc, ◌/◌, ◌%◌, ◌≤◌}
 use native.Mathlib.Omega.{arith}
-use Rattle.counting.proofs.Bounded.{Bounded}
+use Rattle.counting.specs.Counting.{Bounded}
 use Rattle.format.specs.Layouts.{line}
 use Rattle.format.specs.declared.problem.Instruction.{Instruction as ProblemInstruction}
 use Rattle.format.specs.declared.problem.Instruction.TheVariants as P

@@ -11,7 +11,7 @@ use lib.Dec.{ltb}
 use lib.ListN.{length, get_or, take, drop, length-append}
 use lib.Seq.{get_or-append_seam, take-add, drop-cons, drop-drop}
 use borrow.Author.Tests.{lt-ltb, le-ltb, ltb-true, ltb-false}
-use Rattle.counting.proofs.Bounded.{Bounded}
+use Rattle.counting.specs.Counting.{Bounded}
 use Rattle.format.specs.Operands.{number, signed}
 use Rattle.format.specs.Layouts.{line, total, length_of, unsigned_operand, signed_operand}
 use Rattle.format.proofs.Numbers.{lower, upper}

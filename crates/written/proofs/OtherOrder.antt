@@ -3,19 +3,20 @@
 use mathlib.Core.Path.{◌≡◌, refl, sym, ap, ◌∙◌}
 use mathlib.Core.Bool.{Bool, true, false, cond}
 use mathlib.Core.List.{List, [], ◌∷◌, ◌++◌}
-use Prim.Native.Nat.{ℕ, suc, ◌<◌}
+use Prim.Native.Nat.{ℕ, suc, ◌-◌, ◌<◌}
 use native.Mathlib.Omega.{arith}
 use lib.Dec.{eqb}
-use lib.ListN.{length, get_or, length-set}
+use lib.ListN.{length, get_or, set, length-set}
 use lib.Seq.{get_or-set_same, get_or-set_other, ext_get_or}
 use borrow.Author.Tests.{eqb-true, eqb-false, ne_eqb}
-use Rattle.counting.proofs.Bounded.{Bounded}
+use Rattle.counting.specs.Counting.{Bounded}
 use Rattle.counting.proofs.Cases.{clash}
 use Rattle.polynomial.specs.Terms.{Term, term}
 use Rattle.format.specs.Commands.{given}
 use Rattle.format.specs.declared.problem.Instruction.{Instruction}
 use Rattle.format.specs.declared.problem.Instruction.TheVariants as I
-use Rattle.format.specs.ProblemRules.{Problem, no_problem, with_condition, with_last, append_at, problem_applied, read_problem}
+use Rattle.format.specs.declared.problem.Kind.{Kind}
+use Rattle.format.specs.ProblemRules.{Condition, Problem, no_problem, last_condition, append_at, with_term, problem_applied, read_problem}
 use Rattle.written.specs.ProblemWritten.{in_stream}
 use Rattle.written.specs.CommandOrder.{InPlace, of_part, OtherOrder, AnyOrder}
 use Rattle.written.proofs.ProblemReading.{after}
@@ -39,6 +40,12 @@ objective_by n p q (I.End ∷ xs) h e = clash (cc h.0)
 objective_by n p q (I.Equality ∷ xs) h e = objective_by (suc n) _ q xs h.1 e
 objective_by n p q (I.Rule r ∷ xs) h e = clash (cc h.0)
 objective_by n p q (I.Order k ∷ xs) h e = clash (cc h.0)
+
+abbrev with_condition : Kind → List Condition → List Condition
+with_condition k gs = gs ++ (record { kind = k; terms = [] } ∷ [])
+
+abbrev with_last : Term → List Condition → List Condition
+with_last t gs = set gs (length gs - 1) (with_term (last_condition gs) t)
 
 conditions_by : (n : ℕ) (p q : Problem) (xs : List Instruction) → InPlace n xs → p.conditions ≡ q.conditions
     → (after p xs).conditions ≡ (after q (of_part 1 xs)).conditions

@@ -8,7 +8,7 @@ use lib.Dec.{leb, ltb}
 use lib.ListN.{length, get_or, take, drop, take-append-drop, drop_of_length-le}
 use lib.Seq.{drop-drop}
 use borrow.Author.Tests.{le-leb, leb-true, ltb-true, eqb-true, ne_eqb}
-use Rattle.counting.proofs.Bounded.{Bounded}
+use Rattle.counting.specs.Counting.{Bounded}
 use Rattle.counting.proofs.Cases.{clash, and_left, and_right}
 use Rattle.format.specs.Commands.{refused, given, first_refusal, run, read_whole}
 use Rattle.format.specs.Layouts.{E, u8, i16, i32}

@@ -11,7 +11,7 @@ use lib.Dec.{ltb}
 use lib.IntN.{pos, ◌-ℤ◌}
 use lib.ListN.{length}
 use borrow.Author.Tests.{lt-ltb, ltb-true, ltb-false}
-use Rattle.counting.proofs.Bounded.{Bounded}
+use Rattle.counting.specs.Counting.{Bounded}
 use Rattle.polynomial.specs.Terms.{Term}
 use Rattle.format.specs.All.{All}
 use Rattle.format.specs.Commands.{given}

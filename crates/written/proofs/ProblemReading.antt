@@ -8,15 +8,14 @@ use native.Mathlib.Omega.{arith}
 use lib.ListN.{length, get_or, length-append, length-set}
 use borrow.Author.Tests.{lt-leb, lt-ltb, leb-true}
 use Rattle.counting.proofs.Cases.{clash}
-use Rattle.polynomial.specs.Terms.{term}
+use Rattle.polynomial.specs.Terms.{Term, term}
 use Rattle.format.specs.All.{All}
 use Rattle.format.specs.Commands.{Outcome, first_refusal}
 use Rattle.format.specs.declared.problem.Command.TheVariants as C
 use Rattle.format.specs.declared.problem.Instruction.{Instruction}
 use Rattle.format.specs.declared.problem.Instruction.TheVariants as I
 use Rattle.format.specs.declared.problem.Kind.{Kind}
-use Rattle.format.specs.ProblemRules.{Condition, Problem, no_condition, last_condition, append_at, with_term, conditions_full, problem_placed, problem_operands_fit, problem_repeated, problem_full, problem_applied, problem_language}
-use Rattle.format.proofs.Parts.{with_begun}
+use Rattle.format.specs.ProblemRules.{Condition, Problem, no_condition, last_condition, append_at, with_condition, with_term, conditions_full, problem_placed, problem_operands_fit, problem_repeated, problem_full, problem_applied, problem_language}
 use Rattle.format.proofs.WithinLimits.{Monomials}
 use Rattle.format.proofs.Run.{Left}
 use Rattle.written.specs.Legal.{Polynomial, Legal}
@@ -57,7 +56,7 @@ record Begun (p : Problem) : Type 0 where
   before : Within p
   room : conditions_full p ≡ false
 
-begun_before : (p : Problem) (k : Kind) → Within (with_begun p k) → Begun p
+begun_before : (p : Problem) (k : Kind) → Within (with_condition p k) → Begun p
 begun_before p k w =
     let gs = p.conditions in
     let n = length-append gs (record { kind = k; terms = [] } ∷ []) in

@@ -16,7 +16,7 @@ use Rattle.format.specs.declared.problem.Instruction.{Instruction}
 use Rattle.format.specs.declared.problem.Instruction.TheVariants as I
 use Rattle.format.specs.declared.problem.Kind.{Kind}
 use Rattle.format.specs.declared.problem.Kind.TheVariants as K
-use Rattle.format.specs.ProblemRules.{Condition, Problem, no_problem, no_condition, append_at, made, problem_applied, read_problem}
+use Rattle.format.specs.ProblemRules.{Condition, Problem, no_problem, no_condition, append_at, problem_applied, read_problem}
 use Rattle.written.specs.Legal.{Legal}
 use Rattle.written.specs.ProblemWritten.{rule_commands, order_commands, head_commands, objective_commands, begins, term_commands, condition_commands, basis_commands, body_commands, encode_problem}
 use Rattle.written.specs.CommandOrder.{Head, plain, ruled, ordered, both, InPlace}
@@ -42,6 +42,9 @@ module _ (n r k : ℕ) where
       go false false e = both n r k (named k e)
 
 -- a problem by its parts
+abbrev made : ℕ → ℕ → ℕ → List Term → List Condition → List (List ℕ) → Problem
+made n r k ts gs bs = record { variables = n; rule = r; order = k; objective = ts; conditions = gs; bases = bs }
+
 head_after : (n r k : ℕ) → after no_problem (headed n r k) ≡ made n r k [] [] no_problem.bases
 unfolding after problem_applied
 head_after n r k = go (eqb r 1) refl (eqb k 0) refl

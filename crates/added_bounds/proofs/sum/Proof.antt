@@ -3,10 +3,10 @@ use borrow.Author.Rules.{rules}
 use native.Mathlib.Omega.{arith}
 use mathlib.Core.Path.{◌≡◌, ap, ◌∙◌}
 use mathlib.Core.Bool.{Bool}
-use Rattle.counting.proofs.Bounded.{Bounded}
-use Rattle.calls.specs.Outcome.{told}
+use Rattle.counting.specs.Counting.{Bounded}
+use Rattle.format.specs.ProblemRules.{read_problem}
 use Rattle.calls.specs.Tables.{tables, tables_short}
-use Rattle.calls.specs.AddedBounds.{Streams, streams, refused_sum, sum_after}
+use Rattle.calls.specs.AddedBounds.{Streams, streams, same_region_read, sum_second, pair_by}
 use Rattle.calls.proofs.BoundsAdded.{sum_clauses}
 use Rattle.added_bounds.proofs.Bounds.{bounds_of}
 use Rattle.work_tables.proofs.Again.{short_again, left_twice}
@@ -43,6 +43,21 @@ paired c = c.before.before.before.before.before.before
 none : (c : tie.Else1) → (paired c.before).pair.result.refusal.number ≡ 0
 none c = omega (arith, c.if1.false)
 
+pair-requires : tie.Need-pair-requires
+pair-requires c κs = search rules
+
+refuse-requires : tie.Need-refuse-requires
+refuse-requires c κs = search rules
+
+same_length : tie.Need-same-length
+same_length c = search rules
+
+same-length-2 : tie.Need-same-length-2
+same-length-2 c = search rules
+
+same-length-3 : tie.Need-same-length-3
+same-length-3 c = search rules
+
 returns : tie.Need-returns
 returns c =
     let t = c.before in
@@ -57,6 +72,15 @@ sum-second-requires c κs =
     let p = paired e.before in
     bounds_of (low-bytes p) (high-bytes p) (p.pair.ensures.1.1.1.0.only (none e))
 
+same-length-4 : tie.Need-same-length-4
+same-length-4 c = search rules
+
+same-length-5 : tie.Need-same-length-5
+same-length-5 c = search rules
+
+same-length-6 : tie.Need-same-length-6
+same-length-6 c = search rules
+
 returns-2 : tie.Need-returns-2
 returns-2 c =
     let d = c.before.before.before.before in
@@ -65,25 +89,24 @@ returns-2 c =
     let k = p.pair.ensures in
     let l = d.sum-second.ensures in
     let v = p.pair.result in
-    let stated = k.1.1.1.0.only (none e) in
+    let region = same_region_read (read_problem (first p).problem) (read_problem (second p).problem) in
     let is =
-    l.0 stated.problem stated.read
-    ∙ ap (λ (b : Bool). told refused_sum (sum_after b stated.problem v (second p))) (short_again k.1.0)
-    ∙ first_accepted (short p) (first p) (second p) v k.0 (none e) stated.problem stated.read in
+    l.0 ∙ ap (λ (b : Bool). sum_second region v (pair_by b (second p))) (short_again k.1.0)
+    ∙ first_accepted (short p) (first p) (second p) v k.0 (none e) in
     (is, (left_twice k.1.0 l.1, sum_clauses (short p) (first p) (second p) _ is))
 
 pub sum-spec : {M : Type 1} → statement M
 sum-spec =
     tie.close
     (tie.spec
-    (λ c κs. search rules)
-    (λ c κs. search rules)
-    (λ c. search rules)
-    (λ c. search rules)
-    (λ c. search rules)
+    pair-requires
+    refuse-requires
+    same_length
+    same-length-2
+    same-length-3
     returns
     sum-second-requires
-    (λ c. search rules)
-    (λ c. search rules)
-    (λ c. search rules)
+    same-length-4
+    same-length-5
+    same-length-6
     returns-2)

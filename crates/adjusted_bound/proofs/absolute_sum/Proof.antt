@@ -64,14 +64,35 @@ whole_is c = to_z_pos w64 (omega (arith, whole c))
 loop-holds : tie.Need-loop-init invariant-loop decreases-loop
 loop-holds c = (omega arith, summed_none c.before.args.changes.now)
 
+mul-number-at : tie.Need-overflow-mul-number-at invariant-loop decreases-loop
+mul-number-at c = search rules
+
+add-number-at : tie.Need-overflow-add-number-at invariant-loop decreases-loop
+add-number-at c = search rules
+
+number-at-requires : tie.Need-number-at-requires invariant-loop decreases-loop
+number-at-requires c κs = search rules
+
+signed32-requires : tie.Need-signed32-requires invariant-loop decreases-loop
+signed32-requires c κs = search rules
+
 cast-d : tie.Need-overflow-cast-d invariant-loop decreases-loop
 cast-d c = simp (to_z-of_z (narrow c)) (wide c)
+
+magnitude-requires : tie.Need-magnitude-requires invariant-loop decreases-loop
+magnitude-requires c κs = search rules
 
 cast-size : tie.Need-overflow-cast-size invariant-loop decreases-loop
 cast-size c = abs_fits (omega (arith, low c))
 
 add-sum : tie.Need-overflow-add-sum invariant-loop decreases-loop
 add-sum c = simp (sum_is c, size_is c) (abs_fits (omega (arith, low c)))
+
+add-i : tie.Need-overflow-add-i invariant-loop decreases-loop
+add-i c = search rules
+
+loop-less : tie.Need-loop-smaller invariant-loop decreases-loop
+loop-less c = search rules
 
 loop-again : tie.Need-loop-preserved invariant-loop decreases-loop
 loop-again c =
@@ -99,16 +120,16 @@ absolute-sum-spec =
     invariant-loop
     decreases-loop
     loop-holds
-    (λ c. search rules)
-    (λ c. search rules)
-    (λ c κs. search rules)
-    (λ c κs. search rules)
+    mul-number-at
+    add-number-at
+    number-at-requires
+    signed32-requires
     cast-d
-    (λ c κs. search rules)
+    magnitude-requires
     cast-size
     add-sum
-    (λ c. search rules)
-    (λ c. search rules)
+    add-i
+    loop-less
     loop-again
     cast-result
     returns)

@@ -26,6 +26,9 @@ loop-holds : tie.Need-loop-init invariant-loop decreases-loop
 unfolding boxed_to
 loop-holds c = (omega arith, (omega arith, (refl, λ p f. refl)))
 
+has-box-requires : tie.Need-has-box-requires invariant-loop decreases-loop
+has-box-requires c κs = search rules
+
 returns : tie.Need-returns invariant-loop decreases-loop
 returns c =
     let b = c.before in
@@ -39,6 +42,12 @@ mul-square c =
     let b = c.before in
     let l = b.before.before.loop in
     omega (arith, square_low l.i l.square l.invariant.0 (omega (arith, b.before.loop-test.true)) l.invariant.1.1.0)
+
+add-i : tie.Need-overflow-add-i invariant-loop decreases-loop
+add-i c = search rules
+
+loop-less : tie.Need-loop-smaller invariant-loop decreases-loop
+loop-less c = search rules
 
 loop-again : tie.Need-loop-preserved invariant-loop decreases-loop
 loop-again c =
@@ -58,6 +67,9 @@ loop-again c =
       ),
     )
 
+has-box-requires-2 : tie.Need-has-box-requires-2 invariant-loop decreases-loop
+has-box-requires-2 c κs = search rules
+
 returns-2 : tie.Need-returns-2 invariant-loop decreases-loop
 returns-2 c =
     let t = c.before in
@@ -75,11 +87,11 @@ are-boxed-spec =
     invariant-loop
     decreases-loop
     loop-holds
-    (λ c κs. search rules)
+    has-box-requires
     returns
     mul-square
-    (λ c. search rules)
-    (λ c. search rules)
+    add-i
+    loop-less
     loop-again
-    (λ c κs. search rules)
+    has-box-requires-2
     returns-2)

@@ -5,10 +5,7 @@ use native.Mathlib.Omega.{arith}
 use mathlib.Core.Path.{◌≡◌, refl, sym, ap, ◌∙◌}
 use Prim.Native.Nat.{◌-◌, ◌≤◌}
 use Rattle.format.specs.ProblemRules.{fitting}
-use mathlib.Core.Option.{Option}
-use Prim.Native.Nat.{ℕ}
-use Rattle.calls.specs.Outcome.{refusal_of}
-use Rattle.calls.specs.Adjusted.{change_at, changes_of, change_fits, unless_unfit}
+use Rattle.calls.specs.Adjusted.{change_at, change_fits, unfit_refusal}
 use Rattle.adjusted_bound.proofs.Scanned.{Unfit, unfit_here, fit_here, unfit_none}
 use Rattle.adjusted_bound.proofs.check_fit.Statement.{statement}
 use Rattle.adjusted_bound.proofs.check_fit.Tie as tie
@@ -32,14 +29,32 @@ fits-here c =
 loop-holds : tie.Need-loop-init invariant-loop decreases-loop
 loop-holds c = (omega arith, refl)
 
+mul-number-at : tie.Need-overflow-mul-number-at invariant-loop decreases-loop
+mul-number-at c = search rules
+
+number-at-requires : tie.Need-number-at-requires invariant-loop decreases-loop
+number-at-requires c κs = search rules
+
+is-fitting-requires : tie.Need-is-fitting-requires invariant-loop decreases-loop
+is-fitting-requires c κs = search rules
+
+change-refusal-requires : tie.Need-change-refusal-requires invariant-loop decreases-loop
+change-refusal-requires c κs = search rules
+
 returns : tie.Need-returns invariant-loop decreases-loop
 returns c =
     let f = c.before.before in
     let l = f.before.before.before in
     let a = l.before.before.args in
     c.change-refusal.ensures
-    ∙ ap (λ (o : Option ℕ). refusal_of (unless_unfit o (changes_of a.changes.now))) (sym (unfit_here a.changes.now a.n l.loop.i (omega (arith, f.before.before.loop-test.true))
+    ∙ ap unfit_refusal (sym (unfit_here a.changes.now a.n l.loop.i (omega (arith, f.before.before.loop-test.true))
     l.loop.invariant.1 (sym (fits-here f) ∙ not-true _ c.before.if1.true)))
+
+add-i : tie.Need-overflow-add-i invariant-loop decreases-loop
+add-i c = search rules
+
+loop-less : tie.Need-loop-smaller invariant-loop decreases-loop
+loop-less c = search rules
 
 loop-again : tie.Need-loop-preserved invariant-loop decreases-loop
 loop-again c =
@@ -55,7 +70,7 @@ returns-2 : tie.Need-returns-2 invariant-loop decreases-loop
 returns-2 c =
     let l = c.before in
     let a = l.before.before.args in
-    ap (λ (o : Option ℕ). refusal_of (unless_unfit o (changes_of a.changes.now))) (sym (unfit_none a.changes.now a.n l.loop.i (omega (arith, c.loop-test.false)) l.loop.invariant.1))
+    ap unfit_refusal (sym (unfit_none a.changes.now a.n l.loop.i (omega (arith, c.loop-test.false)) l.loop.invariant.1))
 
 pub check-fit-spec : {M : Type 1} → statement M
 check-fit-spec =
@@ -64,12 +79,12 @@ check-fit-spec =
     invariant-loop
     decreases-loop
     loop-holds
-    (λ c. search rules)
-    (λ c κs. search rules)
-    (λ c κs. search rules)
-    (λ c κs. search rules)
+    mul-number-at
+    number-at-requires
+    is-fitting-requires
+    change-refusal-requires
     returns
-    (λ c. search rules)
-    (λ c. search rules)
+    add-i
+    loop-less
     loop-again
     returns-2)

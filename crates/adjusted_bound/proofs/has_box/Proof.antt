@@ -24,6 +24,9 @@ decreases-loop keys coefficients sizes square count j₀ j = count - j
 abbrev start : tie.At-loop invariant-loop decreases-loop → tie.Start invariant-loop decreases-loop
 start l = l.before.before.before.before
 
+shared-slice-read-count : tie.Need-shared-slice-read-count invariant-loop decreases-loop
+shared-slice-read-count c = search rules
+
 loop-holds : tie.Need-loop-init invariant-loop decreases-loop
 loop-holds c = (omega arith, λ p f i e. refl)
 
@@ -50,6 +53,9 @@ add-j c =
     let t = c.before.before in
     omega (arith, t.loop-test.true, conditions_few (start t.before).pre)
 
+loop-less : tie.Need-loop-smaller invariant-loop decreases-loop
+loop-less c = search rules
+
 loop-again : tie.Need-loop-preserved invariant-loop decreases-loop
 loop-again c =
     let b = c.before in
@@ -75,12 +81,12 @@ has-box-spec =
     (tie.spec
     invariant-loop
     decreases-loop
-    (λ c. search rules)
+    shared-slice-read-count
     loop-holds
     add-is-box
     is-box-requires
     returns
     add-j
-    (λ c. search rules)
+    loop-less
     loop-again
     returns-2)

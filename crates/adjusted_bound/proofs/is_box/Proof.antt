@@ -41,11 +41,62 @@ returns c =
     λ i s.
     no_equality i a.keys.now a.coefficients.now a.sizes.now a.j (sym e.is-equality.ensures ∙ c.if1.true)
 
+add-if2 : tie.Need-overflow-add-if2
+add-if2 c = search rules
+
+mul-if2 : tie.Need-overflow-mul-if2
+mul-if2 c = search rules
+
+shared-slice-read-if2 : tie.Need-shared-slice-read-if2
+shared-slice-read-if2 c = search rules
+
 returns-2 : tie.Need-returns-2
 returns-2 c =
     let d = c.before.before in
     let a = (start d).args in
     λ i s. no_terms_lem i a.keys.now a.coefficients.now a.sizes.now a.j (inequality d) c.if2.true
+
+mul_at : tie.Need-overflow-mul-at
+mul_at c = search rules
+
+add-k : tie.Need-overflow-add-k
+add-k c = search rules
+
+mul-k : tie.Need-overflow-mul-k
+mul-k c = search rules
+
+shared-slice-read-k : tie.Need-shared-slice-read-k
+shared-slice-read-k c = search rules
+
+add-l : tie.Need-overflow-add-l
+add-l c = search rules
+
+add-l-2 : tie.Need-overflow-add-l-2
+add-l-2 c = search rules
+
+mul-l : tie.Need-overflow-mul-l
+mul-l c = search rules
+
+shared-slice-read-l : tie.Need-shared-slice-read-l
+shared-slice-read-l c = search rules
+
+mul-c : tie.Need-overflow-mul-c
+mul-c c = search rules
+
+shared-slice-copy-out-c : tie.Need-shared-slice-copy-out-c
+shared-slice-copy-out-c c = search rules
+
+add-d : tie.Need-overflow-add-d
+add-d c = search rules
+
+mul-d : tie.Need-overflow-mul-d
+mul-d c = search rules
+
+shared-slice-copy-out-d : tie.Need-shared-slice-copy-out-d
+shared-slice-copy-out-d c = search rules
+
+are-terms-requires : tie.Need-are-terms-requires
+are-terms-requires c κs = search rules
 
 returns-3 : tie.Need-returns-3
 returns-3 c =
@@ -56,6 +107,9 @@ returns-3 c =
     λ i s.
     this_way i a.keys.now a.coefficients.now a.sizes.now a.j (inequality e) d.if2.false a.square s
     (sym (simp (to_z-of_z, first_fits t.before, second_fits t.before) at t.are-terms.ensures) ∙ c.if3.true)
+
+are-terms-requires-2 : tie.Need-are-terms-requires-2
+are-terms-requires-2 c κs = search rules
 
 returns-4 : tie.Need-returns-4
 returns-4 c =
@@ -75,24 +129,24 @@ is-box-spec =
     (tie.spec
     is-equality-requires
     returns
-    (λ c. search rules)
-    (λ c. search rules)
-    (λ c. search rules)
+    add-if2
+    mul-if2
+    shared-slice-read-if2
     returns-2
-    (λ c. search rules)
-    (λ c. search rules)
-    (λ c. search rules)
-    (λ c. search rules)
-    (λ c. search rules)
-    (λ c. search rules)
-    (λ c. search rules)
-    (λ c. search rules)
-    (λ c. search rules)
-    (λ c. search rules)
-    (λ c. search rules)
-    (λ c. search rules)
-    (λ c. search rules)
-    (λ c κs. search rules)
+    mul_at
+    add-k
+    mul-k
+    shared-slice-read-k
+    add-l
+    add-l-2
+    mul-l
+    shared-slice-read-l
+    mul-c
+    shared-slice-copy-out-c
+    add-d
+    mul-d
+    shared-slice-copy-out-d
+    are-terms-requires
     returns-3
-    (λ c κs. search rules)
+    are-terms-requires-2
     returns-4)

@@ -3,11 +3,10 @@ use borrow.Author.Rules.{rules}
 use native.Mathlib.Omega.{arith}
 use mathlib.Core.Path.{◌∙◌}
 use mathlib.Core.Bool.{Bool}
-use Rattle.counting.proofs.Bounded.{Bounded}
+use Rattle.counting.specs.Counting.{Bounded}
 use Rattle.calls.specs.Tables.{tables, tables_short}
-use Rattle.calls.proofs.Checking.{check_found}
 use Rattle.calls.proofs.Adjusting.{adjusted_clauses}
-use Rattle.adjusted_bound.proofs.Checked.{bound_ranged, refused, passed}
+use Rattle.adjusted_bound.proofs.Checked.{bound_ranged, check_refused_lem, check_passed}
 use Rattle.adjusted_bound.proofs.moved_bound.Statement.{statement}
 use Rattle.adjusted_bound.proofs.moved_bound.Tie as tie
 
@@ -23,13 +22,28 @@ short c = let a = (start c).args in tables_short (tables a.keys.now a.high.now a
 certificate_bytes_lem : (c : tie.After-check) → Bounded 255 (start c).args.certificate.now
 certificate_bytes_lem c i = let b = (known c).shared-slice-known2.given i in omega arith
 
+check-requires : tie.Need-check-requires
+check-requires c κs = search rules
+
+refuse-requires : tie.Need-refuse-requires
+refuse-requires c κs = search rules
+
+same_length : tie.Need-same-length
+same_length c = search rules
+
+same-length-2 : tie.Need-same-length-2
+same-length-2 c = search rules
+
+same-length-3 : tie.Need-same-length-3
+same-length-3 c = search rules
+
 returns : tie.Need-returns
 returns c =
     let i = c.before in
     let k = i.before.before.before.before.before.before.before in
     let a = (start k).args in
     let d = k.check.ensures in
-    let e = refused (short k) a.problem.now a.certificate.now _ d.0 a.changes.now i.if1.true in
+    let e = check_refused_lem (short k) a.problem.now a.certificate.now _ d.0 a.changes.now i.if1.true in
     let v = c.refuse.ensures ∙ e in
     (v, (d.1.0, adjusted_clauses (short k) a.problem.now a.certificate.now a.changes.now _ v))
 
@@ -40,30 +54,37 @@ answer-requires c κs =
     bound_ranged (short k) a.problem.now a.certificate.now _ k.check.ensures.0 c.if1.false
     (certificate_bytes_lem k)
 
+same-length-4 : tie.Need-same-length-4
+same-length-4 c = search rules
+
+same-length-5 : tie.Need-same-length-5
+same-length-5 c = search rules
+
+same-length-6 : tie.Need-same-length-6
+same-length-6 c = search rules
+
 returns-2 : tie.Need-returns-2
 returns-2 c =
     let i = c.before in
     let k = i.before.before.before.before.before.before.before in
     let a = (start k).args in
     let d = k.check.ensures in
-    let r = check_found (short k) a.problem.now a.certificate.now _ d.0 i.if1.false in
-    let e =
-    passed (short k) a.problem.now a.certificate.now _ d.0 a.changes.now i.if1.false r.problem r.read in
-    let v = c.answer.ensures r.problem r.read ∙ e in
+    let e = check_passed (short k) a.problem.now a.certificate.now _ d.0 a.changes.now i.if1.false in
+    let v = c.answer.ensures ∙ e in
     (v, (d.1.0, adjusted_clauses (short k) a.problem.now a.certificate.now a.changes.now _ v))
 
 pub moved-bound-spec : {M : Type 1} → statement M
 moved-bound-spec =
     tie.close
     (tie.spec
-    (λ c κs. search rules)
-    (λ c κs. search rules)
-    (λ c. search rules)
-    (λ c. search rules)
-    (λ c. search rules)
+    check-requires
+    refuse-requires
+    same_length
+    same-length-2
+    same-length-3
     returns
     answer-requires
-    (λ c. search rules)
-    (λ c. search rules)
-    (λ c. search rules)
+    same-length-4
+    same-length-5
+    same-length-6
     returns-2)

@@ -28,6 +28,12 @@ compare-requires c κs =
       p.1,
     )
 
+same_length : tie.Need-same-length
+same_length c = search rules
+
+same-length-2 : tie.Need-same-length-2
+same-length-2 c = search rules
+
 returns : tie.Need-returns
 returns c =
     let d = c.before.before in
@@ -49,6 +55,6 @@ difference-spec =
     clear-signed-requires
     clear-signed-requires-2
     compare-requires
-    (λ c. search rules)
-    (λ c. search rules)
+    same_length
+    same-length-2
     returns)

@@ -35,6 +35,9 @@ validate-requires c κs =
     let w = c.before.before.before.before.before.before.requires.0 in
     (record { problem = w.problem; limits = w.joined.limits; sized = flat_sized w.joined.flat }, search rules)
 
+refuse-requires : tie.Need-refuse-requires
+refuse-requires c κs = search rules
+
 returns : tie.Need-returns
 returns c =
     let v = c.before.before in (
@@ -48,12 +51,24 @@ split-place-requires c κs =
     let w = (start e.before).requires.0 in
     (given_walkable w.problem w.joined.limits _ _ _ _ (stands e w.problem w.joined), labels_long w.joined)
 
+enum-known-place : tie.Need-enum-known-place
+enum-known-place c = search rules
+
+refuse-requires-2 : tie.Need-refuse-requires-2
+refuse-requires-2 c κs = search rules
+
+enum_told : tie.Need-enum-told
+enum_told c = search rules
+
 difference-requires : tie.Need-difference-requires
 difference-requires c κs =
     let e = c.before.before.before.before.before.before.before.before in
     let s = start e.before in
     let w = s.pre.0 in
     ((w.joined.holds, w.joined.index), joined_comparable w.joined (stands e w.problem w.joined), s.pre.1)
+
+by-identity-requires : tie.Need-by-identity-requires
+by-identity-requires c κs = search rules
 
 returns-2 : tie.Need-returns-2
 returns-2 c =
@@ -67,6 +82,12 @@ returns-2 c =
           c.refuse2.ensures ∙ judge_split p s.args.s.now t.certificate t.read _ _ (told_as _ _ _ k.place.given.1 q)),
       record { high_rest = refl; low_rest = refl },
     )
+
+same_length : tie.Need-same-length
+same_length c = search rules
+
+same-length-2 : tie.Need-same-length-2
+same-length-2 c = search rules
 
 returns-3 : tie.Need-returns-3
 returns-3 c =
@@ -89,15 +110,15 @@ judge-spec =
     tie.close
     (tie.spec
     validate-requires
-    (λ c κs. search rules)
+    refuse-requires
     returns
     split-place-requires
-    (λ c. search rules)
-    (λ c κs. search rules)
-    (λ c. search rules)
+    enum-known-place
+    refuse-requires-2
+    enum_told
     difference-requires
-    (λ c κs. search rules)
+    by-identity-requires
     returns-2
-    (λ c. search rules)
-    (λ c. search rules)
+    same_length
+    same-length-2
     returns-3)

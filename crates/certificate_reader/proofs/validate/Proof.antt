@@ -2,17 +2,16 @@
 -- with the sizes.
 use mathlib.Core.Path.{◌≡◌, ap, ◌∙◌}
 use mathlib.Core.List.{List}
-use Prim.Native.Nat.{ℕ, ◌+◌, ◌-◌, ◌≤◌}
+use Prim.Native.Nat.{ℕ, ◌-◌, ◌≤◌}
 use native.Mathlib.Omega.{arith}
-use lib.ListN.{length, set}
+use lib.ListN.{length}
 use borrow.Author.Rules.{rules}
 use Rattle.format.specs.CertificateLayout.{certificate_command, certificate_size}
 use Rattle.format.specs.ProblemRules.{Problem}
 use Rattle.format.proofs.WithinLimits.{Limits}
 use Rattle.format.specs.CertificateRules.{certificate_command_at, certificate_instruction_at, certificate_refusal_at}
-use Rattle.format.specs.declared.certificate.Instruction.{Instruction}
-use Rattle.certificate_commands.specs.Kept.{Sized, headed, advanced}
-use Rattle.certificate_reader.proofs.Kept.{Held, HeldFor, held_start, said, held_end, held_refused, held_extra, held_given, held_next, held_as, run_from, held_run}
+use Rattle.certificate_commands.specs.Kept.{Sized}
+use Rattle.certificate_reader.proofs.Kept.{Held, HeldFor, held_start, said, held_end, held_refused, held_extra, held_given, bounded_next, held_next}
 use Rattle.format.proofs.CertificateChecks.{taken_size, taken_whole}
 use Rattle.certificate_reader.proofs.validate.Statement.{statement}
 use Rattle.certificate_reader.proofs.validate.Tie as tie
@@ -43,14 +42,14 @@ loop-holds c = λ p limits e.
     rw (c.before.no_Header.ensures, c.no-progress.ensures) (held_start p s.args.s.now s.args.starts.now s.requires.1)
 
 verdict-at-requires : tie.Need-verdict-at-requires invariant-loop decreases-loop
-verdict-at-requires c κs = record { bounded = (held c.before).bounded; sized = (start c.before).pre.0; inside = omega arith }
+verdict-at-requires c κs = ((held c.before).bounded, (start c.before).pre.0, omega arith)
 
 returns : tie.Need-returns invariant-loop decreases-loop
 returns c = λ p limits e.
     let l = c.before.before.before in
     let k = l.loop.invariant p limits e in
     said p (s l) _ _ (omega arith)
-    (held_refused p (s l) _ _ _ l.loop.at k (omega arith) _ (c.before.verdict-at.ensures.number p k.read e k.progress) (omega arith))
+    (held_refused p (s l) _ _ _ l.loop.at k (omega arith) _ (c.before.verdict-at.ensures.0 p k.read e k.progress) (omega arith))
 
 -- past the checks
 module _ (c : tie.Else1 invariant-loop decreases-loop) where
@@ -58,14 +57,14 @@ module _ (c : tie.Else1 invariant-loop decreases-loop) where
   here = c.before.before.before
 
   none : (p : Problem) (limits : Limits p) (e : Sized p (sizes here)) → certificate_refusal_at p (here.loop.inv p limits e).read (s here) here.loop.at ≡ 0
-  none p limits e = let k = here.loop.inv p limits e in let v = c.before.verdict-at.ensures.number p k.read e k.progress in omega arith
+  none p limits e = let k = here.loop.inv p limits e in let v = c.before.verdict-at.ensures.0 p k.read e k.progress in omega arith
 
   taken : certificate_refusal_at (start here).pre.0.problem (held here).read (s here) here.loop.at ≡ 0
   unfolding held
   taken = none (start here).pre.0.problem (start here).pre.0.limits (start here).pre.0.sized
 
   decoded : c.before.verdict-at.result.instruction ≡ certificate_instruction_at (s here) here.loop.at
-  decoded = c.before.verdict-at.ensures.instruction (omega arith)
+  decoded = c.before.verdict-at.ensures.1 (omega arith)
 
 length-is : (c : tie.After-length-of invariant-loop decreases-loop) → let l = c.before.before.before.before.before in c.length-of.result ≡ certificate_size (certificate_command_at (s l) l.loop.at)
 length-is c = c.length-of.ensures.0
@@ -97,55 +96,33 @@ returns-3 c = λ p limits e.
 progress-after-requires : tie.Need-progress-after-requires invariant-loop decreases-loop
 progress-after-requires c κs = (held (here c.before.before.before.before)).bounded
 
--- after the command
-module _ (c : tie.After-progress-after invariant-loop decreases-loop) where
-  abbrev long : tie.After-length-of invariant-loop decreases-loop
-  long = c.before.before.before
-
-  abbrev l : tie.At-loop invariant-loop decreases-loop
-  l = here long.before.before
-
-  abbrev next : ℕ
-  next = l.loop.at + long.length-of.result
-
-  stepped : (p : Problem) → Limits p → Sized p (sizes l)
-      → let g = c.progress-after.result in Held p (s l) c.before.header-after.result g (set l.loop.starts g.rows next) next
-  stepped p limits e =
-      held_as p (s l) l.loop.starts
-      (c.before.header-after.ensures ∙ ap (λ (i : Instruction). headed l.loop.header i) (decoded long.before.before))
-      (c.progress-after.ensures ∙ ap (λ (i : Instruction). advanced l.loop.progress i) (decoded long.before.before))
-      (ap (λ (n : ℕ). l.loop.at + n) (length-is long))
-      (held_next p (s l) _ _ _ l.loop.at (l.loop.inv p limits e) (omega arith) (none long.before.before p limits e) limits c.before.before.if2.false)
-
-entry-run-requires : tie.Need-entry-run-requires invariant-loop decreases-loop
-entry-run-requires c κs = let k = (start (l c)).pre.0 in ((stepped c k.problem k.limits k.sized).bounded, k)
-
--- and after the entries that follow it
-module _ (c : tie.After-entry-run invariant-loop decreases-loop) where
-  run : (p : Problem) → Limits p → Sized p (sizes (l c.before))
-      → let r = c.entry-run.result in
-      Held p (s (l c.before)) c.before.before.header-after.result r.progress (set (l c.before).loop.starts r.progress.rows r.at) r.at
-  run p limits e = held_run p (s (l c.before)) limits e _ _ (l c.before).loop.starts _ (stepped c.before p limits e) c.entry-run.ensures
-
-  -- the row that is begun has its place
-  within : c.entry-run.result.progress.rows ≤ 128
-  within = let k = (start (l c.before)).pre.0 in (run k.problem k.limits k.sized).bounded.rows
+-- the row that is begun has its place
+within : (c : tie.After-progress-after invariant-loop decreases-loop) → c.progress-after.result.rows ≤ 128
+within c =
+    let i = c.before.before.before.before.before in
+    let l = here i in
+    rw (c.progress-after.ensures, decoded i) (bounded_next (start l).pre.0.problem (s l) _ _ _ l.loop.at (held l) (omega arith) (taken i) (start l).pre.0.limits).rows
 
 mul-starts : tie.Need-overflow-mul-starts invariant-loop decreases-loop
-mul-starts c = omega (arith, within c.before)
+mul-starts c = omega (arith, within c)
 
 element-write-starts : tie.Need-element-write-starts invariant-loop decreases-loop
-element-write-starts c = omega (arith, within c.before)
+element-write-starts c = omega (arith, within c)
 
 loop-less : tie.Need-loop-smaller invariant-loop decreases-loop
 loop-less c =
-    let e = long c.before.before in
+    let e = c.before.before.before in
     let k = length-is e in
-    let t = e.before.before.before.before.loop-test.taken in
-    omega (arith, taken_size _ _ _ _ (taken e.before.before), run_from c.before.entry-run.ensures)
+    let n = taken e.before.before in
+    omega (arith, taken_whole _ _ _ _ n, taken_size _ _ _ _ n)
 
 loop-again : tie.Need-loop-preserved invariant-loop decreases-loop
-loop-again c = run c.before
+loop-again c = λ p limits h.
+    let e = c.before.before.before in
+    let i = e.before.before in
+    let l = here i in
+    rw (c.before.header-after.ensures, c.progress-after.ensures, decoded i, length-is e)
+    (held_next p (s l) _ _ _ l.loop.at (l.loop.inv p limits h) (omega arith) (none i p limits h) limits c.before.before.if2.false)
 
 returns-4 : tie.Need-returns-4 invariant-loop decreases-loop
 returns-4 c = λ p limits e.
@@ -170,7 +147,6 @@ validate-spec =
     returns-3
     (λ c κs. search rules)
     progress-after-requires
-    entry-run-requires
     mul-starts
     element-write-starts
     loop-less

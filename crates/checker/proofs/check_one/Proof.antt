@@ -26,6 +26,21 @@ is-accepted d t rounds rule r b e f g = rw (e, f, g) refl
 p-kept : (c : tie.After-struct-told) → let p = c.before.before.before.judged2.given.0.0.p in to_z w32 (of_z w32 p) ≡ p
 p-kept c = search rules
 
+enum-known-judged : tie.Need-enum-known-judged
+enum-known-judged c = search rules
+
+refuse-check-requires : tie.Need-refuse-check-requires
+refuse-check-requires c κs = search rules
+
+enum-known-judged-2 : tie.Need-enum-known-judged-2
+enum-known-judged-2 c = search rules
+
+problem-refusal-requires : tie.Need-problem-refusal-requires
+problem-refusal-requires c κs = search rules
+
+bound-requires : tie.Need-bound-requires
+bound-requires c κs = search rules
+
 returns : tie.Need-returns
 returns c = is-refused _ _ _ _ _ c.before.before.judged.given.1 c.refuse-check.ensures
 
@@ -38,10 +53,10 @@ pub check-one-spec : {M : Type 1} → statement M
 check-one-spec =
     tie.close
     (tie.spec
-    (λ c. search rules)
-    (λ c κs. search rules)
-    (λ c. search rules)
-    (λ c κs. search rules)
-    (λ c κs. search rules)
+    enum-known-judged
+    refuse-check-requires
+    enum-known-judged-2
+    problem-refusal-requires
+    bound-requires
     returns
     returns-2)

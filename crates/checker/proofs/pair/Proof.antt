@@ -2,7 +2,7 @@
 use borrow.Author.Rules.{rules}
 use native.Mathlib.Omega.{arith}
 use mathlib.Core.Path.{ap, ◌∙◌}
-use Rattle.counting.proofs.Bounded.{Bounded}
+use Rattle.counting.specs.Counting.{Bounded}
 use Rattle.calls.specs.Tables.{tables, tables_short}
 use Rattle.calls.proofs.Pushing.{byte_clauses}
 use Rattle.checker.specs.Verdicts.{pair_from}

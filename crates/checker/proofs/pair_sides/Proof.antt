@@ -38,14 +38,38 @@ lower-kept c = search rules
 upper-kept : (c : tie.After-struct-told2) → let p = c.before.before.before.before.before.before.before.args.upper.p in to_z w32 (of_z w32 p) ≡ p
 upper-kept c = search rules
 
+refuse-side-requires : tie.Need-refuse-side-requires
+refuse-side-requires c κs = search rules
+
 returns : tie.Need-returns
 returns c = let s = c.before.before.before in c.refuse-side.ensures ∙ first-wrong s.args.lower s.args.upper s.args.rounds s.args.rule c.before.if1.true
+
+refuse-side-requires-2 : tie.Need-refuse-side-requires-2
+refuse-side-requires-2 c κs = search rules
 
 returns-2 : tie.Need-returns-2
 returns-2 c =
     let i = c.before.before.before in
     let s = i.before.before in
     c.refuse-side2.ensures ∙ second-wrong s.args.lower s.args.upper s.args.rounds s.args.rule i.if1.false c.before.if2.true
+
+bound-requires : tie.Need-bound-requires
+bound-requires c κs = search rules
+
+bound-requires-2 : tie.Need-bound-requires-2
+bound-requires-2 c κs = search rules
+
+gap-requires : tie.Need-gap-requires
+gap-requires c κs = search rules
+
+problem-refusal-requires : tie.Need-problem-refusal-requires
+problem-refusal-requires c κs = search rules
+
+unless-negative-requires : tie.Need-unless-negative-requires
+unless-negative-requires c κs = search rules
+
+is-negative-requires : tie.Need-is-negative-requires
+is-negative-requires c κs = search rules
 
 returns-3 : tie.Need-returns-3
 returns-3 c =
@@ -64,14 +88,14 @@ pub pair-sides-spec : {M : Type 1} → statement M
 pair-sides-spec =
     tie.close
     (tie.spec
-    (λ c κs. search rules)
+    refuse-side-requires
     returns
-    (λ c κs. search rules)
+    refuse-side-requires-2
     returns-2
-    (λ c κs. search rules)
-    (λ c κs. search rules)
-    (λ c κs. search rules)
-    (λ c κs. search rules)
-    (λ c κs. search rules)
-    (λ c κs. search rules)
+    bound-requires
+    bound-requires-2
+    gap-requires
+    problem-refusal-requires
+    unless-negative-requires
+    is-negative-requires
     returns-3)

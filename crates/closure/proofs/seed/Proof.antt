@@ -14,8 +14,8 @@ use Rattle.key_set.proofs.Keys.{grown_holds, keys_none}
 use Rattle.flat.specs.Flat.{basis_in}
 use Rattle.flat.proofs.Flat.{basis_fits}
 use Rattle.joining_rule.proofs.Extending.{Extends, from_to_extends}
-use Rattle.joining_rule.specs.Joining.{multiples}
-use Rattle.joining_rule.proofs.Start.{start_from, insert_all_extends}
+use Rattle.joining_rule.specs.Joining.{multiples, start_from}
+use Rattle.joining_rule.proofs.Start.{insert_all_extends}
 use Rattle.joining_bases.specs.Parts.{exponents_in}
 use Rattle.closure.specs.Tables.{start_in}
 use Rattle.joining_bases.proofs.Ready.{stored_over}

@@ -13,6 +13,12 @@ close-requires c κs = c.before.before.before.before.before.before.before.requir
 too-many-requires : tie.Need-too-many-requires
 too-many-requires c κs = tt
 
+same_length : tie.Need-same-length
+same_length c = search rules
+
+same-length-2 : tie.Need-same-length-2
+same-length-2 c = search rules
+
 returns : tie.Need-returns
 returns c =
     let w = c.before.before.before.before.before.before.close.ensures in
@@ -27,6 +33,12 @@ put-missing-requires c κs =
 
 too-many-requires-2 : tie.Need-too-many-requires-2
 too-many-requires-2 c κs = tt
+
+same-length-3 : tie.Need-same-length-3
+same-length-3 c = search rules
+
+same-length-4 : tie.Need-same-length-4
+same-length-4 c = search rules
 
 returns-2 : tie.Need-returns-2
 returns-2 c =
@@ -48,6 +60,12 @@ put-last-requires c κs =
 too-many-requires-3 : tie.Need-too-many-requires-3
 too-many-requires-3 c κs = tt
 
+same-length-5 : tie.Need-same-length-5
+same-length-5 c = search rules
+
+same-length-6 : tie.Need-same-length-6
+same-length-6 c = search rules
+
 returns-3 : tie.Need-returns-3
 returns-3 c =
     let s = c.before.before.before.before.before.before.before.before.before.before.before.before.before.before.before.before.before.before.before.before.before.before.before.before.before.before.before.before.before.before.before.before in
@@ -58,6 +76,12 @@ returns-3 c =
     let some = c.before.before.before.before.before.before.before.before.before.if2.false in
     let p = c.before.before.before.before.before.before.put_last.ensures in
     left_full _ _ _ _ _ _ _ c.too-many3.ensures (put_large _ _ _ _ _ _ _ _ w few _ e _ _ _ k some _ _ _ p c.before.if3.true) (put_long _ _ _ _ _ _ _ _ w few _ e _ _ _ k some _ _ _ p) (put_rest _ _ _ _ _ _ _ _ w few _ e _ _ _ k some _ _ _ p)
+
+same-length-7 : tie.Need-same-length-7
+same-length-7 c = search rules
+
+same-length-8 : tie.Need-same-length-8
+same-length-8 c = search rules
 
 returns-4 : tie.Need-returns-4
 returns-4 c =
@@ -87,19 +111,19 @@ settle-spec =
     (tie.spec
     close-requires
     too-many-requires
-    (λ c. search rules)
-    (λ c. search rules)
+    same_length
+    same-length-2
     returns
     put-missing-requires
     too-many-requires-2
-    (λ c. search rules)
-    (λ c. search rules)
+    same-length-3
+    same-length-4
     returns-2
     put-last-requires
     too-many-requires-3
-    (λ c. search rules)
-    (λ c. search rules)
+    same-length-5
+    same-length-6
     returns-3
-    (λ c. search rules)
-    (λ c. search rules)
+    same-length-7
+    same-length-8
     returns-4)

@@ -7,5 +7,5 @@ use Rattle.gap_window.proofs.empty.Tie as tie
 returns : tie.Need-returns
 returns c = (refl, stands_empty)
 
-pub empty-spec : {M : Type 1} → statement M
-empty-spec = tie.close (tie.spec returns)
+pub empty_spec : {M : Type 1} → statement M
+empty_spec = tie.close (tie.spec returns)

@@ -34,36 +34,36 @@ module _ (f : Fraction) where
       by-denominator h = rw (e, g, ne_eqb f.den 0 h) refl
 
 -- the numerator is a number of 64 bits
-kept : (c : tie.After-struct-told) → let n = c.before.before.args.arrival.num in to_z w64 (of_z w64 n) ≡ n
+kept : (c : tie.After-struct_told-1) → let n = c.args.arrival.num in to_z w64 (of_z w64 n) ≡ n
 kept c = search rules
 
-not_negative : (c : tie.Else1) → lt_z c.before.before.before.args.arrival.num (pos 0) ≡ false
-not_negative c = simp (kept c.before) at c.if1.false
+not_negative : (c : tie.Else-arrival-lt0) → lt_z c.args.arrival.num (pos 0) ≡ false
+not_negative c = simp (kept c.before) at c.if-arrival-lt0.false
 
-not-large : (c : tie.Else2)
-    → le_z (pos (2 ^ 48)) c.before.before.before.before.before.before.args.arrival.num ≡ false
-not-large c = simp (kept c.before.before.before.before) at c.if2.false
+not-large : (c : tie.Else-arrival-ge281474976710656)
+    → le_z (pos (2 ^ 48)) c.args.arrival.num ≡ false
+not-large c = simp (kept c.before.before.before.before) at c.if-arrival-ge281474976710656.false
 
-returns : tie.Need-returns
-returns c = negative c.before.before.before.args.arrival (simp (kept c.before) at c.if1.true)
+returns : tie.Need-returns-then-arrival-lt0
+returns c = negative c.args.arrival (simp (kept c.before) at c.if-arrival-lt0.true)
 
-returns-2 : tie.Need-returns-2
+returns-2 : tie.Need-returns-then-arrival-ge281474976710656
 returns-2 c =
-    let b = c.before.before.before in
-    large b.before.before.before.args.arrival (not_negative b) (simp (kept b.before) at c.if2.true)
+    let b = c in
+    large b.args.arrival (not_negative b.before.before.before) (simp (kept b.before.before.before.before) at c.if-arrival-ge281474976710656.true)
 
-returns-3 : tie.Need-returns-3
+returns-3 : tie.Need-returns-then-arrival-eq0
 returns-3 c =
-    let a = c.before.before in
-    let b = a.before.before.before in
-    over_zero b.before.before.before.args.arrival (not_negative b) (not-large a) c.if3.true
+    let a = c in
+    let b = a in
+    over_zero b.args.arrival (not_negative b.before.before.before.before.before) (not-large a.before.before) c.if-arrival-eq0.true
 
-returns-4 : tie.Need-returns-4
+returns-4 : tie.Need-returns
 returns-4 c =
-    let d = c.before in
-    let a = d.before.before in
-    let b = a.before.before.before in
-    by-denominator b.before.before.before.args.arrival (not_negative b) (not-large a) d.if3.false
+    let d = c in
+    let a = d in
+    let b = a in
+    by-denominator b.args.arrival (not_negative b.before.before.before.before.before.before) (not-large a.before.before.before) d.if-arrival-eq0.false
 
-pub is-refused-spec : {M : Type 1} → statement M
-is-refused-spec = tie.close (tie.spec returns returns-2 returns-3 returns-4)
+pub is_refused_spec : {M : Type 1} → statement M
+is_refused_spec = tie.close (tie.spec returns returns-2 returns-3 returns-4)

@@ -8,61 +8,60 @@ use Rattle.gap_window.proofs.Scanned.{placed, Scanned, scan_none, scan_one, scan
 use Rattle.gap_window.proofs.widest.Statement.{statement}
 use Rattle.gap_window.proofs.widest.Tie as tie
 
-abbrev invariant-loop : tie.invariant-loop
+abbrev invariant-loop : tie.invariant-loop-i
 invariant-loop gaps i₀ gap₀ age₀ i gap age = (i ≤ i₀) × ((age + i ≤ i₀) × Scanned i₀ (placed gaps) i gap age)
 
-abbrev decreases-loop : tie.decreases-loop
+abbrev decreases-loop : tie.decreases-loop-i
 decreases-loop gaps i₀ gap₀ age₀ i gap age = i
 
-loop-holds : tie.Need-loop-init invariant-loop decreases-loop
+loop-holds : tie.Need-loop-i-init invariant-loop decreases-loop
 loop-holds c =
-    let w = c.before.args.window in
+    let w = c.args.window in
     (omega arith, (omega arith, scan_none w.count (placed w.gaps)))
 
-mul-newer : tie.Need-overflow-mul-newer invariant-loop decreases-loop
-mul-newer c = omega (arith, c.before.before.before.requires)
+mul-newer : tie.Need-offset_bounds-gaps-i invariant-loop decreases-loop
+mul-newer c = omega (arith, c.requires)
 
-array-copy-out-newer : tie.Need-array-copy-out-newer invariant-loop decreases-loop
-array-copy-out-newer c = omega (arith, c.before.before.before.requires)
+array-copy-out-newer : tie.Need-bounds-gaps-i invariant-loop decreases-loop
+array-copy-out-newer c = omega (arith, c.requires)
 
-add-age : tie.Need-overflow-add-age invariant-loop decreases-loop
-add-age c = omega (arith, c.before.before.before.before.before.before.requires)
+add-age : tie.Need-overflow_add-age invariant-loop decreases-loop
+add-age c = omega (arith, c.requires)
 
-loop-again : tie.Need-loop-preserved invariant-loop decreases-loop
+loop-again : tie.Need-loop-i-preserved-then-less invariant-loop decreases-loop
 loop-again c =
-    let t = c.before.before.before in
-    let l = t.before.loop in
-    let w = t.before.before.before.args.window in (
+    let t = c in
+    let l = t.loop-i in
+    let w = t.args.window in (
       omega arith,
       (
         omega arith,
-        scan_one w.count (placed w.gaps) l.i t.loop-test.true l.invariant.0 l.gap l.age l.invariant.1.1
-            true (sym c.if1.true ∙ c.before.less.ensures),
+        scan_one w.count (placed w.gaps) l.i t.loop-i-test.true l.invariant.0 l.gap l.age l.invariant.1.1
+            true (sym c.if-less.true ∙ c.less.ensures),
       ),
     )
 
-loop-again-2 : tie.Need-loop-preserved-2 invariant-loop decreases-loop
+loop-again-2 : tie.Need-loop-i-preserved invariant-loop decreases-loop
 loop-again-2 c =
-    let t = c.before.before.before in
-    let l = t.before.loop in
-    let w = t.before.before.before.args.window in (
+    let l = c.loop-i in
+    let w = c.args.window in (
       omega arith,
       (
         omega arith,
-        scan_one w.count (placed w.gaps) l.i t.loop-test.true l.invariant.0 l.gap l.age l.invariant.1.1
-            false (sym c.if1.false ∙ c.before.less.ensures),
+        scan_one w.count (placed w.gaps) l.i c.loop-i-test.true l.invariant.0 l.gap l.age l.invariant.1.1
+            false (sym c.if-less.false ∙ c.less.ensures),
       ),
     )
 
 returns : tie.Need-returns invariant-loop decreases-loop
 returns c =
-    let l = c.before.loop in
-    let s = c.before.before.before in
+    let l = c.loop-i in
+    let s = c in
     let z : l.i ≡ 0 = omega arith in
     scan_done s.args.window s.requires l.gap l.age (rw z at l.invariant.1.1)
 
-pub widest-spec : {M : Type 1} → statement M
-widest-spec =
+pub widest_spec : {M : Type 1} → statement M
+widest_spec =
     tie.close
     (tie.spec
     invariant-loop

@@ -11,22 +11,22 @@ use Rattle.gap_window.proofs.Scanned.{older, one_older, window_of}
 use Rattle.gap_window.proofs.with_newest.Statement.{statement}
 use Rattle.gap_window.proofs.with_newest.Tie as tie
 
-abbrev invariant-loop : tie.invariant-loop
+abbrev invariant-loop : tie.invariant-loop-i
 invariant-loop old count gaps₀ i₀ gaps i =
     (1 ≤ i)
     × ((i ≤ 32) × ((length gaps ≡ 32) × (take i gaps ≡ listed i (older (get_or gaps₀ 0 none) old))))
 
-abbrev decreases-loop : tie.decreases-loop
+abbrev decreases-loop : tie.decreases-loop-i
 decreases-loop old count gaps₀ i₀ gaps i = 32 - i
 
-loop-holds : tie.Need-loop-init invariant-loop decreases-loop
+loop-holds : tie.Need-loop-i-init invariant-loop decreases-loop
 unfolding listed
-loop-holds c = (omega arith, (omega arith, (length-replicate 32 c.before.before.args.newest, refl)))
+loop-holds c = (omega arith, (omega arith, (length-replicate 32 c.args.newest, refl)))
 
-loop-again : tie.Need-loop-preserved invariant-loop decreases-loop
+loop-again : tie.Need-loop-i-preserved invariant-loop decreases-loop
 loop-again c =
-    let l = c.before.before.loop in
-    let s = c.before.before.before.before.before.args in
+    let l = c.loop-i in
+    let s = c.args in
     let h = l.invariant.1.1.0 in (
       omega arith,
       (
@@ -41,16 +41,16 @@ loop-again c =
 
 returns : tie.Need-returns invariant-loop decreases-loop
 returns c =
-    let l = c.before.loop in
-    let m = c.before.before in
-    let s = m.before.before.args in
+    let l = c.loop-i in
+    let m = c in
+    let s = m.args in
     ap₂ window_of
     (fill_done (older s.newest s.window.gaps) l.gaps 32 l.i l.invariant.1.1.0 (omega arith)
     l.invariant.1.1.1)
-    m.one_more.ensures
+    m.one_more-count.ensures
 
-pub with-newest-spec : {M : Type 1} → statement M
-with-newest-spec =
+pub with_newest_spec : {M : Type 1} → statement M
+with_newest_spec =
     tie.close
     (tie.spec
     invariant-loop

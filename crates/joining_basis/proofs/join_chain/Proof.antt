@@ -87,7 +87,7 @@ returns c =
 
 -- after a turn
 turned : (c : tie.Joined1 invariant-loop decreases-loop) → let l = c.before.before.before in let s = begun l.before in
-    Walking s.args.exponents.now s.args.basis.now l.before.sum-at.result (entry s) (standing c.if1.labels c.if1.follow c.if1.pairs c.if1.table c.if1.index c.if1.r) (get_or c.if1.pairs (1500 + (l.loop.v - 1)) 0)
+    Walking s.args.exponents.now s.args.basis.now l.before.sum-at.result (entry s) (standing c.if1.labels c.if1.follow c.if1.pairs c.if1.table c.if1.index c.if1.r) (get_or c.if1.pairs (2048 + (l.loop.v - 1)) 0)
 turned c =
     let l = c.before.before.before in
     let s = begun l.before in
@@ -119,7 +119,7 @@ mul-v c = omega (arith, low c.before.before.before)
 slice-read-v : tie.Need-slice-read-v invariant-loop decreases-loop
 slice-read-v c = omega (arith, low c.before.before.before.before, (pairs-there c.before).remainders.long)
 
-less : (c : tie.Joined1 invariant-loop decreases-loop) → get_or c.if1.pairs (1500 + (c.before.before.before.loop.v - 1)) 0 < c.before.before.before.loop.v
+less : (c : tie.Joined1 invariant-loop decreases-loop) → get_or c.if1.pairs (2048 + (c.before.before.before.loop.v - 1)) 0 < c.before.before.before.loop.v
 less c =
     let l = c.before.before.before in
     let s = begun l.before in

@@ -18,7 +18,7 @@ begun c = c.before.before.before.before.before.before.before.before.before.befor
 found : (c : tie.Else1) → c.before.find-sum.result < 4096
 found c = omega (arith, c.if1.false)
 
-at_low : (c : tie.After-told-at) → c.told_at.result < 5692
+at_low : (c : tie.After-told-at) → c.told_at.result < 6240
 at_low c =
     let s = begun c.before in
     omega (arith, c.told_at.ensures, told_low s.args.basis.now s.pre.0.blocks.few _ (c.before.before.find-sum.ensures.pair (found c.before)))

@@ -1,15 +1,11 @@
 -- `joining_rounds::run_indexed` meets its contract: the pairs are noted in an index that has none.
 use borrow.Author.Rules.{rules}
-use native.Mathlib.Omega.{arith}
 use mathlib.Core.Path.{refl, ◌∙◌}
-use Prim.Native.Nat.{ℕ}
-use lib.ListN.{length-replicate}
-use Rattle.counting.proofs.Bounded.{bounded_zeros}
 use Rattle.joining_rounds.proofs.run_indexed.Statement.{statement}
 use Rattle.joining_rounds.proofs.run_indexed.Tie as tie
 
 note-all-requires : tie.Need-note-all-requires
-note-all-requires c κs = let p = c.before.before.before.before.before.before.before.before.requires in (p.0.held.arrays, bounded_zeros 0 51228, record { at = λ j h l. omega (arith, length-replicate {A = ℕ} 51228 0) }, p.1.numbers)
+note-all-requires c κs = let p = c.before.before.before.before.before.before.before.before.requires in (p.0.held.arrays, refl, p.1.numbers)
 
 run-requires : tie.Need-run-requires
 run-requires c κs =

@@ -22,6 +22,9 @@ mul-if2 c =
     let s = c.before.before.before.before.before.before in
     record { fits = omega (arith, texts_short s.args.certificate.now, s.requires.0, s.well-formed.0.0) }
 
+refuse-notes-requires : tie.Need-refuse-notes-requires
+refuse-notes-requires c κs = search rules
+
 returns-2 : tie.Need-returns-2
 returns-2 c =
     let e = c.before.before in
@@ -37,6 +40,9 @@ put-notes-requires : tie.Need-put-notes-requires
 put-notes-requires c κs =
     let s = c.before.before.before.before.before.before.before.before in
     omega (arith, c.before.if2.false, s.requires.0)
+
+same_length : tie.Need-same-length
+same_length c = search rules
 
 returns-3 : tie.Need-returns-3
 returns-3 c =
@@ -57,8 +63,8 @@ answer-spec =
     verdict-sent-requires
     returns
     mul-if2
-    (λ c κs. search rules)
+    refuse-notes-requires
     returns-2
     put-notes-requires
-    (λ c. search rules)
+    same_length
     returns-3)

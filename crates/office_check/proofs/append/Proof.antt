@@ -9,6 +9,45 @@ use Rattle.office_check.proofs.Copies.{part_front, filled_by}
 use Rattle.office_check.proofs.append.Statement.{statement}
 use Rattle.office_check.proofs.append.Tie as tie
 
+sub-least : tie.Need-overflow-sub-least
+sub-least c = search rules
+
+sub-least-2 : tie.Need-overflow-sub-least-2
+sub-least-2 c = search rules
+
+least-requires : tie.Need-least-requires
+least-requires c κs = search rules
+
+add-end : tie.Need-overflow-add-end
+add-end c = search rules
+
+sub-copy : tie.Need-overflow-sub-copy
+sub-copy c = search rules
+
+part-copy-start : tie.Need-slice-bounds-copy-start
+part-copy-start c = search rules
+
+part-copy-end : tie.Need-slice-bounds-copy-end
+part-copy-end c = search rules
+
+sub-copy-2 : tie.Need-overflow-sub-copy-2
+sub-copy-2 c = search rules
+
+part-copy-start-2 : tie.Need-slice-bounds-copy-start-2
+part-copy-start-2 c = search rules
+
+part-copy-end-2 : tie.Need-slice-bounds-copy-end-2
+part-copy-end-2 c = search rules
+
+copy-requires : tie.Need-copy-requires
+copy-requires c κs = search rules
+
+add-result : tie.Need-overflow-add-result
+add-result c = search rules
+
+same_length : tie.Need-same-length
+same_length c = search rules
+
 returns : tie.Need-returns
 returns c =
     let a = c.before.before.before.before.before.before.before.before.args in
@@ -24,17 +63,17 @@ pub append-spec : {M : Type 1} → statement M
 append-spec =
     tie.close
     (tie.spec
-    (λ c. search rules)
-    (λ c. search rules)
-    (λ c κs. search rules)
-    (λ c. search rules)
-    (λ c. search rules)
-    (λ c. search rules)
-    (λ c. search rules)
-    (λ c. search rules)
-    (λ c. search rules)
-    (λ c. search rules)
-    (λ c κs. search rules)
-    (λ c. search rules)
-    (λ c. search rules)
+    sub-least
+    sub-least-2
+    least-requires
+    add-end
+    sub-copy
+    part-copy-start
+    part-copy-end
+    sub-copy-2
+    part-copy-start-2
+    part-copy-end-2
+    copy-requires
+    add-result
+    same_length
     returns)

@@ -21,11 +21,26 @@ copied short s t copy n h e = rw (h, e) (check_beginning short s (without_notes 
 slice-aggregate-remove : tie.Need-slice-aggregate-remove
 slice-aggregate-remove c = search rules
 
+remove-requires : tie.Need-remove-requires
+remove-requires c κs = search rules
+
 array-share-prefix-copy : tie.Need-array-share-prefix-copy
 array-share-prefix-copy c = search rules
 
 slice-aggregate-check : tie.Need-slice-aggregate-check
 slice-aggregate-check c = sym (length-take-le _ _ (array-share-prefix-copy c.before))
+
+check-requires : tie.Need-check-requires
+check-requires c κs = search rules
+
+same_length : tie.Need-same-length
+same_length c = search rules
+
+same-length-2 : tie.Need-same-length-2
+same-length-2 c = search rules
+
+same-length-3 : tie.Need-same-length-3
+same-length-3 c = search rules
 
 returns : tie.Need-returns
 returns c =
@@ -42,11 +57,11 @@ check-noted-spec =
     tie.close
     (tie.spec
     slice-aggregate-remove
-    (λ c κs. search rules)
+    remove-requires
     array-share-prefix-copy
     slice-aggregate-check
-    (λ c κs. search rules)
-    (λ c. search rules)
-    (λ c. search rules)
-    (λ c. search rules)
+    check-requires
+    same_length
+    same-length-2
+    same-length-3
     returns)

@@ -22,6 +22,9 @@ decreases-loop s from at₀ at = length s - at
 loop-holds : tie.Need-loop-init invariant-loop decreases-loop
 loop-holds c = ((omega arith, c.before.requires), λ l e w. w)
 
+step-at-requires : tie.Need-step-at-requires invariant-loop decreases-loop
+step-at-requires c κs = search rules
+
 returns : tie.Need-returns invariant-loop decreases-loop
 returns c =
     let k = c.before.before.loop.invariant in
@@ -75,7 +78,7 @@ next-note-spec =
     invariant-loop
     decreases-loop
     loop-holds
-    (λ c κs. search rules)
+    step-at-requires
     returns
     shared-slice-read-if2
     returns-2

@@ -8,11 +8,26 @@ use Rattle.office_check.proofs.Answers.{without_notes_lem, buffer_left_lem, send
 use Rattle.office_check.proofs.office.Statement.{statement}
 use Rattle.office_check.proofs.office.Tie as tie
 
+walk-requires : tie.Need-walk-requires
+walk-requires c κs = search rules
+
 slice-aggregate-check : tie.Need-slice-aggregate-check
 slice-aggregate-check c =
     let w = c.before.before in
     let s = w.before.before.before.before.before in
     sym (length-take-le _ _ (omega (arith, w.walk.ensures.1, end_inside s.args.certificate.now)))
+
+check-requires : tie.Need-check-requires
+check-requires c κs = search rules
+
+same_length : tie.Need-same-length
+same_length c = search rules
+
+same-length-2 : tie.Need-same-length-2
+same-length-2 c = search rules
+
+same-length-3 : tie.Need-same-length-3
+same-length-3 c = search rules
 
 returns : tie.Need-returns
 returns c =
@@ -27,6 +42,9 @@ returns c =
     let buffer = buffer_left_lem _ a.problem.now a.certificate.now a.buffer.now none in
     (verdict, (buffer, (k.check.ensures.1.0, clauses _ _ _ _ _ _ verdict buffer)))
 
+check-noted-requires : tie.Need-check-noted-requires
+check-noted-requires c κs = search rules
+
 answer-requires : tie.Need-answer-requires
 answer-requires c κs =
     let k = c.before.before.before.before.before in
@@ -34,6 +52,18 @@ answer-requires c κs =
     let s = w.before.before.before.before.before in
     let a = s.args in
     (w.walk.ensures.0, sendable _ a.problem.now a.certificate.now a.buffer.now _ k.check-noted.ensures.0)
+
+same-length-4 : tie.Need-same-length-4
+same-length-4 c = search rules
+
+same-length-5 : tie.Need-same-length-5
+same-length-5 c = search rules
+
+same-length-6 : tie.Need-same-length-6
+same-length-6 c = search rules
+
+same-length-7 : tie.Need-same-length-7
+same-length-7 c = search rules
 
 returns-2 : tie.Need-returns-2
 returns-2 c =
@@ -52,17 +82,17 @@ pub office-spec : {M : Type 1} → statement M
 office-spec =
     tie.close
     (tie.spec
-    (λ c κs. search rules)
+    walk-requires
     slice-aggregate-check
-    (λ c κs. search rules)
-    (λ c. search rules)
-    (λ c. search rules)
-    (λ c. search rules)
+    check-requires
+    same_length
+    same-length-2
+    same-length-3
     returns
-    (λ c κs. search rules)
+    check-noted-requires
     answer-requires
-    (λ c. search rules)
-    (λ c. search rules)
-    (λ c. search rules)
-    (λ c. search rules)
+    same-length-4
+    same-length-5
+    same-length-6
+    same-length-7
     returns-2)

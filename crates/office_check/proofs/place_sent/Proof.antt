@@ -38,6 +38,9 @@ module _ (c : tie.Then1 invariant-loop decreases-loop) where
   within : head.loop.at + note_length ≤ length (s head)
   within = here_inside (s head) head.loop.at here
 
+first-note-requires : tie.Need-first-note-requires invariant-loop decreases-loop
+first-note-requires c κs = search rules
+
 loop-holds : tie.Need-loop-init invariant-loop decreases-loop
 loop-holds c =
     let k = c.first-note.ensures in
@@ -93,7 +96,7 @@ place-sent-spec =
     (tie.spec
     invariant-loop
     decreases-loop
-    (λ c κs. search rules)
+    first-note-requires
     loop-holds
     note-at-requires
     returns

@@ -41,6 +41,9 @@ module _ (c : tie.Then1 invariant-loop decreases-loop) where
   fits : head.loop.at + note_length < 18446744073709551616
   fits = omega (arith, within, (start head).good.0.0)
 
+first-note-requires : tie.Need-first-note-requires invariant-loop decreases-loop
+first-note-requires c κs = search rules
+
 loop-holds : tie.Need-loop-init invariant-loop decreases-loop
 loop-holds c =
     let k = c.first-note.ensures in
@@ -101,7 +104,7 @@ put-notes-spec =
     (tie.spec
     invariant-loop
     decreases-loop
-    (λ c κs. search rules)
+    first-note-requires
     loop-holds
     note-at-requires
     add-append

@@ -47,6 +47,9 @@ module _ (c : tie.Else1 invariant-loop decreases-loop) where
   away : note_here (s last) last.loop.at ≡ false
   away = sym c.before.note-at.ensures ∙ c.if1.false
 
+first-note-requires : tie.Need-first-note-requires invariant-loop decreases-loop
+first-note-requires c κs = search rules
+
 loop-holds : tie.Need-loop-init invariant-loop decreases-loop
 loop-holds c =
     let k = c.first-note.ensures in
@@ -98,6 +101,9 @@ append-requires-2 c κs =
       omega (arith, k.within, k.long),
     )
 
+same_length : tie.Need-same-length invariant-loop decreases-loop
+same_length c = search rules
+
 returns : tie.Need-returns invariant-loop decreases-loop
 returns c =
     let d = c.before.before.before.before in
@@ -110,7 +116,7 @@ remove-spec =
     (tie.spec
     invariant-loop
     decreases-loop
-    (λ c κs. search rules)
+    first-note-requires
     loop-holds
     note-at-requires
     append-requires
@@ -119,5 +125,5 @@ remove-spec =
     loop-less
     loop-again
     append-requires-2
-    (λ c. search rules)
+    same_length
     returns)

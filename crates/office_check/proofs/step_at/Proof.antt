@@ -9,8 +9,17 @@ use Rattle.office_check.proofs.step_at.Tie as tie
 returns : tie.Need-returns
 returns c = sym (step_past _ _ c.if1.true)
 
+shared-slice-read-byte : tie.Need-shared-slice-read-byte
+shared-slice-read-byte c = search rules
+
 returns-2 : tie.Need-returns-2
 returns-2 c = sym (step_end _ _ c.if2.true)
+
+length-of-requires : tie.Need-length-of-requires
+length-of-requires c κs = search rules
+
+sub-if3 : tie.Need-overflow-sub-if3
+sub-if3 c = search rules
 
 returns-3 : tie.Need-returns-3
 returns-3 c = sym (step_cut _ _ _ c.before.length-of.ensures (omega arith))
@@ -24,9 +33,9 @@ step-at-spec =
     tie.close
     (tie.spec
     returns
-    (λ c. search rules)
+    shared-slice-read-byte
     returns-2
-    (λ c κs. search rules)
-    (λ c. search rules)
+    length-of-requires
+    sub-if3
     returns-3
     returns-4)

@@ -43,6 +43,9 @@ module _ (c : tie.Else1 invariant-loop decreases-loop) where
   away : note_here (s c.before.before) c.before.before.loop.at ≡ false
   away = sym c.before.note-at.ensures ∙ c.if1.false
 
+first-note-requires : tie.Need-first-note-requires invariant-loop decreases-loop
+first-note-requires c κs = search rules
+
 loop-holds : tie.Need-loop-init invariant-loop decreases-loop
 loop-holds c =
     let k = c.first-note.ensures in
@@ -87,7 +90,7 @@ walk-spec =
     (tie.spec
     invariant-loop
     decreases-loop
-    (λ c κs. search rules)
+    first-note-requires
     loop-holds
     note-at-requires
     add-notes

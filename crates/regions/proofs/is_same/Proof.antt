@@ -2,7 +2,7 @@
 use native.Mathlib.Omega.{arith}
 use mathlib.Core.Path.{refl, sym}
 use Rattle.problem_reader.specs.Storing.{GivenFlat}
-use Rattle.regions.proofs.Reading.{not_given, long, variables_differ, variables_same}
+use Rattle.regions.proofs.Reading.{first_refused, second_refused, long, variables_differ, variables_same}
 use Rattle.regions.proofs.is_same.Statement.{statement}
 use Rattle.regions.proofs.is_same.Tie as tie
 
@@ -29,7 +29,7 @@ read-requires c κs = record { keys_zero = refl; coefficients_zero = refl; sizes
 returns : tie.Need-returns
 returns c =
     let r = c.before.before in
-    λ p q e f. not_given _ (r.read.ensures.refuses c.if1.true) p e
+    first_refused _ (start r).args.problem2.now (r.read.ensures.refuses c.if1.true)
 
 read-requires-2 : tie.Need-read-requires-2
 read-requires-2 c κs = record { keys_zero = refl; coefficients_zero = refl; sizes_zero = refl }
@@ -37,7 +37,7 @@ read-requires-2 c κs = record { keys_zero = refl; coefficients_zero = refl; siz
 returns-2 : tie.Need-returns-2
 returns-2 c =
     let r = c.before.before in
-    λ p q e f. not_given _ (r.read2.ensures.refuses c.if2.true) q f
+    second_refused (start (first_read r)).args.problem1.now _ (r.read2.ensures.refuses c.if2.true)
 
 shared-slice-read-if3 : tie.Need-shared-slice-read-if3
 shared-slice-read-if3 c =
@@ -52,7 +52,7 @@ shared-slice-read-if3-2 c =
 returns-3 : tie.Need-returns-3
 returns-3 c =
     let e = c.before.before.before in
-    λ p q f g. variables_differ (first_given (read_first e.before.before)) (second-given e) p q f g c.if3.true
+    variables_differ (first_given (read_first e.before.before)) (second-given e) c.if3.true
 
 slice-aggregate-same-conditions : tie.Need-slice-aggregate-same-conditions
 slice-aggregate-same-conditions c =
@@ -96,8 +96,7 @@ returns-4 c =
     let e = i.before.before.before in
     let g = first_given (read_first e.before.before) in
     let h = second-given e in
-    λ p q x y.
-    variables_same g h p q x y i.if3.false c.same-conditions.result
+    variables_same g h i.if3.false c.same-conditions.result
     (c.same-conditions.ensures g.problem h.problem g.flat h.flat)
 
 pub is-same-spec : {M : Type 1} → statement M

@@ -7,7 +7,7 @@ use lib.ListN.{length}
 use mir.Facts.{to_z-of_z}
 use mir.Syntax.{w64}
 use mir.Val.{to_z, of_z}
-use Rattle.counting.proofs.Bounded.{Bounded}
+use Rattle.counting.specs.Counting.{Bounded}
 use Rattle.certificate_rows.specs.Offsets.{weight_at}
 use Rattle.certificate_rows.proofs.Offsets.{stand_low}
 use Rattle.row_products.specs.Gather.{RowHeld}

@@ -48,6 +48,12 @@ put-parities-requires-2 c κs =
     let b = condition_few s.pre.0 l.loop.j (omega arith) in
     (rw e.exponents2.ensures (omega (arith, v.few)), v.long)
 
+add-j : tie.Need-overflow-add-j invariant-loop decreases-loop
+add-j c = omega arith
+
+loop-less : tie.Need-loop-smaller invariant-loop decreases-loop
+loop-less c = omega arith
+
 loop-again : tie.Need-loop-preserved invariant-loop decreases-loop
 loop-again c =
     let e = c.before.before in
@@ -73,7 +79,7 @@ gather-spec =
     loop-holds
     exponents-requires-2
     put-parities-requires-2
-    (λ c. omega arith)
-    (λ c. omega arith)
+    add-j
+    loop-less
     loop-again
     returns)

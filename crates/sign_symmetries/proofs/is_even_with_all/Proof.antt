@@ -20,12 +20,24 @@ decreases-loop mask bytes i₀ i = length bytes - i
 loop-holds : tie.Need-loop-init invariant-loop decreases-loop
 loop-holds c = (omega arith, refl)
 
+shared-slice-read-is-even : tie.Need-shared-slice-read-is-even invariant-loop decreases-loop
+shared-slice-read-is-even c = search rules
+
+is-even-requires : tie.Need-is-even-requires invariant-loop decreases-loop
+is-even-requires c κs = search rules
+
 returns : tie.Need-returns invariant-loop decreases-loop
 returns c =
     let l = c.before.before.before.before in
     let a = l.before.before.args in
     let h : l.loop.i < length a.bytes.now = omega arith in
     sym (l.loop.invariant.1 ∙ even_next a.mask a.bytes.now l.loop.i false h (sym (not-true _ c.if1.true) ∙ c.before.is-even.ensures))
+
+add-i : tie.Need-overflow-add-i invariant-loop decreases-loop
+add-i c = search rules
+
+loop-less : tie.Need-loop-smaller invariant-loop decreases-loop
+loop-less c = search rules
 
 loop-again : tie.Need-loop-preserved invariant-loop decreases-loop
 loop-again c =
@@ -47,10 +59,10 @@ is-even-with-all-spec =
     invariant-loop
     decreases-loop
     loop-holds
-    (λ c. search rules)
-    (λ c κs. search rules)
+    shared-slice-read-is-even
+    is-even-requires
     returns
-    (λ c. search rules)
-    (λ c. search rules)
+    add-i
+    loop-less
     loop-again
     returns-2)

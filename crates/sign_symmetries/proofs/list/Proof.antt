@@ -32,6 +32,9 @@ start l = l.before.before.before.before.before.before.before
 cast-mask : tie.Need-overflow-cast-mask invariant-loop decreases-loop
 cast-mask c = omega (arith, (start c.before).pre.0)
 
+is-even-with-all-requires : tie.Need-is-even-with-all-requires invariant-loop decreases-loop
+is-even-with-all-requires c κs = search rules
+
 slice-write-out : tie.Need-slice-write-out invariant-loop decreases-loop
 slice-write-out c =
     let l = c.before.before.before in
@@ -43,6 +46,9 @@ add-count c = omega (arith, (start c.before.before.before).pre.0)
 
 add_r : tie.Need-overflow-add-r invariant-loop decreases-loop
 add_r c = omega (arith, (start c.before.before.before).pre.0)
+
+loop-less : tie.Need-loop-smaller invariant-loop decreases-loop
+loop-less c = omega arith
 
 loop-again : tie.Need-loop-preserved invariant-loop decreases-loop
 loop-again c =
@@ -78,11 +84,11 @@ list-spec =
     clear-bytes-requires
     loop-holds
     cast-mask
-    (λ c κs. search rules)
+    is-even-with-all-requires
     slice-write-out
     add-count
     add_r
-    (λ c. omega arith)
+    loop-less
     loop-again
     same_length
     returns)

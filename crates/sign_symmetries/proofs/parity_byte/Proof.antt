@@ -29,6 +29,12 @@ add-byte c = let l = c.before.loop in omega (arith, most c, bit_most l.rest l.pl
 mul-place : tie.Need-overflow-mul-place invariant-loop decreases-loop
 mul-place c = omega (arith, most c)
 
+add-i : tie.Need-overflow-add-i invariant-loop decreases-loop
+add-i c = omega arith
+
+loop-less : tie.Need-loop-smaller invariant-loop decreases-loop
+loop-less c = omega arith
+
 loop-again : tie.Need-loop-preserved invariant-loop decreases-loop
 loop-again c = let l = c.before.loop in passed_more _ _ _ _ l.i l.invariant (omega arith)
 
@@ -52,8 +58,8 @@ parity-byte-spec =
     mul-byte
     add-byte
     mul-place
-    (λ c. omega arith)
-    (λ c. omega arith)
+    add-i
+    loop-less
     loop-again
     cast-result
     returns)

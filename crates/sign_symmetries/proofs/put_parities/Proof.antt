@@ -25,6 +25,27 @@ loop-holds c =
     let e : n + 0 ≡ n = omega arith in
     (omega arith, s.requires.1, ap (λ (m : ℕ). take m s.args.bytes.now) e ∙ sym (append-nil (take n s.args.bytes.now)))
 
+mul-parity-byte : tie.Need-overflow-mul-parity-byte invariant-loop decreases-loop
+mul-parity-byte c = search rules
+
+shared-slice-read-parity-byte : tie.Need-shared-slice-read-parity-byte invariant-loop decreases-loop
+shared-slice-read-parity-byte c = search rules
+
+parity-byte-requires : tie.Need-parity-byte-requires invariant-loop decreases-loop
+parity-byte-requires c κs = search rules
+
+add-bytes : tie.Need-overflow-add-bytes invariant-loop decreases-loop
+add-bytes c = search rules
+
+element-write-bytes : tie.Need-element-write-bytes invariant-loop decreases-loop
+element-write-bytes c = search rules
+
+add-i : tie.Need-overflow-add-i invariant-loop decreases-loop
+add-i c = search rules
+
+loop-less : tie.Need-loop-smaller invariant-loop decreases-loop
+loop-less c = search rules
+
 loop-again : tie.Need-loop-preserved invariant-loop decreases-loop
 loop-again c =
     let l = c.before.before.before in
@@ -35,6 +56,9 @@ loop-again c =
       simp length-set v.1,
       parity_put s.args.bytes.now l.loop.bytes s.args.keys.now s.args.n l.loop.i _ h (omega arith) c.parity-byte.ensures v.2,
     )
+
+add-result : tie.Need-overflow-add-result invariant-loop decreases-loop
+add-result c = search rules
 
 returns : tie.Need-returns invariant-loop decreases-loop
 returns c =
@@ -53,13 +77,13 @@ put-parities-spec =
     invariant-loop
     decreases-loop
     loop-holds
-    (λ c. search rules)
-    (λ c. search rules)
-    (λ c κs. search rules)
-    (λ c. search rules)
-    (λ c. search rules)
-    (λ c. search rules)
-    (λ c. search rules)
+    mul-parity-byte
+    shared-slice-read-parity-byte
+    parity-byte-requires
+    add-bytes
+    element-write-bytes
+    add-i
+    loop-less
     loop-again
-    (λ c. search rules)
+    add-result
     returns)

@@ -29,6 +29,9 @@ list-requires c κs =
     let w = shifted_one s.args.n s.requires.1 in
     (omega (arith, w.0, w.1), s.requires.2)
 
+same_length : tie.Need-same-length
+same_length c = search rules
+
 returns : tie.Need-returns
 returns c =
     let l = c.before.before in
@@ -48,5 +51,5 @@ write_spec =
     slice-aggregate-list
     shl-list
     list-requires
-    (λ c. search rules)
+    same_length
     returns)

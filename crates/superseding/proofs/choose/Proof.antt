@@ -1,39 +1,69 @@
--- `choose`: the verdict by what became of both certificates, and its fields in the four numbers.
+-- `choose`: the verdict from the two checks, and its fields in the four numbers.
 use borrow.Author.Rules.{rules}
-use mathlib.Core.Path.{◌≡◌, ap, ◌∙◌}
+use mathlib.Core.Path.{◌≡◌, ap}
+use mathlib.Core.Bool.{Bool}
+use mathlib.Core.List.{List}
+use Prim.Native.Nat.{ℕ}
+use Rattle.calls.specs.declared.TwoChecks.{TwoChecks}
 use Rattle.calls.specs.Tables.{tables, tables_short}
+use Rattle.calls.specs.Check.{check_verdict}
 use Rattle.calls.specs.declared.SupersedingVerdict.{SupersedingVerdict}
+use Rattle.calls.specs.Superseding.{superseding_of, superseding_verdict}
 use Rattle.calls.proofs.SupersedingKept.{choice_zeros}
-use Rattle.problem_judge.specs.declared.TwoJudged.{TwoJudged}
-use Rattle.superseding.specs.Decided.{chosen_from}
-use Rattle.superseding.proofs.Decided.{chosen_judged}
 use Rattle.superseding.proofs.choose.Statement.{statement}
 use Rattle.superseding.proofs.choose.Tie as tie
+
+module _ (short : Bool) (s first second : List ℕ) (r : TwoChecks) (v : SupersedingVerdict) where
+  decided : v ≡ superseding_of r.first r.second → r.first ≡ check_verdict short s first
+      → r.second ≡ check_verdict short s second → v ≡ superseding_verdict short s first second
+  unfolding superseding_verdict
+  decided e f g = rw (← f, ← g) e
+
+check-two-requires : tie.Need-check-two-requires
+check-two-requires c κs = search rules
+
+decide-requires : tie.Need-decide-requires
+decide-requires c κs = search rules
+
+cast-number : tie.Need-overflow-cast-number
+cast-number c = search rules
+
+cast-stream : tie.Need-overflow-cast-stream
+cast-stream c = search rules
+
+same_length : tie.Need-same-length
+same_length c = search rules
+
+same-length-2 : tie.Need-same-length-2
+same-length-2 c = search rules
+
+same-length-3 : tie.Need-same-length-3
+same-length-3 c = search rules
 
 returns : tie.Need-returns
 returns c =
     let d = c.before.before.before in
-    let k = d.before.before.before.before.before in
+    let k = d.before.before.before.before.before.before.before in
     let a = k.before.before.before.before.before.before.before.before.args in
     let short = tables_short (tables a.keys.now a.high.now a.low.now) in
-    let two = k.judge-two.ensures in
+    let two = k.check-two.ensures in
     let v =
-    d.decide.ensures ∙ ap (λ (t : TwoJudged). chosen_from t.first t.second) two.0
-    ∙ chosen_judged short a.problem.now a.first.now a.second.now in
+    decided short a.problem.now a.first.now a.second.now k.check-two.result _ d.decide.ensures
+    two.0 two.1.0 in
     let chosen = ap (λ (w : SupersedingVerdict). w.chosen) v in
     let refusal = ap (λ (w : SupersedingVerdict). w.refusal) v in
     let zeros = choice_zeros short a.problem.now a.first.now a.second.now _ _ chosen refusal in
-    (chosen, (refusal, (two.1, zeros)))
+    (chosen, (refusal, (two.1.1.0, zeros)))
 
 pub choose_spec : {M : Type 1} → statement M
 choose_spec =
     tie.close
     (tie.spec
-    (λ c κs. search rules)
-    (λ c κs. search rules)
-    (λ c. search rules)
-    (λ c. search rules)
-    (λ c. search rules)
-    (λ c. search rules)
-    (λ c. search rules)
+    check-two-requires
+    decide-requires
+    cast-number
+    cast-stream
+    same_length
+    same-length-2
+    same-length-3
     returns)

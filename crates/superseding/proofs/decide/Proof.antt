@@ -1,55 +1,60 @@
--- `decide`: the answer by what became of each.
+-- `decide`: each answer by the two tests that led there.
 use borrow.Author.Rules.{rules}
-use mathlib.Core.Path.{◌≡◌}
-use Rattle.calls.specs.declared.SupersedingVerdict.{SupersedingVerdict}
-use Rattle.certificate_judge.specs.declared.Judged.{Judged}
-use Rattle.superseding.specs.Decided.{chosen_from}
+use borrow.Author.Tests.{eq-eqb, ne_eqb}
+use mathlib.Core.Path.{◌∙◌}
+use Rattle.calls.specs.Superseding.{superseding_of}
 use Rattle.superseding.proofs.decide.Statement.{statement}
 use Rattle.superseding.proofs.decide.Tie as tie
 
-by_both : (a b a' b' : Judged) (v : SupersedingVerdict) → a ≡ a' → b ≡ b' → v ≡ chosen_from a' b' → v ≡ chosen_from a b
-by_both a b a' b' v e f g = rw (e, f) g
+tighter-of-requires : tie.Need-tighter-of-requires
+tighter-of-requires c κs = search rules
 
 returns : tie.Need-returns
+unfolding superseding_of
 returns c =
-    let x = c.before.before.before.before in
-    let s = x.before.before.args in
-    by_both s.a s.b _ _ _ x.a.given.1 c.before.enum_told.given.1 c.none-back.ensures
+    let g = c.before in
+    let f = g.before.before in
+    c.tighter-of.ensures ∙ simp (eq-eqb _ _ f.if1.true, eq-eqb _ _ g.if2.true)
+
+comes-back-requires : tie.Need-comes-back-requires
+comes-back-requires c κs = search rules
 
 returns-2 : tie.Need-returns-2
+unfolding superseding_of
 returns-2 c =
-    let x = c.before.before.before.before in
-    let s = x.before.before.args in
-    by_both s.a s.b _ _ _ x.a.given.1 c.before.enum-told2.given.1 c.comes_back.ensures
+    let g = c.before in
+    let f = g.before.before in
+    c.comes_back.ensures ∙ simp (eq-eqb _ _ f.if1.true, ne_eqb _ _ g.if2.false)
+
+comes-back-requires-2 : tie.Need-comes-back-requires-2
+comes-back-requires-2 c κs = search rules
 
 returns-3 : tie.Need-returns-3
+unfolding superseding_of
 returns-3 c =
-    let x = c.before.before.before.before in
-    let s = x.before.before.args in
-    by_both s.a s.b _ _ _ x.a2.given.1 c.before.enum-told3.given.1 c.comes-back2.ensures
+    let g = c.before in
+    let f = g.before.before in
+    c.comes-back2.ensures ∙ simp (ne_eqb _ _ f.if1.false, eq-eqb _ _ g.if3.true)
+
+none-back-requires : tie.Need-none-back-requires
+none-back-requires c κs = search rules
 
 returns-4 : tie.Need-returns-4
+unfolding superseding_of
 returns-4 c =
-    let y = c.before.before in
-    let x = y.before.before.before in
-    let s = x.before.before.args in
-    by_both s.a s.b _ _ _ x.a2.given.1 y.b.given.1 c.tighter-of.ensures
+    let g = c.before in
+    let f = g.before.before in
+    c.none-back.ensures ∙ simp (ne_eqb _ _ f.if1.false, ne_eqb _ _ g.if3.false)
 
 pub decide-spec : {M : Type 1} → statement M
 decide-spec =
     tie.close
     (tie.spec
-    (λ c. search rules)
-    (λ c. search rules)
-    (λ c κs. search rules)
-    (λ c. search rules)
-    (λ c κs. search rules)
-    (λ c. search rules)
-    (λ c. search rules)
-    (λ c κs. search rules)
-    (λ c. search rules)
-    (λ c κs. search rules)
+    tighter-of-requires
     returns
+    comes-back-requires
     returns-2
+    comes-back-requires-2
     returns-3
+    none-back-requires
     returns-4)

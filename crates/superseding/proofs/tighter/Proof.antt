@@ -11,6 +11,30 @@ use Rattle.superseding.proofs.tighter.Tie as tie
 abbrev start : tie.After-choose → tie.Start
 start c = c.before.before.before.before.before.before.before.before.before.before.before.before
 
+choose-requires : tie.Need-choose-requires
+choose-requires c κs = search rules
+
+enum_told : tie.Need-enum-told
+enum_told c = search rules
+
+enum-told-2 : tie.Need-enum-told-2
+enum-told-2 c = search rules
+
+enum-told-3 : tie.Need-enum-told-3
+enum-told-3 c = search rules
+
+slice-aggregate-result : tie.Need-slice-aggregate-result
+slice-aggregate-result c = search rules
+
+same_length : tie.Need-same-length
+same_length c = search rules
+
+same-length-2 : tie.Need-same-length-2
+same-length-2 c = search rules
+
+same-length-3 : tie.Need-same-length-3
+same-length-3 c = search rules
+
 returns : tie.Need-returns
 returns c =
     let h = c.before.before.before.before.before.before in
@@ -30,6 +54,15 @@ returns c =
       ),
     )
 
+same-length-4 : tie.Need-same-length-4
+same-length-4 c = search rules
+
+same-length-5 : tie.Need-same-length-5
+same-length-5 c = search rules
+
+same-length-6 : tie.Need-same-length-6
+same-length-6 c = search rules
+
 returns-2 : tie.Need-returns-2
 returns-2 c =
     let h = c.before.before.before.before.before.before in
@@ -48,6 +81,15 @@ returns-2 c =
         (k.1.0, (k.1.1.0, clauses)),
       ),
     )
+
+same-length-7 : tie.Need-same-length-7
+same-length-7 c = search rules
+
+same-length-8 : tie.Need-same-length-8
+same-length-8 c = search rules
+
+same-length-9 : tie.Need-same-length-9
+same-length-9 c = search rules
 
 returns-3 : tie.Need-returns-3
 returns-3 c =
@@ -72,20 +114,20 @@ pub tighter-spec : {M : Type 1} → statement M
 tighter-spec =
     tie.close
     (tie.spec
-    (λ c κs. search rules)
-    (λ c. search rules)
-    (λ c. search rules)
-    (λ c. search rules)
-    (λ c. search rules)
-    (λ c. search rules)
-    (λ c. search rules)
-    (λ c. search rules)
+    choose-requires
+    enum_told
+    enum-told-2
+    enum-told-3
+    slice-aggregate-result
+    same_length
+    same-length-2
+    same-length-3
     returns
-    (λ c. search rules)
-    (λ c. search rules)
-    (λ c. search rules)
+    same-length-4
+    same-length-5
+    same-length-6
     returns-2
-    (λ c. search rules)
-    (λ c. search rules)
-    (λ c. search rules)
+    same-length-7
+    same-length-8
+    same-length-9
     returns-3)

@@ -4,15 +4,15 @@ use Rattle.verdict_numbers.specs.Numbers.{blocks_numbers}
 use Rattle.verdict_writer.proofs.blocks_numbers.Statement.{statement}
 use Rattle.verdict_writer.proofs.blocks_numbers.Tie as tie
 
-cast-t3 : tie.Need-overflow-cast-t3
+cast-t3 : tie.Need-overflow_cast-result
 cast-t3 c = search rules
 
-cast-t4 : tie.Need-overflow-cast-t4
+cast-t4 : tie.Need-overflow_cast-result-2
 cast-t4 c = search rules
 
 returns : tie.Need-returns
 unfolding blocks_numbers
 returns c = search rules
 
-pub blocks-numbers-spec : {M : Type 1} → statement M
-blocks-numbers-spec = tie.close (tie.spec cast-t3 cast-t4 returns)
+pub blocks_numbers_spec : {M : Type 1} → statement M
+blocks_numbers_spec = tie.close (tie.spec cast-t3 cast-t4 returns)

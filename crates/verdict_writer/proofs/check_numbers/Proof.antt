@@ -4,20 +4,20 @@ use Rattle.verdict_numbers.specs.Numbers.{check_numbers}
 use Rattle.verdict_writer.proofs.check_numbers.Statement.{statement}
 use Rattle.verdict_writer.proofs.check_numbers.Tie as tie
 
-numerator-requires : tie.Need-numerator-requires
+numerator-requires : tie.Need-numerator-p-requires
 numerator-requires c κs = search rules
 
-cast-t5 : tie.Need-overflow-cast-t5
+cast-t5 : tie.Need-overflow_cast-result
 cast-t5 c = search rules
 
-cast-t6 : tie.Need-overflow-cast-t6
+cast-t6 : tie.Need-overflow_cast-result-2
 cast-t6 c = search rules
 
 returns : tie.Need-returns
 unfolding check_numbers
 returns c =
-    let b = c.before.before in
-    rw b.numerator.ensures
+    let b = c in
+    rw b.numerator-p.ensures
 
-pub check-numbers-spec : {M : Type 1} → statement M
-check-numbers-spec = tie.close (tie.spec numerator-requires cast-t5 cast-t6 returns)
+pub check_numbers_spec : {M : Type 1} → statement M
+check_numbers_spec = tie.close (tie.spec numerator-requires cast-t5 cast-t6 returns)

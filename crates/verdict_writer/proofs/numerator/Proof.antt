@@ -6,7 +6,7 @@ use mir.Val.{to_z, of_z}
 use Rattle.verdict_writer.proofs.numerator.Statement.{statement}
 use Rattle.verdict_writer.proofs.numerator.Tie as tie
 
-kept : (c : tie.After-struct-told) → let n = c.before.args.f.num in to_z w64 (of_z w64 n) ≡ n
+kept : (c : tie.After-struct_told-1) → let n = c.args.f.num in to_z w64 (of_z w64 n) ≡ n
 kept c = search rules
 
 bits-requires : tie.Need-bits-requires
@@ -15,5 +15,5 @@ bits-requires c κs = search rules
 returns : tie.Need-returns
 returns c = rw (kept c.before) at c.bits.ensures
 
-pub numerator-spec : {M : Type 1} → statement M
-numerator-spec = tie.close (tie.spec bits-requires returns)
+pub numerator_spec : {M : Type 1} → statement M
+numerator_spec = tie.close (tie.spec bits-requires returns)

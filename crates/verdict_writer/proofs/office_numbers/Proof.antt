@@ -6,10 +6,10 @@ use Rattle.verdict_writer.proofs.office_numbers.Tie as tie
 
 returns : tie.Need-returns
 unfolding office_numbers check_numbers
-returns c = rw c.check-numbers.ensures
+returns c = rw c.check_numbers-a.ensures
 
-pub office-numbers-spec : {M : Type 1} → statement M
-office-numbers-spec =
+pub office_numbers_spec : {M : Type 1} → statement M
+office_numbers_spec =
     tie.close
     (tie.spec
     (λ c κs. search rules)

@@ -7,11 +7,11 @@ use Rattle.verdict_writer.proofs.pair_numbers.Tie as tie
 returns : tie.Need-returns
 unfolding pair_numbers
 returns c =
-    let b = c.before.before in
-    rw (b.mark.ensures, b.before.numerator3.ensures, b.before.before.numerator2.ensures, b.before.before.before.numerator.ensures)
+    let b = c in
+    rw (b.mark-empty.ensures, b.numerator-c.ensures, b.numerator-b.ensures, b.numerator-a.ensures)
 
-pub pair-numbers-spec : {M : Type 1} → statement M
-pair-numbers-spec =
+pub pair_numbers_spec : {M : Type 1} → statement M
+pair_numbers_spec =
     tie.close
     (tie.spec
     (λ c κs. search rules)

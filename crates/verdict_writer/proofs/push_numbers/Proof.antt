@@ -4,20 +4,20 @@ use Rattle.verdict_numbers.specs.Numbers.{push_numbers}
 use Rattle.verdict_writer.proofs.push_numbers.Statement.{statement}
 use Rattle.verdict_writer.proofs.push_numbers.Tie as tie
 
-numerator-requires : tie.Need-numerator-requires
+numerator-requires : tie.Need-numerator-a-requires
 numerator-requires c κs = search rules
 
-cast-t5 : tie.Need-overflow-cast-t5
+cast-t5 : tie.Need-overflow_cast-result
 cast-t5 c = search rules
 
-cast-t6 : tie.Need-overflow-cast-t6
+cast-t6 : tie.Need-overflow_cast-result-2
 cast-t6 c = search rules
 
 returns : tie.Need-returns
 unfolding push_numbers
 returns c =
-    let b = c.before.before in
-    rw b.numerator.ensures
+    let b = c in
+    rw b.numerator-a.ensures
 
-pub push-numbers-spec : {M : Type 1} → statement M
-push-numbers-spec = tie.close (tie.spec numerator-requires cast-t5 cast-t6 returns)
+pub push_numbers_spec : {M : Type 1} → statement M
+push_numbers_spec = tie.close (tie.spec numerator-requires cast-t5 cast-t6 returns)

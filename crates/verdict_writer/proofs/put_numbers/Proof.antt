@@ -21,29 +21,29 @@ one_more (x ∷ xs) (y ∷ l) zero h g = refl
 one_more (x ∷ xs) (y ∷ l) (suc k) h g =
     ap (λ (r : List ℕ). x ∷ r) (one_more xs l k (omega arith) (omega arith))
 
-abbrev invariant-loop : tie.invariant-loop
+abbrev invariant-loop : tie.invariant-loop-k
 invariant-loop run₀ numbers number k₀ run k =
     (k ≤ length numbers) × ((length run ≡ length run₀) × (run ≡ take k numbers ++ drop k run₀))
 
-abbrev decreases-loop : tie.decreases-loop
+abbrev decreases-loop : tie.decreases-loop-k
 decreases-loop run₀ numbers number k₀ run k = length numbers - k
 
-returns : tie.Need-returns invariant-loop decreases-loop
+returns : tie.Need-returns-then-number-eq1 invariant-loop decreases-loop
 unfolding numbers_left
 returns c =
-    let h = c.if1.true in
-    (sym h, rw (eq-eqb (get_or c.before.before.args.numbers.now 0 0) 1 h))
+    let h = c.if-number-eq1.true in
+    (sym h, rw (eq-eqb (get_or c.args.numbers.now 0 0) 1 h))
 
-loop-holds : tie.Need-loop-init invariant-loop decreases-loop
+loop-holds : tie.Need-loop-k-init invariant-loop decreases-loop
 loop-holds c = (omega arith, (refl, refl))
 
-loop-again : tie.Need-loop-preserved invariant-loop decreases-loop
+loop-again : tie.Need-loop-k-preserved invariant-loop decreases-loop
 loop-again c =
-    let a = c.before.before in
-    let v = a.loop.invariant in
-    let s = a.before.before.before in
+    let a = c in
+    let v = a.loop-k.invariant in
+    let s = a in
     let numbers = s.args.numbers.now in
-    let k = a.loop.k in (
+    let k = a.loop-k.k in (
       omega arith,
       (
         simp length-set v.1.0,
@@ -51,19 +51,19 @@ loop-again c =
       ),
     )
 
-returns-2 : tie.Need-returns-2 invariant-loop decreases-loop
+returns-2 : tie.Need-returns invariant-loop decreases-loop
 unfolding numbers_left
 returns-2 c =
-    let a = c.before in
-    let e = a.before in
-    let numbers = e.before.before.args.numbers.now in
-    let k : a.loop.k ≡ length numbers = omega arith in (
+    let a = c in
+    let e = a in
+    let numbers = e.args.numbers.now in
+    let k : a.loop-k.k ≡ length numbers = omega arith in (
       refl,
-      a.loop.invariant.1.1 ∙ rw (k, take_all (length numbers) numbers (omega arith), ne_eqb (get_or numbers 0 0) 1 e.if1.false) refl,
+      a.loop-k.invariant.1.1 ∙ rw (k, take_all (length numbers) numbers (omega arith), ne_eqb (get_or numbers 0 0) 1 e.if-number-eq1.false) refl,
     )
 
-pub put-numbers-spec : {M : Type 1} → statement M
-put-numbers-spec =
+pub put_numbers_spec : {M : Type 1} → statement M
+put_numbers_spec =
     tie.close
     (tie.spec
     invariant-loop

@@ -4,24 +4,24 @@ use Rattle.verdict_numbers.specs.Numbers.{report_numbers}
 use Rattle.verdict_writer.proofs.report_numbers.Statement.{statement}
 use Rattle.verdict_writer.proofs.report_numbers.Tie as tie
 
-numerator-requires : tie.Need-numerator-requires
+numerator-requires : tie.Need-numerator-a-requires
 numerator-requires c κs = search rules
 
-numerator-requires-2 : tie.Need-numerator-requires-2
+numerator-requires-2 : tie.Need-numerator-b-requires
 numerator-requires-2 c κs = search rules
 
-cast-t7 : tie.Need-overflow-cast-t7
+cast-t7 : tie.Need-overflow_cast-result
 cast-t7 c = search rules
 
-cast-t8 : tie.Need-overflow-cast-t8
+cast-t8 : tie.Need-overflow_cast-result-2
 cast-t8 c = search rules
 
 returns : tie.Need-returns
 unfolding report_numbers
 returns c =
-    let b = c.before.before in
-    rw (b.numerator2.ensures, b.before.numerator.ensures)
+    let b = c in
+    rw (b.numerator-b.ensures, b.numerator-a.ensures)
 
-pub report-numbers-spec : {M : Type 1} → statement M
-report-numbers-spec =
+pub report_numbers_spec : {M : Type 1} → statement M
+report_numbers_spec =
     tie.close (tie.spec numerator-requires numerator-requires-2 cast-t7 cast-t8 returns)

@@ -4,15 +4,15 @@ use Rattle.verdict_numbers.specs.Numbers.{symmetries_numbers}
 use Rattle.verdict_writer.proofs.symmetries_numbers.Statement.{statement}
 use Rattle.verdict_writer.proofs.symmetries_numbers.Tie as tie
 
-cast-t3 : tie.Need-overflow-cast-t3
+cast-t3 : tie.Need-overflow_cast-result
 cast-t3 c = search rules
 
-cast-t4 : tie.Need-overflow-cast-t4
+cast-t4 : tie.Need-overflow_cast-result-2
 cast-t4 c = search rules
 
 returns : tie.Need-returns
 unfolding symmetries_numbers
 returns c = search rules
 
-pub symmetries-numbers-spec : {M : Type 1} → statement M
-symmetries-numbers-spec = tie.close (tie.spec cast-t3 cast-t4 returns)
+pub symmetries_numbers_spec : {M : Type 1} → statement M
+symmetries_numbers_spec = tie.close (tie.spec cast-t3 cast-t4 returns)

@@ -6,10 +6,10 @@ use Rattle.verdict_writer.proofs.two_numbers.Tie as tie
 
 returns : tie.Need-returns
 unfolding two_numbers check_numbers
-returns c = rw (c.check-numbers2.ensures, c.before.check-numbers.ensures)
+returns c = rw (c.check_numbers-b.ensures, c.check_numbers-a.ensures)
 
-pub two-numbers-spec : {M : Type 1} → statement M
-two-numbers-spec =
+pub two_numbers_spec : {M : Type 1} → statement M
+two_numbers_spec =
     tie.close
     (tie.spec
     (λ c κs. search rules)

@@ -26,6 +26,9 @@ lent s = tables s.args.keys.now s.args.high.now s.args.low.now
 abbrev start : tie.At-loop invariant-loop decreases-loop → tie.Start invariant-loop decreases-loop
 start c = c.before.before.before.before.before
 
+refuse-requires : tie.Need-refuse-requires invariant-loop decreases-loop
+refuse-requires c κs = search rules
+
 loop-holds : tie.Need-loop-init invariant-loop decreases-loop
 loop-holds c =
     let s = c.before.before.before.before in
@@ -52,6 +55,9 @@ part-put-record-start : tie.Need-slice-bounds-put-record-start invariant-loop de
 part-put-record-start c =
     let t = c.before.before.before.before.before.before.before.before in
     omega (arith, one_room _ _ _ _ _ _ _ _ t.before.loop.invariant t.loop-test.true)
+
+part-put-record-end : tie.Need-slice-bounds-put-record-end invariant-loop decreases-loop
+part-put-record-end c = search rules
 
 put-record-requires : tie.Need-put-record-requires invariant-loop decreases-loop
 put-record-requires c κs =
@@ -154,13 +160,13 @@ answer-records-spec =
     (tie.spec
     invariant-loop
     decreases-loop
-    (λ c κs. search rules)
+    refuse-requires
     loop-holds
     pair-at-requires
     mul-position
     sub-put-record
     part-put-record-start
-    (λ c. search rules)
+    part-put-record-end
     put-record-requires
     with-verdict-requires
     end-at-requires

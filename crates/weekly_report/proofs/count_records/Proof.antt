@@ -23,6 +23,9 @@ returns c =
     let l = t.before.loop in
     counted_past _ l.at l.count l.invariant t.loop-test.true c.if1.true
 
+end-at-requires : tie.Need-end-at-requires invariant-loop decreases-loop
+end-at-requires c κs = search rules
+
 returns-2 : tie.Need-returns-2 invariant-loop decreases-loop
 returns-2 c =
     let e = c.before in
@@ -65,7 +68,7 @@ count-records-spec =
     decreases-loop
     loop-holds
     returns
-    (λ c κs. search rules)
+    end-at-requires
     returns-2
     add-count
     loop-less

@@ -8,11 +8,35 @@ use Rattle.calls.specs.Report.{record_end}
 use Rattle.weekly_report.proofs.end_at.Statement.{statement}
 use Rattle.weekly_report.proofs.end_at.Tie as tie
 
+sub-left : tie.Need-overflow-sub-left
+sub-left c = search rules
+
 returns : tie.Need-returns
 returns c =
     let a = c.before.before.args in
     let h : length a.s.now < record_end a.s.now a.at = omega arith in
     rw (lt-ltb (length a.s.now) (record_end a.s.now a.at) h)
+
+length-at-requires : tie.Need-length-at-requires
+length-at-requires c κs = search rules
+
+add-length-at : tie.Need-overflow-add-length-at
+add-length-at c = search rules
+
+length-at-requires-2 : tie.Need-length-at-requires-2
+length-at-requires-2 c κs = search rules
+
+add-runs : tie.Need-overflow-add-runs
+add-runs c = search rules
+
+add-length-at-2 : tie.Need-overflow-add-length-at-2
+add-length-at-2 c = search rules
+
+length-at-requires-3 : tie.Need-length-at-requires-3
+length-at-requires-3 c κs = search rules
+
+add-runs-2 : tie.Need-overflow-add-runs-2
+add-runs-2 c = search rules
 
 returns-2 : tie.Need-returns-2
 returns-2 c =
@@ -23,6 +47,12 @@ returns-2 c =
     let h : length a.s.now < record_end a.s.now a.at =
     omega (arith, x.length_at.ensures.0, y.length-at2.ensures.0, z.length-at3.ensures.0) in
     rw (lt-ltb (length a.s.now) (record_end a.s.now a.at) h)
+
+add-result : tie.Need-overflow-add-result
+add-result c = search rules
+
+add-result-2 : tie.Need-overflow-add-result-2
+add-result-2 c = search rules
 
 returns-3 : tie.Need-returns-3
 returns-3 c =
@@ -39,16 +69,16 @@ pub end-at-spec : {M : Type 1} → statement M
 end-at-spec =
     tie.close
     (tie.spec
-    (λ c. search rules)
+    sub-left
     returns
-    (λ c κs. search rules)
-    (λ c. search rules)
-    (λ c κs. search rules)
-    (λ c. search rules)
-    (λ c. search rules)
-    (λ c κs. search rules)
-    (λ c. search rules)
+    length-at-requires
+    add-length-at
+    length-at-requires-2
+    add-runs
+    add-length-at-2
+    length-at-requires-3
+    add-runs-2
     returns-2
-    (λ c. search rules)
-    (λ c. search rules)
+    add-result
+    add-result-2
     returns-3)

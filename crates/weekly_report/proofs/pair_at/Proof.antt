@@ -27,6 +27,72 @@ runs-cut s at x y z e f g short h =
     let k : at + 6 + x + y + z - (at + 6 + x + y) ≡ z = omega arith in
     rw (i, j, k, e, f, g, h)
 
+add_a : tie.Need-overflow-add-a
+add_a c = search rules
+
+length-at-requires : tie.Need-length-at-requires
+length-at-requires c κs = search rules
+
+add-b : tie.Need-overflow-add-b
+add-b c = search rules
+
+add-length-at : tie.Need-overflow-add-length-at
+add-length-at c = search rules
+
+length-at-requires-2 : tie.Need-length-at-requires-2
+length-at-requires-2 c κs = search rules
+
+add-c : tie.Need-overflow-add-c
+add-c c = search rules
+
+add-length-at-2 : tie.Need-overflow-add-length-at-2
+add-length-at-2 c = search rules
+
+length-at-requires-3 : tie.Need-length-at-requires-3
+length-at-requires-3 c κs = search rules
+
+add-d : tie.Need-overflow-add-d
+add-d c = search rules
+
+sub-pair : tie.Need-overflow-sub-pair
+sub-pair c = search rules
+
+part-pair-start : tie.Need-slice-bounds-pair-start
+part-pair-start c = search rules
+
+part-pair-end : tie.Need-slice-bounds-pair-end
+part-pair-end c = search rules
+
+sub-pair-2 : tie.Need-overflow-sub-pair-2
+sub-pair-2 c = search rules
+
+part-pair-start-2 : tie.Need-slice-bounds-pair-start-2
+part-pair-start-2 c = search rules
+
+part-pair-end-2 : tie.Need-slice-bounds-pair-end-2
+part-pair-end-2 c = search rules
+
+sub-pair-3 : tie.Need-overflow-sub-pair-3
+sub-pair-3 c = search rules
+
+part-pair-start-3 : tie.Need-slice-bounds-pair-start-3
+part-pair-start-3 c = search rules
+
+part-pair-end-3 : tie.Need-slice-bounds-pair-end-3
+part-pair-end-3 c = search rules
+
+pair-requires : tie.Need-pair-requires
+pair-requires c κs = search rules
+
+same_length : tie.Need-same-length
+same_length c = search rules
+
+same-length-2 : tie.Need-same-length-2
+same-length-2 c = search rules
+
+same-length-3 : tie.Need-same-length-3
+same-length-3 c = search rules
+
 returns : tie.Need-returns
 returns c =
     let p = c.before.before.before.before in
@@ -45,26 +111,26 @@ pub pair-at-spec : {M : Type 1} → statement M
 pair-at-spec =
     tie.close
     (tie.spec
-    (λ c. search rules)
-    (λ c κs. search rules)
-    (λ c. search rules)
-    (λ c. search rules)
-    (λ c κs. search rules)
-    (λ c. search rules)
-    (λ c. search rules)
-    (λ c κs. search rules)
-    (λ c. search rules)
-    (λ c. search rules)
-    (λ c. search rules)
-    (λ c. search rules)
-    (λ c. search rules)
-    (λ c. search rules)
-    (λ c. search rules)
-    (λ c. search rules)
-    (λ c. search rules)
-    (λ c. search rules)
-    (λ c κs. search rules)
-    (λ c. search rules)
-    (λ c. search rules)
-    (λ c. search rules)
+    add_a
+    length-at-requires
+    add-b
+    add-length-at
+    length-at-requires-2
+    add-c
+    add-length-at-2
+    length-at-requires-3
+    add-d
+    sub-pair
+    part-pair-start
+    part-pair-end
+    sub-pair-2
+    part-pair-start-2
+    part-pair-end-2
+    sub-pair-3
+    part-pair-start-3
+    part-pair-end-3
+    pair-requires
+    same_length
+    same-length-2
+    same-length-3
     returns)

@@ -3,7 +3,7 @@ use borrow.Author.Rules.{rules}
 use native.Mathlib.Omega.{arith}
 use mathlib.Core.Path.{◌≡◌, sym, ◌∙◌}
 use mathlib.Core.Bool.{false}
-use Rattle.counting.proofs.Bounded.{Bounded}
+use Rattle.counting.specs.Counting.{Bounded}
 use Rattle.calls.specs.Tables.{Tables, tables, tables_short}
 use Rattle.work_tables.specs.Tables.{Long}
 use Rattle.work_tables.proofs.Tables.{tables_long}
@@ -32,11 +32,26 @@ bytes c = known c.before.before.before.before
 long : (c : tie.Else1) → Long (lent (start c))
 long c = tables_long _ (not_short c)
 
+is-short-requires : tie.Need-is-short-requires
+is-short-requires c κs = search rules
+
+refuse-requires : tie.Need-refuse-requires
+refuse-requires c κs = search rules
+
 returns : tie.Need-returns
 returns c =
     let i = c.before in
     let s = i.before.before.before.before.before in
     tables_short_lem _ _ (lent s) (known i.before.before.before.before) (sym i.before.is-short.ensures ∙ i.if1.true) _ c.refuse.ensures
+
+count-records-requires : tie.Need-count-records-requires
+count-records-requires c κs = search rules
+
+enum-known-count : tie.Need-enum-known-count
+enum-known-count c = search rules
+
+refuse-requires-2 : tie.Need-refuse-requires-2
+refuse-requires-2 c κs = search rules
 
 returns-2 : tie.Need-returns-2
 returns-2 c =
@@ -54,8 +69,17 @@ answer-records-requires c κs =
     let e = n.before in
     (roomy _ _ (lent (start e)) (bytes e) (not_short e) _ n.count-records.ensures _ k.count.given.1 i.if2.false, long e)
 
+enum-known-place : tie.Need-enum-known-place
+enum-known-place c = search rules
+
 clear-tables-requires : tie.Need-clear-tables-requires
 clear-tables-requires c κs = long c.before.before.before.before.before.before.before
+
+refuse-requires-3 : tie.Need-refuse-requires-3
+refuse-requires-3 c κs = search rules
+
+same_length : tie.Need-same-length
+same_length c = search rules
 
 same-length-2 : tie.Need-same-length-2
 same-length-2 c =
@@ -110,18 +134,18 @@ pub report-spec : {M : Type 1} → statement M
 report-spec =
     tie.close
     (tie.spec
-    (λ c κs. search rules)
-    (λ c κs. search rules)
+    is-short-requires
+    refuse-requires
     returns
-    (λ c κs. search rules)
-    (λ c. search rules)
-    (λ c κs. search rules)
+    count-records-requires
+    enum-known-count
+    refuse-requires-2
     returns-2
     answer-records-requires
-    (λ c. search rules)
+    enum-known-place
     clear-tables-requires
-    (λ c κs. search rules)
-    (λ c. search rules)
+    refuse-requires-3
+    same_length
     same-length-2
     same-length-3
     same-length-4

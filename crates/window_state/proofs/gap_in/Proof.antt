@@ -10,10 +10,10 @@ use Rattle.window_state.proofs.gap_in.Tie as tie
 
 returns : tie.Need-returns
 unfolding gap_in
-returns c = let n = c.before in ap₂ fraction (to_z-of_z {w = w64} (sfits_of n.signed64.type-inv) ∙ n.signed64.ensures) refl
+returns c = let n = c in ap₂ fraction (to_z-of_z {w = w64} (sfits_of n.signed64-num.type_inv) ∙ n.signed64-num.ensures) refl
 
-pub gap-in-spec : {M : Type 1} → statement M
-gap-in-spec =
+pub gap_in_spec : {M : Type 1} → statement M
+gap_in_spec =
     tie.close
     (tie.spec
     (λ c. search rules)

@@ -7,25 +7,25 @@ use Rattle.window_state.proofs.Pushes.{when_refused, when_accepted}
 use Rattle.window_state.proofs.push.Statement.{statement}
 use Rattle.window_state.proofs.push.Tie as tie
 
-returns : tie.Need-returns
+returns : tie.Need-returns-then-v-eq0
 returns c =
-    let p = c.before.before.before.before.before.before.before.before in
-    let w = p.before in
-    let s = p.before.before.before.before in
-    let e = p.push.ensures in (
-      e.0 ∙ ap (λ (x : GapWindow). push_verdict x s.args.arrival) w.window-in.ensures,
-      when_accepted s.args.state.now s.args.arrival w.window-in.result p.push.result e.0 w.window-in.ensures e.1.0 s.requires
-          c.before.before.before.before.if1.true _ c.before.before.put-newest.ensures,
+    let p = c in
+    let w = p in
+    let s = p in
+    let e = p.push-pushed.ensures in (
+      e.0 ∙ ap (λ (x : GapWindow). push_verdict x s.args.arrival) w.window_in.ensures,
+      when_accepted s.args.state.now s.args.arrival w.window_in.result p.push-pushed.result e.0 w.window_in.ensures e.1.0 s.requires
+          c.if-v-eq0.true _ c.put_newest.ensures,
     )
 
-returns-2 : tie.Need-returns-2
+returns-2 : tie.Need-returns-else-v-eq0
 returns-2 c =
-    let p = c.before.before.before.before in
-    let w = p.before in
-    let s = p.before.before.before.before in
-    let e = p.push.ensures in (
-      e.0 ∙ ap (λ (x : GapWindow). push_verdict x s.args.arrival) w.window-in.ensures,
-      when_refused s.args.state.now s.args.arrival w.window-in.result p.push.result e.0 c.if1.false,
+    let p = c in
+    let w = p in
+    let s = p in
+    let e = p.push-pushed.ensures in (
+      e.0 ∙ ap (λ (x : GapWindow). push_verdict x s.args.arrival) w.window_in.ensures,
+      when_refused s.args.state.now s.args.arrival w.window_in.result p.push-pushed.result e.0 c.if-v-eq0.false,
     )
 
 pub push_spec : {M : Type 1} → statement M

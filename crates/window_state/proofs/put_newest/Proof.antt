@@ -2,7 +2,6 @@
 use borrow.Author.Rules.{rules}
 use native.Mathlib.Omega.{arith}
 use mathlib.Core.Path.{◌≡◌, refl, ap, ◌∙◌}
-use mathlib.Core.List.{List}
 use Prim.Native.Nat.{ℕ, suc, ◌-◌, ◌≤◌}
 use lib.ListN.{length, length-set}
 use mir.Syntax.{w64}
@@ -12,25 +11,25 @@ use Rattle.window_state.proofs.Shifted.{replaced, one_fewer, later, later_length
 use Rattle.window_state.proofs.put_newest.Statement.{statement}
 use Rattle.window_state.proofs.put_newest.Tie as tie
 
-abbrev invariant-loop : tie.invariant-loop
+abbrev invariant-loop : tie.invariant-loop-i
 invariant-loop state₀ newest i₀ state i =
     (2 ≤ i)
     × ((i ≤ 64)
     × ((length state ≡ length state₀) × (state ≡ replaced state₀ (later state₀ (unsigned 63 newest.num) newest.den) i)))
 
-abbrev decreases-loop : tie.decreases-loop
+abbrev decreases-loop : tie.decreases-loop-i
 decreases-loop state₀ newest i₀ state i = i
 
-loop-holds : tie.Need-loop-init invariant-loop decreases-loop
+loop-holds : tie.Need-loop-i-init invariant-loop decreases-loop
 loop-holds c =
-    let s = c.before in
+    let s = c in
     let all = none_replaced s.args.state.now (unsigned 63 s.args.newest.num) s.args.newest.den s.requires in
     (omega arith, (omega arith, (refl, all)))
 
-loop-again : tie.Need-loop-preserved invariant-loop decreases-loop
+loop-again : tie.Need-loop-i-preserved invariant-loop decreases-loop
 loop-again c =
-    let l = c.before.before.loop in
-    let s = c.before.before.before.before in
+    let l = c.loop-i in
+    let s = c in
     let from = s.args.state.now in
     let a = unsigned 63 s.args.newest.num in
     let b = s.args.newest.den in
@@ -50,8 +49,8 @@ loop-again c =
     )
 
 -- the numerator is a number of 64 bits
-kept : (c : tie.After-struct-told invariant-loop decreases-loop)
-    → let n = c.before.before.before.before.args.newest.num in to_z w64 (of_z w64 n) ≡ n
+kept : (c : tie.After-struct_told-1 invariant-loop decreases-loop)
+    → let n = c.args.newest.num in to_z w64 (of_z w64 n) ≡ n
 kept c = search rules
 
 bits-requires : tie.Need-bits-requires invariant-loop decreases-loop
@@ -59,8 +58,8 @@ bits-requires c κs = search rules
 
 returns : tie.Need-returns invariant-loop decreases-loop
 returns c =
-    let l = c.before.before.before.loop in
-    let s = c.before.before.before.before.before in
+    let l = c.loop-i in
+    let s = c in
     let from = s.args.state.now in
     let a = unsigned 63 s.args.newest.num in
     let b = s.args.newest.den in
@@ -69,8 +68,8 @@ returns c =
     l.invariant.1.1.1 ∙ ap (λ (n : ℕ). replaced from (later from a b) n) e in
     rw (put, rw (kept c.before) at c.bits.ensures) (first_two from a b (omega (arith, s.requires)))
 
-pub put-newest-spec : {M : Type 1} → statement M
-put-newest-spec =
+pub put_newest_spec : {M : Type 1} → statement M
+put_newest_spec =
     tie.close
     (tie.spec
     invariant-loop
@@ -79,13 +78,13 @@ put-newest-spec =
     (λ c. omega arith)
     (λ c. omega arith)
     (λ c. omega arith)
-    (λ c. omega (arith, c.before.before.before.before.requires))
-    (λ c. omega (arith, c.before.before.before.before.requires))
-    (λ c. omega (arith, c.before.before.before.before.requires))
+    (λ c. omega (arith, c.requires))
+    (λ c. omega (arith, c.requires))
+    (λ c. omega (arith, c.requires))
     (λ c. omega arith)
     loop-again
     bits-requires
-    (λ c. omega (arith, c.before.before.before.before.before.requires))
-    (λ c. simp length-set (omega (arith, c.before.before.before.before.before.requires)))
-    (λ c. simp length-set c.before.before.before.loop.invariant.1.1.0)
+    (λ c. omega (arith, c.requires))
+    (λ c. simp length-set (omega (arith, c.requires)))
+    (λ c. simp length-set c.loop-i.invariant.1.1.0)
     returns)

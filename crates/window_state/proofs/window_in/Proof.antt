@@ -1,5 +1,4 @@
 -- `window_in`: the array is filled from the newest gap on.
-use borrow.Author.Rules.{rules}
 use native.Mathlib.Omega.{arith}
 use mathlib.Core.Path.{◌≡◌, refl, ap, ◌∙◌}
 use mathlib.Core.List.{List}
@@ -9,46 +8,45 @@ use Rattle.counting.specs.Counting.{listed}
 use Rattle.counting.proofs.Listed.{fill_more, fill_done}
 use Rattle.calls.specs.Fractions.{none}
 use Rattle.calls.specs.declared.Fraction.{Fraction}
-use Rattle.calls.specs.declared.GapWindow.{GapWindow}
 use Rattle.verdict_numbers.specs.States.{gap_in, window_in}
 use Rattle.window_state.proofs.window_in.Statement.{statement}
 use Rattle.window_state.proofs.window_in.Tie as tie
 
-abbrev invariant-loop : tie.invariant-loop
+abbrev invariant-loop : tie.invariant-loop-i
 invariant-loop state gaps₀ i₀ gaps i = (i ≤ 32) × ((length gaps ≡ 32) × (take i gaps ≡ listed i (gap_in state)))
 
-abbrev decreases-loop : tie.decreases-loop
+abbrev decreases-loop : tie.decreases-loop-i
 decreases-loop state gaps₀ i₀ gaps i = 32 - i
 
-loop-holds : tie.Need-loop-init invariant-loop decreases-loop
+loop-holds : tie.Need-loop-i-init invariant-loop decreases-loop
 unfolding listed
 loop-holds c = (omega arith, (length-replicate 32 none, refl))
 
-gap-in-requires : tie.Need-gap-in-requires invariant-loop decreases-loop
-gap-in-requires c κs = omega (arith, c.before.before.before.requires)
+gap-in-requires : tie.Need-gap_in-gap-requires invariant-loop decreases-loop
+gap-in-requires c κs = omega (arith, c.requires)
 
-loop-again : tie.Need-loop-preserved invariant-loop decreases-loop
+loop-again : tie.Need-loop-i-preserved invariant-loop decreases-loop
 loop-again c =
-    let l = c.before.before.loop in
-    let s = c.before.before.before.before.args.state.now in
+    let l = c.loop-i in
+    let s = c.args.state.now in
     let h = l.invariant.1.0 in (
       omega arith,
       (
-        length-set l.gaps l.i c.gap-in.result ∙ h,
-        fill_more (gap_in s) l.gaps l.i c.gap-in.result (omega arith) c.gap-in.ensures l.invariant.1.1,
+        length-set l.gaps l.i c.gap_in-gap.result ∙ h,
+        fill_more (gap_in s) l.gaps l.i c.gap_in-gap.result (omega arith) c.gap_in-gap.ensures l.invariant.1.1,
       ),
     )
 
 returns : tie.Need-returns invariant-loop decreases-loop
 unfolding window_in
 returns c =
-    let l = c.before.before.loop in
-    let s = c.before.before.before.before.args.state.now in
+    let l = c.loop-i in
+    let s = c.args.state.now in
     ap (λ (g : List Fraction). record { gaps = g; count = get_or s 64 0 })
     (fill_done (gap_in s) l.gaps 32 l.i l.invariant.1.0 (omega arith) l.invariant.1.1)
 
-pub window-in-spec : {M : Type 1} → statement M
-window-in-spec =
+pub window_in_spec : {M : Type 1} → statement M
+window_in_spec =
     tie.close
     (tie.spec
     invariant-loop
