@@ -1,5 +1,7 @@
 // The commands of the certificate stream, one by one: which a byte names, how long it is, what it says, and the checks
 // that it may be refused by.
+#![tactic(auto)]
+
 ghost use Rattle.std.specs.Prelude.{◌≡◌, ◌+◌, ◌≤◌, length};
 ghost use Rattle.format.specs.ProblemRules.{Problem};
 ghost use Rattle.format.specs.Layouts.{ZeroUnknown};
@@ -12,7 +14,7 @@ use format::certificate::{Command, Header, Instruction};
 
 // What the checks of a command look at: how many rows have begun, the basis of the row begun last, and the least index
 // that its next entry may have.
-#[derive(Drop)]
+#[derive(Clone, Copy)]
 pub struct Progress {
     pub rows: usize,
     pub basis: usize,

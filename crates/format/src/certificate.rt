@@ -1,6 +1,6 @@
 // The commands of the certificate stream, and its header.
 
-#[derive(Drop)]
+#[derive(Clone, Copy)]
 pub enum Command {
     Header,
     Row,
@@ -12,7 +12,7 @@ pub enum Command {
 }
 
 // A command with its operands.
-#[derive(Drop)]
+#[derive(Clone, Copy)]
 pub enum Instruction {
     Header(u8, u16, i32, u16),
     Row(u8, u16),
@@ -23,7 +23,7 @@ pub enum Instruction {
 }
 
 // What the first command states: the side (0 lower, 1 upper), D, and the bound p/q.
-#[derive(Drop)]
+#[derive(Clone, Copy)]
 pub struct Header {
     pub side: usize,
     pub scale: u16,

@@ -1,6 +1,6 @@
 // The commands of the problem stream, and the kinds of its conditions.
 
-#[derive(Drop)]
+#[derive(Clone, Copy)]
 pub enum Command {
     Variables,
     Objective,
@@ -15,7 +15,7 @@ pub enum Command {
 }
 
 // A command with its operands. A monomial is its key.
-#[derive(Drop)]
+#[derive(Clone, Copy)]
 pub enum Instruction {
     Variables(usize),
     Objective(u64, i32),
@@ -29,7 +29,7 @@ pub enum Instruction {
 }
 
 // The kind of a condition: an inequality asks that its polynomial be at least 0, an equality that it be 0.
-#[derive(Drop)]
+#[derive(Clone, Copy)]
 pub enum Kind {
     Inequality,
     Equality,

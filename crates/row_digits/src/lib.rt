@@ -6,7 +6,7 @@ ghost use Rattle.std.specs.Prelude.{◌≡◌, ◌≤◌, length};
 ghost use Rattle.row_digits.specs.Digits.{high_digit, low_digit, HoldsDigits};
 
 // The parts of the products: w * l0 * l0', then 2^16 * w * (l0 * h' + h * l0'), then 2^32 * w * h * h'.
-#[derive(Drop)]
+#[derive(Clone, Copy)]
 pub enum Part {
     Low,
     Cross,

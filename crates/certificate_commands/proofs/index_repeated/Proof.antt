@@ -6,5 +6,5 @@ use Rattle.certificate_commands.proofs.index_repeated.Tie as tie
 returns : tie.Need-returns
 returns c = λ k e. below_floor k _ e _
 
-pub index-repeated-spec : {M : Type 1} → statement M
-index-repeated-spec = tie.close (tie.spec returns)
+pub index_repeated_spec : {M : Type 1} → statement M
+index_repeated_spec = tie.close (tie.spec returns)

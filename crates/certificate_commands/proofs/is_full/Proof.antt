@@ -3,26 +3,26 @@ use borrow.Author.Rules.{rules}
 use Rattle.certificate_commands.proofs.is_full.Statement.{statement}
 use Rattle.certificate_commands.proofs.is_full.Tie as tie
 
-returns : tie.Need-returns
+returns : tie.Need-returns-in-Header
 returns c = λ k e. search rules
 
-returns-2 : tie.Need-returns-2
-returns-2 c = λ k e. rw c.before.enum-told2.given.1 (c.rows-full.ensures k e)
+returns-2 : tie.Need-returns-in-Row
+returns-2 c = λ k e. rw c.in-Row.is (c.rows_full.ensures k e)
 
-returns-3 : tie.Need-returns-3
+returns-3 : tie.Need-returns-in-Entry
 returns-3 c = λ k e. search rules
 
-returns-4 : tie.Need-returns-4
+returns-4 : tie.Need-returns-in-End
 returns-4 c = λ k e. search rules
 
-returns-5 : tie.Need-returns-5
-returns-5 c = λ k e. rw c.before.enum-told5.given.1 (c.rows-full2.ensures k e)
+returns-5 : tie.Need-returns-in-EqualityRow
+returns-5 c = λ k e. rw c.in-EqualityRow.is (c.rows_full-in-EqualityRow.ensures k e)
 
-returns-6 : tie.Need-returns-6
+returns-6 : tie.Need-returns-in-WideEntry
 returns-6 c = λ k e. search rules
 
-pub is-full-spec : {M : Type 1} → statement M
-is-full-spec =
+pub is_full_spec : {M : Type 1} → statement M
+is_full_spec =
     tie.close
     (tie.spec
     (λ c. search rules)

@@ -3,29 +3,29 @@ use borrow.Author.Rules.{rules}
 use Rattle.certificate_commands.proofs.is_placed.Statement.{statement}
 use Rattle.certificate_commands.proofs.is_placed.Tie as tie
 
-returns : tie.Need-returns
+returns : tie.Need-returns-in-Header
 returns c = λ k e. cc
 
-returns-2 : tie.Need-returns-2
+returns-2 : tie.Need-returns-in-Row
 returns-2 c = λ k e. cc
 
-returns-3 : tie.Need-returns-3
-returns-3 c = λ k e. rw c.before.enum-told3.given.1 (c.entry-placed.ensures k e)
+returns-3 : tie.Need-returns-in-Entry
+returns-3 c = λ k e. rw c.in-Entry.is (c.entry_placed.ensures k e)
 
-returns-4 : tie.Need-returns-4
+returns-4 : tie.Need-returns-in-End
 returns-4 c = λ k e. cc
 
-returns-5 : tie.Need-returns-5
+returns-5 : tie.Need-returns-in-Unknown
 returns-5 c = λ k e. search rules
 
-returns-6 : tie.Need-returns-6
+returns-6 : tie.Need-returns-in-EqualityRow
 returns-6 c = λ k e. cc
 
-returns-7 : tie.Need-returns-7
-returns-7 c = λ k e. rw c.before.enum-told7.given.1 (c.entry-placed2.ensures k e)
+returns-7 : tie.Need-returns-in-WideEntry
+returns-7 c = λ k e. rw c.in-WideEntry.is (c.entry_placed-in-WideEntry.ensures k e)
 
-pub is-placed-spec : {M : Type 1} → statement M
-is-placed-spec =
+pub is_placed_spec : {M : Type 1} → statement M
+is_placed_spec =
     tie.close
     (tie.spec
     (λ c. search rules)

@@ -8,5 +8,5 @@ use Rattle.certificate_commands.proofs.rows_full.Tie as tie
 returns : tie.Need-returns
 returns c = λ k e. ap (leb 128) (rows_are k _ e)
 
-pub rows-full-spec : {M : Type 1} → statement M
-rows-full-spec = tie.close (tie.spec returns)
+pub rows_full_spec : {M : Type 1} → statement M
+rows_full_spec = tie.close (tie.spec returns)

@@ -12,97 +12,97 @@ abbrev entry : tie.Start → Standing
 entry c = standing c.args.labels.now c.args.follow.now c.args.pairs.now c.args.table.now c.args.index.now c.args.start
 
 -- the sum is one of two indices
-abbrev begun : tie.Else1 → tie.Start
-begun c = c.before.before.before.before.before.before.before.before.before.before.before
+abbrev begun : tie.Else-p-gt4095 → tie.Start
+begun c = c.before.before.before.before.before.before.before.before.before.before
 
-found : (c : tie.Else1) → c.before.find-sum.result < 4096
-found c = omega (arith, c.if1.false)
+found : (c : tie.Else-p-gt4095) → c.find_sum-p.result < 4096
+found c = omega (arith, c.if-p-gt4095.false)
 
-at_low : (c : tie.After-told-at) → c.told_at.result < 6240
+at_low : (c : tie.After-told_at-at) → c.told_at-at.result < 6240
 at_low c =
     let s = begun c.before in
-    omega (arith, c.told_at.ensures, told_low s.args.basis.now s.pre.0.blocks.few _ (c.before.before.find-sum.ensures.pair (found c.before)))
+    omega (arith, c.told_at-at.ensures, told_low s.args.basis.now s.requires.0.blocks.few _ (c.find_sum-p.ensures.pair (found c.before)))
 
-find-sum-requires : tie.Need-find-sum-requires
+find-sum-requires : tie.Need-find_sum-p-requires
 find-sum-requires c κs =
-    let s = c.before.before.before.before.before.before.before.before.before in
+    let s = c in
     (s.requires.0.basis.basis.basis, s.requires.0.index.all s.requires.1, c.remainder.ensures)
 
-returns : tie.Need-returns
+returns : tie.Need-returns-then-p-gt4095
 returns c =
-    let s = c.before.before.before.before.before.before.before.before.before.before.before in
-    sum_none _ _ _ (entry s) _ s.requires.0 c.if1.true c.before.find-sum.ensures
+    let s = c in
+    sum_none _ _ _ (entry s.before.before.before.before.before.before.before.before.before.before) _ s.requires.0 c.if-p-gt4095.true c.find_sum-p.ensures
 
-told-at-requires : tie.Need-told-at-requires
+told-at-requires : tie.Need-told_at-at-requires
 told-at-requires c κs = found c
 
-mul-if2 : tie.Need-overflow-mul-if2
+mul-if2 : tie.Need-offset_bounds-pairs-at
 mul-if2 c = omega (arith, at_low c)
 
-slice-read-if2 : tie.Need-slice-read-if2
+slice-read-if2 : tie.Need-bounds-pairs-at
 slice-read-if2 c =
     let s = begun c.before.before in
-    omega (arith, at_low c.before, (s.pre.0.index.all s.pre.1).remainders.long)
+    omega (arith, at_low c.before, (s.requires.0.index.all s.requires.1).remainders.long)
 
-returns-2 : tie.Need-returns-2
+returns-2 : tie.Need-returns-then-pairs-at-gt1
 returns-2 c =
-    let t = c.before.before in
-    let e = t.before in
-    let s = begun e in
-    let f = e.before.find-sum.ensures in
-    sum_as _ _ _ _ _ _ (f.sum (found e))
-    (grew_same _ _ _ (entry s) s.pre.0
-    ((s.pre.0.met s.pre.1).at _ (f.pair (found e)) (subst (λ (z : ℕ). 2 ≤ get_or s.args.pairs.now z 0) t.told_at.ensures c.if2.true)))
+    let t = c in
+    let e = t in
+    let s = begun e.before.before.before in
+    let f = e.find_sum-p.ensures in
+    sum_as _ _ _ _ _ _ (f.sum (found e.before.before.before))
+    (grew_same _ _ _ (entry s) s.requires.0
+    ((s.requires.0.met s.requires.1).at _ (f.pair (found e.before.before.before)) (subst (λ (z : ℕ). 2 ≤ get_or s.args.pairs.now z 0) t.told_at-at.ensures c.if-pairs-at-gt1.true)))
 
-join-chain-requires : tie.Need-join-chain-requires
+join-chain-requires : tie.Need-join_chain-r-requires
 join-chain-requires c κs =
-    let e = c.before.before.before.before.before.before.before.before in
-    let s = begun e in
-    let f = e.before.find-sum.ensures in
-    (s.pre.0, s.pre.1, finds_as _ _ _ _ (sym (f.sum (found e))) f, found e)
+    let e = c in
+    let s = begun e.before.before.before.before.before.before.before.before in
+    let f = e.find_sum-p.ensures in
+    (s.requires.0, s.requires.1, finds_as _ _ _ _ (sym (f.sum (found e.before.before.before.before.before.before.before.before))) f, found e.before.before.before.before.before.before.before.before)
 
 -- after the joining
-abbrev call : tie.After-slice-known11 → tie.After-join-chain
+abbrev call : tie.After-slice_known-11-1 → tie.After-join_chain-r
 call c = c.before.before.before.before.before.before.before.before.before.before
 
-abbrev place : tie.After-join-chain → tie.After-told-at
+abbrev place : tie.After-join_chain-r → tie.After-told_at-at
 place c = c.before.before.before.before.before.before.before.before
 
-mul-pairs : tie.Need-overflow-mul-pairs
+mul-pairs : tie.Need-offset_bounds-pairs-at-2
 mul-pairs c = omega (arith, at_low (place (call c)))
 
-slice-write-pairs : tie.Need-slice-write-pairs
+slice-write-pairs : tie.Need-bounds-pairs-at-2
 slice-write-pairs c =
     let t = place (call c) in
     let s = begun t.before in
-    omega (arith, at_low t, (call c).join-chain.auto.1.1.1.1.0, (s.pre.0.index.all s.pre.1).remainders.long)
+    omega (arith, at_low t, (call c).join_chain-r.auto.pairs, (s.requires.0.index.all s.requires.1).remainders.long)
 
-same-length-3 : tie.Need-same-length-3
-same-length-3 c = (call c).join-chain.auto.0
+same-length-3 : tie.Need-shape_of-labels
+same-length-3 c = (call c).join_chain-r.auto.labels
 
-same-length-4 : tie.Need-same-length-4
-same-length-4 c = (call c).join-chain.auto.1.0
+same-length-4 : tie.Need-shape_of-follow
+same-length-4 c = (call c).join_chain-r.auto.follow
 
-same-length-5 : tie.Need-same-length-5
-same-length-5 c = length-set (call c).join-chain.new.1.1.1.1.0 (place (call c)).told_at.result 2 ∙ (call c).join-chain.auto.1.1.1.1.0
+same-length-5 : tie.Need-shape_of-pairs
+same-length-5 c = length-set (call c).join_chain-r.new.pairs (place (call c)).told_at-at.result 2 ∙ (call c).join_chain-r.auto.pairs
 
-same-length-6 : tie.Need-same-length-6
-same-length-6 c = (call c).join-chain.auto.1.1.1.1.1.0
+same-length-6 : tie.Need-shape_of-table
+same-length-6 c = (call c).join_chain-r.auto.table
 
-same-length-7 : tie.Need-same-length-7
-same-length-7 c = (call c).join-chain.auto.1.1.1.1.1.1.0
+same-length-7 : tie.Need-shape_of-index
+same-length-7 c = (call c).join_chain-r.auto.index
 
-returns-3 : tie.Need-returns-3
+returns-3 : tie.Need-returns
 returns-3 c =
     let j = call c in
     let t = place j in
-    let e = t.before in
-    let s = begun e in
-    let f = e.before.find-sum.ensures in
-    met_grew _ _ _ _ s.pre.1 (f.pair (found e)) (f.sum (found e)) (entry s) _ (sum_as _ _ _ _ _ _ (f.sum (found e)) j.join-chain.ensures) _ t.told_at.ensures
+    let e = t in
+    let s = begun e.before in
+    let f = e.find_sum-p.ensures in
+    met_grew _ _ _ _ s.requires.1 (f.pair (found e.before)) (f.sum (found e.before)) (entry s) _ (sum_as _ _ _ _ _ _ (f.sum (found e.before)) j.join_chain-r.ensures) _ t.told_at-at.ensures
 
-pub join-sum-spec : {M : Type 1} → statement M
-join-sum-spec =
+pub join_sum_spec : {M : Type 1} → statement M
+join_sum_spec =
     tie.close
     (tie.spec
     (λ c κs. search rules)

@@ -1,11 +1,12 @@
 -- `joining_basis::note_fits` meets its contract: the first n numbers are those that the first i exponents take to x.
-use Rattle.std.proofs.Common.{◌≡◌, ℕ, ◌+◌, ◌-◌, ◌*◌, ◌%◌, ◌^◌, ◌<◌, ◌≤◌, List, length, get_or, take, set, ◌∙◌, ⊎_elim, add-one, arith, length-set, take_all, take-suc-set, rules}
+use Rattle.std.proofs.Common.{◌≡◌, ℕ, ◌+◌, ◌-◌, ◌*◌, ◌%◌, ◌^◌, ◌<◌, ◌≤◌, List, length, get_or, take, set, ◌∙◌, add-one, arith, length-set, take_all, take-suc-set, rules}
 use lib.Bits.{bit_or}
 use lib.Seq.{take-set-le}
 use Rattle.round_laws.specs.Fits.{SumBits, Fitting}
 use Rattle.round_laws.proofs.Bits.{fit_is}
 use Rattle.round_laws.proofs.Fits.{fits_none, fitting_start, fitting_hit, fitting_miss}
 use Rattle.joining_basis.proofs.note_fits.Statement.{statement}
+use Rattle.joining_basis.proofs.note_fits.Lts.{then-s-bits, else-s-bits}
 use Rattle.joining_basis.proofs.note_fits.Tie as tie
 
 -- for every basis whose sums have no bits but these
@@ -26,72 +27,72 @@ module _ (T : List ℕ) (bits x i : ℕ) (h : i < length T) (low : get_or T i 0 
       rw (z, take-set-le n fits n r (omega arith))
       (fitting_miss T B x i h (take n fits) (f B few b) (fits_none B bits b few x (get_or T i 0) r small e d))
 
-abbrev invariant-loop : tie.invariant-loop
+abbrev invariant-loop : tie.invariant-loop-i
 invariant-loop fits₀ exponents bits x n₀ i₀ fits n i =
     (n ≤ i) × (i ≤ length exponents) × (length fits ≡ 32) × Fits-all (take i exponents) bits x (take n fits)
 
-abbrev decreases-loop : tie.decreases-loop
+abbrev decreases-loop : tie.decreases-loop-i
 decreases-loop fits₀ exponents bits x n₀ i₀ fits n i = length exponents - i
 
-loop-holds : tie.Need-loop-init invariant-loop decreases-loop
-loop-holds c = (omega arith, omega arith, c.before.requires.0, λ B _ _. fitting_start c.before.args.exponents.now B _)
+loop-holds : tie.Need-loop-i-init invariant-loop decreases-loop
+loop-holds c = (omega arith, omega arith, c.requires.0, λ B _ _. fitting_start c.args.exponents.now B _)
 
-mul-fits : tie.Need-overflow-mul-fits invariant-loop decreases-loop
+mul-fits : tie.Need-offset_bounds-fits-n invariant-loop decreases-loop
 mul-fits c =
-    let l = c.before.before.before in
-    record { fits = omega (arith, l.loop.invariant.0, l.loop.invariant.1, l.before.before.requires.1) }
+    let l = c in
+    record { fits = omega (arith, l.loop-i.invariant.0, l.loop-i.invariant.1, l.requires.1) }
 
-element-write-fits : tie.Need-element-write-fits invariant-loop decreases-loop
+element-write-fits : tie.Need-bounds-fits-n invariant-loop decreases-loop
 element-write-fits c =
-    let l = c.before.before.before in
-    omega (arith, l.loop.invariant.0, c.before.before.loop-test.true, l.before.before.requires.1)
+    let l = c in
+    omega (arith, l.loop-i.invariant.0, c.loop-i-test.true, l.requires.1)
 
 -- one number more, or none
-one : (c : tie.Joined1 invariant-loop decreases-loop) → c.if1.n ≤ 1
-one c = ⊎_elim (λ w. omega (arith, w.1)) (λ w. omega (arith, w.1)) c.if1.branch
+one : (c : tie.Joined-s-bits invariant-loop decreases-loop) → c.if-s-bits.n ≤ 1
+one c = elim c.if-s-bits.branch [ then-s-bits w ↦ omega (arith, w.n-is) | else-s-bits w ↦ omega (arith, w.n-is) ]
 
-add-n : tie.Need-overflow-add-n invariant-loop decreases-loop
+add-n : tie.Need-overflow_add-n invariant-loop decreases-loop
 add-n c =
-    let l = c.before.before.before.before.before in
-    record { fits = omega (arith, one c.before, l.loop.invariant.0, l.loop.invariant.1, l.before.before.requires.1) }
+    let l = c in
+    record { fits = omega (arith, one c.before, l.loop-i.invariant.0, l.loop-i.invariant.1, l.requires.1) }
 
-add-i : tie.Need-overflow-add-i invariant-loop decreases-loop
+add-i : tie.Need-overflow_add-i invariant-loop decreases-loop
 add-i c =
-    let l = c.before.before.before.before.before in
-    record { fits = omega (arith, l.loop.invariant.1, l.before.before.requires.1) }
+    let l = c in
+    record { fits = omega (arith, l.loop-i.invariant.1, l.requires.1) }
 
-loop-less : tie.Need-loop-smaller invariant-loop decreases-loop
-loop-less c = omega (arith, c.before.before.before.before.loop-test.true)
+loop-less : tie.Need-loop-i-smaller invariant-loop decreases-loop
+loop-less c = omega (arith, c.loop-i-test.true)
 
-loop-again : tie.Need-loop-preserved invariant-loop decreases-loop
+loop-again : tie.Need-loop-i-preserved invariant-loop decreases-loop
 loop-again c =
-    let j = c.before in
-    let w = j.before.wrapping-sub-u64 in
-    let i = j.before.before.before in
-    let l = i.before in
-    let s = l.before.before in
-    let v = l.loop.invariant in
-    let room : l.loop.n < length l.loop.fits = omega (arith, v.0, v.2, i.loop-test.true, s.requires.1) in (
-      omega (arith, one j, v.0),
-      omega (arith, i.loop-test.true),
-      length-set l.loop.fits l.loop.n w.result ∙ v.2,
-      ⊎_elim
-          (λ u. rw u.1 (hit _ _ _ _ i.loop-test.true (s.requires.2 l.loop.i) _ _ room v.3 w.result w.type-inv w.ensures u.0.taken))
-          (λ u. rw u.1 (miss _ _ _ _ i.loop-test.true (s.requires.2 l.loop.i) _ _ room v.3 w.result w.type-inv w.ensures u.0.left))
-          j.if1.branch,
+    let j = c in
+    let w = j.wrapping_sub_u64-s in
+    let i = j in
+    let l = i in
+    let s = l in
+    let v = l.loop-i.invariant in
+    let room : l.loop-i.n < length l.loop-i.fits = omega (arith, v.0, v.2, i.loop-i-test.true, s.requires.1) in (
+      omega (arith, one j.before, v.0),
+      omega (arith, i.loop-i-test.true),
+      length-set l.loop-i.fits l.loop-i.n w.result ∙ v.2,
+      elim j.if-s-bits.branch [
+        | then-s-bits u ↦ rw u.n-is (hit _ _ _ _ i.loop-i-test.true (s.requires.2 l.loop-i.i) _ _ room v.3 w.result w.type_inv w.ensures u.if-s-bits.true)
+        | else-s-bits u ↦ rw u.n-is (miss _ _ _ _ i.loop-i-test.true (s.requires.2 l.loop-i.i) _ _ room v.3 w.result w.type_inv w.ensures u.if-s-bits.false)
+      ],
     )
 
 returns : tie.Need-returns invariant-loop decreases-loop
 returns c =
-    let l = c.before in
-    let s = l.before.before in (
-      l.loop.invariant.2,
-      omega (arith, l.loop.invariant.0, l.loop.invariant.1, s.requires.1),
-      rw (take_all l.loop.i s.args.exponents.now c.loop-test.false) at l.loop.invariant.3,
+    let l = c in
+    let s = l in (
+      l.loop-i.invariant.2,
+      omega (arith, l.loop-i.invariant.0, l.loop-i.invariant.1, s.requires.1),
+      rw (take_all l.loop-i.i s.args.exponents.now c.loop-i-test.false) at l.loop-i.invariant.3,
     )
 
-pub note-fits-spec : {M : Type 1} → statement M
-note-fits-spec =
+pub note_fits_spec : {M : Type 1} → statement M
+note_fits_spec =
     tie.close
     (tie.spec
     invariant-loop
