@@ -14,10 +14,12 @@ quietly() {
     fi
 }
 
-# put_built FILE PLACE: a copy of the file there, unless what is there has the same bytes, which then keeps its date.
+# put_built FILE PLACE SUM: a copy of the file there, unless what is there has the same bytes, which then keeps its date; and beside it
+# the sum of the sources that it is built of, and its own.
 put_built() {
     mkdir -p "$(dirname "$2")"
     cmp -s "$1" "$2" || install -m "$([ -x "$1" ] && echo 755 || echo 644)" "$1" "$2"
+    [ "$(sum_of_sources)" != "$3" ] || echo "$3 $(sha256sum <"$2")" >"$2.of"
 }
 
 # build_program NAME..: proves and builds programs of crates/, to target/bin/NAME. Crates that have not changed are not proved again;
@@ -36,17 +38,20 @@ kit_words=(-mllvm -trap-unreachable -mllvm -disable-machine-licm -mllvm -disable
 
 # sum_of_sources: a sum of the kit's name and of all that a proof reads here.
 sum_of_sources() {
+    local folder folders=()
+    for folder in crates/*/src crates/*/specs crates/*/proofs; do [ ! -d "$folder" ] || folders+=("$folder"); done
     {
         rt version
         cat crates.txt
-        find crates/*/src crates/*/specs crates/*/proofs -type f -print0 | LC_ALL=C sort -z | xargs -0 sha256sum
+        find "${folders[@]}" -type f -print0 | LC_ALL=C sort -z | xargs -0 sha256sum
     } | sha256sum | cut -d' ' -f1
 }
 
-# proved_by_ci: whether `rt ci` has passed over just these sources here, and no other command has built a library since: what stands in
-# crates/*/out is then what rt ci proved and built. (The other commands write a stamp beside each library, and rt ci does not.)
+# proved_by_ci SUM: whether `rt ci` has passed here over just the sources of this sum, and no other command has built a library since:
+# what stands in crates/*/out is then what rt ci proved and built. (The other commands write a stamp beside each library, and rt ci does
+# not.)
 proved_by_ci() {
-    [ -s target/by-ci ] && ! compgen -G 'crates/*/out/rlib/stamp' >/dev/null && [ "$(cat target/by-ci)" = "$(sum_of_sources)" ]
+    [ -s target/by-ci ] && ! compgen -G 'crates/*/out/rlib/stamp' >/dev/null && [ "$(cat target/by-ci)" = "$1" ]
 }
 
 # made_of FILE: what a file was made of, the archive of the C functions, and its own bytes.
