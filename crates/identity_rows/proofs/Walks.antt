@@ -17,7 +17,7 @@ use Rattle.format.specs.CertificateRules.{Row}
 use Rattle.format.proofs.All.{all_map}
 use Rattle.accepting.specs.Identity.{squares}
 use Rattle.flat.specs.TermArrays.{terms_in}
-use Rattle.flat.specs.Flat.{conditions_at, basis_in, FlatLimits}
+use Rattle.flat.specs.Flat.{basis_in, FlatLimits}
 use Rattle.flat.proofs.Flat.{basis_size, multiplier_size, basis_long, exponents_long, coefficients_long, basis_low, multiplier_low, coefficients_small, terms_part}
 use Rattle.certificate_rows.specs.Offsets.{rows_by}
 use Rattle.wide_sums.specs.Sums.{step}

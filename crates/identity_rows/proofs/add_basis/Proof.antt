@@ -11,96 +11,96 @@ use Rattle.identity_rows.proofs.Walks.{part_spreadable, rows_for, part_framed, b
 use Rattle.identity_rows.proofs.add_basis.Statement.{statement}
 use Rattle.identity_rows.proofs.add_basis.Tie as tie
 
-abbrev start : tie.After-add-basis-rows → tie.Start
+abbrev start : tie.After-add_basis_rows-found → tie.Start
 start c = c.before.before.before.before.before.before
 
 -- there are rows on the basis
-module _ (c : tie.Else1) where
-  abbrev gathered : tie.After-add-basis-rows
+module _ (c : tie.Else-not-found) where
+  abbrev gathered : tie.After-add_basis_rows-found
   gathered = c.before.before.before
 
   abbrev s : tie.Start
   s = start gathered
 
   few : s.args.j < 9
-  few = s.pre.1.1
+  few = s.requires.1.1
 
   limits : FlatLimits s.args.keys.now s.args.coefficients.now s.args.sizes.now
-  limits = s.pre.1.0.flat.limits
+  limits = s.requires.1.0.flat.limits
 
-add-basis-rows-requires : tie.Need-add-basis-rows-requires
+add-basis-rows-requires : tie.Need-add_basis_rows-found-requires
 add-basis-rows-requires c κs =
-    let s = c.before.before.before.before.before in
+    let s = c in
     let p = s.requires in
     (p.0.1.empty, rows_for p.1.0 s.args.j p.1.1 p.0.1)
 
-returns : tie.Need-returns
+returns : tie.Need-returns-then-not-found
 returns c =
-    let a = c.before.before.before in
-    let s = start a in
-    let p = s.pre in
+    let a = c in
+    let s = start a.before.before.before in
+    let p = s.requires in
     let j = s.args.j in
-    let g = a.add-basis-rows.ensures in
-    let e : a.add-basis-rows.result.any ≡ false = not-true _ c.if1.true in (
+    let g = a.add_basis_rows-found.ensures in
+    let e : a.add_basis_rows-found.result.any ≡ false = not-true _ c.if-not-found.true in (
       none_summed p.1.0 j p.1.1 p.0.1 g e,
       none_room p.1.0 j p.1.1 p.0.1 g e,
       basis_alone p.1.0 j p.1.1 p.0.1 g,
     )
 
-basis-requires : tie.Need-basis-requires
+basis-requires : tie.Need-basis-basis-requires
 basis-requires c κs = (omega (arith, few c, (limits c).sizes_length), basis_fits (limits c) (s c).args.j (few c))
 
-exponents-requires : tie.Need-exponents-requires
+exponents-requires : tie.Need-exponents-es-requires
 exponents-requires c κs =
-    let e = c.before in
-    let l : (s e).args.j ≤ 9 = omega (arith, few e) in
-    (polynomial_counted (limits e) (s e).args.j l, exponents_fit (limits e) (s e).args.j l)
+    let e = c in
+    let l : (s e.before).args.j ≤ 9 = omega (arith, few e.before) in
+    (polynomial_counted (limits e.before) (s e.before).args.j l, exponents_fit (limits e.before) (s e.before).args.j l)
 
-coefficients-requires : tie.Need-coefficients-requires
+coefficients-requires : tie.Need-coefficients-cs-requires
 coefficients-requires c κs =
-    let e = c.before.before in
-    let l : (s e).args.j ≤ 9 = omega (arith, few e) in
-    (polynomial_counted (limits e) (s e).args.j l, coefficients_fit (limits e) (s e).args.j l)
+    let e = c in
+    let l : (s e.before.before).args.j ≤ 9 = omega (arith, few e.before.before) in
+    (polynomial_counted (limits e.before.before) (s e.before.before).args.j l, coefficients_fit (limits e.before.before) (s e.before.before).args.j l)
 
-fold-large-requires : tie.Need-fold-large-requires
+fold-large-requires : tie.Need-fold_large-requires
 fold-large-requires c κs =
-    let b = c.before.before.before in
-    let e = b.before in
-    let q = part_spreadable (limits e) (s e).args.j (few e) in
-    rw b.basis.ensures (q.basis_few, q.basis_low, part_framed (s e).requires.1.0 (s e).args.j (few e) (s e).requires.0.1 (gathered e).add-basis-rows.ensures)
+    let b = c in
+    let e = b in
+    let q = part_spreadable (limits e.before.before.before.before) (s e.before.before.before.before).args.j (few e.before.before.before.before) in
+    rw b.basis-basis.ensures (q.basis_few, q.basis_low, part_framed (s e.before.before.before.before).requires.1.0 (s e.before.before.before.before).args.j (few e.before.before.before.before) (s e.before.before.before.before).requires.0.1 (gathered e.before.before.before.before).add_basis_rows-found.ensures)
 
 spread-requires : tie.Need-spread-requires
 spread-requires c κs =
-    let f = c.before.before.before.before in
-    let k = f.before.before in
-    let x = k.before in
-    let b = x.before in
-    let e = b.before in (
-      (s e).requires.0.0,
-      rw (b.basis.ensures, x.exponents.ensures, k.coefficients.ensures)
-          (part_spreadable (limits e) (s e).args.j (few e), (rw b.basis.ensures at f.fold-large.ensures).framed),
+    let f = c in
+    let k = f in
+    let x = k in
+    let b = x in
+    let e = b in (
+      (s e.before.before.before.before.before.before.before.before.before).requires.0.0,
+      rw (b.basis-basis.ensures, x.exponents-es.ensures, k.coefficients-cs.ensures)
+          (part_spreadable (limits e.before.before.before.before.before.before.before.before.before) (s e.before.before.before.before.before.before.before.before.before).args.j (few e.before.before.before.before.before.before.before.before.before), (rw b.basis-basis.ensures at f.fold_large.ensures).framed),
     )
 
-returns-2 : tie.Need-returns-2
+returns-2 : tie.Need-returns
 returns-2 c =
-    let d = c.before.before.before in
-    let f = d.before.before.before.before.before in
-    let k = f.before.before in
-    let x = k.before in
-    let b = x.before in
-    let e = b.before in
-    let p = (s e).requires in
-    let j = (s e).args.j in
-    let g = (gathered e).add-basis-rows.ensures in
-    let t = rw b.basis.ensures at f.fold-large.ensures in
-    let u = rw (b.basis.ensures, x.exponents.ensures, k.coefficients.ensures) at d.spread.ensures in (
-      rows_summed p.1.0 j (few e) p.0.1 g t u,
-      spread_room p.1.0 j (few e) p.0.1 g t u,
-      basis_alone p.1.0 j (few e) p.0.1 g,
+    let d = c in
+    let f = d in
+    let k = f in
+    let x = k in
+    let b = x in
+    let e = b in
+    let p = (s e.before.before.before.before.before.before.before.before.before.before.before.before.before).requires in
+    let j = (s e.before.before.before.before.before.before.before.before.before.before.before.before.before).args.j in
+    let g = (gathered e.before.before.before.before.before.before.before.before.before.before.before.before.before).add_basis_rows-found.ensures in
+    let t = rw b.basis-basis.ensures at f.fold_large.ensures in
+    let u = rw (b.basis-basis.ensures, x.exponents-es.ensures, k.coefficients-cs.ensures) at d.spread.ensures in (
+      rows_summed p.1.0 j (few e.before.before.before.before.before.before.before.before.before.before.before.before.before) p.0.1 g t u,
+      spread_room p.1.0 j (few e.before.before.before.before.before.before.before.before.before.before.before.before.before) p.0.1 g t u,
+      basis_alone p.1.0 j (few e.before.before.before.before.before.before.before.before.before.before.before.before.before) p.0.1 g,
     )
 
-pub add-basis-spec : {M : Type 1} → statement M
-add-basis-spec =
+pub add_basis_spec : {M : Type 1} → statement M
+add_basis_spec =
     tie.close
     (tie.spec
     add-basis-rows-requires

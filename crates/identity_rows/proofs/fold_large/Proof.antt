@@ -8,20 +8,20 @@ use Rattle.identity_rows.proofs.fold_large.Tie as tie
 fold-requires : tie.Need-fold-requires
 fold-requires c κs = search rules
 
-same_length : tie.Need-same-length
+same_length : tie.Need-shape_of-g
 same_length c = search rules
 
-returns : tie.Need-returns
+returns : tie.Need-returns-then-basis-gt-SMALL
 returns c = search rules
 
-returns-2 : tie.Need-returns-2
+returns-2 : tie.Need-returns-else-basis-gt-SMALL
 returns-2 c =
-    let f = c.before.before.requires.2 in
+    let f = c.requires.2 in
     record {
       framed = record { long = f.long; columns = f.columns; lower = f.lower; small = λ x. omega (arith, f.small x) };
       same = λ G k. refl;
       long = refl;
     }
 
-pub fold-large-spec : {M : Type 1} → statement M
-fold-large-spec = tie.close (tie.spec fold-requires same_length returns returns-2)
+pub fold_large_spec : {M : Type 1} → statement M
+fold_large_spec = tie.close (tie.spec fold-requires same_length returns returns-2)

@@ -14,28 +14,28 @@ module _ (c : tie.After-cut) where
   s = c.before.before.before.before.before.before
 
   cut-is : c.cut.result ≡ halves_of s.args.y
-  cut-is = rw (to_z-of_z s.fits.y) at c.cut.ensures
+  cut-is = rw (to_z-of_z s.ranges.y) at c.cut.ensures
 
-slot-requires : tie.Need-slot-requires
+slot-requires : tie.Need-slot-at-requires
 slot-requires c κs = search rules
 
 cut-requires : tie.Need-cut-requires
 cut-requires c κs = search rules
 
-add-term-requires : tie.Need-add-term-requires
-add-term-requires c κs = ((s c).requires, rw (cut-is c) (scaled_once (s c).args.y (s c).ranges.y), c.before.before.before.slot.ensures)
+add-term-requires : tie.Need-add_term-requires
+add-term-requires c κs = ((s c).requires, rw (cut-is c) (scaled_once (s c).args.y (s c).ranges.y), c.slot-at.ensures)
 
-same_length : tie.Need-same-length
+same_length : tie.Need-shape_of-hi
 same_length c = search rules
 
-same-length-2 : tie.Need-same-length-2
+same-length-2 : tie.Need-shape_of-lo
 same-length-2 c = search rules
 
 returns : tie.Need-returns
 returns c =
-    let a = c.before.before in
-    let h = a.before in
-    grown_same a.add_term.ensures (λ k. halves_once (s h).args.y _ (cut-is h) _) (omega arith)
+    let a = c in
+    let h = a in
+    grown_same a.add_term.ensures (λ k. halves_once (s h.before.before.before).args.y _ (cut-is h.before.before.before) _) (omega arith)
 
-pub add-number-spec : {M : Type 1} → statement M
-add-number-spec = tie.close (tie.spec slot-requires cut-requires add-term-requires same_length same-length-2 returns)
+pub add_number_spec : {M : Type 1} → statement M
+add_number_spec = tie.close (tie.spec slot-requires cut-requires add-term-requires same_length same-length-2 returns)

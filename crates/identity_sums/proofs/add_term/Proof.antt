@@ -3,7 +3,6 @@ use borrow.Author.Rules.{rules}
 use mir.Facts.{to_z-of_z, sfits_widen}
 use mir.Syntax.{w64}
 use mir.Val.{SFits}
-use Prim.Native.Nat.{◌≤◌}
 use native.Mathlib.Omega.{arith}
 use Rattle.identity_sums.proofs.Growth.{sought_at, sought_nowhere, found_inside, room_high, room_low, grown_at, grown_gap}
 use Rattle.identity_sums.proofs.add_term.Statement.{statement}
@@ -13,42 +12,42 @@ use Rattle.identity_sums.proofs.add_term.Tie as tie
 wide : (c : tie.Start) → SFits w64 c.args.c
 wide c = sfits_widen tt c.ranges.c
 
-cast-add : tie.Need-overflow-cast-add
-cast-add c = let s = c.before.before.before.before.before.before.before.before in simp (to_z-of_z s.ranges.c) (wide s)
+cast-add : tie.Need-overflow_cast-c
+cast-add c = let s = c in simp (to_z-of_z s.ranges.c) (wide s.before.before.before.before.before.before)
 
 add-requires : tie.Need-add-requires
 add-requires c κs =
-    let q = c.before.before.before in
-    let f = q.before.before in
-    let s = f.before.before.before in
+    let q = c in
+    let f = q in
+    let s = f in
     let p = s.requires in
-    let t = sought_at p.0.support s.args.key _ f.find_at.ensures _ q.p.given.1 in
-    let b = found_inside p.0.support s.args.key _ f.find_at.ensures _ q.p.given.1 in
-    simp (to_z-of_z, s.ranges.c, wide s) (
+    let t = sought_at p.0.support s.args.key _ f.find_at.ensures _ q.in-At.is in
+    let b = found_inside p.0.support s.args.key _ f.find_at.ensures _ q.in-At.is in
+    simp (to_z-of_z, s.ranges.c, wide s.before.before.before.before.before.before) (
       room_high p.0 s.args.key _ t s.args.x s.args.c b p.1,
       room_low p.0 s.args.key _ t s.args.x s.args.c b p.1,
     )
 
-returns : tie.Need-returns
+returns : tie.Need-returns-in-At
 returns c =
-    let a = c.before.before in
-    let q = a.before.before.before.before in
-    let f = q.before.before in
-    let s = f.before.before.before in
+    let a = c in
+    let q = a in
+    let f = q in
+    let s = f in
     let p = s.requires in
-    let t = sought_at p.0.support s.args.key _ f.find_at.ensures _ q.p.given.1 in
-    let b = found_inside p.0.support s.args.key _ f.find_at.ensures _ q.p.given.1 in
-    let e = simp (to_z-of_z, s.ranges.c, wide s) at a.add.ensures in
+    let t = sought_at p.0.support s.args.key _ f.find_at.ensures _ q.in-At.is in
+    let b = found_inside p.0.support s.args.key _ f.find_at.ensures _ q.in-At.is in
+    let e = simp (to_z-of_z, s.ranges.c, wide s.before.before.before.before.before.before.before.before.before) at a.add.ensures in
     grown_at p.0 s.args.key _ t s.args.x s.args.c b p.1 e.0 e.1
 
-returns-2 : tie.Need-returns-2
+returns-2 : tie.Need-returns-in-Nowhere
 returns-2 c =
-    let f = c.before.before in
-    let s = f.before.before.before in
-    grown_gap s.requires.0 s.args.key _ (sought_nowhere s.requires.0.support s.args.key _ f.find_at.ensures _ c.enum_told.given.1) s.args.x s.args.c (omega arith)
+    let f = c in
+    let s = f in
+    grown_gap s.requires.0 s.args.key _ (sought_nowhere s.requires.0.support s.args.key _ f.find_at.ensures _ c.in-Nowhere.is) s.args.x s.args.c (omega arith)
 
-pub add-term-spec : {M : Type 1} → statement M
-add-term-spec =
+pub add_term_spec : {M : Type 1} → statement M
+add_term_spec =
     tie.close
     (tie.spec
     (λ c κs. search rules)

@@ -1,6 +1,6 @@
 -- `negate`: the two products fit 64 bits, and each side has its signs.
 use mathlib.Core.Path.{◌≡◌, refl}
-use Prim.Native.Nat.{◌^◌, ◌-◌, ◌*◌, ◌≤◌}
+use Prim.Native.Nat.{◌^◌, ◌≤◌}
 use native.Mathlib.Omega.{arith}
 use borrow.Author.Rules.{rules}
 use lib.IntN.{ℤ, pos, neg_ℤ, nat_abs, ◌*ℤ◌, ◌-ℤ◌}
@@ -48,56 +48,56 @@ module _ (c : tie.Start) where
   less-N : SFits w64 (pos 0 -ℤ N)
   less-N = rw (minus N) (abs_fits (omega (arith, small-N, abs_neg N)))
 
-cast-m : tie.Need-overflow-cast-m
+cast-m : tie.Need-overflow_cast-m
 cast-m c = search rules
 
-cast-m-2 : tie.Need-overflow-cast-m-2
+cast-m-2 : tie.Need-overflow_cast-m-2
 cast-m-2 c = search rules
 
-mul-m : tie.Need-overflow-mul-m
+mul-m : tie.Need-overflow_mul-m
 mul-m c = simp (to_z-of_z, fits-scale c, fits-q c) (fits-M c)
 
-cast-c : tie.Need-overflow-cast-c
+cast-c : tie.Need-overflow_cast-c
 cast-c c = search rules
 
-cast-c-2 : tie.Need-overflow-cast-c-2
+cast-c-2 : tie.Need-overflow_cast-c-2
 cast-c-2 c = simp (to_z-of_z c.ranges.p) (fits-p c)
 
-mul-c : tie.Need-overflow-mul-c
+mul-c : tie.Need-overflow_mul-c
 mul-c c = simp (to_z-of_z, c.ranges.p, fits-scale c, fits-p c) (fits-N c)
 
-sub-less-m : tie.Need-overflow-sub-less-m
+sub-less-m : tie.Need-overflow_sub-less_m
 sub-less-m c = simp (to_z-of_z, fits-scale c, fits-q c, fits-M c) (less-M c)
 
-sub-less-c : tie.Need-overflow-sub-less-c
+sub-less-c : tie.Need-overflow_sub-less_c
 sub-less-c c = simp (to_z-of_z, c.ranges.p, fits-scale c, fits-p c, fits-N c) (less-N c)
 
-returns : tie.Need-returns
+returns : tie.Need-returns-then-side-eq0
 returns c =
-    let s = c.before in
+    let s = c in
     let a = s.args in
-    let e : a.side ≡ 0 = c.if1.true in
-    simp (to_z-of_z, s.ranges.p, fits-scale s, fits-q s, fits-p s, fits-M s, fits-N s, less-M s, less-N s)
+    let e : a.side ≡ 0 = c.if-side-eq0.true in
+    simp (to_z-of_z, s.ranges.p, fits-scale s.before, fits-q s.before, fits-p s.before, fits-M s.before, fits-N s.before, less-M s.before, less-N s.before)
     (rw e (simp minus record {
       objective = refl;
       constant = back (pos a.scale) a.p;
-      objective_small = omega (arith, small-M s, abs_neg (M s));
-      constant_small = small-N s;
+      objective_small = omega (arith, small-M s.before, abs_neg (M s.before));
+      constant_small = small-N s.before;
     }))
 
-returns-2 : tie.Need-returns-2
+returns-2 : tie.Need-returns-else-side-eq0
 returns-2 c =
-    let s = c.before in
+    let s = c in
     let a = s.args in
-    simp (to_z-of_z, s.ranges.p, fits-scale s, fits-q s, fits-p s, fits-M s, fits-N s, less-M s, less-N s)
+    simp (to_z-of_z, s.ranges.p, fits-scale s.before, fits-q s.before, fits-p s.before, fits-M s.before, fits-N s.before, less-M s.before, less-N s.before)
     (simp minus record {
-      objective = rw (turned_other a.side (pos a.q) c.if1.false) (back (pos a.scale) (pos a.q));
-      constant = rw (turned_other a.side (neg_ℤ a.p) c.if1.false) (back_twice (pos a.scale) a.p);
-      objective_small = small-M s;
-      constant_small = omega (arith, small-N s, abs_neg (N s));
+      objective = rw (turned_other a.side (pos a.q) c.if-side-eq0.false) (back (pos a.scale) (pos a.q));
+      constant = rw (turned_other a.side (neg_ℤ a.p) c.if-side-eq0.false) (back_twice (pos a.scale) a.p);
+      objective_small = small-M s.before;
+      constant_small = omega (arith, small-N s.before, abs_neg (N s.before));
     })
 
-pub negate-spec : {M : Type 1} → statement M
-negate-spec =
+pub negate_spec : {M : Type 1} → statement M
+negate_spec =
     tie.close
     (tie.spec cast-m cast-m-2 mul-m cast-c cast-c-2 mul-c sub-less-m sub-less-c returns returns-2)

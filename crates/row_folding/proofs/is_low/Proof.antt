@@ -5,11 +5,11 @@ use Rattle.row_folding.proofs.Folds.{low_abs}
 use Rattle.row_folding.proofs.is_low.Statement.{statement}
 use Rattle.row_folding.proofs.is_low.Tie as tie
 
-returns : tie.Need-returns
+returns : tie.Need-returns-then-z-ltminus9007199254740992
 returns c = λ e. clash (cc)
 
-returns-2 : tie.Need-returns-2
-returns-2 c = let s = c.before in λ e. low_abs 9007199254740991 s.args.z (simp (to_z-of_z s.ranges.z) at c.if1.false) (simp (to_z-of_z s.ranges.z) at e)
+returns-2 : tie.Need-returns
+returns-2 c = let s = c in λ e. low_abs 9007199254740991 s.args.z (simp (to_z-of_z s.ranges.z) at c.if-z-ltminus9007199254740992.false) (simp (to_z-of_z s.ranges.z) at e)
 
-pub is-low-spec : {M : Type 1} → statement M
-is-low-spec = tie.close (tie.spec returns returns-2)
+pub is_low_spec : {M : Type 1} → statement M
+is_low_spec = tie.close (tie.spec returns returns-2)
