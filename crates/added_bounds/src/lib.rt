@@ -1,5 +1,7 @@
 // Request 12, two errors added: two problems over one region, with a pair for each. The public call is `sum`. Both
 // pairs are the checker's own.
+#![tactic(auto)]
+
 ghost use Rattle.std.specs.Prelude.{◌≡◌, ◌≤◌};
 ghost use Rattle.format.specs.ProblemRules.{read_problem};
 ghost use Rattle.fractions.specs.Ranges.{Bound};

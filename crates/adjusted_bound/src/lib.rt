@@ -1,5 +1,7 @@
 // Request 13: how far an adjusted coefficient moves the bound. The check decides on the certificate first; then the
 // changes are looked at, then the boxes, in the problem read once more, and then the side.
+#![tactic(auto)]
+
 ghost use Rattle.std.specs.Prelude.{◌≡◌, ◌&&◌, List, ℕ, ◌^◌, ◌≤◌, ◌<◌, negsuc};
 ghost use Rattle.polynomial.specs.Terms.{Term, term};
 ghost use Rattle.format.specs.ProblemRules.{Problem, read_problem};

@@ -1,5 +1,6 @@
 // What the calls return and leave, for all inputs, and what they promise: types here, definitions in specs/, theorems
 // in proofs/. No code.
+#![tactic(auto)]
 
 // A refusal, as document 01's table numbers them: number is 0 where nothing is refused, and then the other fields are
 // 0.

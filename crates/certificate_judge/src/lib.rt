@@ -1,4 +1,6 @@
 // What the public calls share: one certificate that is judged against a problem with its blocks.
+#![tactic(auto)]
+
 ghost use Rattle.std.specs.Prelude.{◌≡◌};
 ghost use Rattle.format.specs.ProblemRules.{Problem};
 ghost use Rattle.accepting.specs.Judgement as J;

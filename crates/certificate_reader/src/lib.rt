@@ -1,4 +1,6 @@
 // The reader of the certificate stream, which notes the offsets of the rows.
+#![tactic(auto)]
+
 ghost use Rattle.std.specs.Prelude.{◌≡◌, ◌<◌, length};
 ghost use Rattle.format.specs.ProblemRules.{Problem};
 ghost use Rattle.format.proofs.WithinLimits.{Limits};

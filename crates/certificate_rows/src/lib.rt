@@ -1,5 +1,7 @@
 // What stands at an offset of a certificate stream that is read: the operands of a row's command and of an entry's, and
 // where the next entry stands.
+#![tactic(auto)]
+
 ghost use Rattle.std.specs.Prelude.{◌≡◌, ◌+◌, ◌≤◌, length};
 ghost use Rattle.format.specs.declared.certificate.Command.TheVariants as C;
 ghost use Rattle.format.specs.CertificateLayout.{certificate_size};

@@ -1,5 +1,7 @@
 // The public calls: the blocks of a problem, the check of one certificate and the pair of two. Each makes its verdict
 // of what became of the problem and its certificates, which `problem_judge` finds.
+#![tactic(auto)]
+
 ghost use Rattle.std.specs.Prelude.{◌≡◌, false, ◌≤◌, length, drop};
 ghost use Rattle.joining_rule.specs.Bytes.{block_byte_count};
 ghost use Rattle.calls.specs.Tables.{table_length, tables, tables_short, TablesLeft};

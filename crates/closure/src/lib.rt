@@ -1,6 +1,8 @@
 // The joining rule applied to a problem that stands in the arrays of the crate flat: from its start to the closed
 // support, or the one reached where a sparse order ends the rounds, what is counted with it, and the blocks. The first
 // `len` numbers of `table` are the support, in the order in which they came, with `index`.
+#![tactic(auto)]
+
 ghost use Rattle.std.specs.Prelude.{◌≡◌, true, List, ◌*◌, ◌^◌, ◌≤◌, ℤ, length};
 ghost use Rattle.counting.specs.Counting.{from_to, Bounded};
 ghost use Rattle.format.specs.ProblemRules.{Problem};

@@ -1,6 +1,8 @@
 // A file's bytes, for the programs: all of them, or as many as the buffer takes, or none after a failed read. No
 // contract can say which bytes a read puts into the buffer; `tools/messages` and `tools/week_messages` test it, with
 // reads that fail, that a signal interrupts, and that move less than they were asked.
+#![tactic(auto)]
+
 mod messages;
 mod names;
 

@@ -2,6 +2,8 @@
 // those that the program's arguments name. `answer_to` decides, on three streams. All else here moves bytes: of a read
 // the kit's contracts say how many bytes were put into a buffer at most, and not which. So that the streams are the
 // contents of the files is not proved but tested, by the programs' stored runs and by `tools/messages`.
+#![tactic(auto)]
+
 mod messages;
 
 ghost use Rattle.std.specs.Prelude.{◌≡◌, ◌≤◌, length, take};

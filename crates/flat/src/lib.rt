@@ -1,5 +1,7 @@
 // Where a problem stands in the three arrays that a call owns and lends to its steps. The places are in
 // specs/Flat.antt, the laws of the parts in proofs/Flat.antt.
+#![tactic(auto)]
+
 ghost use Rattle.std.specs.Prelude.{◌≡◌, ◌+◌, ◌*◌, ◌≤◌, ◌<◌, length, get_or, take, drop};
 ghost use Rattle.flat.specs.Flat.{basis_at, exponents_at, coefficients_at, count_at, kind_at, basis_in, equality_in};
 

@@ -1,5 +1,7 @@
 // gapcheck: whether two certificates hold for a problem, and the bounds and the gap that they prove. Its run is case F
 // of document 01.
+#![tactic(auto)]
+
 use libc::STDOUT_FILENO;
 
 // Whether the first argument is this word.

@@ -6,6 +6,8 @@
 // difference, whatever is added later, and the smallest key of such a sum is kept. So a sum holds no more than a part.
 //
 // The parameters stand in the order of identity_rows.
+#![tactic(auto)]
+
 ghost use Rattle.std.specs.Prelude.{◌≡◌, false, ℕ, ◌+◌, ◌*◌, ◌^◌, ◌≤◌, ◌<◌, pos, ◌*ℤ◌, length, get_or};
 ghost use Rattle.polynomial.specs.Algebra.{coefficient};
 ghost use Rattle.format.specs.ProblemLimits.{most_bases};

@@ -5,6 +5,8 @@
 // and their number), the problem (keys, coefficients and sizes, as in the crate flat) and the compared keys (a table,
 // how many they are, and their index); then the two tables of sums. A struct cannot hold the slices, so the functions
 // that need all three have more than eight parameters.
+#![tactic(auto)]
+
 ghost use Rattle.std.specs.Prelude.{◌≡◌, false, ◌*◌, ◌^◌, ◌≤◌, ◌<◌, ◌*ℤ◌, length};
 ghost use Rattle.format.specs.ProblemLimits.{most_bases};
 ghost use Rattle.key_set.specs.Table.{divisor_in};

@@ -1,5 +1,7 @@
 // The sums at the compared keys, in two lent tables: a product added at its key, a polynomial added so many times, and
 // minus the claim. The compared keys are a table, how many they are, and their index.
+#![tactic(auto)]
+
 ghost use Rattle.std.specs.Prelude.{◌≡◌, ◌+◌, ◌*◌, ◌%◌, ◌≤◌, nat_abs, neg_ℤ, ◌*ℤ◌, length};
 ghost use Rattle.polynomial.specs.Algebra.{sum, match, coefficient};
 ghost use Rattle.accepting.specs.Identity.{claim_of};

@@ -1,1 +1,2 @@
 // Laws of the integers, in proofs/. No code.
+#![tactic(auto)]

@@ -4,6 +4,8 @@
 // number of index i of basis j, and byte 64j + i of `follow` the index that follows it in its block, as in the crate
 // joining_blocks. The index of the basis's pairs stands from place 6240j on in `pairs`, where the basis is not small.
 // Place j of `state` has the number of its blocks, and place 9 + j the bits of the sums of its pairs.
+#![tactic(auto)]
+
 ghost use Rattle.std.specs.Prelude.{◌≡◌, true, ℕ, ◌≤◌, ◌<◌, length, get_or, replicate};
 ghost use Rattle.counting.specs.Counting.{listed, sum_to};
 ghost use Rattle.key_set.specs.Table.{keys_in, Stored};

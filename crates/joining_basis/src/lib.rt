@@ -1,6 +1,8 @@
 // The joining of one basis: a basis above PLAIN monomials joins by the members that came last, through the index of its
 // pairs; a smaller one by its pairs, and needs no index. The arrays are those of joining_pairs, joining_products and
 // joining_blocks.
+#![tactic(auto)]
+
 ghost use Rattle.std.specs.Prelude.{◌≡◌, ℕ, ◌+◌, ◌*◌, ◌/◌, ◌%◌, ◌^◌, ◌<◌, ◌≤◌, false, cond, List, length, take, ◌==◌, slice_index};
 ghost use Rattle.counting.specs.Counting.{Bounded};
 ghost use Rattle.joining_rule.specs.Join.{linked};

@@ -4,6 +4,8 @@
 // LINKS + 64k + i has, for the last pair with its sum s, 1 when every t + s is in the support, and 2 when all pairs with
 // that sum are in one block. Behind stand the slots of the exponents and the remainders of the basis: those of a sum are
 // found by adding.
+#![tactic(auto)]
+
 ghost use Rattle.std.specs.Prelude.{◌≡◌, ℕ, ◌+◌, ◌*◌, ◌/◌, ◌%◌, ◌≤◌, ◌<◌, length, get_or};
 ghost use Rattle.round_laws.specs.Fits.{SumBits};
 ghost use Rattle.joining_pairs.specs.Limits.{SmallBasis, OneBasis};

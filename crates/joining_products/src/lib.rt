@@ -2,6 +2,8 @@
 // pair in one block. Byte i of `follow` is the index that follows i in its block, or 255. The first numbers of `table` are
 // the support, with `index`. Products that are there already, by what the index of pairs tells, are not looked for. Loops
 // that put many products in end with `key_set::shorten`, so that no search in the support is long.
+#![tactic(auto)]
+
 ghost use Rattle.std.specs.Prelude.{◌≡◌, ◌+◌, ◌≤◌, ◌<◌, length, get_or};
 ghost use Rattle.joining_rule.specs.Extend.{add_terms, add_row, extend};
 ghost use Rattle.key_set.specs.Table.{keys_in, Stored};

@@ -1,4 +1,6 @@
 // One round of the joining rule, basis by basis, in the arrays of joining_bases.
+#![tactic(auto)]
+
 ghost use Rattle.std.specs.Prelude.{◌≡◌, ℕ};
 ghost use Rattle.joining_rule.specs.Rounds.{adding_bases, round};
 ghost use Rattle.joining_bases.specs.Parts.{bases_in};

@@ -1,4 +1,6 @@
 // The joining rule over all nine bases, round by round, in the arrays of joining_bases.
+#![tactic(auto)]
+
 ghost use Rattle.key_set.specs.Table.{keys_in};
 ghost use Rattle.joining_rule.specs.Rounds.{closing_of};
 ghost use Rattle.joining_bases.specs.Parts.{bases_in};

@@ -7,6 +7,8 @@
 // the sum of remainders, a problem can be made whose keys nearly all have one; then the searches would be long. So a
 // key that is put in behind more than LONG others leaves a mark, and `shorten` makes the index anew with another divisor.
 // Place BELOW of the index has how far its divisor is below FIRST, and place MARK the mark; a remainder is below both.
+#![tactic(auto)]
+
 ghost use Rattle.std.specs.Prelude.{◌≡◌, ℕ, ◌+◌, ◌%◌, ◌≤◌, ◌<◌, length, get_or, take};
 ghost use Rattle.joining_rule.specs.Sets.{member, insert};
 ghost use Rattle.key_set.specs.Table.{first, divisor_in, keys_in, Holds, Divided, Indexed, Linked, noted, Finds, Stored, BesideMark};

@@ -1,6 +1,8 @@
 // Request 10, notes that only the office sees: the check of a certificate with its notes removed, and the notes in a
 // lent buffer. A walk over the commands tells the notes. Where there are none, the certificate itself is checked; else
 // a copy without them, of as many bytes as a certificate is read by.
+#![tactic(auto)]
+
 ghost use Rattle.std.specs.Prelude.{◌≡◌, List, ◌++◌, ℕ, ◌*◌, ◌≤◌, length, take, drop};
 ghost use Rattle.std.proofs.Math.Seq.{slice};
 ghost use Rattle.format.specs.Notes.{note_text, office_size, walk_start, step_at, note_offsets, walk_end, body_end};

@@ -1,4 +1,6 @@
 // Numbers in a stream of bytes: little-endian, signed ones in two's complement.
+#![tactic(auto)]
+
 ghost use Rattle.std.specs.Prelude.{◌≡◌, ◌+◌, ◌^◌, ◌≤◌, ◌<◌, length};
 ghost use Rattle.format.specs.Operands.{number, signed};
 ghost use Rattle.format.specs.ProblemRules.{nonzero};

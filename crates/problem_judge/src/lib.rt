@@ -1,5 +1,7 @@
 // The one chain from bytes to what became of a problem and its certificates: the problem is read and joined, two
 // certificates are judged against it, and the lent tables are cleared. A call makes its verdict of what this returns.
+#![tactic(auto)]
+
 ghost use Rattle.std.specs.Prelude.{◌≡◌, false, ◌≤◌, length};
 ghost use Rattle.format.specs.ProblemRules.{Problem};
 ghost use Rattle.joining_rule.specs.Joining.{closing};

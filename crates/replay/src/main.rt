@@ -5,6 +5,8 @@
 // for the others. `answer_record` decides, on the kind and the runs, `window_line` on the arrivals, `tighter_line` on
 // two certificates, `report_line` on a report, `tool_line` on the call for a C program, `answer_sum` on two problems
 // and `office_line` on a certificate with notes; all else moves bytes.
+#![tactic(auto)]
+
 ghost use Rattle.std.specs.Prelude.{◌≡◌, true, ◌++◌, ◌+◌, ◌*◌, ◌/◌, ◌≤◌, length, take};
 ghost use Rattle.format.specs.Operands.{number, signed};
 ghost use Rattle.lines.specs.Lines.{arrival_word};

@@ -1,5 +1,7 @@
 // The table of sums folded: its entries with the same product b * b' are summed at one place. The compared keys have no
 // part in it.
+#![tactic(auto)]
+
 ghost use Rattle.std.specs.Prelude.{◌≡◌, true, ◌*◌, ◌^◌, ◌≤◌, ◌<◌, pos, nat_abs, length, get_or};
 ghost use Rattle.counting.specs.Counting.{Bounded};
 ghost use Rattle.row_outer.specs.Frame.{Next, Framed, Entered};

@@ -1,5 +1,7 @@
 // The products w * l * l' of the rows on one basis, read off the certificate's bytes by their offsets, summed by their
 // indices in the table of sums of row_outer, which holds one of their three parts at a time, all of products of 16 bits.
+#![tactic(auto)]
+
 ghost use Rattle.std.specs.Prelude.{◌≡◌, ◌≤◌, length};
 ghost use Rattle.flat.specs.TermArrays.{terms_in};
 ghost use Rattle.certificate_rows.specs.Offsets.{row_at, rows_by, RowStands};

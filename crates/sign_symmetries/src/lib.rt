@@ -1,5 +1,7 @@
 // Request 01: the sign symmetries of a problem, beside its blocks. The blocks call is asked first, whose refusals are
 // those of this one; then the parity bytes of all exponents are gathered once, and each mask is held against them.
+#![tactic(auto)]
+
 ghost use Rattle.std.specs.Prelude.{◌≡◌, List, map, ◌++◌, ◌+◌, ◌≤◌, ℤ, length, take};
 ghost use Rattle.format.specs.Commands.{given};
 ghost use Rattle.format.specs.ProblemRules.{Problem, read_problem};

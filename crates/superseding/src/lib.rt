@@ -1,5 +1,7 @@
 // Request 02, the certificate that supersedes: of two certificates for one problem the tighter one comes back. What to
 // do is decided on plain values first; then four lent numbers are set, and the part is chosen.
+#![tactic(auto)]
+
 ghost use Rattle.std.specs.Prelude.{◌≡◌};
 ghost use Rattle.calls.specs.declared.Chosen.TheVariants as Chosen;
 ghost use Rattle.calls.specs.Tables.{tables, tables_short, TablesLeft};

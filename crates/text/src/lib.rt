@@ -1,4 +1,6 @@
 // Verdicts as text: the lines that the programs write, made in a buffer first, each proved equal to its definition.
+#![tactic(auto)]
+
 pub mod reports;
 
 ghost use Rattle.std.specs.Prelude.{◌≡◌, ◌++◌, ◌+◌, ◌*◌, ◌≤◌, ◌<◌, length, take};

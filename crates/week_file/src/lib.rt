@@ -4,6 +4,8 @@
 // which takes a week of the usual size whole, and only where that is full is there one for all. `answer_to` decides, on
 // the records. All else here moves bytes: that they are the contents of the file is not proved but tested, by the
 // programs' stored runs and by `tools/week_messages`.
+#![tactic(auto)]
+
 mod messages;
 
 ghost use Rattle.std.specs.Prelude.{◌≡◌, ◌*◌, ◌≤◌, length, take};

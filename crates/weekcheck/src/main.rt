@@ -1,4 +1,6 @@
 // weekcheck: a week's pairs in one report, a line for each and one for all. Its run is a week of five pairs.
+#![tactic(auto)]
+
 use libc::STDOUT_FILENO;
 use week_file::Start;
 

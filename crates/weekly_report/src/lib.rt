@@ -1,5 +1,7 @@
 // Request 07: a week's pairs in one report. The public call is `report`: it looks through the records first, and then
 // answers each by the pair.
+#![tactic(auto)]
+
 ghost use Rattle.std.specs.Prelude.{◌≡◌, false, cond, ◌||◌, ℕ, ◌+◌, ◌^◌, ◌≤◌, ◌<◌, eqb, length};
 ghost use Rattle.format.specs.Commands.{refused};
 ghost use Rattle.format.specs.Operands.{number};

@@ -6,6 +6,8 @@
 // their products with numbers of 16 bits may be added. A sum of wider products is made part by part, each 2^16 times
 // the one before: between the parts the sums are divided by 2^16, and so two tables are enough. What is said of one
 // table (Room, addedAt, HasRoom, Near, Shrunk) is said of each.
+#![tactic(auto)]
+
 ghost use Rattle.std.specs.Prelude.{◌≡◌, ◌<◌, ◌*ℤ◌, length};
 ghost use Rattle.wide_sums.specs.Sums.{carried, step, cut_at, halves_of, Room, added_at, ZeroAt, Divided};
 

@@ -9,13 +9,13 @@ use Rattle.flat.proofs.coefficients.Tie as tie
 
 returns : tie.Need-returns
 returns c =
-    let a = c.before.before.args in
+    let a = c.args in
     let n = get_or a.sizes.now (9 + a.j) 0 in
     let e : 32 * a.j + n - 32 * a.j ≡ n = omega arith in
     rw e
 
-pub coefficients-spec : {M : Type 1} → statement M
-coefficients-spec =
+pub coefficients_spec : {M : Type 1} → statement M
+coefficients_spec =
     tie.close
     (tie.spec
     (λ c. search rules)

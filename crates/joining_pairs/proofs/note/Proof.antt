@@ -6,36 +6,36 @@ use Rattle.joining_pairs.proofs.Pairs.{index_start}
 use Rattle.joining_pairs.proofs.note.Statement.{statement}
 use Rattle.joining_pairs.proofs.note.Tie as tie
 
-note-slots-requires : tie.Need-note-slots-requires
-note-slots-requires c κs = let p = c.before.before.before.before.requires in (p.0, p.1.few)
+note-slots-requires : tie.Need-note_slots-requires
+note-slots-requires c κs = let p = c.requires in (p.0, p.1.few)
 
-note-remainders-requires : tie.Need-note-remainders-requires
+note-remainders-requires : tie.Need-note_remainders-requires
 note-remainders-requires c κs =
-    let a = c.before.before.before in
-    (a.note-slots.ensures.0.long, a.before.before.before.before.before.requires.1.basis.few)
+    let a = c in
+    (a.note_slots.ensures.0.long, a.requires.1.basis.few)
 
-note-pairs-requires : tie.Need-note-pairs-requires
+note-pairs-requires : tie.Need-note_pairs-requires
 note-pairs-requires c κs =
-    let b = c.before.before.before in
-    let a = b.before.before.before.before in
-    let r = b.note-remainders.ensures in
-    (a.before.before.before.before.before.requires.1.basis, index_start _ _ r.0 (λ q h. r.1 q (omega (arith, h)) ∙ a.note-slots.ensures.1 q (omega (arith, h))))
+    let b = c in
+    let a = b in
+    let r = b.note_remainders.ensures in
+    (a.requires.1.basis, index_start _ _ r.0 (λ q h. r.1 q (omega (arith, h)) ∙ a.note_slots.ensures.1 q (omega (arith, h))))
 
-same_length : tie.Need-same-length
+same_length : tie.Need-shape_of-pairs
 same_length c =
-    let n = c.before.before in
-    let a = n.before.before.before.before.before.before.before.before in
-    n.note-pairs.ensures.0.remainders.long ∙ sym a.before.before.before.before.before.requires.0.long
+    let n = c in
+    let a = n in
+    n.note_pairs.ensures.0.remainders.long ∙ sym a.requires.0.long
 
 returns : tie.Need-returns
 returns c =
-    let n = c.before.before in
-    let b = n.before.before.before.before in
-    let a = b.before.before.before.before in
-    let p = a.before.before.before.before.before.requires in
-    let v = n.note-pairs.ensures in
-    let r = b.note-remainders.ensures in
-    let s = a.note-slots.ensures in
+    let n = c in
+    let b = n in
+    let a = b in
+    let p = a.requires in
+    let v = n.note_pairs.ensures in
+    let r = b.note_remainders.ensures in
+    let s = a.note_slots.ensures in
     record {
       index = v.0;
       slots = record {
@@ -46,7 +46,7 @@ returns c =
       sums = v.1;
     }
 
-pub note-spec : {M : Type 1} → statement M
-note-spec =
+pub note_spec : {M : Type 1} → statement M
+note_spec =
     tie.close
     (tie.spec note-slots-requires note-remainders-requires note-pairs-requires same_length returns)

@@ -9,50 +9,50 @@ use Rattle.joining_pairs.proofs.Pairs.{Written, written_start, written_next}
 use Rattle.joining_pairs.proofs.note_remainders.Statement.{statement}
 use Rattle.joining_pairs.proofs.note_remainders.Tie as tie
 
-abbrev invariant-loop : tie.invariant-loop
+abbrev invariant-loop : tie.invariant-loop-i
 invariant-loop pairs₀ basis i₀ pairs i = (i ≤ length basis) × Written 6176 (λ (j : ℕ). get_or basis j 0 % sum_divisor) pairs₀ i pairs
 
-abbrev decreases-loop : tie.decreases-loop
+abbrev decreases-loop : tie.decreases-loop-i
 decreases-loop pairs₀ basis i₀ pairs i = length basis - i
 
-abbrev at-start : tie.At-loop invariant-loop decreases-loop → tie.Start invariant-loop decreases-loop
+abbrev at-start : tie.At-loop-i invariant-loop decreases-loop → tie.Start invariant-loop decreases-loop
 at-start l = l.before.before.before
 
-loop-holds : tie.Need-loop-init invariant-loop decreases-loop
+loop-holds : tie.Need-loop-i-init invariant-loop decreases-loop
 loop-holds c = (omega arith, written_start _ _ _)
 
-cast-pairs : tie.Need-overflow-cast-pairs invariant-loop decreases-loop
+cast-pairs : tie.Need-overflow_cast-pairs invariant-loop decreases-loop
 cast-pairs c = omega (arith, c.remainder.ensures)
 
-add-pairs : tie.Need-overflow-add-pairs invariant-loop decreases-loop
-add-pairs c = let l = c.before.before.before in omega (arith, (at-start l).requires.1, c.before.before.loop-test.true)
+add-pairs : tie.Need-overflow_add-pairs invariant-loop decreases-loop
+add-pairs c = let l = c in omega (arith, (at-start l.before.before.before).requires.1, c.loop-i-test.true)
 
-mul-pairs : tie.Need-overflow-mul-pairs invariant-loop decreases-loop
-mul-pairs c = let l = c.before.before.before in omega (arith, (at-start l).requires.1, c.before.before.loop-test.true)
+mul-pairs : tie.Need-offset_bounds-pairs-i invariant-loop decreases-loop
+mul-pairs c = let l = c in omega (arith, (at-start l.before.before.before).requires.1, c.loop-i-test.true)
 
-slice-write-pairs : tie.Need-slice-write-pairs invariant-loop decreases-loop
+slice-write-pairs : tie.Need-bounds-pairs-i invariant-loop decreases-loop
 slice-write-pairs c =
-    let l = c.before.before.before in
-    omega (arith, (at-start l).requires.1, c.before.before.loop-test.true, l.loop.invariant.1.long, (at-start l).requires.0)
+    let l = c in
+    omega (arith, (at-start l.before.before.before).requires.1, c.loop-i-test.true, l.loop-i.invariant.1.long, (at-start l.before.before.before).requires.0)
 
-loop-again : tie.Need-loop-preserved invariant-loop decreases-loop
+loop-again : tie.Need-loop-i-preserved invariant-loop decreases-loop
 loop-again c =
-    let l = c.before.before.before in
-    let h = c.before.before.loop-test.true in
-    let p = (at-start l).requires in
-    (omega (arith, h), written_next _ _ _ _ _ l.loop.invariant.1 (omega (arith, p.1, h, p.0)) _ c.remainder.ensures)
+    let l = c in
+    let h = c.loop-i-test.true in
+    let p = (at-start l.before.before.before).requires in
+    (omega (arith, h), written_next _ _ _ _ _ l.loop-i.invariant.1 (omega (arith, p.1, h, p.0)) _ c.remainder.ensures)
 
-same_length : tie.Need-same-length invariant-loop decreases-loop
-same_length c = c.before.loop.invariant.1.long
+same_length : tie.Need-shape_of-pairs invariant-loop decreases-loop
+same_length c = c.loop-i.invariant.1.long
 
 returns : tie.Need-returns invariant-loop decreases-loop
 returns c =
-    let l = c.before in
-    let w = l.loop.invariant.1 in
-    (record { long = w.long ∙ (at-start l).requires.0; at = λ j h. w.at j (omega (arith, h, c.loop-test.false)) }, w.before)
+    let l = c in
+    let w = l.loop-i.invariant.1 in
+    (record { long = w.long ∙ (at-start l.before).requires.0; at = λ j h. w.at j (omega (arith, h, c.loop-i-test.false)) }, w.before)
 
-pub note-remainders-spec : {M : Type 1} → statement M
-note-remainders-spec =
+pub note_remainders_spec : {M : Type 1} → statement M
+note_remainders_spec =
     tie.close
     (tie.spec
     invariant-loop

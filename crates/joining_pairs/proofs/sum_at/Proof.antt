@@ -5,11 +5,11 @@ use Prim.Native.Nat.{◌/◌, ◌%◌}
 use Rattle.joining_pairs.proofs.sum_at.Statement.{statement}
 use Rattle.joining_pairs.proofs.sum_at.Tie as tie
 
-add-result : tie.Need-overflow-add-result
-add-result c = let s = c.before.before in omega (arith, s.requires.0.keys (s.args.p / 64), s.requires.0.keys (s.args.p % 64))
+add-result : tie.Need-overflow_add-result
+add-result c = let s = c in omega (arith, s.requires.0.keys (s.args.p / 64), s.requires.0.keys (s.args.p % 64))
 
-pub sum-at-spec : {M : Type 1} → statement M
-sum-at-spec =
+pub sum_at_spec : {M : Type 1} → statement M
+sum_at_spec =
     tie.close
     (tie.spec
     (λ c. search rules)

@@ -2,7 +2,6 @@
 use borrow.Author.Rules.{rules}
 use native.Mathlib.Omega.{arith}
 use mathlib.Core.Path.{sym, ◌∙◌}
-use Prim.Native.Nat.{◌+◌}
 use lib.ListN.{length}
 use Rattle.key_set.specs.Table.{keys_in}
 use Rattle.joining_rule.proofs.Extending.{add_extends}
@@ -15,84 +14,84 @@ use Rattle.joining_products.proofs.Adding.{Adding, adding_start, adding_asks, ad
 use Rattle.joining_products.proofs.add_row.Statement.{statement}
 use Rattle.joining_products.proofs.add_row.Tie as tie
 
-abbrev invariant-loop : tie.invariant-loop
+abbrev invariant-loop : tie.invariant-loop-i
 invariant-loop follow basis exponents pairs₀ table₀ index₀ len k n₀ i₀ pairs table index n i =
     IndexList (length basis) follow i
     × Adding exponents basis table₀ pairs₀ len (add_list exponents basis k (list_from follow i₀) (keys_in len table₀)) (add_list exponents basis k (list_from follow i)) n table index pairs
 
-abbrev decreases-loop : tie.decreases-loop
+abbrev decreases-loop : tie.decreases-loop-i
 decreases-loop follow basis exponents pairs₀ table₀ index₀ len k n₀ i₀ pairs table index n i = length (list_from follow i)
 
-loop-holds : tie.Need-loop-init invariant-loop decreases-loop
+loop-holds : tie.Need-loop-i-init invariant-loop decreases-loop
 loop-holds c =
-    let s = c.before.before.before.before.before.before.before.before in
+    let s = c in
     (s.requires.2, adding_start _ _ _ _ _ _ _ s.requires.0)
 
-add-pair-requires : tie.Need-add-pair-requires invariant-loop decreases-loop
+add-pair-requires : tie.Need-add_pair-n-requires invariant-loop decreases-loop
 add-pair-requires c κs =
-    let s = c.before.before.before.before.before.before.before.before.before.before.before.before.before in
-    let l = c.before.before.before.before in (
-      adding_asks _ _ _ _ _ _ _ _ _ _ _ l.loop.invariant.1 _ s.requires.0,
-      rest_low _ _ _ l.loop.invariant.0 c.before.before.before.loop-test.true,
+    let s = c in
+    let l = c in (
+      adding_asks _ _ _ _ _ _ _ _ _ _ _ l.loop-i.invariant.1 _ s.requires.0,
+      rest_low _ _ _ l.loop-i.invariant.0 c.loop-i-test.true,
       s.requires.3,
     )
 
-same_length : tie.Need-same-length invariant-loop decreases-loop
-same_length c = c.before.before.before.before.before.before.before.add-pair.auto.1.1.1.1.1.0 ∙ c.before.before.before.before.before.before.before.before.before.before.before.before.loop.invariant.1.long
+same_length : tie.Need-shape_of-pairs-then-n-gt2048 invariant-loop decreases-loop
+same_length c = c.add_pair-n.auto.pairs ∙ c.loop-i.invariant.1.long
 
-same-length-2 : tie.Need-same-length-2 invariant-loop decreases-loop
-same-length-2 c = c.before.before.before.before.before.before.before.add-pair.auto.0 ∙ c.before.before.before.before.before.before.before.before.before.before.before.before.loop.invariant.1.growing.long
+same-length-2 : tie.Need-shape_of-table-then-n-gt2048 invariant-loop decreases-loop
+same-length-2 c = c.add_pair-n.auto.table ∙ c.loop-i.invariant.1.growing.long
 
-same-length-3 : tie.Need-same-length-3 invariant-loop decreases-loop
-same-length-3 c = c.before.before.before.before.before.before.before.add-pair.auto.1.0 ∙ c.before.before.before.before.before.before.before.before.before.before.before.before.loop.invariant.1.growing.index.long ∙ sym c.before.before.before.before.before.before.before.before.before.before.before.before.before.before.before.before.before.before.before.before.before.requires.0.basis.index.long
+same-length-3 : tie.Need-shape_of-index-then-n-gt2048 invariant-loop decreases-loop
+same-length-3 c = c.add_pair-n.auto.index ∙ c.loop-i.invariant.1.growing.index.long ∙ sym c.requires.0.basis.index.long
 
-returns : tie.Need-returns invariant-loop decreases-loop
+returns : tie.Need-returns-then-n-gt2048 invariant-loop decreases-loop
 returns c =
-    let l = c.before.before.before.before.before.before.before.before.before.before.before.before in
-    let s = c.before.before.before.before.before.before.before.before.before.before.before.before.before.before.before.before.before.before.before.before.before in
-    adding_stop _ _ _ _ _ _ _ _ _ _ _ l.loop.invariant.1 _ _ _ _ _ c.before.before.before.before.before.before.before.add-pair.ensures (add_list s.args.exponents.now s.args.basis.now _ _)
-    (row_turn _ _ _ l.loop.invariant.0 c.before.before.before.before.before.before.before.before.before.before.before.loop-test.true _ _ _ _) c.if1.true (list_extends s.args.exponents.now s.args.basis.now _ _ _)
+    let l = c in
+    let s = c in
+    adding_stop _ _ _ _ _ _ _ _ _ _ _ l.loop-i.invariant.1 _ _ _ _ _ c.add_pair-n.ensures (add_list s.args.exponents.now s.args.basis.now _ _)
+    (row_turn _ _ _ l.loop-i.invariant.0 c.loop-i-test.true _ _ _ _) c.if-n-gt2048.true (list_extends s.args.exponents.now s.args.basis.now _ _ _)
 
-shared-slice-read-i : tie.Need-shared-slice-read-i invariant-loop decreases-loop
-shared-slice-read-i c = omega (arith, c.before.before.before.before.before.before.before.before.before.before.before.before.loop-test.true, c.before.before.before.before.before.before.before.before.before.before.before.before.before.before.before.before.before.before.before.before.before.before.requires.1)
+shared-slice-read-i : tie.Need-bounds-follow-i invariant-loop decreases-loop
+shared-slice-read-i c = omega (arith, c.loop-i-test.true, c.requires.1)
 
-cast-i-2 : tie.Need-overflow-cast-i-2 invariant-loop decreases-loop
-cast-i-2 c = omega (arith, c.shared-slice-known4.given c.before.before.before.before.before.before.before.before.before.before.before.before.before.loop.i)
+cast-i-2 : tie.Need-overflow_cast-i-in-loop-i invariant-loop decreases-loop
+cast-i-2 c = omega (arith, c.shared_slice_known-in-loop-i-1.given c.loop-i.i)
 
-loop-less : tie.Need-loop-smaller invariant-loop decreases-loop
+loop-less : tie.Need-loop-i-smaller invariant-loop decreases-loop
 loop-less c =
-    let l = c.before.before.before.before.before.before.before.before.before.before.before.before.before in
-    rest_less _ _ _ l.loop.invariant.0 c.before.before.before.before.before.before.before.before.before.before.before.before.loop-test.true
+    let l = c in
+    rest_less _ _ _ l.loop-i.invariant.0 c.loop-i-test.true
 
-loop-again : tie.Need-loop-preserved invariant-loop decreases-loop
+loop-again : tie.Need-loop-i-preserved invariant-loop decreases-loop
 loop-again c =
-    let l = c.before.before.before.before.before.before.before.before.before.before.before.before.before in
-    let s = c.before.before.before.before.before.before.before.before.before.before.before.before.before.before.before.before.before.before.before.before.before.before in (
-      rest_next _ _ _ l.loop.invariant.0 c.before.before.before.before.before.before.before.before.before.before.before.before.loop-test.true,
-      adding_step _ _ _ _ _ _ _ _ _ _ _ l.loop.invariant.1 _ _ _ _ _ c.before.before.before.before.before.before.before.before.add-pair.ensures _
-          (row_turn _ _ _ l.loop.invariant.0 c.before.before.before.before.before.before.before.before.before.before.before.before.loop-test.true _ _ _ _) c.before.if1.false c.before.before.before.before.before.before.before.before.add-pair.auto.1.1.1.1.1.0 (add_extends s.args.exponents.now _ _),
+    let l = c in
+    let s = c in (
+      rest_next _ _ _ l.loop-i.invariant.0 c.loop-i-test.true,
+      adding_step _ _ _ _ _ _ _ _ _ _ _ l.loop-i.invariant.1 _ _ _ _ _ c.add_pair-n.ensures _
+          (row_turn _ _ _ l.loop-i.invariant.0 c.loop-i-test.true _ _ _ _) c.if-n-gt2048.false c.add_pair-n.auto.pairs (add_extends s.args.exponents.now _ _),
     )
 
 shorten-requires : tie.Need-shorten-requires invariant-loop decreases-loop
-shorten-requires c κs = let g = c.before.before.before.loop.invariant.1.growing in (g.holds, g.index)
+shorten-requires c κs = let g = c.loop-i.invariant.1.growing in (g.holds, g.index)
 
-same-length-4 : tie.Need-same-length-4 invariant-loop decreases-loop
-same-length-4 c = c.before.before.before.before.before.before.loop.invariant.1.long
+same-length-4 : tie.Need-shape_of-pairs invariant-loop decreases-loop
+same-length-4 c = c.loop-i.invariant.1.long
 
-same-length-5 : tie.Need-same-length-5 invariant-loop decreases-loop
-same-length-5 c = c.before.before.before.before.before.before.loop.invariant.1.growing.long
+same-length-5 : tie.Need-shape_of-table invariant-loop decreases-loop
+same-length-5 c = c.loop-i.invariant.1.growing.long
 
-same-length-6 : tie.Need-same-length-6 invariant-loop decreases-loop
-same-length-6 c = c.before.before.shorten.ensures.long ∙ sym c.before.before.before.before.before.before.before.before.before.before.before.before.before.before.before.requires.0.basis.index.long
+same-length-6 : tie.Need-shape_of-index invariant-loop decreases-loop
+same-length-6 c = c.shorten.ensures.long ∙ sym c.requires.0.basis.index.long
 
-returns-2 : tie.Need-returns-2 invariant-loop decreases-loop
+returns-2 : tie.Need-returns invariant-loop decreases-loop
 returns-2 c =
-    let e = c.before.before.before.before.before in
-    let l = e.before in
-    adding_end _ _ _ _ _ _ _ _ _ _ _ (adding_anew _ _ _ _ _ _ _ _ _ _ _ l.loop.invariant.1 _ c.before.before.shorten.ensures) (list_done _ _ _ _ l.loop.i _ e.loop-test.false)
+    let e = c in
+    let l = e in
+    adding_end _ _ _ _ _ _ _ _ _ _ _ (adding_anew _ _ _ _ _ _ _ _ _ _ _ l.loop-i.invariant.1 _ c.shorten.ensures) (list_done _ _ _ _ l.loop-i.i _ e.loop-i-test.false)
 
-pub add-row-spec : {M : Type 1} → statement M
-add-row-spec =
+pub add_row_spec : {M : Type 1} → statement M
+add_row_spec =
     tie.close
     (tie.spec
     invariant-loop

@@ -15,74 +15,74 @@ use Rattle.joining_products.proofs.Growing.{Growing, growing_start, growing_step
 use Rattle.joining_products.proofs.add_squares.Statement.{statement}
 use Rattle.joining_products.proofs.add_squares.Tie as tie
 
-abbrev invariant-loop : tie.invariant-loop
+abbrev invariant-loop : tie.invariant-loop-i
 invariant-loop table₀ index₀ len basis exponents n₀ i₀ table index n i =
     (i ≤ length basis)
     × Growing table₀ len (add_squares exponents basis (keys_in len table₀)) (from_to i (length basis) (λ j. add_terms exponents (2 * get_or basis j 0))) n table index
 
-abbrev decreases-loop : tie.decreases-loop
+abbrev decreases-loop : tie.decreases-loop-i
 decreases-loop table₀ index₀ len basis exponents n₀ i₀ table index n i = length basis - i
 
-loop-holds : tie.Need-loop-init invariant-loop decreases-loop
+loop-holds : tie.Need-loop-i-init invariant-loop decreases-loop
 unfolding add_squares
 loop-holds c =
-    let s = c.before.before.before.before in
+    let s = c in
     (omega arith, growing_start _ _ _ _ s.requires.support s.requires.index)
 
-mul-add-terms-2 : tie.Need-overflow-mul-add-terms-2 invariant-loop decreases-loop
+mul-add-terms-2 : tie.Need-overflow_mul-basis invariant-loop decreases-loop
 mul-add-terms-2 c =
-    let s = c.before.before.before.before.before.before.before.before.before in
-    omega (arith, s.requires.basis.basis.keys c.before.before.before.before.loop.i)
+    let s = c in
+    omega (arith, s.requires.basis.basis.keys c.loop-i.i)
 
-add-terms-requires : tie.Need-add-terms-requires invariant-loop decreases-loop
+add-terms-requires : tie.Need-add_terms-n-requires invariant-loop decreases-loop
 add-terms-requires c κs =
-    let s = c.before.before.before.before.before.before.before.before.before in
-    let l = c.before.before.before.before in
+    let s = c in
+    let l = c in
     record {
-      support = l.loop.invariant.1.holds;
-      index = l.loop.invariant.1.index;
+      support = l.loop-i.invariant.1.holds;
+      index = l.loop-i.invariant.1.index;
       exponents = s.requires.basis.exponents;
-      low = omega (arith, s.requires.basis.basis.keys l.loop.i);
+      low = omega (arith, s.requires.basis.basis.keys l.loop-i.i);
     }
 
-same_length : tie.Need-same-length invariant-loop decreases-loop
-same_length c = c.before.before.before.before.before.add-terms.auto.0 ∙ c.before.before.before.before.before.before.before.before.before.before.loop.invariant.1.long
+same_length : tie.Need-shape_of-table-then-n-gt2048 invariant-loop decreases-loop
+same_length c = c.add_terms-n.auto.table ∙ c.loop-i.invariant.1.long
 
-same-length-2 : tie.Need-same-length-2 invariant-loop decreases-loop
-same-length-2 c = c.before.before.before.before.before.add-terms.auto.1.0 ∙ c.before.before.before.before.before.before.before.before.before.before.loop.invariant.1.index.long ∙ sym c.before.before.before.before.before.before.before.before.before.before.before.before.before.before.before.requires.index.long
+same-length-2 : tie.Need-shape_of-index-then-n-gt2048 invariant-loop decreases-loop
+same-length-2 c = c.add_terms-n.auto.index ∙ c.loop-i.invariant.1.index.long ∙ sym c.requires.index.long
 
-returns : tie.Need-returns invariant-loop decreases-loop
+returns : tie.Need-returns-then-n-gt2048 invariant-loop decreases-loop
 returns c =
-    let l = c.before.before.before.before.before.before.before.before.before.before in
-    let s = c.before.before.before.before.before.before.before.before.before.before.before.before.before.before.before in
-    growing_stop _ _ _ _ _ _ _ l.loop.invariant.1 _ _ _ _ c.before.before.before.before.before.add-terms.ensures (from_to (l.loop.i + 1) _ _)
-    (from_to_more _ _ _ _ (omega arith)) c.if1.true (from_to_extends _ (λ j. add_extends s.args.exponents.now (2 * get_or s.args.basis.now j 0)) (l.loop.i + 1) _ _)
+    let l = c in
+    let s = c in
+    growing_stop _ _ _ _ _ _ _ l.loop-i.invariant.1 _ _ _ _ c.add_terms-n.ensures (from_to (l.loop-i.i + 1) _ _)
+    (from_to_more _ _ _ _ (omega arith)) c.if-n-gt2048.true (from_to_extends _ (λ j. add_extends s.args.exponents.now (2 * get_or s.args.basis.now j 0)) (l.loop-i.i + 1) _ _)
 
-loop-again : tie.Need-loop-preserved invariant-loop decreases-loop
+loop-again : tie.Need-loop-i-preserved invariant-loop decreases-loop
 loop-again c =
-    let l = c.before.before.before.before.before.before.before.before.before.before in
-    let s = c.before.before.before.before.before.before.before.before.before.before.before.before.before.before.before in (
+    let l = c in
+    let s = c in (
       omega arith,
-      growing_step _ _ _ _ _ _ _ l.loop.invariant.1 _ _ _ _ c.before.before.before.before.before.add-terms.ensures _ (from_to_more _ _ _ _ (omega arith)) c.if1.false (add_extends s.args.exponents.now (2 * get_or s.args.basis.now l.loop.i 0) _),
+      growing_step _ _ _ _ _ _ _ l.loop-i.invariant.1 _ _ _ _ c.add_terms-n.ensures _ (from_to_more _ _ _ _ (omega arith)) c.if-n-gt2048.false (add_extends s.args.exponents.now (2 * get_or s.args.basis.now l.loop-i.i 0) _),
     )
 
 shorten-requires : tie.Need-shorten-requires invariant-loop decreases-loop
-shorten-requires c κs = let g = c.before.before.before.loop.invariant.1 in (g.holds, g.index)
+shorten-requires c κs = let g = c.loop-i.invariant.1 in (g.holds, g.index)
 
-same-length-3 : tie.Need-same-length-3 invariant-loop decreases-loop
-same-length-3 c = c.before.before.before.before.before.before.loop.invariant.1.long
+same-length-3 : tie.Need-shape_of-table invariant-loop decreases-loop
+same-length-3 c = c.loop-i.invariant.1.long
 
-same-length-4 : tie.Need-same-length-4 invariant-loop decreases-loop
-same-length-4 c = c.before.before.shorten.ensures.long ∙ sym c.before.before.before.before.before.before.before.before.before.before.before.requires.index.long
+same-length-4 : tie.Need-shape_of-index invariant-loop decreases-loop
+same-length-4 c = c.shorten.ensures.long ∙ sym c.requires.index.long
 
-returns-2 : tie.Need-returns-2 invariant-loop decreases-loop
+returns-2 : tie.Need-returns invariant-loop decreases-loop
 returns-2 c =
-    let e = c.before.before.before.before.before in
-    let l = e.before in
-    growing_end _ _ _ _ _ _ _ (growing_anew _ _ _ _ _ _ _ l.loop.invariant.1 _ c.before.before.shorten.ensures) (from_to_done _ _ _ _ (omega (arith, e.loop-test.false)))
+    let e = c in
+    let l = e in
+    growing_end _ _ _ _ _ _ _ (growing_anew _ _ _ _ _ _ _ l.loop-i.invariant.1 _ c.shorten.ensures) (from_to_done _ _ _ _ (omega (arith, e.loop-i-test.false)))
 
-pub add-squares-spec : {M : Type 1} → statement M
-add-squares-spec =
+pub add_squares_spec : {M : Type 1} → statement M
+add_squares_spec =
     tie.close
     (tie.spec
     invariant-loop

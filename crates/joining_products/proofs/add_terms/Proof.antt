@@ -11,55 +11,55 @@ use Rattle.joining_rule.proofs.Extending.{insert_extends, add_extends}
 use Rattle.joining_products.proofs.add_terms.Statement.{statement}
 use Rattle.joining_products.proofs.add_terms.Tie as tie
 
-abbrev invariant-loop : tie.invariant-loop
+abbrev invariant-loop : tie.invariant-loop-i
 invariant-loop table₀ index₀ len exponents s n₀ i₀ table index n i = (i ≤ length exponents) × Growing table₀ len (add_terms exponents s (keys_in len table₀)) (add_terms (drop i exponents) s) n table index
 
-abbrev decreases-loop : tie.decreases-loop
+abbrev decreases-loop : tie.decreases-loop-i
 decreases-loop table₀ index₀ len exponents s n₀ i₀ table index n i = length exponents - i
 
-loop-holds : tie.Need-loop-init invariant-loop decreases-loop
-loop-holds c = let s = c.before.before.before in (omega arith, growing_start _ _ _ _ s.requires.support s.requires.index)
+loop-holds : tie.Need-loop-i-init invariant-loop decreases-loop
+loop-holds c = let s = c in (omega arith, growing_start _ _ _ _ s.requires.support s.requires.index)
 
-add-put : tie.Need-overflow-add-put invariant-loop decreases-loop
-add-put c = omega (arith, c.before.before.before.before.before.before.before.before.requires.exponents c.before.before.before.before.loop.i)
+add-put : tie.Need-overflow_add-exponents invariant-loop decreases-loop
+add-put c = omega (arith, c.requires.exponents c.loop-i.i)
 
-put-requires : tie.Need-put-requires invariant-loop decreases-loop
+put-requires : tie.Need-put-n-requires invariant-loop decreases-loop
 put-requires c κs =
-    let l = c.before.before.before.before in
-    let s = l.before.before.before.before in
-    (l.loop.invariant.1.holds, l.loop.invariant.1.index)
+    let l = c in
+    let s = l in
+    (l.loop-i.invariant.1.holds, l.loop-i.invariant.1.index)
 
-same_length : tie.Need-same-length invariant-loop decreases-loop
-same_length c = c.before.before.before.before.before.put.auto.0 ∙ c.before.before.before.before.before.before.before.before.before.before.loop.invariant.1.long
+same_length : tie.Need-shape_of-table-then-n-gt2048 invariant-loop decreases-loop
+same_length c = c.put-n.auto.table ∙ c.loop-i.invariant.1.long
 
-same-length-2 : tie.Need-same-length-2 invariant-loop decreases-loop
-same-length-2 c = c.before.before.before.before.before.put.auto.1.0 ∙ c.before.before.before.before.before.before.before.before.before.before.loop.invariant.1.index.long ∙ sym c.before.before.before.before.before.before.before.before.before.before.before.before.before.before.requires.index.long
+same-length-2 : tie.Need-shape_of-index-then-n-gt2048 invariant-loop decreases-loop
+same-length-2 c = c.put-n.auto.index ∙ c.loop-i.invariant.1.index.long ∙ sym c.requires.index.long
 
-returns : tie.Need-returns invariant-loop decreases-loop
+returns : tie.Need-returns-then-n-gt2048 invariant-loop decreases-loop
 returns c =
-    let l = c.before.before.before.before.before.before.before.before.before.before in
-    let s = l.before.before.before.before in
-    growing_stop _ _ _ _ _ _ _ l.loop.invariant.1 _ _ _ _ c.before.before.before.before.before.put.ensures (add_terms (drop (l.loop.i + 1) s.args.exponents.now) s.args.s) (add_next s.args.exponents.now s.args.s _ l.loop.i (omega arith)) c.if1.true (add_extends (drop (l.loop.i + 1) s.args.exponents.now) s.args.s _)
+    let l = c in
+    let s = l in
+    growing_stop _ _ _ _ _ _ _ l.loop-i.invariant.1 _ _ _ _ c.put-n.ensures (add_terms (drop (l.loop-i.i + 1) s.args.exponents.now) s.args.s) (add_next s.args.exponents.now s.args.s _ l.loop-i.i (omega arith)) c.if-n-gt2048.true (add_extends (drop (l.loop-i.i + 1) s.args.exponents.now) s.args.s _)
 
-loop-again : tie.Need-loop-preserved invariant-loop decreases-loop
+loop-again : tie.Need-loop-i-preserved invariant-loop decreases-loop
 loop-again c =
-    let l = c.before.before.before.before.before.before.before.before.before.before in
-    let s = l.before.before.before.before in
-    (omega arith, growing_step _ _ _ _ _ _ _ l.loop.invariant.1 _ _ _ _ c.before.before.before.before.before.put.ensures _ (add_next s.args.exponents.now s.args.s _ l.loop.i (omega arith)) c.if1.false (insert_extends _ _))
+    let l = c in
+    let s = l in
+    (omega arith, growing_step _ _ _ _ _ _ _ l.loop-i.invariant.1 _ _ _ _ c.put-n.ensures _ (add_next s.args.exponents.now s.args.s _ l.loop-i.i (omega arith)) c.if-n-gt2048.false (insert_extends _ _))
 
-same-length-3 : tie.Need-same-length-3 invariant-loop decreases-loop
-same-length-3 c = c.before.loop.invariant.1.long
+same-length-3 : tie.Need-shape_of-table invariant-loop decreases-loop
+same-length-3 c = c.loop-i.invariant.1.long
 
-same-length-4 : tie.Need-same-length-4 invariant-loop decreases-loop
-same-length-4 c = c.before.loop.invariant.1.index.long ∙ sym c.before.before.before.before.before.requires.index.long
+same-length-4 : tie.Need-shape_of-index invariant-loop decreases-loop
+same-length-4 c = c.loop-i.invariant.1.index.long ∙ sym c.requires.index.long
 
-returns-2 : tie.Need-returns-2 invariant-loop decreases-loop
+returns-2 : tie.Need-returns invariant-loop decreases-loop
 returns-2 c =
-    let l = c.before in
-    growing_end _ _ _ _ _ _ _ l.loop.invariant.1 (add_done _ _ _ l.loop.i (omega arith))
+    let l = c in
+    growing_end _ _ _ _ _ _ _ l.loop-i.invariant.1 (add_done _ _ _ l.loop-i.i (omega arith))
 
-pub add-terms-spec : {M : Type 1} → statement M
-add-terms-spec =
+pub add_terms_spec : {M : Type 1} → statement M
+add_terms_spec =
     tie.close
     (tie.spec
     invariant-loop
