@@ -1,5 +1,7 @@
 // Whether two problems have one region: what refusal 15 compares. Both streams are read into arrays, and these are
 // compared.
+#![tactic(auto)]
+
 ghost use Rattle.std.specs.Prelude.{◌≡◌, ◌≤◌, ◌<◌, length};
 ghost use Rattle.format.specs.Commands.{given};
 ghost use Rattle.format.specs.ProblemRules.{Problem, read_problem};
