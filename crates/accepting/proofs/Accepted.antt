@@ -19,7 +19,8 @@ use Rattle.accepting.specs.Judgement.{split_place, difference_key, refused, acce
 use Rattle.accepting.proofs.Blocks.{split_none, split_kept, split_some}
 use Rattle.accepting.proofs.Difference.{identity_none, none_identity, difference_smallest}
 use Rattle.accepting.specs.Bounds.{BoundedBelow, BoundedAbove}
-use Rattle.accepting.proofs.Bounds.{RowWeighted, Weighted, identity_below, identity_above}
+use Rattle.accepting.proofs.Weights.{RowWeighted, Weighted}
+use Rattle.accepting.proofs.Bounds.{identity_below, identity_above}
 
 -- a refusal is not an acceptance
 not_refused : {X : Type 0} (n place key : ℕ) (c : Certificate) → refused n place key ≡ accepted c → X

@@ -37,18 +37,12 @@ use Rattle.accepting.specs.Identity.{combination, square, squares, turned, claim
 use Rattle.accepting.specs.Bounds.{Meets, Allowed, objective_value, objective_scale, BoundedBelow, BoundedAbove, WithinGap}
 use Rattle.accepting.specs.RingBounds.{MeetsIn}
 use Rattle.accepting.proofs.Reach.{keys_all}
+use Rattle.accepting.proofs.Weights.{RowWeighted, Weighted}
 
 combination_degree : (B : List ℕ) → All (λ k. degree k ≤ℕ 8) B → (es : List Entry) → Degree 8 (combination B es)
 combination_degree B h [] = tt
 combination_degree B h (e ∷ es) =
     (all_at _ B e.index 0 h (unfold degree degree_of in lit≤ tt), combination_degree B h es)
-
--- a weight is at least 0 on basis 0 and on an inequality; on an equality it may have either sign
-abbrev pub RowWeighted : Problem → Row → Type 0
-RowWeighted p r = kind_of p r.basis ≡ K.Inequality → pos 0 ≤ℤ r.weight
-
-abbrev pub Weighted : Problem → List Row → Type 0
-Weighted p rs = All (RowWeighted p) rs
 
 module _ (p : Problem) (limits : Limits p) where
   -- ---- degrees: at most 8 in each basis, and 16 in each multiplier

@@ -1,4 +1,5 @@
 pub mod Reach
+pub mod Weights
 pub mod Bounds
 pub mod Blocks
 pub mod Difference
