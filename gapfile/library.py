@@ -24,11 +24,11 @@ Runs = Sequence[bytes]
 
 def where() -> Optional[Path]:
     """The shared object: the one that is named, that which `tools/library` made in this repository unless the functions
-    were proved anew since, or the one that was installed with this package."""
+    were built anew since, or the one that was installed with this package."""
     named = os.environ.get(VARIABLE)
     if named is not None:
         return Path(named) if named else None
-    built, proved = ROOT / "target" / "lib" / NAME, ROOT / "target" / "stamp" / "c_calls"
+    built, proved = ROOT / "target" / "lib" / NAME, ROOT / "target" / "staticlib" / "libc_calls.a"
     if built.is_file() and proved.is_file() and proved.stat().st_mtime <= built.stat().st_mtime:
         return built
     if (ROOT / "BUILD").exists():

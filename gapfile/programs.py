@@ -98,7 +98,7 @@ def program(name: str) -> tuple[Path, str]:
             if not Path(found).is_file():
                 raise ProgramError(f"{found} is no file; {variable} must name a {name}")
             return Path(found).absolute(), how
-    raise ProgramError(f"{name} is not built; in the repository's folder `rt check {name}` builds it, or name one in "
+    raise ProgramError(f"{name} is not built; in the repository's folder `tools/prove {name}` builds it, or name one in "
                        f"{variable}")
 
 

@@ -1,7 +1,7 @@
-/* The proved calls as C functions: everything that crates/c_calls exports. Link with target/staticlib/libc_calls.a, which
-   `rt staticlib c_calls` makes; it needs memcpy, memmove and memset of the C library and nothing else.
+/* The proved calls as C functions: everything that crates/c_calls_c exports. Link with target/staticlib/libc_calls.a, which
+   `tools/prove c_calls_c` makes; it needs memcpy, memmove and memset of the C library and nothing else.
 
-   What each call returns and leaves is proved for all bytes: the contracts are in crates/c_calls/src/lib.rt. Nothing is proved of the
+   What each call returns and leaves is proved for all bytes: the contracts are in crates/c_calls_c/src/lib.rt. Nothing is proved of the
    caller. It must see to this:
    - A run is two arguments, a pointer and the number of its elements. The pointer is not NULL and is aligned for its element, also
      where the number is 0; there any such pointer will do, as nothing is read or written.

@@ -14,44 +14,64 @@ quietly() {
     fi
 }
 
+# put_built FILE PLACE SUM: a copy of the file there, unless what is there has the same bytes, which then keeps its date; and beside it
+# the sum of the sources that it is built of, and its own.
+put_built() {
+    mkdir -p "$(dirname "$2")"
+    cmp -s "$1" "$2" || install -m "$([ -x "$1" ] && echo 755 || echo 644)" "$1" "$2"
+    [ "$(sum_of_sources)" != "$3" ] || echo "$3 $(sha256sum <"$2")" >"$2.of"
+}
+
 # build_program NAME..: proves and builds programs of crates/, to target/bin/NAME. Crates that have not changed are not proved again;
 # the others are named as they are proved, which takes minutes for all of them.
 build_program() {
     tools/prove "$@" || exit $?
 }
 
-# kit_home: the kit's folder for this machine, with its compiler and its linker.
+# kit_home: the kit's folder, with its compiler and its linker.
 kit_home() {
-    local home=${RATTLE_HOME:-}
-    [ -n "$home" ] || home=$(cd "$(dirname "$(readlink -f "$(command -v rt)")")/.." && pwd -P)
-    echo "$home/on/$(uname -m)"
+    (cd "$(dirname "$(readlink -f "$(command -v rt)")")/.." && pwd -P)
 }
 
-# made_of CRATE FILE: what a file was made of: the stamp of the crate's proof, and its own bytes.
+# kit_words: what the kit passes to its clang for every machine, as it hands it a module: steps of the compiler that it leaves out.
+kit_words=(-mllvm -trap-unreachable -mllvm -disable-machine-licm -mllvm -disable-postra-machine-licm -mllvm -sink-common-insts=false)
+
+# sum_of_sources: a sum of the kit's name and of all that a proof reads here.
+sum_of_sources() {
+    local folder folders=()
+    for folder in crates/*/src crates/*/specs crates/*/proofs; do [ ! -d "$folder" ] || folders+=("$folder"); done
+    {
+        rt version
+        cat crates.txt
+        find "${folders[@]}" -type f -print0 | LC_ALL=C sort -z | xargs -0 sha256sum
+    } | sha256sum | cut -d' ' -f1
+}
+
+# proved_by_ci SUM: whether `rt ci` has passed here over just the sources of this sum, and no other command has built a library since:
+# what stands in crates/*/out is then what rt ci proved and built. (The other commands write a stamp beside each library, and rt ci does
+# not.)
+proved_by_ci() {
+    [ -s target/by-ci ] && ! compgen -G 'crates/*/out/rlib/stamp' >/dev/null && [ "$(cat target/by-ci)" = "$1" ]
+}
+
+# made_of FILE: what a file was made of, the archive of the C functions, and its own bytes.
 made_of() {
-    cat "target/stamp/$1" && sha256sum <"$2"
-}
-
-# build_once CRATE FILE WHAT COMMAND..: proves the crate, and makes the file of it by the command unless the file is the one that was
-# made of this very proof.
-build_once() {
-    local crate=$1 file=$2 what=$3
-    shift 3
-    tools/prove "$crate" || exit $?
-    if [ ! -e "$file.of" ] || [ "$(made_of "$crate" "$file" 2>/dev/null)" != "$(cat "$file.of")" ]; then
-        quietly "$what" "$@"
-        made_of "$crate" "$file" >"$file.of"
-    fi
+    sha256sum target/staticlib/libc_calls.a "$1" | cut -d' ' -f1
 }
 
 # build_library: the C functions as an archive, target/staticlib/libc_calls.a.
 build_library() {
-    build_once c_calls target/staticlib/libc_calls.a "the C functions" rt staticlib c_calls
+    tools/prove c_calls_c || exit $?
 }
 
-# build_module: the same for WebAssembly, target/wasm/zamiachisel.wasm.
+# build_module: the same for WebAssembly, target/wasm/zamiachisel.wasm, unless the one that is there was made of this very archive.
 build_module() {
-    build_once c_calls target/wasm/zamiachisel.wasm "the module for WebAssembly" tools/wasm
+    local file=target/wasm/zamiachisel.wasm
+    build_library
+    if [ ! -e "$file.of" ] || [ "$(made_of "$file" 2>/dev/null)" != "$(cat "$file.of")" ]; then
+        quietly "the module for WebAssembly" tools/wasm
+        made_of "$file" >"$file.of"
+    fi
 }
 
 # build_reference: the second implementation, to reference/target/release/reference.

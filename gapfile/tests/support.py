@@ -32,9 +32,9 @@ def judge() -> Optional[list[str]]:
     return [str(built), "replay"] if built else None
 
 
-needs_programs = unittest.skipUnless(BUILT, "gapcheck and replay are not built (rt check gapcheck replay)")
+needs_programs = unittest.skipUnless(BUILT, "gapcheck and replay are not built (tools/prove gapcheck replay)")
 needs_weekcheck = unittest.skipUnless((ROOT / "target/bin/weekcheck").exists(),
-                                      "weekcheck is not built (rt check weekcheck)")
+                                      "weekcheck is not built (tools/prove weekcheck)")
 needs_reference = unittest.skipUnless(REFERENCE.exists(),
                                       "the reference is not built (cargo build --release in reference)")
 needs_vectors = unittest.skipUnless(SHARED, "there is no folder ../shared with vectors beside the repository")

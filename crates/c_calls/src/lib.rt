@@ -1,6 +1,6 @@
-// The calls for programs in other languages, as C functions: each lent slice is a pointer and a length. Every field of a
-// verdict goes into a lent run of numbers, at the places that crates/verdict_numbers defines; what else a function
-// leaves behind it is what the call leaves. A run that is too short is refused with 1, as a short work table is.
+// The calls for programs in other languages, which crates/c_calls_c exports. Every field of a verdict goes into a lent
+// run of numbers, at the places that crates/verdict_numbers defines; what else a function leaves behind it is what the
+// call leaves. A run that is too short is refused with 1, as a short work table is.
 #![tactic(auto)]
 
 ghost use Rattle.std.specs.Prelude.{◌≡◌, ◌<◌, length};
@@ -56,9 +56,7 @@ const OFFICE: usize = 10;
 const WINDOW: usize = 7;
 
 // The blocks call.
-// stack: see docs/measured/stack-bound.tsv
-#[unsafe(no_mangle)]
-pub extern "C" fn zamiachisel_blocks(
+pub fn zamiachisel_blocks(
     problem: &[u8],
     out: &mut [u8],
     verdict: &mut [u64],
@@ -92,9 +90,7 @@ pub extern "C" fn zamiachisel_blocks(
 }
 
 // The check.
-// stack: see docs/measured/stack-bound.tsv
-#[unsafe(no_mangle)]
-pub extern "C" fn zamiachisel_check(
+pub fn zamiachisel_check(
     problem: &[u8],
     certificate: &[u8],
     verdict: &mut [u64],
@@ -125,9 +121,7 @@ pub extern "C" fn zamiachisel_check(
 }
 
 // The pair.
-// stack: see docs/measured/stack-bound.tsv
-#[unsafe(no_mangle)]
-pub extern "C" fn zamiachisel_pair(
+pub fn zamiachisel_pair(
     problem: &[u8],
     first: &[u8],
     second: &[u8],
@@ -160,9 +154,7 @@ pub extern "C" fn zamiachisel_pair(
 
 // The check of two certificates for one problem, each as if it were alone. The number of the first one's refusal comes
 // back.
-// stack: see docs/measured/stack-bound.tsv
-#[unsafe(no_mangle)]
-pub extern "C" fn zamiachisel_check_two(
+pub fn zamiachisel_check_two(
     problem: &[u8],
     first: &[u8],
     second: &[u8],
@@ -195,9 +187,7 @@ pub extern "C" fn zamiachisel_check_two(
 }
 
 // The call on two certificates for one problem (request 02): which one comes back, as the number of its stream.
-// stack: see docs/measured/stack-bound.tsv
-#[unsafe(no_mangle)]
-pub extern "C" fn zamiachisel_choose(
+pub fn zamiachisel_choose(
     problem: &[u8],
     first: &[u8],
     second: &[u8],
@@ -248,9 +238,7 @@ pub extern "C" fn zamiachisel_choose(
 
 // The same in the words of request 02, with four numbers lent singly. C gets no part of a run, so what comes back is the
 // number of the stream that does, 1 for the first certificate and 2 for the second, and 0 for neither.
-// stack: see docs/measured/stack-bound.tsv
-#[unsafe(no_mangle)]
-pub extern "C" fn zamiachisel_tighter(
+pub fn zamiachisel_tighter(
     problem: &[u8],
     first: &[u8],
     second: &[u8],
@@ -283,9 +271,7 @@ pub extern "C" fn zamiachisel_tighter(
 }
 
 // The symmetries call.
-// stack: see docs/measured/stack-bound.tsv
-#[unsafe(no_mangle)]
-pub extern "C" fn zamiachisel_symmetries(
+pub fn zamiachisel_symmetries(
     problem: &[u8],
     out: &mut [u8],
     verdict: &mut [u64],
@@ -319,9 +305,7 @@ pub extern "C" fn zamiachisel_symmetries(
 }
 
 // The report on a week's pairs.
-// stack: see docs/measured/stack-bound.tsv
-#[unsafe(no_mangle)]
-pub extern "C" fn zamiachisel_report(
+pub fn zamiachisel_report(
     records: &[u8],
     out: &mut [u8],
     verdict: &mut [u64],
@@ -357,18 +341,14 @@ pub extern "C" fn zamiachisel_report(
 }
 
 // How many records a week's input has, none where it is refused.
-// stack: see docs/measured/stack-bound.tsv
-#[unsafe(no_mangle)]
-pub extern "C" fn zamiachisel_record_count(records: &[u8]) -> u64
+pub fn zamiachisel_record_count(records: &[u8]) -> u64
     ensures { result ≡ record_count (records_of records.now) }
 {
     weekly_report::record_count(records) as u64
 }
 
 // Two problems over one region, with a pair for each.
-// stack: see docs/measured/stack-bound.tsv
-#[unsafe(no_mangle)]
-pub extern "C" fn zamiachisel_sum(
+pub fn zamiachisel_sum(
     problem1: &[u8],
     low1: &[u8],
     high1: &[u8],
@@ -409,9 +389,7 @@ pub extern "C" fn zamiachisel_sum(
 }
 
 // The call on changes of the objective.
-// stack: see docs/measured/stack-bound.tsv
-#[unsafe(no_mangle)]
-pub extern "C" fn zamiachisel_moved_bound(
+pub fn zamiachisel_moved_bound(
     problem: &[u8],
     certificate: &[u8],
     changes: &[u8],
@@ -445,9 +423,7 @@ pub extern "C" fn zamiachisel_moved_bound(
 }
 
 // The office's check.
-// stack: see docs/measured/stack-bound.tsv
-#[unsafe(no_mangle)]
-pub extern "C" fn zamiachisel_office(
+pub fn zamiachisel_office(
     problem: &[u8],
     certificate: &[u8],
     buffer: &mut [u8],
@@ -485,9 +461,7 @@ pub extern "C" fn zamiachisel_office(
 }
 
 // A gap arrives at a window, whose state is lent as numbers (request 11).
-// stack: see docs/measured/stack-bound.tsv
-#[unsafe(no_mangle)]
-pub extern "C" fn zamiachisel_window_push(
+pub fn zamiachisel_window_push(
     numerator: i64,
     denominator: u64,
     state: &mut [u64],
@@ -522,9 +496,7 @@ pub extern "C" fn zamiachisel_window_push(
 
 // The call for the bid tool (request 14): the pair's verdict as one record. The tables are the call's own. The number
 // of the refusal comes back, or 0, or 1 where fewer than 32 bytes are lent.
-// stack: see docs/measured/stack-bound.tsv
-#[unsafe(no_mangle)]
-pub extern "C" fn zamiachisel_record(problem: &[u8], low: &[u8], high: &[u8], out: &mut [u8]) -> u64
+pub fn zamiachisel_record(problem: &[u8], low: &[u8], high: &[u8], out: &mut [u8]) -> u64
     ensures number { let runs = three_runs problem.now low.now high.now in
         result ≡ tool_number out.old runs }
     ensures bytes { let runs = three_runs problem.now low.now high.now in
@@ -559,16 +531,14 @@ fn put_text(t: Text, out: &mut [u8]) -> u64
     let text = text::cut(&bytes, t.len);
     let length = text.len();
     if length <= out.len() {
-        bytes::copy(text, out);
+        out[..length].copy_from_slice(text);
     }
     length as u64
 }
 
 // The lines that gapcheck writes for three streams, at the start of `out` where they fit; otherwise nothing is written.
 // Their length comes back. The tables are the call's own.
-// stack: see docs/measured/stack-bound.tsv
-#[unsafe(no_mangle)]
-pub extern "C" fn zamiachisel_lines(problem: &[u8], low: &[u8], high: &[u8], out: &mut [u8]) -> u64
+pub fn zamiachisel_lines(problem: &[u8], low: &[u8], high: &[u8], out: &mut [u8]) -> u64
     ensures length { result ≡ length (answer_to problem.now low.now high.now) }
     ensures bytes { let text = answer_to problem.now low.now high.now in
         out.new ≡ text_left text out.old }

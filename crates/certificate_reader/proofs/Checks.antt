@@ -1,14 +1,25 @@
--- Laws of a command's checks: their order.
+-- Laws of a command's checks: the command that a byte names, and their order.
 use mathlib.Core.Path.{◌≡◌}
 use mathlib.Core.List.{List}
 use mathlib.Core.Bool.{true, false}
 use Prim.Native.Nat.{ℕ, ◌+◌, ◌≤◌, ◌<◌}
-use lib.ListN.{length}
+use lib.ListN.{length, get_or}
 use borrow.Author.Tests.{le-leb, lt-leb}
 use Rattle.format.specs.Commands.{first_refusal}
 use Rattle.format.specs.ProblemRules.{Problem}
-use Rattle.format.specs.CertificateLayout.{certificate_size}
+use Rattle.format.specs.declared.certificate.Command.TheVariants as C
+use Rattle.format.specs.CertificateLayout.{certificate_command, certificate_size}
 use Rattle.format.specs.CertificateRules.{Certificate, certificate_placed, certificate_operands_fit, certificate_repeated, certificate_full, certificate_command_at, certificate_instruction_at, certificate_refusal_at}
+
+-- ---- the command that a byte names
+module _ (s : List ℕ) (at : ℕ) where
+  pub row_command_lem : get_or s at 0 ≡ 0x11 → certificate_command_at s at ≡ C.Row
+  unfolding certificate_command
+  row_command_lem e = rw e
+
+  pub entry_command_lem : get_or s at 0 ≡ 0x12 → certificate_command_at s at ≡ C.Entry
+  unfolding certificate_command
+  entry_command_lem e = rw e
 
 -- ---- the checks, one by one
 module _ (p : Problem) (c : Certificate) (s : List ℕ) (at : ℕ) where

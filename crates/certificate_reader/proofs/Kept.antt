@@ -1,5 +1,5 @@
 -- The header and the progress that the reader keeps are those of the certificate that is read.
-use mathlib.Core.Path.{◌≡◌, refl, ap, sym, ◌∙◌}
+use mathlib.Core.Path.{◌≡◌, refl, ap, sym, subst, ◌∙◌}
 use mathlib.Core.List.{List}
 use mathlib.Core.Bool.{true, false}
 use Prim.Native.Nat.{ℕ, ◌+◌, ◌≤◌, ◌<◌}
@@ -8,6 +8,7 @@ use native.Mathlib.Omega.{arith}
 use lib.Dec.{leb, ltb}
 use lib.IntN.{ℤ}
 use lib.ListN.{length, get_or, set, length-append, length-set}
+use lib.Seq.{set-set}
 use borrow.Author.Tests.{leb-true, leb-false, ltb-true}
 use Rattle.counting.proofs.Cases.{and_left, and_right}
 use Rattle.format.specs.Commands.{refused}
@@ -25,7 +26,9 @@ use Rattle.certificate_reader.specs.declared.Reading.{Reading}
 use Rattle.certificate_commands.specs.Kept.{Sized, progress_of, no_progress, headed, begun, risen, advanced, ProgressWithin}
 use Rattle.certificate_rows.specs.Offsets.{size_at}
 use Rattle.certificate_reader.specs.Rows.{GivenRows, Validated}
+use Rattle.certificate_reader.specs.Verdicts.{EntryThere, EntriesRead, none, more}
 use Rattle.certificate_commands.proofs.Asked.{rows_are, floor_more}
+use Rattle.certificate_reader.proofs.Checks.{entry_command_lem}
 use Rattle.certificate_reader.proofs.Noted.{Noted, noted_start, noted_next}
 
 -- ---- the header and the progress of what has been read after a command
@@ -133,7 +136,7 @@ module _ (p : Problem) (s : List ℕ) where
             let n = rows_are k.read g k.progress in
             record { rows = omega arith; basis = let m = l.conditions in omega arith }
 
-        pub bounded_next : Limits p → ProgressWithin (advanced g (certificate_instruction_at s at))
+        bounded_next : Limits p → ProgressWithin (advanced g (certificate_instruction_at s at))
         bounded_next l = go (certificate_command_at s at) (passed p k.read s at v)
           where
             go : (i : Command) → Passed p k.read s at i → ProgressWithin (advanced g (certificate_decoded i s at))
@@ -159,3 +162,31 @@ module _ (p : Problem) (s : List ℕ) where
           noted = noted_next p s starts at k.read g k.progress k.noted v b;
           left = left_next (certificate_language p) s _ k.read at k.left e v b (taken_size p k.read s at v);
         }
+
+-- the same by other names of the header, the progress and the offset
+pub held_as : (p : Problem) (s : List ℕ) {t t' : Header} {g g' : Progress} (starts : List ℕ) {x x' : ℕ} → t ≡ t' → g ≡ g' → x ≡ x' → Held p s t' g' (set starts g'.rows x') x' → Held p s t g (set starts g.rows x) x
+held_as p s starts e f h k = rw (e, f, h) k
+
+-- ---- a run of entries
+pub run_from : {sizes s : List ℕ} {g : Progress} {from : ℕ} {h : Progress} {at : ℕ} → EntriesRead sizes s g from h at → from ≤ at
+run_from none = omega arith
+run_from (more w e v) = omega (arith, run_from w)
+
+-- an entry leaves the progress within its limits
+pub entry_within : (s : List ℕ) (g : Progress) (at : ℕ) → EntryThere s at → ProgressWithin g → ProgressWithin (advanced g (certificate_instruction_at s at))
+entry_within s g at e w = rw (entry_command_lem s at e.byte) (record { rows = w.rows; basis = w.basis })
+
+-- what the loop keeps after it: the row's end is stored once
+module _ (p : Problem) (s : List ℕ) (limits : Limits p) {sizes : List ℕ} (sized : Sized p sizes) (t : Header) where
+  held_entry : (h : Progress) (starts : List ℕ) (at : ℕ) → Held p s t h (set starts h.rows at) at → EntryThere s at
+      → ((q : Problem) (c : Certificate) → Sized q sizes → h ≡ progress_of c → certificate_refusal_at q c s at ≡ 0)
+      → let g = advanced h (certificate_instruction_at s at) in Held p s t g (set starts g.rows (at + 4)) (at + 4)
+  held_entry h starts at k e v =
+      let c = entry_command_lem s at e.byte in
+      let n = held_next p s t h (set starts h.rows at) at k e.inside (v p k.read sized k.progress) limits (λ b. let q = e.byte in omega arith) in
+      rw c
+      (subst (λ (l : List ℕ). Held p s t (advanced h (certificate_decoded C.Entry s at)) l (at + 4)) (set-set starts h.rows at (at + 4)) (rw c at n))
+
+  pub held_run : (g : Progress) (starts : List ℕ) (from : ℕ) → Held p s t g (set starts g.rows from) from → {h : Progress} {at : ℕ} → EntriesRead sizes s g from h at → Held p s t h (set starts h.rows at) at
+  held_run g starts from k none = k
+  held_run g starts from k (more {h} {at} w e v) = held_entry h starts at (held_run g starts from k w) e v

@@ -25,7 +25,7 @@ use Rattle.format.proofs.Lengths.{certificate_byte}
 use Rattle.format.proofs.CertificateChecks.{Passed, passed}
 use Rattle.certificate_commands.specs.declared.Progress.{Progress}
 use Rattle.certificate_commands.specs.Kept.{progress_of, advanced}
-use Rattle.certificate_rows.specs.Offsets.{size_at, entry_at, basis_at, weight_at, entries_from, row_at, rows_by, GivesEntry, by_entry, by_wide, EntriesStand, done, more, BeginsRow, by_row, by_equality, RowStands, RowsStand}
+use Rattle.certificate_rows.specs.Offsets.{size_at, entry_at, basis_at, weight_at, entries_from, row_at, rows_by, GivesEntry, by_entry, by_wide, EntriesStand, done, BeginsRow, by_row, by_equality, RowStands, RowsStand}
 use Rattle.certificate_commands.proofs.Asked.{rows_are}
 use Rattle.certificate_rows.proofs.Offsets.{none_left, stand_is, stand_more, rows_length, row_by}
 

@@ -1,6 +1,6 @@
 -- A stream that is read can be walked.
 use mathlib.Core.List.{List}
-use Prim.Native.Nat.{ℕ, ◌-◌}
+use Prim.Native.Nat.{ℕ}
 use Rattle.format.specs.ProblemRules.{Problem}
 use Rattle.format.specs.declared.certificate.Header.{Header}
 use Rattle.format.proofs.WithinLimits.{Limits}

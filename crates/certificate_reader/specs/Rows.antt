@@ -1,7 +1,6 @@
 -- What the reader says of a certificate stream that is read against the problem p.
-use Rattle.std.specs.Prelude.{◌≡◌, List, ℕ, ◌-◌, ◌<◌}
+use Rattle.std.specs.Prelude.{◌≡◌, List, ℕ, ◌<◌}
 use Rattle.format.specs.Commands.{refused, given}
-use Rattle.format.specs.Operands.{number}
 use Rattle.format.specs.declared.certificate.Header.{Header}
 use Rattle.format.specs.ProblemRules.{Problem}
 use Rattle.format.specs.CertificateRules.{Certificate, read_certificate}

@@ -1,16 +1,17 @@
 // The reader of the certificate stream, which notes the offsets of the rows.
 #![tactic(auto)]
 
-ghost use Rattle.std.specs.Prelude.{◌≡◌, ◌<◌, length};
+ghost use Rattle.std.specs.Prelude.{true, ◌≡◌, length, get_or};
 ghost use Rattle.format.specs.ProblemRules.{Problem};
 ghost use Rattle.format.proofs.WithinLimits.{Limits};
-ghost use Rattle.format.specs.CertificateRules.{Certificate, no_header, certificate_refusal_at};
-ghost use Rattle.format.specs.CertificateRules.{certificate_instruction_at};
-ghost use Rattle.certificate_commands.specs.Kept.{Sized, ProblemSizes, progress_of, ProgressWithin, no_progress, headed, begun, risen, advanced};
+ghost use Rattle.format.specs.CertificateRules.{no_header, certificate_command_at};
+ghost use Rattle.certificate_commands.specs.Kept.{Sized, ProblemSizes, ProgressWithin, no_progress};
+ghost use Rattle.certificate_commands.specs.Kept.{headed, begun, risen, advanced};
+ghost use Rattle.certificate_reader.specs.Verdicts.{Asked, Told, EntryThere, EntriesRead};
 ghost use Rattle.certificate_reader.specs.Rows.{Validated};
 
 use certificate_commands::Progress;
-use format::certificate::{Header, Instruction};
+use format::certificate::{Command, Header, Instruction};
 
 // Before the first command.
 fn no_header() -> Header
@@ -61,15 +62,13 @@ fn refused(number: u8) -> Checked
     }
 }
 
-// The checks of the command at an offset, in their order.
-fn verdict_at(sizes: &[usize], g: Progress, s: &[u8], at: usize) -> Checked
-    requires { ProgressWithin g × ProblemSizes sizes.now × (at < length s.now) }
-    ensures { ((p : Problem) (c : Certificate) → Sized p sizes.now → g ≡ progress_of c
-        → result.number ≡ certificate_refusal_at p c s.now at)
-        × (result.number ≡ 0 → result.instruction ≡ certificate_instruction_at s.now at) }
+// The checks of a command that stands at an offset, in their order. Where the command is a constant the compiler leaves
+// out what is asked of the others.
+fn verdict_of(command: Command, sizes: &[usize], g: Progress, s: &[u8], at: usize) -> Checked
+    requires { Asked sizes.now g s.now at × (command ≡ certificate_command_at s.now at) }
+    ensures { Told sizes.now g s.now at result }
 {
     let byte = s[at];
-    let command = certificate_commands::command_of(byte);
     if !certificate_commands::is_placed(g, at, command) {
         return refused(3);
     }
@@ -90,6 +89,26 @@ fn verdict_at(sizes: &[usize], g: Progress, s: &[u8], at: usize) -> Checked
         number: 0,
         instruction,
     }
+}
+
+// Those of a row by command 11, apart, so that they are compiled for it alone.
+fn row_verdict(sizes: &[usize], g: Progress, s: &[u8], at: usize) -> Checked
+    requires { Asked sizes.now g s.now at × (get_or s.now at 0 ≡ 0x11) }
+    ensures { Told sizes.now g s.now at result }
+{
+    verdict_of(Command::Row, sizes, g, s, at)
+}
+
+// The checks of the command at an offset.
+fn verdict_at(sizes: &[usize], g: Progress, s: &[u8], at: usize) -> Checked
+    requires { Asked sizes.now g s.now at }
+    ensures { Told sizes.now g s.now at result }
+{
+    let byte = s[at];
+    if byte == 0x11 {
+        return row_verdict(sizes, g, s, at);
+    }
+    verdict_of(certificate_commands::command_of(byte), sizes, g, s, at)
 }
 
 // The header after a command that is not refused.
@@ -151,6 +170,40 @@ fn progress_after(g: Progress, i: Instruction) -> Progress
     }
 }
 
+// Whether an entry by command 12 stands at an offset.
+fn is_entry(s: &[u8], at: usize) -> bool
+    ensures { result ≡ true → EntryThere s.now at }
+{
+    at < s.len() && s[at] == 0x12
+}
+
+// Where a run of entries ends, and the progress there.
+#[derive(Drop)]
+pub struct Run {
+    pub at: usize,
+    pub progress: Progress,
+}
+
+// The entries by command 12 from an offset on, up to the first that a check refuses, or another command. Most commands
+// of a certificate are such entries: they are read in a loop of their own.
+fn entry_run(sizes: &[usize], g: Progress, s: &[u8], from: usize) -> Run
+    requires { ProgressWithin g × ProblemSizes sizes.now }
+    ensures { EntriesRead sizes.now s.now g from result.progress result.at }
+{
+    let mut at = from;
+    let mut progress = g;
+    while is_entry(s, at) {
+        let checked = verdict_of(Command::Entry, sizes, progress, s, at);
+        if 0 < checked.number {
+            return Run { at, progress };
+        }
+        let i = checked.instruction;
+        progress = progress_after(progress, i);
+        at += 4;
+    }
+    Run { at, progress }
+}
+
 // Reads a certificate stream command by command, and notes the offsets of the rows: row r stands from starts[r] to
 // starts[r + 1]. The row begun last ends, so far, where the next command begins.
 pub fn validate(sizes: &[usize], s: &[u8], starts: &mut [usize; 129]) -> Reading
@@ -186,10 +239,11 @@ pub fn validate(sizes: &[usize], s: &[u8], starts: &mut [usize; 129]) -> Reading
         }
         let i = checked.instruction;
         header = header_after(header, i);
-        progress = progress_after(progress, i);
+        let run = entry_run(sizes, progress_after(progress, i), s, next);
+        progress = run.progress;
+        at = run.at;
         let begun = progress.rows;
-        starts[begun] = next;
-        at = next;
+        starts[begun] = at;
     }
     Reading {
         number: 2,

@@ -1,5 +1,5 @@
 -- A byte of a file's name as it is written on standard error.
-use Rattle.std.specs.Prelude.{Bool, true, false, cond, List, [], ◌∷◌, ℕ, ◌/◌, ◌%◌, leb, ltb, eqb}
+use Rattle.std.specs.Prelude.{Bool, false, cond, List, [], ◌∷◌, ℕ, ◌/◌, ◌%◌, leb, ltb, eqb}
 use Rattle.io.specs.Digits.{hex_digit_ascii}
 
 -- a printable character of ASCII: from the space to ~

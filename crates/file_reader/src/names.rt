@@ -3,7 +3,7 @@
 ghost use Rattle.std.specs.Prelude.{◌≡◌, take};
 ghost use Rattle.file_reader.specs.Escapes.{is_shown, escaped};
 
-use libc::STDERR_FILENO;
+use std::io::Print;
 
 // Whether a byte is a printable character of ASCII.
 fn is_shown(b: u8) -> bool
@@ -49,13 +49,10 @@ fn escape(b: u8) -> Shown
     }
 }
 
-// Writes a name.
-pub(crate) fn write(name: &[u8]) {
-    let mut i = 0;
-    while i < name.len() {
-        let shown = escape(name[i]);
-        let bytes = shown.bytes;
-        io::write_all(STDERR_FILENO, text::cut(&bytes, shown.len));
-        i += 1;
+// Writes a name to standard error.
+pub(crate) fn write(err: &impl Print, name: &[u8]) {
+    for b in name {
+        let shown = escape(*b);
+        let _ = err.write_all(text::cut(&shown.bytes, shown.len));
     }
 }

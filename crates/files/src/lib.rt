@@ -10,7 +10,10 @@ ghost use Rattle.std.specs.Prelude.{◌≡◌, ◌≤◌, length, take};
 ghost use Rattle.lines.specs.Texts.{text_of};
 ghost use Rattle.lines.specs.Answers.{answer_to};
 
+use file_reader::arguments;
 use lines::Text;
+use std::io::Print;
+use std::rt::{Env, Files};
 
 // An answer, and how many bytes of each buffer were its streams.
 #[derive(Drop)]
@@ -34,47 +37,67 @@ pub fn answer_to(problem: &[u8], low: &[u8], high: &[u8]) -> Text
 
 // The bytes of a file, at the start of the buffer, and how many. A missing file is an empty stream, and so is one that
 // cannot be read; standard error says which.
-fn read_file(path: &[u8], bytes: &mut [u8]) -> usize
+fn read_file(rt: &impl Files, err: &impl Print, path: &[u8], bytes: &mut [u8]) -> usize
     ensures { result ≤ length bytes.new }
 {
-    file_reader::read_file(b"gapcheck", path, b"65,536", b"its stream is empty", bytes)
+    file_reader::read_file(
+        rt,
+        err,
+        b"gapcheck",
+        path,
+        b"65,536",
+        b"its stream is empty",
+        bytes,
+    )
 }
 
 // The bytes of the file that argument i names, or of another where there is no such argument. With no argument at all
 // the other is the usual one, and nothing is said.
-fn read_stream(i: usize, other: &[u8], bytes: &mut [u8]) -> usize
+fn read_stream<R: Env + Files>(
+    rt: &R,
+    err: &impl Print,
+    i: usize,
+    other: &[u8],
+    bytes: &mut [u8],
+) -> usize
     ensures { result ≤ length bytes.new }
 {
-    let count = os::arg_count();
-    if count <= i {
-        if 1 < count {
-            messages::left_out(i, other);
+    if !arguments::is_given(rt, i) {
+        if arguments::is_given(rt, 1) {
+            messages::left_out(err, i, other);
         }
-        return read_file(other, bytes);
+        return read_file(rt, err, other, bytes);
     }
-    let mut path = io::buffer();
-    let n = os::arg(i, &mut path);
-    if os::errno() != 0 {
-        messages::no_path(i);
-        return 0;
+    let mut path = [0u8; 4096];
+    match arguments::take(rt, i, &mut path) {
+        Ok(n) => read_file(rt, err, text::cut(&path, n), bytes),
+        Err(e) => {
+            messages::no_path(err, i, &e);
+            0
+        }
     }
-    read_file(&path[..n], bytes)
 }
 
 // The text for the three files, which are read into the buffers: the text for the bytes at the start of each buffer as
-// it is left, as many as are returned.
-pub fn answer(problem: &mut [u8; 65536], low: &mut [u8; 65536], high: &mut [u8; 65536]) -> Answered
+// it is left, as many as are returned. Messages go to `err`, which is standard error.
+pub fn answer<R: Env + Files>(
+    rt: &R,
+    err: &impl Print,
+    problem: &mut [u8; 65536],
+    low: &mut [u8; 65536],
+    high: &mut [u8; 65536],
+) -> Answered
     ensures text { text_of result.text
         ≡ answer_to (take result.problem problem.new) (take result.low low.new)
         (take result.high high.new) }
     ensures lengths { (result.problem ≤ 65536) × (result.low ≤ 65536) × (result.high ≤ 65536) }
 {
-    if 4 < os::arg_count() {
-        messages::more_arguments();
+    if arguments::is_given(rt, 4) {
+        messages::more_arguments(err);
     }
-    let a = read_stream(1, b"problem.bin", problem);
-    let b = read_stream(2, b"low.bin", low);
-    let c = read_stream(3, b"high.bin", high);
+    let a = read_stream(rt, err, 1, b"problem.bin", problem);
+    let b = read_stream(rt, err, 2, b"low.bin", low);
+    let c = read_stream(rt, err, 3, b"high.bin", high);
     let text = answer_to(text::cut(problem, a), text::cut(low, b), text::cut(high, c));
     Answered {
         text,

@@ -1,32 +1,36 @@
 // What is said on standard error of arguments. No contract can say what is written; `tools/messages` compares it with
 // what must be.
-use libc::STDERR_FILENO;
+use file_reader::messages::{fail, say};
+use std::io::{Error, Print};
 
 // A message begins with the program's name and what it speaks of.
-fn speak_of(what: &[u8]) {
-    io::write_all(STDERR_FILENO, b"gapcheck: ");
-    io::write_all(STDERR_FILENO, what);
+fn speak_of(err: &impl Print, what: &[u8]) {
+    say(err, b"gapcheck: ");
+    say(err, what);
 }
 
-fn speak_of_argument(i: usize) {
-    speak_of(b"argument ");
-    io::print_decimal(STDERR_FILENO, i as u64);
+fn speak_of_argument(err: &impl Print, i: usize) {
+    speak_of(err, b"argument ");
+    let _ = err.print(i);
 }
 
 // An argument that is too long to be a path.
-pub(crate) fn no_path(i: usize) {
-    speak_of_argument(i);
-    os::fail(b": cannot be taken, so its stream is empty");
+pub(crate) fn no_path(err: &impl Print, i: usize, e: &Error) {
+    speak_of_argument(err, i);
+    fail(err, b": cannot be taken, so its stream is empty", e);
 }
 
 // An argument that is not there, beside one that is.
-pub(crate) fn left_out(i: usize, path: &[u8]) {
-    speak_of_argument(i);
-    io::write_all(STDERR_FILENO, b": not given, so the file is ");
-    io::write_all(STDERR_FILENO, path);
-    io::write_all(STDERR_FILENO, b"\n");
+pub(crate) fn left_out(err: &impl Print, i: usize, path: &[u8]) {
+    speak_of_argument(err, i);
+    say(err, b": not given, so the file is ");
+    say(err, path);
+    say(err, b"\n");
 }
 
-pub(crate) fn more_arguments() {
-    speak_of(b"more than three arguments: those after the third are ignored\n");
+pub(crate) fn more_arguments(err: &impl Print) {
+    speak_of(
+        err,
+        b"more than three arguments: those after the third are ignored\n",
+    );
 }

@@ -2,24 +2,19 @@
 // of document 01.
 #![tactic(auto)]
 
-use libc::STDOUT_FILENO;
-
-// Whether the first argument is this word.
-fn asks(word: &[u8]) -> bool {
-    let mut first = io::buffer();
-    let n = os::arg(1, &mut first);
-    check::same(&first[..n], word)
-}
+use file_reader::{arguments, messages};
+use std::io;
+use std::io::Print;
+use std::rt::{Env, Files};
 
 // What `--version` asks for; whether it was written.
-fn write_version() -> bool {
-    io::write_all(STDOUT_FILENO, b"gapcheck 0.21.0\n")
+fn write_version(out: &impl Print) -> io::Result<()> {
+    out.write_all(b"gapcheck 0.21.0\n")
 }
 
 // What `--help` and `-h` ask for; whether it was written.
-fn write_help() -> bool {
-    io::write_all(
-        STDOUT_FILENO,
+fn write_help(out: &impl Print) -> io::Result<()> {
+    out.write_all(
         b"gapcheck: whether a lower and an upper bound of a polynomial hold, by two certificates.
 
 usage: gapcheck [PROBLEM [LOW [HIGH]]]
@@ -58,25 +53,25 @@ answer. A stack of 512 KB is enough, without arguments and environment.
 }
 
 // The text for the files; whether it was written.
-fn write_answer() -> bool {
-    let mut problem = io::large_buffer();
-    let mut low = io::large_buffer();
-    let mut high = io::large_buffer();
-    let answered = files::answer(&mut problem, &mut low, &mut high);
+fn write_answer<R: Env + Files + Print>(rt: &R, err: &impl Print) -> io::Result<()> {
+    let mut problem = [0u8; 65536];
+    let mut low = [0u8; 65536];
+    let mut high = [0u8; 65536];
+    let answered = files::answer(rt, err, &mut problem, &mut low, &mut high);
     let text = answered.text;
-    let bytes = text.bytes;
-    io::write_all(STDOUT_FILENO, text::cut(&bytes, text.len))
+    rt.write_all(text::cut(&text.bytes, text.len))
 }
 
-fn main() {
-    let written = if asks(b"--help") || asks(b"-h") {
-        write_help()
-    } else if asks(b"--version") {
-        write_version()
+fn main(rt: HostRuntime) {
+    let err = rt.stderr();
+    let written = if arguments::asks(&rt, b"--help") || arguments::asks(&rt, b"-h") {
+        write_help(&rt)
+    } else if arguments::asks(&rt, b"--version") {
+        write_version(&rt)
     } else {
-        write_answer()
+        write_answer(&rt, &err)
     };
-    if !written {
-        os::fail(b"gapcheck: standard output cannot be written");
+    if let Err(e) = written {
+        messages::fail(&err, b"gapcheck: standard output cannot be written", &e);
     }
 }

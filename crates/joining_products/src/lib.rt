@@ -17,7 +17,7 @@ ghost use Rattle.joining_products.specs.Adding.{AddingAsks, AddedAll, add_square
 pub const PLAIN: usize = 16;
 
 // Two blocks, by their numbers, the lower one first; or a block and an index.
-#[derive(Drop)]
+#[derive(Clone, Copy)]
 pub struct Cross {
     pub a: u8,
     pub b: u8,

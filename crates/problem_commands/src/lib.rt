@@ -3,7 +3,7 @@
 #![tactic(auto)]
 
 ghost use Rattle.std.specs.Prelude.{◌≡◌, ◌+◌, ◌≤◌, ◌<◌, length};
-ghost use Rattle.format.proofs.Lengths.{ZeroUnknown};
+ghost use Rattle.format.specs.Layouts.{ZeroUnknown};
 ghost use Rattle.format.specs.declared.problem.Command.TheVariants as C;
 ghost use Rattle.format.specs.ProblemLayout.{problem_command, problem_size, problem_decoded};
 ghost use Rattle.format.specs.ProblemRules.{Problem, order_place, problem_placed, fitting, problem_operands_fit, problem_command_at};

@@ -21,8 +21,8 @@ ghost use Rattle.replay.specs.Tool.{tool_answer};
 ghost use Rattle.replay.specs.Sums.{sum_answer};
 
 use calls::{Fraction, WindowVerdict};
-use libc::{STDIN_FILENO, STDOUT_FILENO};
 use lines::Text;
+use std::io::{Print, Read};
 
 fn answer_blocks(problem: &[u8]) -> Text
     ensures { text_of result ≡ blocks_answer problem.now }
@@ -161,10 +161,10 @@ fn window_line(run: &[u8], out: &mut [u8]) -> usize
 }
 
 // Answers a record of arrivals, of which there are at most 4,096; whether its line was written.
-fn answer_window(run: &[u8; 65536], n: usize) -> bool {
-    let mut out = [0u8; 270336];
-    let len = window_line(text::cut(run, n), &mut out);
-    io::write_all(STDOUT_FILENO, text::cut(&out, len))
+fn answer_window(out: &impl Print, run: &[u8; 65536], n: usize) -> bool {
+    let mut line = [0u8; 270336];
+    let len = window_line(text::cut(run, n), &mut line);
+    out.write_all(text::cut(&line, len)).is_ok()
 }
 
 // The line for two certificates of a problem: what came back of them, or the refusal.
@@ -196,6 +196,7 @@ fn tighter_line<'a>(problem: &[u8], first: &'a [u8], second: &'a [u8], out: &mut
 
 // Answers a record of two certificates; whether its line was written.
 fn answer_tighter<'a>(
+    out: &impl Print,
     problem: &[u8; 65536],
     a: usize,
     first: &'a [u8; 65536],
@@ -203,14 +204,14 @@ fn answer_tighter<'a>(
     second: &'a [u8; 65536],
     c: usize,
 ) -> bool {
-    let mut out = [0u8; 135168];
+    let mut line = [0u8; 135168];
     let len = tighter_line(
         text::cut(problem, a),
         text::cut(first, b),
         text::cut(second, c),
-        &mut out,
+        &mut line,
     );
-    io::write_all(STDOUT_FILENO, text::cut(&out, len))
+    out.write_all(text::cut(&line, len)).is_ok()
 }
 
 // The line for a report, with the output as it was lent.
@@ -226,7 +227,7 @@ fn report_line(records: &[u8], output: &mut [u8], line: &mut [u8]) -> usize
 }
 
 // Answers a record of a report, whose output is the first n bytes; whether its line was written.
-fn answer_report(records: &[u8], output: &mut [u8], n: usize) -> bool {
+fn answer_report(out: &impl Print, records: &[u8], output: &mut [u8], n: usize) -> bool {
     if output.len() < n {
         return false;
     }
@@ -235,7 +236,7 @@ fn answer_report(records: &[u8], output: &mut [u8], n: usize) -> bool {
     }
     let mut line = [0u8; 131200];
     let len = report_line(records, &mut output[..n], &mut line);
-    io::write_all(STDOUT_FILENO, text::cut(&line, len))
+    out.write_all(text::cut(&line, len)).is_ok()
 }
 
 // The line for the call for a C program, with the output as it was lent.
@@ -249,7 +250,14 @@ fn tool_line(problem: &[u8], low: &[u8], high: &[u8], output: &mut [u8], line: &
 }
 
 // Writes that line, where the output is the first n bytes; whether it was written.
-fn write_tool(problem: &[u8], low: &[u8], high: &[u8], output: &mut [u8], n: usize) -> bool {
+fn write_tool(
+    out: &impl Print,
+    problem: &[u8],
+    low: &[u8],
+    high: &[u8],
+    output: &mut [u8],
+    n: usize,
+) -> bool {
     if output.len() < n {
         return false;
     }
@@ -258,7 +266,7 @@ fn write_tool(problem: &[u8], low: &[u8], high: &[u8], output: &mut [u8], n: usi
     }
     let mut line = [0u8; 131200];
     let len = tool_line(problem, low, high, &mut output[..n], &mut line);
-    io::write_all(STDOUT_FILENO, text::cut(&line, len))
+    out.write_all(text::cut(&line, len)).is_ok()
 }
 
 // The line for two problems with a pair for each.
@@ -297,7 +305,13 @@ fn office_line(problem: &[u8], certificate: &[u8], buffer: &mut [u8], line: &mut
 
 // Answers a record of a certificate that may have notes, whose buffer is the first n bytes; whether its line was
 // written.
-fn answer_office(problem: &[u8], certificate: &[u8], buffer: &mut [u8], n: usize) -> bool {
+fn answer_office(
+    out: &impl Print,
+    problem: &[u8],
+    certificate: &[u8],
+    buffer: &mut [u8],
+    n: usize,
+) -> bool {
     if buffer.len() < n {
         return false;
     }
@@ -306,7 +320,7 @@ fn answer_office(problem: &[u8], certificate: &[u8], buffer: &mut [u8], n: usize
     }
     let mut line = [0u8; 131328];
     let len = office_line(problem, certificate, &mut buffer[..n], &mut line);
-    io::write_all(STDOUT_FILENO, text::cut(&line, len))
+    out.write_all(text::cut(&line, len)).is_ok()
 }
 
 // The length that four bytes of a record's head give.
@@ -318,11 +332,11 @@ fn length_at(head: &[u8; 13], at: usize) -> usize
 }
 
 // The next n bytes of the input; whether there is room for them and they are there.
-fn fill(bytes: &mut [u8], n: usize) -> bool
+fn fill(input: &mut impl Read, bytes: &mut [u8], n: usize) -> bool
     ensures { result ≡ true → n ≤ length bytes.new }
 {
     if n <= bytes.len() {
-        io::read_full(STDIN_FILENO, &mut bytes[..n]) == n
+        input.read_exact(&mut bytes[..n]).is_ok()
     } else {
         false
     }
@@ -330,6 +344,7 @@ fn fill(bytes: &mut [u8], n: usize) -> bool
 
 // The same for three runs, one after the other.
 fn fill_three(
+    input: &mut impl Read,
     first: &mut [u8],
     a: usize,
     second: &mut [u8],
@@ -337,34 +352,35 @@ fn fill_three(
     third: &mut [u8],
     c: usize,
 ) -> bool {
-    if !fill(first, a) {
+    if !fill(input, first, a) {
         return false;
     }
-    if !fill(second, b) {
+    if !fill(input, second, b) {
         return false;
     }
-    fill(third, c)
+    fill(input, third, c)
 }
 
 // Answers a record of the call for a C program, of which three lengths are read and one more follows; whether it was
 // whole and its line was written.
-fn answer_tool(a: usize, b: usize, c: usize) -> bool {
+fn answer_tool(input: &mut impl Read, out: &impl Print, a: usize, b: usize, c: usize) -> bool {
     let mut more = [0u8; 4];
-    if io::read_full(STDIN_FILENO, &mut more) < 4 {
+    if !fill(input, &mut more, 4) {
         return false;
     }
     let d = operand_reader::number_at(&more, 0, 4) as usize;
-    let mut problem = io::large_buffer();
-    let mut low = io::large_buffer();
-    let mut high = io::large_buffer();
-    let mut output = io::large_buffer();
-    if !fill_three(&mut problem, a, &mut low, b, &mut high, c) {
+    let mut problem = [0u8; 65536];
+    let mut low = [0u8; 65536];
+    let mut high = [0u8; 65536];
+    let mut output = [0u8; 65536];
+    if !fill_three(input, &mut problem, a, &mut low, b, &mut high, c) {
         return false;
     }
-    if !fill(&mut output, d) {
+    if !fill(input, &mut output, d) {
         return false;
     }
     write_tool(
+        out,
         text::cut(&problem, a),
         text::cut(&low, b),
         text::cut(&high, c),
@@ -374,93 +390,109 @@ fn answer_tool(a: usize, b: usize, c: usize) -> bool {
 }
 
 // Writes a text, which is empty where a record's kind is unknown; whether it was written.
-fn write(t: Text) -> bool {
+fn write(out: &impl Print, t: Text) -> bool {
     if t.len == 0 {
         return false;
     }
-    let bytes = t.bytes;
-    io::write_all(STDOUT_FILENO, text::cut(&bytes, t.len))
+    out.write_all(text::cut(&t.bytes, t.len)).is_ok()
 }
 
 // Answers a record of two problems, of which the first three lengths are read; whether it was whole and its line was
 // written.
-fn answer_two_problems(a: usize, b: usize, c: usize) -> bool {
+fn answer_two_problems(
+    input: &mut impl Read,
+    out: &impl Print,
+    a: usize,
+    b: usize,
+    c: usize,
+) -> bool {
     let mut rest = [0u8; 13];
-    if !fill(&mut rest, 12) {
+    if !fill(input, &mut rest, 12) {
         return false;
     }
     let d = length_at(&rest, 0);
     let e = length_at(&rest, 4);
     let f = length_at(&rest, 8);
-    let mut problem1 = io::large_buffer();
-    let mut low1 = io::large_buffer();
-    let mut high1 = io::large_buffer();
-    let mut problem2 = io::large_buffer();
-    let mut low2 = io::large_buffer();
-    let mut high2 = io::large_buffer();
-    if !fill_three(&mut problem1, a, &mut low1, b, &mut high1, c) {
+    let mut problem1 = [0u8; 65536];
+    let mut low1 = [0u8; 65536];
+    let mut high1 = [0u8; 65536];
+    let mut problem2 = [0u8; 65536];
+    let mut low2 = [0u8; 65536];
+    let mut high2 = [0u8; 65536];
+    if !fill_three(input, &mut problem1, a, &mut low1, b, &mut high1, c) {
         return false;
     }
-    if !fill_three(&mut problem2, d, &mut low2, e, &mut high2, f) {
+    if !fill_three(input, &mut problem2, d, &mut low2, e, &mut high2, f) {
         return false;
     }
-    write(answer_sum(
-        text::cut(&problem1, a),
-        text::cut(&low1, b),
-        text::cut(&high1, c),
-        text::cut(&problem2, d),
-        text::cut(&low2, e),
-        text::cut(&high2, f),
-    ))
+    write(
+        out,
+        answer_sum(
+            text::cut(&problem1, a),
+            text::cut(&low1, b),
+            text::cut(&high1, c),
+            text::cut(&problem2, d),
+            text::cut(&low2, e),
+            text::cut(&high2, f),
+        ),
+    )
 }
 
 // Answers the next record; whether there was a whole one of a known kind, and its line was written.
-fn answer_next() -> bool {
+fn answer_next(input: &mut impl Read, out: &impl Print) -> bool {
     let mut head = [0u8; 13];
-    if io::read_full(STDIN_FILENO, &mut head) < 13 {
+    if !fill(input, &mut head, 13) {
         return false;
     }
     let a = length_at(&head, 1);
     let b = length_at(&head, 5);
     let c = length_at(&head, 9);
     if head[0] == b'x' {
-        return answer_tool(a, b, c);
+        return answer_tool(input, out, a, b, c);
     }
     if head[0] == b'd' {
-        return answer_two_problems(a, b, c);
+        return answer_two_problems(input, out, a, b, c);
     }
-    let mut problem = io::large_buffer();
-    let mut first = io::large_buffer();
-    let mut second = io::large_buffer();
-    if !fill_three(&mut problem, a, &mut first, b, &mut second, c) {
+    let mut problem = [0u8; 65536];
+    let mut first = [0u8; 65536];
+    let mut second = [0u8; 65536];
+    if !fill_three(input, &mut problem, a, &mut first, b, &mut second, c) {
         return false;
     }
     if head[0] == b'w' {
-        return answer_window(&problem, a);
+        return answer_window(out, &problem, a);
     }
     if head[0] == b't' {
-        return answer_tighter(&problem, a, &first, b, &second, c);
+        return answer_tighter(out, &problem, a, &first, b, &second, c);
     }
     if head[0] == b'r' {
-        return answer_report(text::cut(&problem, a), &mut first, b);
+        return answer_report(out, text::cut(&problem, a), &mut first, b);
     }
     if head[0] == b'n' {
-        return answer_office(text::cut(&problem, a), text::cut(&first, b), &mut second, c);
+        return answer_office(
+            out,
+            text::cut(&problem, a),
+            text::cut(&first, b),
+            &mut second,
+            c,
+        );
     }
-    write(answer_record(
-        head[0],
-        text::cut(&problem, a),
-        text::cut(&first, b),
-        text::cut(&second, c),
-    ))
+    write(
+        out,
+        answer_record(
+            head[0],
+            text::cut(&problem, a),
+            text::cut(&first, b),
+            text::cut(&second, c),
+        ),
+    )
 }
 
-fn main() {
-    let mut left: u64 = 18446744073709551615;
-    while 0 < left {
-        if !answer_next() {
+fn main(rt: HostRuntime) {
+    let mut input = rt.stdin();
+    for _ in 0..u64::MAX {
+        if !answer_next(&mut input, &rt) {
             return;
         }
-        left -= 1;
     }
 }

@@ -4,14 +4,13 @@ use mathlib.Core.Path.{◌≡◌, refl}
 use mathlib.Core.List.{List, [], ◌∷◌, ◌++◌, map, flat_map}
 use mathlib.Core.Bool.{false}
 use Prim.Native.Nat.{ℕ, ◌+◌, ◌-◌, ◌/◌, ◌%◌}
-use lib.IntN.{pos, negsuc}
 use lib.ListN.{replicate}
 use Rattle.counting.specs.Counting.{listed}
 use Rattle.calls.specs.Blocks.{blocks_verdict}
 use Rattle.calls.specs.Check.{check_verdict}
 use Rattle.samples.proofs.Computing.{blocking, checking}
-use Rattle.samples.specs.Streams.{exponents, variables, rule, order, objective_term, objective_minus, inequality, condition_term, member_command, end, problem_a, problem_d, problem_equal, header, header_minus, row, equality_row, entry, entry_minus, wide_entry, finish, with_row, with_entries}
-use Rattle.samples.specs.Verdicts.{over, blocks_found, blocks_refused, check_accepted, check_refused}
+use Rattle.samples.specs.Streams.{exponents, variables, rule, order, objective_term, objective_minus, inequality, condition_term, member_command, end, problem_a, problem_equal, header, row, equality_row, entry, finish, with_row, with_entries}
+use Rattle.samples.specs.Verdicts.{blocks_found, blocks_refused, check_refused}
 
 -- so many, each by its number from 0
 abbrev each : ℕ → (ℕ → List ℕ) → List ℕ

@@ -2,7 +2,7 @@
 use mathlib.Core.Path.{◌≡◌}
 use mathlib.Core.Logic.{◌⊎◌, inl, inr}
 use native.Mathlib.Omega.{arith}
-use Prim.Native.Nat.{ℕ, ◌≤◌, ◌<◌}
+use Prim.Native.Nat.{ℕ, ◌<◌}
 use Rattle.calls.specs.AddedBounds.{SumNumbered}
 use Rattle.calls.specs.Adjusted.{AdjustedNumber}
 use Rattle.calls.specs.Office.{OfficeNumbered}

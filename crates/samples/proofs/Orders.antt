@@ -1,12 +1,11 @@
 -- Rows in another order, and notes put in: two streams each, from their bytes to whole verdicts, and the relations that
 -- the promises speak of.
 use mathlib.Core.Path.{◌≡◌, refl}
-use mathlib.Core.List.{List, [], ◌∷◌, ◌++◌, flatten}
+use mathlib.Core.List.{List, [], ◌∷◌, flatten}
 use mathlib.Core.Bool.{false}
 use Prim.Native.Nat.{ℕ, ◌+◌}
 use native.Mathlib.Omega.{arith}
 use lib.IntN.{pos, negsuc}
-use lib.ListN.{length}
 use Rattle.counting.specs.Counting.{listed, from_to, sum_to}
 use Rattle.polynomial.specs.Monomial.{degree_of, degree, within, among}
 use Rattle.polynomial.specs.Terms.{keys_of}
@@ -19,10 +18,10 @@ use Rattle.format.specs.ProblemRules.{append_at, fitting, problem_applied, probl
 use Rattle.format.specs.ProblemBases.{basis_of, multiplier_of, multiplier, kind_of}
 use Rattle.format.specs.CertificateLayout.{certificate_command}
 use Rattle.format.specs.CertificateRules.{Entry, Row, certificate_refusal_at, certificate_applied, certificate_next, read_certificate}
-use Rattle.format.specs.Cut.{Whole, cut_from, commands_of}
+use Rattle.format.specs.Cut.{cut_from, commands_of}
 use Rattle.format.specs.Permuted.{exchanged}
-use Rattle.format.specs.RowOrder.{EntryCommand, IsRow, rows_bytes, HeaderCommand, OtherOrder, entries_at, row_at, rows_at}
-use Rattle.format.specs.PutIn.{IsPiece, whole, eight, sent, plain, PutIn}
+use Rattle.format.specs.RowOrder.{rows_bytes, OtherOrder, entries_at, row_at, rows_at}
+use Rattle.format.specs.PutIn.{whole, eight, sent, plain, PutIn}
 use Rattle.joining_rule.specs.Sets.{member, different, insert, insert_all}
 use Rattle.joining_rule.specs.Join.{linked, merged, join_pair, join}
 use Rattle.joining_rule.specs.Extend.{add_terms, add_pair, extend}
@@ -34,7 +33,7 @@ use Rattle.calls.specs.Fractions.{fraction}
 use Rattle.calls.specs.Checks.{problem_of}
 use Rattle.calls.specs.Pair.{pair_sides, pair_verdict}
 use Rattle.calls.specs.declared.PairVerdict.{PairVerdict}
-use Rattle.samples.specs.Streams.{problem_f, header_minus, header, row, entry, entry_minus, finish, low_f, high_f, certificate_a}
+use Rattle.samples.specs.Streams.{problem_f, header_minus, row, entry, entry_minus, finish, low_f, high_f, certificate_a}
 use Rattle.samples.specs.Noted.{noted_a, header_a}
 use Rattle.samples.specs.Orders.{turned_f, row_on_zero, row_on_one, pieces_a}
 

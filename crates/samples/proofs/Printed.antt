@@ -1,8 +1,8 @@
 -- What the programs print: gapcheck's lines and those of weekcheck from the bytes of their files, and the line of
 -- replay for each kind of record.
 use mathlib.Core.Path.{◌≡◌, refl}
-use mathlib.Core.List.{List, [], ◌∷◌, ◌++◌, map, flat_map}
-use mathlib.Core.Bool.{true, false}
+use mathlib.Core.List.{[], ◌∷◌, ◌++◌, map, flat_map}
+use mathlib.Core.Bool.{true}
 use lib.IntN.{pos, negsuc}
 use lib.ListN.{replicate}
 use Rattle.calls.specs.Report.{runs_at, records_from, records_of, pair_on, unsigned, fields_of, with_verdict, result_of}

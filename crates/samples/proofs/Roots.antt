@@ -6,6 +6,7 @@ use mathlib.Core.List.{[], ◌∷◌}
 use lib.IntN.{pos, negsuc}
 use Rattle.ordered_rings.specs.Rings.{OrderedRing, multiple, whole, power}
 use Rattle.ordered_rings.proofs.Laws.{zero-+, one-*, minus-*}
+use Rattle.ordered_rings.proofs.RootTwo.{AtLeastZero, rooted, with_root_two, √2, root_square}
 use Rattle.polynomial.specs.Terms.{term}
 use Rattle.polynomial.specs.RingPoint.{value_in}
 use Rattle.format.specs.All.{All}
@@ -66,3 +67,8 @@ module _ {A : Type 0} (R : OrderedRing A) where
   root_two x e =
       rw (value_is x) at ((root R (problem_in (read_problem problem_root)) refl).above (x ∷ [])
       (record { coordinates = refl; conditions = (condition_is x e, tt) }))
+
+-- ---- and a number with that square: √2 among the numbers a + b√2, where 17 − 12√2 is at least 0
+pub root_two_shown : AtLeastZero (rooted (pos 17) (negsuc 11))
+unfolding multiple whole
+root_two_shown = root_two with_root_two √2 root_square

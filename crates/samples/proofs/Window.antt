@@ -1,7 +1,7 @@
 -- Request 11's state and calls on lists of arrivals, in the order of arriving, from an empty state.
 use mathlib.Core.Path.{◌≡◌, refl}
 use mathlib.Core.List.{List, [], ◌∷◌, ◌++◌, map}
-use Prim.Native.Nat.{ℕ, ◌+◌, ◌-◌, ◌^◌}
+use Prim.Native.Nat.{ℕ, ◌-◌, ◌^◌}
 use lib.IntN.{pos, negsuc}
 use lib.ListN.{drop}
 use Rattle.counting.specs.Counting.{listed}

@@ -1,5 +1,5 @@
 -- A region without a rational point: objective x, equality 2 − x², bases {1, x} and {1}.
-use Rattle.std.specs.Prelude.{List, [], ◌∷◌, ◌++◌, ℕ}
+use Rattle.std.specs.Prelude.{List, ◌++◌, ℕ}
 use Rattle.samples.specs.Streams.{exponents, variables, objective_term, equality, condition_term, condition_minus, member_command, end, header, header_minus, row, equality_row, entry, entry_minus, finish}
 
 abbrev pub problem_root : List ℕ

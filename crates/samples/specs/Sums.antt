@@ -1,7 +1,7 @@
 -- Streams of problems with a pair for each, for request 12.
 use Rattle.std.specs.Prelude.{List, ◌++◌, ℕ}
 use Rattle.calls.specs.AddedBounds.{Streams, streams}
-use Rattle.samples.specs.Streams.{variables, exponents, inequality, equality, condition_term, condition_minus, end, header, finish, rule, problem_f, problem_fWith, low_f, half_f, high_f}
+use Rattle.samples.specs.Streams.{variables, exponents, condition_term, condition_minus, end, header, finish, rule, problem_f, problem_fWith, low_f, half_f, high_f}
 
 abbrev pub case_f : Streams
 case_f = streams problem_f low_f high_f

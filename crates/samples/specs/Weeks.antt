@@ -1,6 +1,6 @@
 -- Weeks of records, for requests 07 and 14, and the 32 bytes that a record of the report has.
 use Rattle.std.specs.Prelude.{List, [], ◌∷◌, ◌++◌, ℕ, ◌/◌, ◌%◌, length, replicate}
-use Rattle.samples.specs.Streams.{exponents, variables, objective_term, end, header, finish}
+use Rattle.samples.specs.Streams.{variables, objective_term, end, header, finish}
 
 -- "three u16 lengths, then problem, low and high"
 abbrev pub u16 : ℕ → List ℕ

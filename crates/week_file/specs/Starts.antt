@@ -5,8 +5,8 @@ use Rattle.week_file.specs.declared.Start.{Start}
 use Rattle.week_file.specs.declared.Start.TheVariants.{Whole, Full}
 
 -- of a whole file, the text for its records; of a longer one nothing is said yet
-abbrev pub Answering : List ℕ → List ℕ → Start → Type 0
+abbrev pub Answering : {F : Type 0} → List ℕ → List ℕ → Start F → Type 0
 Answering records text (Whole a) =
     (take a.text text ≡ week_answer (take a.records records))
     × ((a.records ≤ length records) × (length text ≡ 8192))
-Answering records text (Full fd) = Unit {0}
+Answering records text (Full file) = Unit {0}

@@ -15,7 +15,9 @@ ghost use Rattle.file_reader.specs.Reads.{Fitting};
 ghost use Rattle.week_file.specs.Lines.{lines_to};
 ghost use Rattle.week_file.specs.Starts.{Answering};
 
-use file_reader::Start as Read;
+use file_reader::{Start as Read, arguments};
+use std::io::Print;
+use std::rt::{Env, Files};
 
 // How many bytes of the text's buffer are the answer, and how many of the other were the records.
 #[derive(Drop)]
@@ -80,72 +82,81 @@ fn answer_first(bytes: &[u8], n: usize, text: &mut [u8; 8192]) -> Answered
 
 // The start of the file. A missing file is a week without records, and so is one that cannot be read; standard error
 // says which.
-fn start_of(path: &[u8], bytes: &mut [u8]) -> Read
+fn start_of<R: Files>(rt: &R, err: &impl Print, path: &[u8], bytes: &mut [u8]) -> Read<R::File>
     ensures { Fitting (length bytes.new) result }
 {
-    file_reader::read_start(b"weekcheck", path, b"there are no records", bytes)
+    file_reader::read_start(rt, err, b"weekcheck", path, b"there are no records", bytes)
 }
 
 // The start of the file that the first argument names, or of week.bin where there is none.
-fn read_start(bytes: &mut [u8]) -> Read
+fn read_start<R: Env + Files>(rt: &R, err: &impl Print, bytes: &mut [u8]) -> Read<R::File>
     ensures { Fitting (length bytes.new) result }
 {
-    if os::arg_count() < 2 {
-        return start_of(b"week.bin", bytes);
+    if !arguments::is_given(rt, 1) {
+        return start_of(rt, err, b"week.bin", bytes);
     }
-    let mut path = io::buffer();
-    let n = os::arg(1, &mut path);
-    if os::errno() != 0 {
-        messages::no_path();
-        return Read::Whole(0);
+    let mut path = [0u8; 4096];
+    match arguments::take(rt, 1, &mut path) {
+        Ok(n) => start_of(rt, err, text::cut(&path, n), bytes),
+        Err(e) => {
+            messages::no_path(err, &e);
+            Read::Whole(0)
+        }
     }
-    start_of(&path[..n], bytes)
 }
 
-// What the start of a file comes to: the text for all of it; or the buffer is full, and the file goes on behind this
-// descriptor, if it does.
+// What the start of a file comes to: the text for all of it; or the buffer is full, and this file, still open, goes on,
+// if it does.
 #[derive(Drop)]
-pub enum Start {
+pub enum Start<F> {
     Whole(Answered),
-    Full(i32),
+    Full(F),
 }
 
 // The text for a file of fewer bytes than the buffer, into which it is read: the text for the bytes at its start as it
-// is left, as many as are returned. A longer file is left open, with its first bytes in the buffer.
-pub fn answer_start(records: &mut [u8; 262144], text: &mut [u8; 8192]) -> Start
+// is left, as many as are returned. A longer file is left open, with its first bytes in the buffer. Messages go to
+// `err`, which is standard error.
+pub fn answer_start<R: Env + Files>(
+    rt: &R,
+    err: &impl Print,
+    records: &mut [u8; 262144],
+    text: &mut [u8; 8192],
+) -> Start<R::File>
     ensures { Answering records.new text.new result }
 {
-    if 2 < os::arg_count() {
-        messages::more_arguments();
+    if arguments::is_given(rt, 2) {
+        messages::more_arguments(err);
     }
-    let start = read_start(records);
+    let start = read_start(rt, err, records);
     match start {
         Read::Whole(n) => Start::Whole(answer_first(records, n, text)),
-        Read::Full(fd) => Start::Full(fd),
+        Read::Full(file) => Start::Full(file),
     }
 }
 
-// The text for a longer file, by its start and what is read on behind the descriptor, all of it at the start of the
-// buffer: the text for the bytes there as it is left, as many as are returned.
-pub fn answer(
+// The text for a longer file, by its start and what is read on of it, all of it at the start of the buffer: the text for
+// the bytes there as it is left, as many as are returned. The path is what messages name.
+pub fn answer<F: std::io::Read + Drop>(
+    err: &impl Print,
     path: &[u8],
     start: &[u8; 262144],
-    fd: i32,
+    file: F,
     records: &mut [u8; 7340032],
     text: &mut [u8; 8192],
 ) -> Answered
     ensures text { take result.text text.new ≡ week_answer (take result.records records.new) }
     ensures lengths { (result.records ≤ 7340032) × (length text.new ≡ 8192) }
 {
-    let from = bytes::copy(start, records);
+    records[..262144].copy_from_slice(start);
     let n = file_reader::read_rest(
-        fd,
+        file,
+        err,
         b"weekcheck",
         path,
         b"7,340,032",
         b"there are no records",
         records,
-        from,
+        262144,
     );
     answer_first(records, n, text)
 }

@@ -1,25 +1,20 @@
 // weekcheck: a week's pairs in one report, a line for each and one for all. Its run is a week of five pairs.
 #![tactic(auto)]
 
-use libc::STDOUT_FILENO;
+use file_reader::{arguments, messages};
+use std::io;
+use std::io::Print;
+use std::rt::{Env, Files};
 use week_file::Start;
 
-// Whether the first argument is this word.
-fn asks(word: &[u8]) -> bool {
-    let mut first = io::buffer();
-    let n = os::arg(1, &mut first);
-    check::same(&first[..n], word)
-}
-
 // What `--version` asks for; whether it was written.
-fn write_version() -> bool {
-    io::write_all(STDOUT_FILENO, b"weekcheck 0.21.0\n")
+fn write_version(out: &impl Print) -> io::Result<()> {
+    out.write_all(b"weekcheck 0.21.0\n")
 }
 
 // What `--help` and `-h` ask for; whether it was written.
-fn write_help() -> bool {
-    io::write_all(
-        STDOUT_FILENO,
+fn write_help(out: &impl Print) -> io::Result<()> {
+    out.write_all(
         b"weekcheck: whether the bounds of up to 64 pairs hold, in one report.
 
 usage: weekcheck [WEEK]
@@ -53,50 +48,67 @@ the answer. A stack of 1 MB is enough for a file of fewer than 262,144 bytes, an
 
 // The text for a file that the short buffer does not take; whether it was written. It is called from two functions that only
 // `main` calls, so that the compiler keeps its frame of more than 7 MB out of every other run.
-fn write_long(path: &[u8], start: &[u8; 262144], fd: i32) -> bool {
+fn write_long<F: io::Read + Drop>(
+    out: &impl Print,
+    err: &impl Print,
+    path: &[u8],
+    start: &[u8; 262144],
+    file: F,
+) -> io::Result<()> {
     let mut records = [0u8; 7340032];
     let mut text = [0u8; 8192];
-    let answered = week_file::answer(path, start, fd, &mut records, &mut text);
-    io::write_all(STDOUT_FILENO, text::cut(&text, answered.text))
+    let answered = week_file::answer(err, path, start, file, &mut records, &mut text);
+    out.write_all(text::cut(&text, answered.text))
 }
 
 // The text for week.bin, by these buffers; whether it was written.
-fn write_week(start: &mut [u8; 262144], text: &mut [u8; 8192]) -> bool {
-    let answer = week_file::answer_start(start, text);
+fn write_week<R: Env + Files + Print>(
+    rt: &R,
+    err: &impl Print,
+    start: &mut [u8; 262144],
+    text: &mut [u8; 8192],
+) -> io::Result<()> {
+    let answer = week_file::answer_start(rt, err, start, text);
     match answer {
-        Start::Whole(answered) => io::write_all(STDOUT_FILENO, text::cut(text, answered.text)),
-        Start::Full(fd) => write_long(b"week.bin", start, fd),
+        Start::Whole(answered) => rt.write_all(text::cut(text, answered.text)),
+        Start::Full(file) => write_long(rt, err, b"week.bin", start, file),
     }
 }
 
 // The same for the file that the first argument names.
-fn write_named(start: &mut [u8; 262144], text: &mut [u8; 8192]) -> bool {
-    let answer = week_file::answer_start(start, text);
+fn write_named<R: Env + Files + Print>(
+    rt: &R,
+    err: &impl Print,
+    start: &mut [u8; 262144],
+    text: &mut [u8; 8192],
+) -> io::Result<()> {
+    let answer = week_file::answer_start(rt, err, start, text);
     match answer {
-        Start::Whole(answered) => io::write_all(STDOUT_FILENO, text::cut(text, answered.text)),
-        Start::Full(fd) => {
-            let mut path = io::buffer();
-            let n = os::arg(1, &mut path);
-            write_long(&path[..n], start, fd)
+        Start::Whole(answered) => rt.write_all(text::cut(text, answered.text)),
+        Start::Full(file) => {
+            let mut path = [0u8; 4096];
+            let n = arguments::take(rt, 1, &mut path).unwrap_or(0);
+            write_long(rt, err, text::cut(&path, n), start, file)
         }
     }
 }
 
-fn main() {
-    let written = if asks(b"--help") || asks(b"-h") {
-        write_help()
-    } else if asks(b"--version") {
-        write_version()
+fn main(rt: HostRuntime) {
+    let err = rt.stderr();
+    let written = if arguments::asks(&rt, b"--help") || arguments::asks(&rt, b"-h") {
+        write_help(&rt)
+    } else if arguments::asks(&rt, b"--version") {
+        write_version(&rt)
     } else {
         let mut start = [0u8; 262144];
         let mut text = [0u8; 8192];
-        if os::arg_count() < 2 {
-            write_week(&mut start, &mut text)
+        if arguments::is_given(&rt, 1) {
+            write_named(&rt, &err, &mut start, &mut text)
         } else {
-            write_named(&mut start, &mut text)
+            write_week(&rt, &err, &mut start, &mut text)
         }
     };
-    if !written {
-        os::fail(b"weekcheck: standard output cannot be written");
+    if let Err(e) = written {
+        messages::fail(&err, b"weekcheck: standard output cannot be written", &e);
     }
 }

@@ -11,14 +11,13 @@ use lib.ListN.{length, length-append}
 use lib.Seq.{get_or_at}
 use borrow.Author.Tests.{le-leb, lt-ltb, le-ltb}
 use Rattle.polynomial.specs.Monomial.{degree}
-use Rattle.polynomial.specs.Terms.{Term}
 use Rattle.polynomial.proofs.Monomials.{key_low}
 use Rattle.format.specs.Commands.{first_refusal}
 use Rattle.format.specs.declared.problem.Instruction.{Instruction as ProblemInstruction}
 use Rattle.format.specs.declared.problem.Instruction.TheVariants as P
 use Rattle.format.specs.declared.certificate.Instruction.{Instruction as CertificateInstruction}
 use Rattle.format.specs.declared.certificate.Instruction.TheVariants as I
-use Rattle.format.specs.ProblemRules.{Condition, Problem, no_condition, last_condition, nonzero, fitting, read_problem}
+use Rattle.format.specs.ProblemRules.{Condition, Problem, no_condition, last_condition, fitting, read_problem}
 use Rattle.format.specs.ProblemBases.{basis_of}
 use Rattle.format.specs.CertificateRules.{Entry, Row, Certificate, last_row, rises, read_certificate}
 use Rattle.format.proofs.CertificateChecks.{last_append}

@@ -8,7 +8,7 @@ use native.Mathlib.Omega.{arith}
 use lib.ListN.{length, get_or, length-append, length-set}
 use borrow.Author.Tests.{lt-leb, lt-ltb, leb-true}
 use Rattle.counting.proofs.Cases.{clash}
-use Rattle.polynomial.specs.Terms.{Term, term}
+use Rattle.polynomial.specs.Terms.{term}
 use Rattle.format.specs.All.{All}
 use Rattle.format.specs.Commands.{Outcome, first_refusal}
 use Rattle.format.specs.declared.problem.Command.TheVariants as C

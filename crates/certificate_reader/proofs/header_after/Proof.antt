@@ -6,11 +6,11 @@ use borrow.Author.Rules.{rules}
 use Rattle.certificate_reader.proofs.header_after.Statement.{statement}
 use Rattle.certificate_reader.proofs.header_after.Tie as tie
 
-returns : tie.Need-returns
-returns c = let g = c.before.i.given in let e : to_z w32 (of_z w32 g.0.1.1.0) ≡ g.0.1.1.0 = search rules in rw (g.1, e)
+returns : tie.Need-returns-in-Header
+returns c = let e : to_z w32 (of_z w32 c.in-Header.p) ≡ c.in-Header.p = search rules in rw (c.in-Header.is, e)
 
-pub header-after-spec : {M : Type 1} → statement M
-header-after-spec =
+pub header_after_spec : {M : Type 1} → statement M
+header_after_spec =
     tie.close
     (tie.spec
     (λ c. search rules)

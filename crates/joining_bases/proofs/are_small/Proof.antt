@@ -9,28 +9,28 @@ use Rattle.counting.proofs.Cases.{never, lt_or_le}
 use Rattle.joining_bases.proofs.are_small.Statement.{statement}
 use Rattle.joining_bases.proofs.are_small.Tie as tie
 
-abbrev invariant-loop : tie.invariant-loop
+abbrev invariant-loop : tie.invariant-loop-j
 invariant-loop sizes j₀ j = (j ≤ 9) × ((i : ℕ) → i < j → get_or sizes i 0 ≤ 16)
 
-abbrev decreases-loop : tie.decreases-loop
+abbrev decreases-loop : tie.decreases-loop-j
 decreases-loop sizes j₀ j = 9 - j
 
-loop-holds : tie.Need-loop-init invariant-loop decreases-loop
+loop-holds : tie.Need-loop-j-init invariant-loop decreases-loop
 loop-holds c = (omega arith, λ i h. absurd (omega arith))
 
-returns : tie.Need-returns invariant-loop decreases-loop
+returns : tie.Need-returns-then-sizes-j-gt-PLAIN invariant-loop decreases-loop
 returns c = λ e. never e
 
-loop-again : tie.Need-loop-preserved invariant-loop decreases-loop
+loop-again : tie.Need-loop-j-preserved invariant-loop decreases-loop
 loop-again c =
-    let l = c.before.before.before in
-    (omega arith, λ i h. ⊎_elim (λ b. l.loop.invariant.1 i b) (λ b. let e : i ≡ l.loop.j = omega arith in rw e c.if1.false) (lt_or_le i l.loop.j))
+    let l = c in
+    (omega arith, λ i h. ⊎_elim (λ b. l.loop-j.invariant.1 i b) (λ b. let e : i ≡ l.loop-j.j = omega arith in rw e c.if-sizes-j-gt-PLAIN.false) (lt_or_le i l.loop-j.j))
 
-returns-2 : tie.Need-returns-2 invariant-loop decreases-loop
-returns-2 c = λ _ i h. c.before.loop.invariant.1 i (omega arith)
+returns-2 : tie.Need-returns invariant-loop decreases-loop
+returns-2 c = λ _ i h. c.loop-j.invariant.1 i (omega arith)
 
-pub are-small-spec : {M : Type 1} → statement M
-are-small-spec =
+pub are_small_spec : {M : Type 1} → statement M
+are_small_spec =
     tie.close
     (tie.spec
     invariant-loop

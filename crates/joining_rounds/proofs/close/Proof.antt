@@ -12,34 +12,34 @@ use Rattle.joining_rounds.proofs.close.Tie as tie
 links_end : (x : ℕ) → x < 576 → 64 ≤ get_or (replicate 576 255) x 0
 links_end x h = rw (get_or-replicate {A = ℕ} 576 x 255 0 h) (omega arith)
 
-start-blocks-requires : tie.Need-start-blocks-requires
-start-blocks-requires c κs = (arrays_sizes _ _ c.before.before.before.before.before.before.requires.held.arrays, refl)
+start-blocks-requires : tie.Need-start_blocks-requires
+start-blocks-requires c κs = (arrays_sizes _ _ c.requires.held.arrays, refl)
 
-start-state-requires : tie.Need-start-state-requires
-start-state-requires c κs = arrays_sizes _ _ c.before.before.before.before.before.before.before.requires.held.arrays
+start-state-requires : tie.Need-start_state-state-requires
+start-state-requires c κs = arrays_sizes _ _ c.requires.held.arrays
 
-run-indexed-requires : tie.Need-run-indexed-requires
-run-indexed-requires c κs = (c.before.before.before.before.before.before.before.before.before.before.before.before.before.before.before.requires, record { single = c.before.before.before.before.before.before.before.before.start-blocks.ensures; links = length-replicate {A = ℕ} 576 255; last = links_end; numbers = c.before.before.before.before.before.before.before.start-state.ensures.0; counts = c.before.before.before.before.before.before.before.start-state.ensures.1 })
+run-indexed-requires : tie.Need-run_indexed-requires
+run-indexed-requires c κs = (c.requires, record { single = c.start_blocks.ensures; links = length-replicate {A = ℕ} 576 255; last = links_end; numbers = c.start_state-state.ensures.0; counts = c.start_state-state.ensures.1 })
 
-returns : tie.Need-returns
-returns c = c.before.before.before.before.before.run-indexed.ensures
+returns : tie.Need-returns-then-sizes-gt-PLAIN
+returns c = c.run_indexed.ensures
 
 run-requires : tie.Need-run-requires
 run-requires c κs =
-    let small = c.before.before.before.before.before.before.before.are-small.ensures c.before.before.before.before.before.before.if2.true in (
-      c.before.before.before.before.before.before.before.before.before.before.before.before.before.before.before.before.before.before.requires,
-      record { single = c.before.before.before.before.before.before.before.before.before.before.before.start-blocks.ensures; links = length-replicate {A = ℕ} 576 255; last = links_end; numbers = c.before.before.before.before.before.before.before.before.before.before.start-state.ensures.0; counts = c.before.before.before.before.before.before.before.before.before.before.start-state.ensures.1 },
+    let small = c.are_small.ensures c.if-are_small.true in (
+      c.requires,
+      record { single = c.start_blocks.ensures; links = length-replicate {A = ℕ} 576 255; last = links_end; numbers = c.start_state-state.ensures.0; counts = c.start_state-state.ensures.1 },
       record { room = record { at = λ j h l. absurd (omega (arith, small j h)) }; at = λ j h l. absurd (omega (arith, small j h)) },
     )
 
-returns-2 : tie.Need-returns-2
-returns-2 c = c.before.before.before.before.before.before.run.ensures
+returns-2 : tie.Need-returns-then-are_small
+returns-2 c = c.run.ensures
 
-run-indexed-requires-2 : tie.Need-run-indexed-requires-2
-run-indexed-requires-2 c κs = (c.before.before.before.before.before.before.before.before.before.before.before.before.before.before.before.before.before.requires, record { single = c.before.before.before.before.before.before.before.before.before.before.start-blocks.ensures; links = length-replicate {A = ℕ} 576 255; last = links_end; numbers = c.before.before.before.before.before.before.before.before.before.start-state.ensures.0; counts = c.before.before.before.before.before.before.before.before.before.start-state.ensures.1 })
+run-indexed-requires-2 : tie.Need-run_indexed-requires-2
+run-indexed-requires-2 c κs = (c.requires, record { single = c.start_blocks.ensures; links = length-replicate {A = ℕ} 576 255; last = links_end; numbers = c.start_state-state.ensures.0; counts = c.start_state-state.ensures.1 })
 
-returns-3 : tie.Need-returns-3
-returns-3 c = c.before.before.before.before.before.run-indexed2.ensures
+returns-3 : tie.Need-returns
+returns-3 c = c.run_indexed-2.ensures
 
 pub close_spec : {M : Type 1} → statement M
 close_spec =

@@ -9,32 +9,23 @@ use Rattle.text.proofs.append_check.Tie as tie
 returns : tie.Need-returns
 unfolding check_words
 returns c =
-    let p1 = c.before.before in
-    let p2 = p1.before.before.before.before.before in
-    let p3 = p2.before.before.before.before.before in
-    let p4 = p3.before.before.before.before.before in
-    let two = appended_text p4.append-with-number.ensures.0 p3.append-with-ratio.ensures.0 in
-    let three = appended_text two p2.append-with-number2.ensures.0 in (
-      appended_text three p1.append-with-number3.ensures.0,
+    let p1 = c in
+    let p2 = p1 in
+    let p3 = p2 in
+    let p4 = p3 in
+    let two = appended_text p4.append_with_number-a.ensures.0 p3.append_with_ratio-b.ensures.0 in
+    let three = appended_text two p2.append_with_number-c.ensures.0 in (
+      appended_text three p1.append_with_number.ensures.0,
       omega (
         arith,
-        p4.append-with-number.ensures.1,
-        p3.append-with-ratio.ensures.1,
-        p2.append-with-number2.ensures.1,
-        p1.append-with-number3.ensures.1,
+        p4.append_with_number-a.ensures.1,
+        p3.append_with_ratio-b.ensures.1,
+        p2.append_with_number-c.ensures.1,
+        p1.append_with_number.ensures.1,
       ),
     )
 
-pub append-check-spec : {M : Type 1} → statement M
-append-check-spec =
+pub append_check_spec : {M : Type 1} → statement M
+append_check_spec =
     tie.close
-    (tie.spec
-    (λ c κs. search rules)
-    (λ c. search rules)
-    (λ c κs. search rules)
-    (λ c. search rules)
-    (λ c κs. search rules)
-    (λ c. search rules)
-    (λ c κs. search rules)
-    (λ c. search rules)
-    returns)
+    (tie.spec (λ c κs. search rules) (λ c κs. search rules) (λ c κs. search rules) (λ c κs. search rules) (λ c. search rules) returns)

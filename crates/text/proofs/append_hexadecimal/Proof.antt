@@ -12,50 +12,50 @@ use Rattle.text.proofs.Hexadecimal.{hexadecimal_more}
 use Rattle.text.proofs.append_hexadecimal.Statement.{statement}
 use Rattle.text.proofs.append_hexadecimal.Tie as tie
 
-abbrev invariant-loop : tie.invariant-loop
+abbrev invariant-loop : tie.invariant-loop-i
 invariant-loop out₀ at bytes end₀ i₀ out end i =
     (i ≤ length bytes)
     × (length out ≡ length out₀)
     × (end ≡ at + 2 * i)
     × Appended out₀ at (hexadecimal (take i bytes)) out end
 
-abbrev decreases-loop : tie.decreases-loop
+abbrev decreases-loop : tie.decreases-loop-i
 decreases-loop out₀ at bytes end₀ i₀ out end i = length bytes - i
 
-loop-holds : tie.Need-loop-init invariant-loop decreases-loop
-loop-holds c = let s = c.before.before in
+loop-holds : tie.Need-loop-i-init invariant-loop decreases-loop
+loop-holds c = let s = c in
     (omega arith, refl, omega arith, appended_none s.args.out.now s.args.at)
 
 digit-requires : tie.Need-digit-requires invariant-loop decreases-loop
-digit-requires c κs = omega (arith, c.shared-slice-known2.given c.before.before.loop.i)
+digit-requires c κs = omega (arith, c.shared_slice_known-in-loop-i-1.given c.loop-i.i)
 
-slice-write-out-2 : tie.Need-slice-write-out-2 invariant-loop decreases-loop
+slice-write-out-2 : tie.Need-bounds-out-end-in-loop-i invariant-loop decreases-loop
 slice-write-out-2 c = simp length-set (omega arith)
 
-loop-again : tie.Need-loop-preserved invariant-loop decreases-loop
+loop-again : tie.Need-loop-i-preserved invariant-loop decreases-loop
 loop-again c =
-    let d = c.before in
-    let a = d.before.before.before in
-    let v = a.loop.invariant in
-    let s = a.before.before.before in
+    let d = c in
+    let a = d in
+    let v = a.loop-i.invariant in
+    let s = a in
     let first = appended_byte d.digit.result v.3 (omega arith) in
-    let both = appended_byte c.digit2.result first (simp length-set (omega arith)) in
-    let two : a.loop.end + 1 + 1 ≡ a.loop.end + 2 = omega arith in
-    let more = hexadecimal_more s.args.bytes.now a.loop.i (omega arith) in (
+    let both = appended_byte c.digit-in-loop-i.result first (simp length-set (omega arith)) in
+    let two : a.loop-i.end + 1 + 1 ≡ a.loop-i.end + 2 = omega arith in
+    let more = hexadecimal_more s.args.bytes.now a.loop-i.i (omega arith) in (
       omega arith,
       simp length-set v.1,
       omega arith,
-      rw (more, ← d.digit.ensures, ← c.digit2.ensures) (rw two at both),
+      rw (more, ← d.digit.ensures, ← c.digit-in-loop-i.ensures) (rw two at both),
     )
 
 returns : tie.Need-returns invariant-loop decreases-loop
 returns c =
-    let a = c.before in
-    let s = a.before.before.before in
-    (rw (take_all a.loop.i s.args.bytes.now (omega arith)) at a.loop.invariant.3, omega arith)
+    let a = c in
+    let s = a in
+    (rw (take_all a.loop-i.i s.args.bytes.now (omega arith)) at a.loop-i.invariant.3, omega arith)
 
-pub append-hexadecimal-spec : {M : Type 1} → statement M
-append-hexadecimal-spec =
+pub append_hexadecimal_spec : {M : Type 1} → statement M
+append_hexadecimal_spec =
     tie.close
     (tie.spec
     invariant-loop

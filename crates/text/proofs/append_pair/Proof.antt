@@ -9,24 +9,24 @@ use Rattle.text.proofs.append_pair.Tie as tie
 returns : tie.Need-returns
 unfolding pair_words
 returns c =
-    let p1 = c.before.before in
-    let p2 = p1.before.before.before.before in
-    let p3 = p2.before.before.before.before in
-    let p4 = p3.before.before.before.before in
-    let two = appended_text p4.append-with-ratio.ensures.0 p3.append-with-ratio2.ensures.0 in
-    let three = appended_text two p2.append-with-gap.ensures.0 in (
-      appended_text three p1.append-with-number.ensures.0,
+    let p1 = c in
+    let p2 = p1 in
+    let p3 = p2 in
+    let p4 = p3 in
+    let two = appended_text p4.append_with_ratio-a.ensures.0 p3.append_with_ratio-b.ensures.0 in
+    let three = appended_text two p2.append_with_gap-c.ensures.0 in (
+      appended_text three p1.append_with_number.ensures.0,
       omega (
         arith,
-        p4.append-with-ratio.ensures.1,
-        p3.append-with-ratio2.ensures.1,
-        p2.append-with-gap.ensures.1,
-        p1.append-with-number.ensures.1,
+        p4.append_with_ratio-a.ensures.1,
+        p3.append_with_ratio-b.ensures.1,
+        p2.append_with_gap-c.ensures.1,
+        p1.append_with_number.ensures.1,
       ),
     )
 
-pub append-pair-spec : {M : Type 1} → statement M
-append-pair-spec =
+pub append_pair_spec : {M : Type 1} → statement M
+append_pair_spec =
     tie.close
     (tie.spec
     (λ c κs. search rules)

@@ -9,27 +9,21 @@ use Rattle.text.proofs.Appending.{appended_text}
 use Rattle.text.proofs.append_ratio.Statement.{statement}
 use Rattle.text.proofs.append_ratio.Tie as tie
 
-numerator : (c : tie.After-struct-told) → let n = c.before.before.before.args.f.num in to_z w64 (of_z w64 n) ≡ n
+numerator : (c : tie.After-struct_told-1) → let n = c.args.f.num in to_z w64 (of_z w64 n) ≡ n
 numerator c = search rules
 
 returns : tie.Need-returns
 unfolding ratio
 returns c =
-    let p1 = c.before.before in
-    let p2 = p1.before.before.before.before in
-    let p3 = p2.before.before.before.before.before in
-    let n = simp (numerator p3.before) at p3.append-signed.ensures.0 in (
-      appended_text (appended_text n p2.append.ensures) p1.append-number.ensures.0,
-      omega (arith, p3.append-signed.ensures.1, p2.append.ensures.ends, p1.append-number.ensures.1),
+    let p1 = c in
+    let p2 = p1 in
+    let p3 = p2 in
+    let n = simp (numerator p3.before.before.before.before.before.before.before.before.before.before.before.before.before) at p3.append_signed-a.ensures.0 in (
+      appended_text (appended_text n p2.append-b.ensures) p1.append_number.ensures.0,
+      omega (arith, p3.append_signed-a.ensures.1, p2.append-b.ensures.ends, p1.append_number.ensures.1),
     )
 
-pub append-ratio-spec : {M : Type 1} → statement M
-append-ratio-spec =
+pub append_ratio_spec : {M : Type 1} → statement M
+append_ratio_spec =
     tie.close
-    (tie.spec
-    (λ c κs. search rules)
-    (λ c. search rules)
-    (λ c κs. search rules)
-    (λ c κs. search rules)
-    (λ c. search rules)
-    returns)
+    (tie.spec (λ c κs. search rules) (λ c κs. search rules) (λ c κs. search rules) (λ c. search rules) returns)

@@ -8,29 +8,17 @@ use Rattle.text.proofs.append_refusal.Tie as tie
 returns : tie.Need-returns
 unfolding refusal_line
 returns c =
-    let p1 = c.before.before in
-    let p2 = p1.before.before.before.before.before in
-    let p3 = p2.before.before.before.before.before in
-    let p4 = p3.before.before.before.before.before in
-    let p5 = p4.before.before.before.before.before in
-    let two = appended_text p5.append-with-number.ensures.0 p4.append-with-number2.ensures.0 in
-    let three = appended_text two p3.append-with-number3.ensures.0 in
-    let four = appended_text three p2.append-with-number4.ensures.0 in
+    let p1 = c in
+    let p2 = p1 in
+    let p3 = p2 in
+    let p4 = p3 in
+    let p5 = p4 in
+    let two = appended_text p5.append_with_number-a.ensures.0 p4.append_with_number-b.ensures.0 in
+    let three = appended_text two p3.append_with_number-c.ensures.0 in
+    let four = appended_text three p2.append_with_number-d.ensures.0 in
     (appended_text four p1.append.ensures).bytes
 
-pub append-refusal-spec : {M : Type 1} → statement M
-append-refusal-spec =
+pub append_refusal_spec : {M : Type 1} → statement M
+append_refusal_spec =
     tie.close
-    (tie.spec
-    (λ c. search rules)
-    (λ c κs. search rules)
-    (λ c. search rules)
-    (λ c κs. search rules)
-    (λ c. search rules)
-    (λ c κs. search rules)
-    (λ c. search rules)
-    (λ c κs. search rules)
-    (λ c. search rules)
-    (λ c κs. search rules)
-    (λ c. search rules)
-    returns)
+    (tie.spec (λ c κs. search rules) (λ c κs. search rules) (λ c κs. search rules) (λ c κs. search rules) (λ c κs. search rules) (λ c. search rules) returns)

@@ -5,23 +5,23 @@ use Rattle.text.proofs.Appending.{appended_text}
 use Rattle.text.proofs.append_with_number.Statement.{statement}
 use Rattle.text.proofs.append_with_number.Tie as tie
 
-append-requires : tie.Need-append-requires
+append-requires : tie.Need-append-a-requires
 append-requires c κs = search rules
 
-append-number-requires : tie.Need-append-number-requires
+append-number-requires : tie.Need-append_number-requires
 append-number-requires c κs = search rules
 
-same_length : tie.Need-same-length
+same_length : tie.Need-shape_of-out
 same_length c = search rules
 
 returns : tie.Need-returns
 returns c =
-    let p1 = c.before.before in
-    let p2 = p1.before.before.before.before in (
-      appended_text p2.append.ensures p1.append-number.ensures.0,
-      omega (arith, p2.append.ensures.ends, p1.append-number.ensures.1),
+    let p1 = c in
+    let p2 = p1 in (
+      appended_text p2.append-a.ensures p1.append_number.ensures.0,
+      omega (arith, p2.append-a.ensures.ends, p1.append_number.ensures.1),
     )
 
-pub append-with-number-spec : {M : Type 1} → statement M
-append-with-number-spec =
+pub append_with_number_spec : {M : Type 1} → statement M
+append_with_number_spec =
     tie.close (tie.spec append-requires append-number-requires same_length returns)

@@ -6,16 +6,16 @@ use lib.Seq.{length-take-le, take_all}
 use Rattle.text.proofs.cut.Statement.{statement}
 use Rattle.text.proofs.cut.Tie as tie
 
-slice-aggregate-result : tie.Need-slice-aggregate-result
+slice-aggregate-result : tie.Need-slice_bounds-result-end
 slice-aggregate-result c =
-    let s = c.before.before in
-    sym (length-take-le s.args.n s.args.bytes.now c.before.if1.true)
+    let s = c in
+    sym (length-take-le s.args.n s.args.bytes.now c.if-n-bytes.true)
 
-returns : tie.Need-returns
+returns : tie.Need-returns-then-n-bytes
 returns c = search rules
 
-returns-2 : tie.Need-returns-2
-returns-2 c = let s = c.before in sym (take_all s.args.n s.args.bytes.now (omega (arith, c.if1.false)))
+returns-2 : tie.Need-returns-else-n-bytes
+returns-2 c = let s = c in sym (take_all s.args.n s.args.bytes.now (omega (arith, c.if-n-bytes.false)))
 
 pub cut_spec : {M : Type 1} → statement M
 cut_spec = tie.close (tie.spec slice-aggregate-result returns returns-2)

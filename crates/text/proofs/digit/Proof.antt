@@ -5,17 +5,17 @@ use mathlib.Core.Path.{refl}
 use Rattle.text.proofs.digit.Statement.{statement}
 use Rattle.text.proofs.digit.Tie as tie
 
-add-result : tie.Need-overflow-add-result
+add-result : tie.Need-overflow_add-result
 add-result c = search rules
 
-add-result-2 : tie.Need-overflow-add-result-2
+add-result-2 : tie.Need-overflow_add-result-else-n-lt10
 add-result-2 c = search rules
 
-returns : tie.Need-returns
-returns c = simp (lt-ltb _ _ c.if1.true) refl
+returns : tie.Need-returns-then-n-lt10
+returns c = simp (lt-ltb _ _ c.if-n-lt10.true) refl
 
-returns-2 : tie.Need-returns-2
-returns-2 c = simp (le-ltb _ _ c.if1.false) refl
+returns-2 : tie.Need-returns-else-n-lt10
+returns-2 c = simp (le-ltb _ _ c.if-n-lt10.false) refl
 
-pub digit-spec : {M : Type 1} → statement M
-digit-spec = tie.close (tie.spec add-result add-result-2 returns returns-2)
+pub digit_spec : {M : Type 1} → statement M
+digit_spec = tie.close (tie.spec add-result add-result-2 returns returns-2)

@@ -6,39 +6,25 @@ use Rattle.text.proofs.Appending.{appended_text}
 use Rattle.text.proofs.symmetries_line.Statement.{statement}
 use Rattle.text.proofs.symmetries_line.Tie as tie
 
-returns : tie.Need-returns
+returns : tie.Need-returns-then-r-gt0
 unfolding symmetries_line
 returns c =
-    let t = c.before in
-    rw (lt-ltb 0 t.before.before.before.args.v.refusal.number t.if1.true) c.refusal-line.ensures
+    let t = c in
+    rw (lt-ltb 0 t.args.v.refusal.number t.if-r-gt0.true) c.refusal_line.ensures
 
-returns-2 : tie.Need-returns-2
+returns-2 : tie.Need-returns
 unfolding symmetries_line
 returns-2 c =
-    let p1 = c.before in
-    let p2 = p1.before.before.before.before in
-    let p3 = p2.before.before.before.before in
-    let p4 = p3.before.before.before.before in
-    let t = p4.before.before.before in
-    let s = t.before.before.before in
-    let three = appended_text (appended_text p4.append-with-number.ensures.0 p3.append.ensures) p2.append-hexadecimal.ensures.0 in
-    rw (le-ltb 0 s.args.v.refusal.number t.if1.false) (appended_text three p1.append2.ensures).bytes
+    let p1 = c in
+    let p2 = p1 in
+    let p3 = p2 in
+    let p4 = p3 in
+    let t = p4 in
+    let s = t in
+    let three = appended_text (appended_text p4.append_with_number-a.ensures.0 p3.append-b.ensures) p2.append_hexadecimal-c.ensures.0 in
+    rw (le-ltb 0 s.args.v.refusal.number t.if-r-gt0.false) (appended_text three p1.append-len.ensures).bytes
 
-pub symmetries-line-spec : {M : Type 1} → statement M
-symmetries-line-spec =
+pub symmetries_line_spec : {M : Type 1} → statement M
+symmetries_line_spec =
     tie.close
-    (tie.spec
-    (λ c κs. search rules)
-    returns
-    (λ c. search rules)
-    (λ c. search rules)
-    (λ c κs. search rules)
-    (λ c. search rules)
-    (λ c. search rules)
-    (λ c κs. search rules)
-    (λ c. search rules)
-    (λ c κs. search rules)
-    (λ c. search rules)
-    (λ c. search rules)
-    (λ c κs. search rules)
-    returns-2)
+    (tie.spec (λ c κs. search rules) returns (λ c. search rules) (λ c κs. search rules) (λ c. search rules) (λ c κs. search rules) (λ c. search rules) (λ c κs. search rules) (λ c. search rules) (λ c κs. search rules) returns-2)

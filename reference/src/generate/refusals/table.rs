@@ -46,35 +46,35 @@ too short for their verdict, and `zamiachisel_window_push` for a state of fewer 
 
 | case | what is lent | answer | clause |
 |---|---|---|---|
-| blocks, bytes | 575 bytes for the blocks | `refused 1 0 0 0` | `verdict` of `blocks`, `blocksShort` |
-| blocks, keys | 2,047 numbers as the first table | `refused 1 0 0 0` | `verdict` of `blocks`, `blocksShort` |
-| blocks, high | 2,047 numbers as the second table | `refused 1 0 0 0` | `verdict` of `blocks`, `blocksShort` |
-| blocks, low | 2,047 numbers as the third table | `refused 1 0 0 0` | `verdict` of `blocks`, `blocksShort` |
-| check, keys | 2,047 numbers as the first table | `refused 1 0 0 0` | `verdict` of `check`, `tablesShort` |
-| check, high | 2,047 numbers as the second table | `refused 1 0 0 0` | `verdict` of `check`, `tablesShort` |
-| check, low | 2,047 numbers as the third table | `refused 1 0 0 0` | `verdict` of `check`, `tablesShort` |
-| pair, keys | 2,047 numbers as the first table | `refused 1 0 0 0` | `verdict` of `pair`, `tablesShort` |
-| pair, high | 2,047 numbers as the second table | `refused 1 0 0 0` | `verdict` of `pair`, `tablesShort` |
-| pair, low | 2,047 numbers as the third table | `refused 1 0 0 0` | `verdict` of `pair`, `tablesShort` |
-| the tighter of two, keys | 2,047 numbers as the first table | `refused 1 0 0 0` | `numbers` of `tighter`, `tablesShort` |
-| the tighter of two, high | 2,047 numbers as the second table | `refused 1 0 0 0` | `numbers` of `tighter`, `tablesShort` |
-| the tighter of two, low | 2,047 numbers as the third table | `refused 1 0 0 0` | `numbers` of `tighter`, `tablesShort` |
-| symmetries, bytes | 255 bytes for the masks | `refused 1 0 0 0` | `verdict` of `symmetries`, `symmetriesShort` |
-| symmetries, keys | 2,047 numbers as the first table | `refused 1 0 0 0` | `verdict` of `symmetries`, `symmetriesShort` |
-| symmetries, high | 2,047 numbers as the second table | `refused 1 0 0 0` | `verdict` of `symmetries`, `symmetriesShort` |
-| symmetries, low | 2,047 numbers as the third table | `refused 1 0 0 0` | `verdict` of `symmetries`, `symmetriesShort` |
-| report, keys | 2,047 numbers as the first table | `refused 1 0 0 0` | `verdict` of `report`, `checkedRecords` |
-| report, high | 2,047 numbers as the second table | `refused 1 0 0 0` | `verdict` of `report`, `checkedRecords` |
-| report, low | 2,047 numbers as the third table | `refused 1 0 0 0` | `verdict` of `report`, `checkedRecords` |
-| two problems, keys | 2,047 numbers as the first table | `refused 1 0 0 0` | `verdict` of `sum`, `tablesShort` |
-| two problems, high | 2,047 numbers as the second table | `refused 1 0 0 0` | `verdict` of `sum`, `tablesShort` |
-| two problems, low | 2,047 numbers as the third table | `refused 1 0 0 0` | `verdict` of `sum`, `tablesShort` |
-| changes, keys | 2,047 numbers as the first table | `refused 1 0 0 0` | `verdict` of `moved_bound`, `tablesShort` |
-| changes, high | 2,047 numbers as the second table | `refused 1 0 0 0` | `verdict` of `moved_bound`, `tablesShort` |
-| changes, low | 2,047 numbers as the third table | `refused 1 0 0 0` | `verdict` of `moved_bound`, `tablesShort` |
-| the office's check, keys | 2,047 numbers as the first table | `refused 1 0 0 0` | `verdict` of `office`, `tablesShort` |
-| the office's check, high | 2,047 numbers as the second table | `refused 1 0 0 0` | `verdict` of `office`, `tablesShort` |
-| the office's check, low | 2,047 numbers as the third table | `refused 1 0 0 0` | `verdict` of `office`, `tablesShort` |
+| blocks, bytes | 575 bytes for the blocks | `refused 1 0 0 0` | `verdict` of `blocks`, `blocks_short` |
+| blocks, keys | 2,047 numbers as the first table | `refused 1 0 0 0` | `verdict` of `blocks`, `blocks_short` |
+| blocks, high | 2,047 numbers as the second table | `refused 1 0 0 0` | `verdict` of `blocks`, `blocks_short` |
+| blocks, low | 2,047 numbers as the third table | `refused 1 0 0 0` | `verdict` of `blocks`, `blocks_short` |
+| check, keys | 2,047 numbers as the first table | `refused 1 0 0 0` | `verdict` of `check`, `tables_short` |
+| check, high | 2,047 numbers as the second table | `refused 1 0 0 0` | `verdict` of `check`, `tables_short` |
+| check, low | 2,047 numbers as the third table | `refused 1 0 0 0` | `verdict` of `check`, `tables_short` |
+| pair, keys | 2,047 numbers as the first table | `refused 1 0 0 0` | `verdict` of `pair`, `tables_short` |
+| pair, high | 2,047 numbers as the second table | `refused 1 0 0 0` | `verdict` of `pair`, `tables_short` |
+| pair, low | 2,047 numbers as the third table | `refused 1 0 0 0` | `verdict` of `pair`, `tables_short` |
+| the tighter of two, keys | 2,047 numbers as the first table | `refused 1 0 0 0` | `numbers` of `tighter`, `tables_short` |
+| the tighter of two, high | 2,047 numbers as the second table | `refused 1 0 0 0` | `numbers` of `tighter`, `tables_short` |
+| the tighter of two, low | 2,047 numbers as the third table | `refused 1 0 0 0` | `numbers` of `tighter`, `tables_short` |
+| symmetries, bytes | 255 bytes for the masks | `refused 1 0 0 0` | `verdict` of `symmetries`, `symmetries_short` |
+| symmetries, keys | 2,047 numbers as the first table | `refused 1 0 0 0` | `verdict` of `symmetries`, `symmetries_short` |
+| symmetries, high | 2,047 numbers as the second table | `refused 1 0 0 0` | `verdict` of `symmetries`, `symmetries_short` |
+| symmetries, low | 2,047 numbers as the third table | `refused 1 0 0 0` | `verdict` of `symmetries`, `symmetries_short` |
+| report, keys | 2,047 numbers as the first table | `refused 1 0 0 0` | `verdict` of `report`, `checked_records` |
+| report, high | 2,047 numbers as the second table | `refused 1 0 0 0` | `verdict` of `report`, `checked_records` |
+| report, low | 2,047 numbers as the third table | `refused 1 0 0 0` | `verdict` of `report`, `checked_records` |
+| two problems, keys | 2,047 numbers as the first table | `refused 1 0 0 0` | `verdict` of `sum`, `tables_short` |
+| two problems, high | 2,047 numbers as the second table | `refused 1 0 0 0` | `verdict` of `sum`, `tables_short` |
+| two problems, low | 2,047 numbers as the third table | `refused 1 0 0 0` | `verdict` of `sum`, `tables_short` |
+| changes, keys | 2,047 numbers as the first table | `refused 1 0 0 0` | `verdict` of `moved_bound`, `tables_short` |
+| changes, high | 2,047 numbers as the second table | `refused 1 0 0 0` | `verdict` of `moved_bound`, `tables_short` |
+| changes, low | 2,047 numbers as the third table | `refused 1 0 0 0` | `verdict` of `moved_bound`, `tables_short` |
+| the office's check, keys | 2,047 numbers as the first table | `refused 1 0 0 0` | `verdict` of `office`, `tables_short` |
+| the office's check, high | 2,047 numbers as the second table | `refused 1 0 0 0` | `verdict` of `office`, `tables_short` |
+| the office's check, low | 2,047 numbers as the third table | `refused 1 0 0 0` | `verdict` of `office`, `tables_short` |
 ";
 
 const FOURTEEN: &str = "

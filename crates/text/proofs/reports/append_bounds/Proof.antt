@@ -9,19 +9,13 @@ use Rattle.text.proofs.reports.append_bounds.Tie as tie
 returns : tie.Need-returns
 unfolding bounds_words
 returns c =
-    let b = c.before.before in
-    let a = c.before.before.before.before.before.before.before in (
-      appended_text a.append-with-ratio.ensures.0 b.append-with-ratio2.ensures.0,
-      omega (arith, a.append-with-ratio.ensures.1, b.append-with-ratio2.ensures.1),
+    let b = c in
+    let a = c in (
+      appended_text a.append_with_ratio-a.ensures.0 b.append_with_ratio.ensures.0,
+      omega (arith, a.append_with_ratio-a.ensures.1, b.append_with_ratio.ensures.1),
     )
 
-pub append-bounds-spec : {M : Type 1} → statement M
-append-bounds-spec =
+pub append_bounds_spec : {M : Type 1} → statement M
+append_bounds_spec =
     tie.close
-    (tie.spec
-    (λ c. search rules)
-    (λ c κs. search rules)
-    (λ c. search rules)
-    (λ c κs. search rules)
-    (λ c. search rules)
-    returns)
+    (tie.spec (λ c κs. search rules) (λ c κs. search rules) (λ c. search rules) returns)

@@ -8,19 +8,12 @@ use Rattle.text.proofs.reports.append_last.Tie as tie
 returns : tie.Need-returns
 unfolding last_line
 returns c =
-    let n = c.before.before in
-    let b = c.before.before.before.before.before.before.before in
-    let a = c.before.before.before.before.before.before.before.before.before.before.before in
-    appended_text (appended_text a.append-with-number.ensures.0 b.append-bounds.ensures.0) n.append.ensures
+    let n = c in
+    let b = c in
+    let a = c in
+    appended_text (appended_text a.append_with_number-a.ensures.0 b.append_bounds-b.ensures.0) n.append.ensures
 
-pub append-last-spec : {M : Type 1} → statement M
-append-last-spec =
+pub append_last_spec : {M : Type 1} → statement M
+append_last_spec =
     tie.close
-    (tie.spec
-    (λ c. search rules)
-    (λ c κs. search rules)
-    (λ c κs. search rules)
-    (λ c. search rules)
-    (λ c κs. search rules)
-    (λ c. search rules)
-    returns)
+    (tie.spec (λ c κs. search rules) (λ c κs. search rules) (λ c κs. search rules) (λ c. search rules) returns)

@@ -9,20 +9,14 @@ use Rattle.text.proofs.reports.append_record.Tie as tie
 returns : tie.Need-returns
 unfolding record_line
 returns c =
-    let n = c.before.before in
-    let w = c.before.before.before.before.before.before.before in
-    let a = c.before.before.before.before.before.before.before.before.before.before.before in (
-      appended_text (appended_text a.append-number.ensures.0 w.append-record-words.ensures.0) n.append.ensures,
-      omega (arith, a.append-number.ensures.1, w.append-record-words.ensures.1, n.append.ensures.ends),
+    let n = c in
+    let w = c in
+    let a = c in (
+      appended_text (appended_text a.append_number-a.ensures.0 w.append_record_words-b.ensures.0) n.append.ensures,
+      omega (arith, a.append_number-a.ensures.1, w.append_record_words-b.ensures.1, n.append.ensures.ends),
     )
 
-pub append-record-spec : {M : Type 1} → statement M
-append-record-spec =
+pub append_record_spec : {M : Type 1} → statement M
+append_record_spec =
     tie.close
-    (tie.spec
-    (λ c κs. search rules)
-    (λ c κs. search rules)
-    (λ c. search rules)
-    (λ c κs. search rules)
-    (λ c. search rules)
-    returns)
+    (tie.spec (λ c κs. search rules) (λ c κs. search rules) (λ c κs. search rules) (λ c. search rules) returns)

@@ -9,33 +9,20 @@ use Rattle.text.proofs.reports.append_refused.Tie as tie
 returns : tie.Need-returns
 unfolding refused_words
 returns c =
-    let d = c.before.before in
-    let g = c.before.before.before in
-    let b = c.before.before.before.before.before.before.before.before in
-    let f = c.before.before.before.before.before.before.before.before.before in
-    let a = c.before.before.before.before.before.before.before.before.before.before.before.before.before.before in
-    let e = c.before.before.before.before.before.before.before.before.before.before.before.before.before.before.before in
-    let n = c.before.before.before.before.before.before.before.before.before.before.before.before.before.before.before.before.before.before.before.before in
-    let two = appended_text n.append-with-number.ensures.0 (rw e.field-at.ensures.0 at a.append-with-number2.ensures.0) in
-    let three = appended_text two (rw f.field-at2.ensures.0 at b.append-with-number3.ensures.0) in (
-      appended_text three (rw g.field-at3.ensures.0 at d.append-with-number4.ensures.0),
-      omega (arith, n.append-with-number.ensures.1, a.append-with-number2.ensures.1, b.append-with-number3.ensures.1, d.append-with-number4.ensures.1),
+    let d = c in
+    let g = c in
+    let b = c in
+    let f = c in
+    let a = c in
+    let e = c in
+    let n = c in
+    let two = appended_text n.append_with_number-a.ensures.0 (rw e.field_at.ensures.0 at a.append_with_number-b.ensures.0) in
+    let three = appended_text two (rw f.field_at-2.ensures.0 at b.append_with_number-c.ensures.0) in (
+      appended_text three (rw g.field_at-3.ensures.0 at d.append_with_number.ensures.0),
+      omega (arith, n.append_with_number-a.ensures.1, a.append_with_number-b.ensures.1, b.append_with_number-c.ensures.1, d.append_with_number.ensures.1),
     )
 
-pub append-refused-spec : {M : Type 1} → statement M
-append-refused-spec =
+pub append_refused_spec : {M : Type 1} → statement M
+append_refused_spec =
     tie.close
-    (tie.spec
-    (λ c. search rules)
-    (λ c κs. search rules)
-    (λ c. search rules)
-    (λ c κs. search rules)
-    (λ c κs. search rules)
-    (λ c. search rules)
-    (λ c κs. search rules)
-    (λ c κs. search rules)
-    (λ c. search rules)
-    (λ c κs. search rules)
-    (λ c κs. search rules)
-    (λ c. search rules)
-    returns)
+    (tie.spec (λ c κs. search rules) (λ c κs. search rules) (λ c κs. search rules) (λ c κs. search rules) (λ c κs. search rules) (λ c κs. search rules) (λ c κs. search rules) (λ c. search rules) returns)

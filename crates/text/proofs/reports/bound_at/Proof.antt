@@ -10,15 +10,15 @@ use Rattle.text.proofs.reports.bound_at.Tie as tie
 
 returns : tie.Need-returns
 returns c =
-    let g = c.before in
-    let p = g.before in
+    let g = c in
+    let p = g in
     c.bound.ensures
     ∙ ap₂ fraction
-    (to_z-of_z {w = w32} (sfits_of p.signed32.type-inv) ∙ p.signed32.ensures ∙ ap (signed 31) p.before.field-at.ensures.0)
-    g.field-at2.ensures.0
+    (to_z-of_z {w = w32} (sfits_of p.signed32-p.type_inv) ∙ p.signed32-p.ensures ∙ ap (signed 31) p.field_at.ensures.0)
+    g.field_at-2.ensures.0
 
-pub bound-at-spec : {M : Type 1} → statement M
-bound-at-spec =
+pub bound_at_spec : {M : Type 1} → statement M
+bound_at_spec =
     tie.close
     (tie.spec
     (λ c κs. search rules)
