@@ -9,49 +9,49 @@ use Rattle.identity_check.proofs.Squares.{divided_ready, summed_ready, wide_carr
 use Rattle.identity_check.proofs.add_wide_parts.Statement.{statement}
 use Rattle.identity_check.proofs.add_wide_parts.Tie as tie
 
-abbrev start : tie.After-divide-sums → tie.Start
+abbrev start : tie.After-divide_sums-first → tie.Start
 start d = d.before.before.before.before.before.before.before
 
 -- the part in the middle is added
-module _ (c : tie.After-sum-rows) where
-  abbrev divided : tie.After-divide-sums
+module _ (c : tie.After-sum_rows) where
+  abbrev divided : tie.After-divide_sums-first
   divided = c.before.before.before.before.before.before
 
   abbrev s : tie.Start
   s = start divided
 
-abbrev middle : tie.After-divide-sums2 → tie.After-sum-rows
+abbrev middle : tie.After-divide_sums-second → tie.After-sum_rows
 middle e = e.before.before.before.before.before.before
 
-sum-rows-requires : tie.Need-sum-rows-requires
+sum-rows-requires : tie.Need-sum_rows-requires
 sum-rows-requires c κs =
-    let d = c.before.before.before.before.before in
-    let p = (start d).requires in
-    (divided_ready p.0 d.divide-sums.ensures (9 * table_unit) (omega arith), p.1)
+    let d = c in
+    let p = (start d.before.before.before.before.before).requires in
+    (divided_ready p.0 d.divide_sums-first.ensures (9 * table_unit) (omega arith), p.1)
 
-divide-sums-requires-2 : tie.Need-divide-sums-requires-2
+divide-sums-requires-2 : tie.Need-divide_sums-second-requires
 divide-sums-requires-2 c κs =
-    let r = c.before.before.before.before.before in
-    let h = summed_ready (s r).requires.0 (divided r).divide-sums.ensures r.sum_rows.ensures.0 in
-    (inside (s r).requires.0.support, h.high, h.low.long)
+    let r = c in
+    let h = summed_ready (s r.before.before.before.before.before).requires.0 (divided r.before.before.before.before.before).divide_sums-first.ensures r.sum_rows.ensures.0 in
+    (inside (s r.before.before.before.before.before).requires.0.support, h.high, h.low.long)
 
-sum-rows-requires-2 : tie.Need-sum-rows-requires-2
+sum-rows-requires-2 : tie.Need-sum_rows-requires-2
 sum-rows-requires-2 c κs =
-    let e = c.before.before.before.before.before in
-    let r = middle e in
-    let h = summed_ready (s r).pre.0 (divided r).divide-sums.ensures r.sum_rows.ensures.0 in
-    (divided_ready h e.divide-sums2.ensures (9 * table_unit) (omega arith), ((s r).pre.1.0, r.sum_rows.ensures.1))
+    let e = c in
+    let r = middle e.before.before.before.before.before in
+    let h = summed_ready (s r).requires.0 (divided r).divide_sums-first.ensures r.sum_rows.ensures.0 in
+    (divided_ready h e.divide_sums-second.ensures (9 * table_unit) (omega arith), ((s r).requires.1.0, r.sum_rows.ensures.1))
 
 returns : tie.Need-returns
 returns c =
-    let u = c.before.before.before in
-    let e = u.before.before.before.before.before.before in
-    let r = middle e in
+    let u = c in
+    let e = u in
+    let r = middle e.before.before.before.before.before.before.before.before.before in
     let a = (s r).args in
-    wide_carried (rows_by a.s.now a.starts.now a.rows) (s r).pre.0.support.few (divided r).divide-sums.ensures r.sum_rows.ensures.0 e.divide-sums2.ensures u.sum-rows2.ensures.0
+    wide_carried (rows_by a.s.now a.starts.now a.rows) (s r).requires.0.support.few (divided r).divide_sums-first.ensures r.sum_rows.ensures.0 e.divide_sums-second.ensures u.sum_rows-2.ensures.0
 
-pub add-wide-parts-spec : {M : Type 1} → statement M
-add-wide-parts-spec =
+pub add_wide_parts_spec : {M : Type 1} → statement M
+add_wide_parts_spec =
     tie.close
     (tie.spec
     (λ c κs. search rules)

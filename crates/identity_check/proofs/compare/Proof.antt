@@ -5,26 +5,26 @@ use Rattle.identity_rows.proofs.Walks.{room_zeros}
 use Rattle.identity_check.proofs.compare.Statement.{statement}
 use Rattle.identity_check.proofs.compare.Tie as tie
 
-is-large-requires : tie.Need-is-large-requires
-is-large-requires c κs = omega (arith, c.before.before.before.before.requires.2.flat.limits.sizes_length)
+is-large-requires : tie.Need-is_large-requires
+is-large-requires c κs = omega (arith, c.requires.2.flat.limits.sizes_length)
 
-compare-large-requires : tie.Need-compare-large-requires
-compare-large-requires c κs = c.before.before.before.before.before.before.before.before.requires
+compare-large-requires : tie.Need-compare_large-requires
+compare-large-requires c κs = c.requires
 
-returns : tie.Need-returns
-returns c = c.before.before.compare-large.ensures
+returns : tie.Need-returns-then-is_large
+returns c = c.compare_large.ensures
 
-compare-with-requires : tie.Need-compare-with-requires
+compare-with-requires : tie.Need-compare_with-requires
 compare-with-requires c κs =
-    let e = c.before.before.before in
-    let l = e.before in
-    (l.before.before.before.before.before.requires, room_zeros 1024 (λ j b. omega (arith, l.is-large.ensures e.if1.false j b)))
+    let e = c in
+    let l = e in
+    (l.requires, room_zeros 1024 (λ j b. omega (arith, l.is_large.ensures e.if-is_large.false j b)))
 
-returns-2 : tie.Need-returns-2
-returns-2 c = c.before.before.before.compare-with.ensures
+returns-2 : tie.Need-returns
+returns-2 c = c.compare_with.ensures
 
-pub compare-spec : {M : Type 1} → statement M
-compare-spec =
+pub compare_spec : {M : Type 1} → statement M
+compare_spec =
     tie.close
     (tie.spec
     is-large-requires
