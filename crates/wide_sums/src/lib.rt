@@ -20,7 +20,7 @@ const STEP: i64 = 1 << 16;
 const RATIO: i64 = BASE / STEP;
 
 // The halves of a number: high * 2^27 + low.
-#[derive(Drop)]
+#[derive(Clone, Copy)]
 pub struct Halves {
     pub high: i64,
     pub low: i64,
