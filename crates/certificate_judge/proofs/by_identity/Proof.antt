@@ -19,20 +19,20 @@ module _ (stream : ℕ) (t : Header) (d : Difference) where
   holds : d ≡ Difference.Same → Judged.Accepted t ≡ judged_from stream t d
   holds e = rw e refl
 
-enum-known-found : tie.Need-enum-known-found
+enum-known-found : tie.Need-enum_known-found
 enum-known-found c = search rules
 
 refuse-requires : tie.Need-refuse-requires
 refuse-requires c κs = search rules
 
-enum_told : tie.Need-enum-told
+enum_told : tie.Need-enum_told-1
 enum_told c = search rules
 
-returns : tie.Need-returns
-returns c = let s = c.before.before.before.before in differs s.args.stream s.args.header _ _ _ c.before.before.found.given.1 c.refuse.ensures
+returns : tie.Need-returns-in-Differs
+returns c = let s = c in differs s.args.stream s.args.header _ _ _ c.in-Differs.is c.refuse.ensures
 
-returns-2 : tie.Need-returns-2
-returns-2 c = let s = c.before.before in holds s.args.stream s.args.header _ c.enum_told.given.1
+returns-2 : tie.Need-returns-in-Same
+returns-2 c = let s = c in holds s.args.stream s.args.header _ c.in-Same.is
 
-pub by-identity-spec : {M : Type 1} → statement M
-by-identity-spec = tie.close (tie.spec enum-known-found refuse-requires enum_told returns returns-2)
+pub by_identity_spec : {M : Type 1} → statement M
+by_identity_spec = tie.close (tie.spec enum-known-found refuse-requires enum_told returns returns-2)
