@@ -18,7 +18,7 @@ use identity_check::Difference;
 use row_blocks::Place;
 
 // What becomes of one certificate: a refusal, or it is accepted, and what its first command states.
-#[derive(Drop)]
+#[derive(Clone, Copy)]
 pub enum Judged {
     Refused(Refusal),
     Accepted(Header),

@@ -100,7 +100,7 @@ fn seed(keys: &[u64], sizes: &[usize], table: &mut [u64], index: &mut [u16]) -> 
 
 // What the joining rule leaves beside the block numbers: the number of rounds and of blocks, and how many keys are
 // counted. Where these are more than 2,048, `full` says so and the rest says nothing.
-#[derive(Drop)]
+#[derive(Clone, Copy)]
 pub struct Joined {
     pub full: bool,
     pub rounds: usize,

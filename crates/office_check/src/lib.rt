@@ -147,7 +147,7 @@ fn append(s: &[u8], from: usize, to: usize, copy: &mut [u8], len: usize) -> usiz
 {
     let n = least(to - from, copy.len() - len);
     let end = from + n;
-    bytes::copy(&s[from..end], &mut copy[len..]);
+    copy[len..len + n].copy_from_slice(&s[from..end]);
     len + n
 }
 

@@ -18,7 +18,7 @@ use closure::Joined;
 use flat::RULE;
 
 // A problem that was read and joined, or its refusal.
-#[derive(Drop)]
+#[derive(Clone, Copy)]
 pub enum Prepared {
     Refused(Refusal),
     Ready(Joined),
@@ -26,7 +26,7 @@ pub enum Prepared {
 
 // What became of two certificates for one problem, with its rounds and its rule. Where the problem is refused, so is
 // each certificate, and rounds and rule are 0.
-#[derive(Drop)]
+#[derive(Clone, Copy)]
 pub struct TwoJudged {
     pub first: Judged,
     pub second: Judged,

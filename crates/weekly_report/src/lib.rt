@@ -19,7 +19,7 @@ ghost use Rattle.weekly_report.specs.Steps.{count_outcome, count_from, Roomy, An
 use calls::{Fraction, PairVerdict, Refusal, ReportVerdict};
 
 // What the input holds: whole records, and how many; or a record that is cut or a byte after the 64th, and where.
-#[derive(Drop)]
+#[derive(Clone, Copy)]
 enum Counted {
     Whole(usize),
     Cut(usize),

@@ -13,8 +13,8 @@ use Rattle.problem_judge.proofs.ends_with.Tie as tie
 by_stream : (stream : ℕ) (d : Judged) (f : Refusal) → d ≡ Judged.Refused f → eqb stream 2 ≡ ends_with stream d
 by_stream stream d f e = rw e
 
-returns : tie.Need-returns
-returns c = let s = c.before.before in by_stream s.args.stream s.args.first _ c.enum_told.given.1
+returns : tie.Need-returns-in-Refused
+returns c = let s = c in by_stream s.args.stream s.args.first _ c.in-Refused.is
 
-pub ends-with-spec : {M : Type 1} → statement M
-ends-with-spec = tie.close (tie.spec (λ c. search rules) (λ c. search rules) returns (λ c. search rules))
+pub ends_with_spec : {M : Type 1} → statement M
+ends_with_spec = tie.close (tie.spec (λ c. search rules) (λ c. search rules) returns (λ c. search rules))

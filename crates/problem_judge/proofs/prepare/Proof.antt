@@ -10,46 +10,46 @@ use Rattle.problem_judge.proofs.Steps.{problem_refused, problem_full_lem, prepar
 use Rattle.problem_judge.proofs.prepare.Statement.{statement}
 use Rattle.problem_judge.proofs.prepare.Tie as tie
 
-abbrev start : tie.After-read → tie.Start
+abbrev start : tie.After-read-r → tie.Start
 start c = c.before.before.before.before.before.before
 
 -- the problem that the stream gives, in the arrays
-is-given : (c : tie.Else1) → let r = c.before in GivenFlat (start r).args.problem.now r.read.new.1.0
-    r.read.new.1.1.0 r.read.new.1.1.1.0
-is-given c = c.before.read.ensures.gives (omega (arith, c.if1.false))
+is-given : (c : tie.Else-number-gt0) → let r = c in GivenFlat (start r.before).args.problem.now r.read-r.new.keys
+    r.read-r.new.coefficients r.read-r.new.sizes
+is-given c = c.read-r.ensures.gives (omega (arith, c.if-number-gt0.false))
 
 -- and what the joining left of it
-module _ (j : tie.After-join) where
-  abbrev given-at : tie.Else1
+module _ (j : tie.After-join-j) where
+  abbrev given-at : tie.Else-number-gt0
   given-at = j.before.before.before.before.before.before.before.before
 
   left : let p = (is-given given-at).problem in ClosureLeft (bases_of p) (closing p) (start given-at.before).args.table.now
-      j.join.result j.join.last.1.1.1.0 j.join.last.1.1.1.1.0 j.join.last.1.1.0
-  left = let g = is-given given-at in j.join.ensures g.problem _ g.flat
+      j.join-j.result j.join-j.new.table j.join-j.new.index j.join-j.new.labels
+  left = let g = is-given given-at in j.join-j.ensures g.problem _ g.flat
 
-returns : tie.Need-returns
+returns : tie.Need-returns-then-number-gt0
 returns c =
-    let i = c.before in
-    let r = i.before.read.ensures in
-    left_refused r.limits refl _ (problem_refused _ _ _ (r.refuses i.if1.true) ∙ ap refused (sym c.problem-refusal.ensures))
+    let i = c in
+    let r = i.read-r.ensures in
+    left_refused r.limits refl _ (problem_refused _ _ _ (r.refuses i.if-number-gt0.true) ∙ ap refused (sym c.problem_refusal.ensures))
 
-returns-2 : tie.Need-returns-2
+returns-2 : tie.Need-returns-then-j
 returns-2 c =
-    let i = c.before in
-    let j = i.before.before.before in
-    let g = is-given (given-at j) in
-    left_refused g.flat.limits (left j).rest _
-    (problem_full_lem _ _ g.read (left j) i.if2.true ∙ ap refused (sym c.problem-refusal2.ensures))
+    let i = c in
+    let j = i in
+    let g = is-given (given-at j.before.before.before.before) in
+    left_refused g.flat.limits (left j.before.before.before.before).rest _
+    (problem_full_lem _ _ g.read (left j.before.before.before.before) i.if-j.true ∙ ap refused (sym c.problem_refusal-then-j.ensures))
 
-returns-3 : tie.Need-returns-3
+returns-3 : tie.Need-returns
 returns-3 c =
-    let j = c.before.before.before in
-    let g = is-given (given-at j) in
-    left_ready g.flat.limits (left j).rest _
-    (prepares _ _ g.read (left j) g.flat (start (given-at j).before).requires.1 c.if2.false)
+    let j = c in
+    let g = is-given (given-at j.before.before.before) in
+    left_ready g.flat.limits (left j.before.before.before).rest _
+    (prepares _ _ g.read (left j.before.before.before) g.flat (start (given-at j.before.before.before).before).requires.1 c.if-j.false)
 
-pub prepare-spec : {M : Type 1} → statement M
-prepare-spec =
+pub prepare_spec : {M : Type 1} → statement M
+prepare_spec =
     tie.close
     (tie.spec
     (λ c κs. search rules)
