@@ -20,55 +20,55 @@ lent s = tables s.args.keys.now s.args.high.now s.args.low.now
 abbrev short : tie.Start → Bool
 short s = blocks_short s.args.out.now (lent s)
 
-returns : tie.Need-returns
+returns : tie.Need-returns-then-out-lt576
 unfolding problem_of blocks_verdict bytes_left
 returns c =
-    let i = c.before.before in
-    let s = i.before.before.before.before in
-    let e : short s ≡ true = out_short (lent s) s.args.out.now i.if1.true in
-    let v = rw c.before.problem-refusal.ensures at c.refuse-blocks.ensures in
+    let i = c in
+    let s = i in
+    let e : short s.before.before.before.before.before.before ≡ true = out_short (lent s.before.before.before.before.before.before) s.args.out.now i.if-out-lt576.true in
+    let v = rw c.problem_refusal.ensures at c.refuse_blocks.ensures in
     rw e (v, (refl, (tables_kept _, clauses true s.args.problem.now s.args.out.now _ _ v refl)))
 
-returns-2 : tie.Need-returns-2
+returns-2 : tie.Need-returns-then-is_short
 unfolding problem_of blocks_verdict bytes_left
 returns-2 c =
-    let t = c.before.before in
-    let i = t.before in
-    let s = i.before.before.before.before.before in
-    let e : short s ≡ true = out_long (lent s) s.args.out.now true i.before.if1.false (sym i.is-short.ensures ∙ t.if2.true) in
-    let v = rw c.before.problem-refusal2.ensures at c.refuse-blocks2.ensures in
+    let t = c in
+    let i = t in
+    let s = i in
+    let e : short s.before.before.before.before.before.before.before.before ≡ true = out_long (lent s.before.before.before.before.before.before.before.before) s.args.out.now true i.if-out-lt576.false (sym i.is_short.ensures ∙ t.if-is_short.true) in
+    let v = rw c.problem_refusal-then-is_short.ensures at c.refuse_blocks-then-is_short.ensures in
     rw e (v, (refl, (tables_kept _, clauses true s.args.problem.now s.args.out.now _ _ v refl)))
 
 -- with tables that are long enough
-fine : (c : tie.Else2) → tables_short (lent c.before.before.before.before.before.before) ≡ false
-fine c = sym c.before.is-short.ensures ∙ c.if2.false
+fine : (c : tie.Else-is_short) → tables_short (lent c.before.before.before.before.before.before) ≡ false
+fine c = sym c.is_short.ensures ∙ c.if-is_short.false
 
-long : (c : tie.Else2) → Long (lent c.before.before.before.before.before.before)
+long : (c : tie.Else-is_short) → Long (lent c.before.before.before.before.before.before)
 long c = tables_long _ (fine c)
 
-answer-blocks-requires : tie.Need-answer-blocks-requires
-answer-blocks-requires c κs = let e = c.before.before in (e.before.before.if1.false, (long e).keys)
+answer-blocks-requires : tie.Need-answer_blocks-v-requires
+answer-blocks-requires c κs = let e = c in (e.if-out-lt576.false, (long e.before.before).keys)
 
-clear-tables-requires : tie.Need-clear-tables-requires
+clear-tables-requires : tie.Need-clear_tables-requires
 clear-tables-requires c κs =
-    let a = c.before.before.before.before.before.before.before in
-    let l = long a.before.before.before in
-    record { keys = omega (arith, l.keys, a.answer-blocks.auto.1.1.0); high = l.high; low = l.low }
+    let a = c in
+    let l = long a.before.before.before.before.before.before.before.before.before.before in
+    record { keys = omega (arith, l.keys, a.answer_blocks-v.auto.table); high = l.high; low = l.low }
 
-returns-3 : tie.Need-returns-3
+returns-3 : tie.Need-returns
 returns-3 c =
-    let k = c.before.before.before.before in
-    let a = k.before.before.before.before.before.before.before.before in
-    let b = a.before.before.before in
-    let s = b.before.before.before.before.before.before in
-    let e : short s ≡ false = out_long (lent s) s.args.out.now false b.before.before.if1.false (fine b) in
-    let v = a.answer-blocks.ensures.0 in
-    let o = a.answer-blocks.ensures.1 in
-    let t = tables_cleared (record { keys = a.answer-blocks.ensures.2; high = refl; low = refl }) k.clear-tables.ensures in
+    let k = c in
+    let a = k in
+    let b = a in
+    let s = b in
+    let e : short s.before.before.before.before.before.before.before.before.before.before.before.before.before.before.before.before.before.before.before.before.before ≡ false = out_long (lent s.before.before.before.before.before.before.before.before.before.before.before.before.before.before.before.before.before.before.before.before.before) s.args.out.now false b.if-out-lt576.false (fine b.before.before.before.before.before.before.before.before.before.before.before.before.before.before.before) in
+    let v = a.answer_blocks-v.ensures.0 in
+    let o = a.answer_blocks-v.ensures.1 in
+    let t = tables_cleared (record { keys = a.answer_blocks-v.ensures.2; high = refl; low = refl }) k.clear_tables.ensures in
     rw e (v, (o, (t, clauses false s.args.problem.now s.args.out.now _ _ v o)))
 
-pub blocks-spec : {M : Type 1} → statement M
-blocks-spec =
+pub blocks_spec : {M : Type 1} → statement M
+blocks_spec =
     tie.close
     (tie.spec
     (λ c κs. search rules)

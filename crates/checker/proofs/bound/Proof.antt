@@ -11,11 +11,11 @@ use Rattle.checker.proofs.bound.Tie as tie
 wide : (c : tie.Start) → SFits w64 c.args.p
 wide c = sfits_widen tt c.ranges.p
 
-cast-t3 : tie.Need-overflow-cast-t3
+cast-t3 : tie.Need-overflow_cast-result
 cast-t3 c = simp (to_z-of_z c.ranges.p) (wide c)
 
 returns : tie.Need-returns
 returns c = simp (to_z-of_z, c.ranges.p, wide c) (refl, record { num = fits_abs c.ranges.p; den = omega arith })
 
-pub bound-spec : {M : Type 1} → statement M
-bound-spec = tie.close (tie.spec cast-t3 returns)
+pub bound_spec : {M : Type 1} → statement M
+bound_spec = tie.close (tie.spec cast-t3 returns)

@@ -7,14 +7,14 @@ use Rattle.checker.proofs.check.Tie as tie
 
 returns : tie.Need-returns
 returns c =
-    let k = c.before.before.before.before.before in
-    let a = k.before.before.before.before.before.before.before.before.args in
-    let e = k.check-two.ensures in
+    let k = c in
+    let a = k.args in
+    let e = k.check_two-two.ensures in
     let short = tables_short (tables a.keys.now a.high.now a.low.now) in
     (e.0, (e.1.1.0, check_clauses short a.problem.now a.certificate.now _ e.0))
 
-pub check-spec : {M : Type 1} → statement M
-check-spec =
+pub check_spec : {M : Type 1} → statement M
+check_spec =
     tie.close
     (tie.spec
     (λ c. search rules)

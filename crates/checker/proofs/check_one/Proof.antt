@@ -23,34 +23,34 @@ is-refused d f rounds rule v e g = rw e g
 is-accepted : (d : Judged) (t : Header) (rounds rule : ℕ) (r : Refusal) (b : Fraction) → d ≡ Judged.Accepted t → r ≡ no_refusal → b ≡ fraction t.p t.q → record { refusal = r; side = t.side; bound = b; rounds = rounds; rule = rule } ≡ check_from d rounds rule
 is-accepted d t rounds rule r b e f g = rw (e, f, g) refl
 
-p-kept : (c : tie.After-struct-told) → let p = c.before.before.before.judged2.given.0.0.p in to_z w32 (of_z w32 p) ≡ p
+p-kept : (c : tie.After-struct_told-1) → let p = c.in-Accepted.t.p in to_z w32 (of_z w32 p) ≡ p
 p-kept c = search rules
 
-enum-known-judged : tie.Need-enum-known-judged
+enum-known-judged : tie.Need-enum_known-judged
 enum-known-judged c = search rules
 
-refuse-check-requires : tie.Need-refuse-check-requires
+refuse-check-requires : tie.Need-refuse_check-requires
 refuse-check-requires c κs = search rules
 
-enum-known-judged-2 : tie.Need-enum-known-judged-2
+enum-known-judged-2 : tie.Need-enum_known-judged-in-Accepted-1
 enum-known-judged-2 c = search rules
 
-problem-refusal-requires : tie.Need-problem-refusal-requires
+problem-refusal-requires : tie.Need-problem_refusal-requires
 problem-refusal-requires c κs = search rules
 
 bound-requires : tie.Need-bound-requires
 bound-requires c κs = search rules
 
-returns : tie.Need-returns
-returns c = is-refused _ _ _ _ _ c.before.before.judged.given.1 c.refuse-check.ensures
+returns : tie.Need-returns-in-Refused
+returns c = is-refused _ _ _ _ _ c.in-Refused.is c.refuse_check.ensures
 
-returns-2 : tie.Need-returns-2
+returns-2 : tie.Need-returns-in-Accepted
 returns-2 c =
-    let r = c.before.before in
-    is-accepted _ _ _ _ _ _ r.before.before.judged2.given.1 r.problem-refusal.ensures (rw (p-kept c.before) at c.bound.ensures.0)
+    let r = c in
+    is-accepted _ _ _ _ _ _ r.in-Accepted.is r.problem_refusal.ensures (rw (p-kept c.before) at c.bound.ensures.0)
 
-pub check-one-spec : {M : Type 1} → statement M
-check-one-spec =
+pub check_one_spec : {M : Type 1} → statement M
+check_one_spec =
     tie.close
     (tie.spec
     enum-known-judged

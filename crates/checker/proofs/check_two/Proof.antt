@@ -11,17 +11,17 @@ use Rattle.checker.proofs.check_two.Tie as tie
 
 returns : tie.Need-returns
 returns c =
-    let k = c.before.before.before.before.before.before in
-    let a = k.before.before.before.before.before.before.before.before.args in
+    let k = c in
+    let a = k.args in
     let short = tables_short (tables a.keys.now a.high.now a.low.now) in
     let s = a.problem.now in
-    let e = k.judge-two.ensures in
-    let v = c.before.check-one.ensures ∙ ap (λ (two : TwoJudged). check_from two.first two.rounds two.rule) e.0 ∙ first_checked short s a.first.now a.second.now in
-    let w = c.check-one2.ensures ∙ ap (λ (two : TwoJudged). check_from two.second two.rounds two.rule) e.0 ∙ second_checked short s a.first.now a.second.now in
+    let e = k.judge_two-two.ensures in
+    let v = c.check_one.ensures ∙ ap (λ (two : TwoJudged). check_from two.first two.rounds two.rule) e.0 ∙ first_checked short s a.first.now a.second.now in
+    let w = c.check_one-2.ensures ∙ ap (λ (two : TwoJudged). check_from two.second two.rounds two.rule) e.0 ∙ second_checked short s a.first.now a.second.now in
     (v, (w, (e.1, two_zeros short s a.first.now a.second.now _ v w)))
 
-pub check-two-spec : {M : Type 1} → statement M
-check-two-spec =
+pub check_two_spec : {M : Type 1} → statement M
+check_two_spec =
     tie.close
     (tie.spec
     (λ c κs. search rules)

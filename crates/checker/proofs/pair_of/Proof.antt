@@ -23,23 +23,23 @@ module _ (two : TwoJudged) (v : PairVerdict) where
     both : (u : Header) → two.second ≡ Judged.Accepted u → v ≡ told refused_pair (pair_sides t u two.rounds two.rule) → v ≡ pair_from two
     both u h g = rw (e, h) g
 
-returns : tie.Need-returns
-returns c = let a = c.before.before in first_refused a.before.before.args.two _ _ a.a.given.1 c.refuse-pair.ensures
+returns : tie.Need-returns-in-Refused
+returns c = let a = c in first_refused a.args.two _ _ a.in-Refused.is c.refuse_pair.ensures
 
-returns-2 : tie.Need-returns-2
+returns-2 : tie.Need-returns-in-Refused-b
 returns-2 c =
-    let b = c.before.before in
-    let a = b.before.before.before in
-    second_refused a.before.before.args.two _ _ a.a2.given.1 _ b.b.given.1 c.refuse-pair2.ensures
+    let b = c in
+    let a = b in
+    second_refused a.args.two _ _ a.in-Accepted.is _ b.in-Refused-b.is c.refuse_pair-in-Refused-b.ensures
 
-returns-3 : tie.Need-returns-3
+returns-3 : tie.Need-returns-in-Accepted-b
 returns-3 c =
-    let b = c.before.before in
-    let a = b.before.before.before in
-    both a.before.before.args.two _ _ a.a2.given.1 _ b.b2.given.1 c.pair-sides.ensures
+    let b = c in
+    let a = b in
+    both a.args.two _ _ a.in-Accepted.is _ b.in-Accepted-b.is c.pair_sides.ensures
 
-pub pair-of-spec : {M : Type 1} → statement M
-pair-of-spec =
+pub pair_of_spec : {M : Type 1} → statement M
+pair_of_spec =
     tie.close
     (tie.spec
     (λ c. search rules)

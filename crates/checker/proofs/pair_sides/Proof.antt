@@ -32,60 +32,60 @@ module _ (t u : Header) (rounds rule : ℕ) where
     unfolding pair_sides
     both_right r a b g f m o x y k e h i = rw (eq-eqb t.side 0 z, eq-eqb u.side 1 o, e, h, i, k, x, y) refl
 
-lower-kept : (c : tie.After-struct-told) → let p = c.before.before.before.before.before.args.lower.p in to_z w32 (of_z w32 p) ≡ p
+lower-kept : (c : tie.After-struct_told-1) → let p = c.args.lower.p in to_z w32 (of_z w32 p) ≡ p
 lower-kept c = search rules
 
-upper-kept : (c : tie.After-struct-told2) → let p = c.before.before.before.before.before.before.before.args.upper.p in to_z w32 (of_z w32 p) ≡ p
+upper-kept : (c : tie.After-struct_told-2-1) → let p = c.args.upper.p in to_z w32 (of_z w32 p) ≡ p
 upper-kept c = search rules
 
-refuse-side-requires : tie.Need-refuse-side-requires
+refuse-side-requires : tie.Need-refuse_side-requires
 refuse-side-requires c κs = search rules
 
-returns : tie.Need-returns
-returns c = let s = c.before.before.before in c.refuse-side.ensures ∙ first-wrong s.args.lower s.args.upper s.args.rounds s.args.rule c.before.if1.true
+returns : tie.Need-returns-then-lower-ne0
+returns c = let s = c in c.refuse_side.ensures ∙ first-wrong s.args.lower s.args.upper s.args.rounds s.args.rule c.if-lower-ne0.true
 
-refuse-side-requires-2 : tie.Need-refuse-side-requires-2
+refuse-side-requires-2 : tie.Need-refuse_side-requires-then-upper-ne1
 refuse-side-requires-2 c κs = search rules
 
-returns-2 : tie.Need-returns-2
+returns-2 : tie.Need-returns-then-upper-ne1
 returns-2 c =
-    let i = c.before.before.before in
-    let s = i.before.before in
-    c.refuse-side2.ensures ∙ second-wrong s.args.lower s.args.upper s.args.rounds s.args.rule i.if1.false c.before.if2.true
+    let i = c in
+    let s = i in
+    c.refuse_side-then-upper-ne1.ensures ∙ second-wrong s.args.lower s.args.upper s.args.rounds s.args.rule i.if-lower-ne0.false c.if-upper-ne1.true
 
-bound-requires : tie.Need-bound-requires
+bound-requires : tie.Need-bound-a-requires
 bound-requires c κs = search rules
 
-bound-requires-2 : tie.Need-bound-requires-2
+bound-requires-2 : tie.Need-bound-b-requires
 bound-requires-2 c κs = search rules
 
-gap-requires : tie.Need-gap-requires
+gap-requires : tie.Need-gap-gap-requires
 gap-requires c κs = search rules
 
-problem-refusal-requires : tie.Need-problem-refusal-requires
+problem-refusal-requires : tie.Need-problem_refusal-requires
 problem-refusal-requires c κs = search rules
 
-unless-negative-requires : tie.Need-unless-negative-requires
+unless-negative-requires : tie.Need-unless_negative-requires
 unless-negative-requires c κs = search rules
 
-is-negative-requires : tie.Need-is-negative-requires
+is-negative-requires : tie.Need-is_negative-requires
 is-negative-requires c κs = search rules
 
-returns-3 : tie.Need-returns-3
+returns-3 : tie.Need-returns
 returns-3 c =
-    let n = c.before in
-    let g = n.before.before in
-    let b = g.before in
-    let a = b.before.before in
-    let i = a.before.before in
-    let s = i.before.before.before.before in
-    both_right s.args.lower s.args.upper s.args.rounds s.args.rule i.before.before.if1.false _ _ _ _ _ _
-    i.if2.false (rw (lower-kept a.before) at a.bound.ensures.0)
-    (rw (upper-kept b.before) at b.bound2.ensures.0) g.gap.ensures n.before.problem-refusal.ensures
-    n.unless-negative.ensures c.is_negative.ensures
+    let n = c in
+    let g = n in
+    let b = g in
+    let a = b in
+    let i = a in
+    let s = i in
+    both_right s.args.lower s.args.upper s.args.rounds s.args.rule i.if-lower-ne0.false _ _ _ _ _ _
+    i.if-upper-ne1.false (rw (lower-kept a.before.before.before.before.before.before.before) at a.bound-a.ensures.0)
+    (rw (upper-kept b.before.before.before.before.before) at b.bound-b.ensures.0) g.gap-gap.ensures n.problem_refusal.ensures
+    n.unless_negative.ensures c.is_negative.ensures
 
-pub pair-sides-spec : {M : Type 1} → statement M
-pair-sides-spec =
+pub pair_sides_spec : {M : Type 1} → statement M
+pair_sides_spec =
     tie.close
     (tie.spec
     refuse-side-requires

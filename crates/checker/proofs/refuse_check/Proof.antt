@@ -6,11 +6,11 @@ use Rattle.calls.specs.declared.CheckVerdict.{CheckVerdict}
 use Rattle.checker.proofs.refuse_check.Statement.{statement}
 use Rattle.checker.proofs.refuse_check.Tie as tie
 
-no-fraction-requires : tie.Need-no-fraction-requires
+no-fraction-requires : tie.Need-no_fraction-requires
 no-fraction-requires c κs = search rules
 
 returns : tie.Need-returns
-returns c = ap (λ (b : Fraction). let v : CheckVerdict = record { refusal = c.before.args.refusal; side = 0; bound = b; rounds = 0; rule = 0 } in v) c.no_fraction.ensures
+returns c = ap (λ (b : Fraction). let v : CheckVerdict = record { refusal = c.args.refusal; side = 0; bound = b; rounds = 0; rule = 0 } in v) c.no_fraction.ensures
 
-pub refuse-check-spec : {M : Type 1} → statement M
-refuse-check-spec = tie.close (tie.spec no-fraction-requires returns)
+pub refuse_check_spec : {M : Type 1} → statement M
+refuse_check_spec = tie.close (tie.spec no-fraction-requires returns)
