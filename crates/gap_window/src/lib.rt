@@ -23,6 +23,7 @@ pub fn empty() -> GapWindow
 }
 
 // Whether an arrival meets refusal 14.
+#[tactic(auto, unfolding(calls::specs::Window::is_refused))]
 fn is_refused(arrival: Fraction) -> bool
     ensures { result ≡ is_refused arrival }
 {

@@ -18,6 +18,7 @@ pub fn bits(n: i64) -> u64
 }
 
 // The eight fields of a record.
+#[tactic(auto, unfolding(calls::specs::Report::fields_of))]
 fn fields_of(v: PairVerdict) -> [u64; 8]
     ensures { result ≡ fields_of v }
 {

@@ -1,4 +1,4 @@
--- The state that a push leaves, by the verdict: as it was with a refusal, with the new gap without one.
+-- The state that a push leaves without a refusal: with the new gap.
 use native.Mathlib.Omega.{arith}
 use mathlib.Core.Path.{◌≡◌, refl}
 use mathlib.Core.Bool.{Bool, true, false, cond}
@@ -18,18 +18,6 @@ module _ (s : List ℕ) (a : Fraction) (w : GapWindow) (r : Pushed) (v : r.verdi
   number_14 : is_refused a ≡ true → r.verdict.refusal.number ≡ 14
   unfolding push_verdict
   number_14 e = rw (v, e) refl
-
-  number_0 : is_refused a ≡ false → r.verdict.refusal.number ≡ 0
-  unfolding push_verdict
-  number_0 e = rw (v, e) refl
-
-  pub when_refused : (r.verdict.refusal.number ≡ 0 → ⊥) → s ≡ state_left false s a
-  unfolding state_left
-  when_refused h = go (is_refused a) refl
-    where
-      go : (t : Bool) → is_refused a ≡ t → s ≡ cond t s (with_newest_numbers s a)
-      go true e = refl
-      go false e = absurd (h (number_0 e))
 
   module _ (is : w ≡ window_in s) (k : r.window ≡ window_after w a) (long : 65 ≤ length s) where
     count_is : is_refused a ≡ false → r.window.count ≡ min 32 (get_or s 64 0 + 1)

@@ -63,6 +63,7 @@ fn put_newest(state: &mut [u64], newest: Fraction)
 }
 
 // A gap arrives at the window that the numbers stand for.
+#[tactic(auto, using(crate::proofs::Pushes::when_accepted), unfolding(calls::specs::Window::push_verdict, verdict_numbers::specs::States::state_left))]
 pub fn push(state: &mut [u64], arrival: Fraction) -> WindowVerdict
     requires { state_length ≤ length state.old }
     ensures verdict { result ≡ push_verdict (window_in state.old) arrival }
