@@ -4,13 +4,13 @@ use Rattle.joining_rule.specs.Rounds.{adding_bases}
 use Rattle.joining_bases.proofs.adding_bases.Statement.{statement}
 use Rattle.joining_bases.proofs.adding_bases.Tie as tie
 
-returns : tie.Need-returns
+returns : tie.Need-returns-then-rule-eq2
 unfolding adding_bases
-returns c = rw (eq-eqb c.before.args.rule 2 c.if1.true)
+returns c = rw (eq-eqb c.args.rule 2 c.if-rule-eq2.true)
 
-returns-2 : tie.Need-returns-2
+returns-2 : tie.Need-returns-else-rule-eq2
 unfolding adding_bases
-returns-2 c = rw (ne_eqb c.before.args.rule 2 c.if1.false)
+returns-2 c = rw (ne_eqb c.args.rule 2 c.if-rule-eq2.false)
 
-pub adding-bases-spec : {M : Type 1} → statement M
-adding-bases-spec = tie.close (tie.spec returns returns-2)
+pub adding_bases_spec : {M : Type 1} → statement M
+adding_bases_spec = tie.close (tie.spec returns returns-2)

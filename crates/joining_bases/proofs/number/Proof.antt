@@ -9,40 +9,40 @@ use Rattle.counting.proofs.Listed.{fill_more, fill_done}
 use Rattle.joining_bases.proofs.number.Statement.{statement}
 use Rattle.joining_bases.proofs.number.Tie as tie
 
-abbrev invariant-loop : tie.invariant-loop
+abbrev invariant-loop : tie.invariant-loop-i
 invariant-loop part₀ i₀ part i = (i ≤ length part₀) × (length part ≡ length part₀) × (take i part ≡ listed i (λ i. i))
 
-abbrev decreases-loop : tie.decreases-loop
+abbrev decreases-loop : tie.decreases-loop-i
 decreases-loop part₀ i₀ part i = length part₀ - i
 
-loop-holds : tie.Need-loop-init invariant-loop decreases-loop
+loop-holds : tie.Need-loop-i-init invariant-loop decreases-loop
 unfolding listed
 loop-holds c = (omega arith, refl, refl)
 
-cast-part : tie.Need-overflow-cast-part invariant-loop decreases-loop
+cast-part : tie.Need-overflow_cast-part invariant-loop decreases-loop
 cast-part c = omega arith
 
-slice-write-part : tie.Need-slice-write-part invariant-loop decreases-loop
+slice-write-part : tie.Need-bounds-part-i invariant-loop decreases-loop
 slice-write-part c = omega arith
 
-add-i : tie.Need-overflow-add-i invariant-loop decreases-loop
+add-i : tie.Need-overflow_add-i invariant-loop decreases-loop
 add-i c = search rules
 
-loop-less : tie.Need-loop-smaller invariant-loop decreases-loop
+loop-less : tie.Need-loop-i-smaller invariant-loop decreases-loop
 loop-less c = search rules
 
-loop-again : tie.Need-loop-preserved invariant-loop decreases-loop
+loop-again : tie.Need-loop-i-preserved invariant-loop decreases-loop
 loop-again c =
-    let l = c.before in
-    (omega arith, length-set l.loop.part l.loop.i l.loop.i ∙ l.loop.invariant.1, fill_more _ l.loop.part l.loop.i _ (omega arith) refl l.loop.invariant.2)
+    let l = c in
+    (omega arith, length-set l.loop-i.part l.loop-i.i l.loop-i.i ∙ l.loop-i.invariant.1, fill_more _ l.loop-i.part l.loop-i.i _ (omega arith) refl l.loop-i.invariant.2)
 
-same_length : tie.Need-same-length invariant-loop decreases-loop
-same_length c = c.before.loop.invariant.1
+same_length : tie.Need-shape_of-part invariant-loop decreases-loop
+same_length c = c.loop-i.invariant.1
 
 returns : tie.Need-returns invariant-loop decreases-loop
-returns c = fill_done _ _ _ c.before.loop.i c.before.loop.invariant.1 (omega arith) c.before.loop.invariant.2
+returns c = fill_done _ _ _ c.loop-i.i c.loop-i.invariant.1 (omega arith) c.loop-i.invariant.2
 
-pub number-spec : {M : Type 1} → statement M
-number-spec =
+pub number_spec : {M : Type 1} → statement M
+number_spec =
     tie.close
     (tie.spec invariant-loop decreases-loop loop-holds cast-part slice-write-part add-i loop-less loop-again same_length returns)
