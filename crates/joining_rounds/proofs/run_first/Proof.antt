@@ -1,7 +1,7 @@
 -- `joining_rounds::run_first` meets its contract: the pairs of basis 0 are noted in an index that has none.
 use borrow.Author.Rules.{rules}
 use native.Mathlib.Omega.{arith}
-use mathlib.Core.Path.{refl, ◌∙◌}
+use mathlib.Core.Path.{◌∙◌}
 use mathlib.Core.List.{List}
 use Prim.Native.Nat.{ℕ, zero, suc, ◌+◌, ◌*◌, ◌≤◌, ◌<◌}
 use lib.ListN.{length, get_or, replicate, length-replicate}
@@ -15,17 +15,17 @@ room : (sizes : List ℕ) → ((j : ℕ) → 1 ≤ j → j < 9 → get_or sizes 
 room sizes s zero h l = omega (arith, length-replicate {A = ℕ} 5692 0)
 room sizes s (suc j) h l = absurd (omega (arith, s (suc j) (omega arith) h))
 
-note-all-requires : tie.Need-note-all-requires
-note-all-requires c κs = let s = c.before.before.before.before.before.before.before.before in let p = s.requires in (p.0.held.arrays, bounded_zeros 0 5692, record { at = room s.args.sizes.now p.2 }, p.1.numbers)
+note-all-requires : tie.Need-note_all-requires
+note-all-requires c κs = let s = c in let p = s.requires in (p.0.held.arrays, bounded_zeros 0 5692, record { at = room s.args.sizes.now p.2 }, p.1.numbers)
 
 run-requires : tie.Need-run-requires
 run-requires c κs =
-    let p = c.before.before.before.before.before.before.before.before.before.before.before.before.before.before.before.before.requires in
-    let n = c.before.before.before.before.before.before.before.note-all.ensures in
+    let p = c.requires in
+    let n = c.note_all.ensures in
     (p.0, record { single = p.1.single; links = p.1.links; last = p.1.last; numbers = n.1 ∙ p.1.numbers; counts = λ j h. n.2 j h ∙ p.1.counts j h }, n.0)
 
-pub run-first-spec : {M : Type 1} → statement M
-run-first-spec =
+pub run_first_spec : {M : Type 1} → statement M
+run_first_spec =
     tie.close
     (tie.spec
     (λ c. search rules)
