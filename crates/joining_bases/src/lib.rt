@@ -44,7 +44,7 @@ pub fn start_blocks(labels: &mut [u8], sizes: &[usize])
 
 // The support beside its table: how many keys it has, the joining rule by which it grows, and in how many rounds at
 // most.
-#[derive(Drop)]
+#[derive(Clone, Copy)]
 pub struct Support {
     pub len: usize,
     pub rule: usize,
