@@ -52,51 +52,51 @@ module _ (s : tie.Start) where
   whole = refl
 
 -- the table after the first growth, and after the second
-one : (c : tie.After-put-polynomial) → let s = c.before.before.before.before.before.before.before in Stored 0 (first s) s.args.table.now c.put-polynomial.result c.put-polynomial.new.0 c.put-polynomial.new.1.0
-one c = rw (keys_none c.before.before.before.before.before.before.before.args.table.now) at c.put-polynomial.ensures
+one : (c : tie.After-put_polynomial-a) → let s = c in Stored 0 (first s.before.before.before.before.before.before.before) s.args.table.now c.put_polynomial-a.result c.put_polynomial-a.new.table c.put_polynomial-a.new.index
+one c = rw (keys_none c.args.table.now) at c.put_polynomial-a.ensures
 
-two : (c : tie.After-put-conditions) → let s = c.before.before.before.before.before.before.before.before.before.before.before.before.before.before.before in Stored 0 (conditions s (first s)) s.args.table.now c.put-conditions.result c.put-conditions.new.0 c.put-conditions.new.1.0
+two : (c : tie.After-put_conditions-b) → let s = c in Stored 0 (conditions s.before.before.before.before.before.before.before.before.before.before.before.before.before.before.before (first s.before.before.before.before.before.before.before.before.before.before.before.before.before.before.before)) s.args.table.now c.put_conditions-b.result c.put_conditions-b.new.table c.put_conditions-b.new.index
 two c =
-    let s = c.before.before.before.before.before.before.before.before.before.before.before.before.before.before.before in
-    stored_then _ _ _ _ _ (one c.before.before.before.before.before.before.before.before) c.before.before.before.if1.false (conditions s) _ _ _ c.put-conditions.ensures
+    let s = c in
+    stored_then _ _ _ _ _ (one c.before.before.before.before.before.before.before.before) c.if-a-gt2048.false (conditions s.before.before.before.before.before.before.before.before.before.before.before.before.before.before.before) _ _ _ c.put_conditions-b.ensures
 
-put-polynomial-requires : tie.Need-put-polynomial-requires
-put-polynomial-requires c κs = let s = c.before.before.before.before.before.before in ((record { few = omega arith; room = s.requires.0; apart = ap length (keys_none _) }, s.requires.1), s.requires.2, omega arith)
+put-polynomial-requires : tie.Need-put_polynomial-a-requires
+put-polynomial-requires c κs = let s = c in ((record { few = omega arith; room = s.requires.0; apart = ap length (keys_none _) }, s.requires.1), s.requires.2, omega arith)
 
-returns : tie.Need-returns
+returns : tie.Need-returns-then-a-gt2048
 returns c =
-    let s = c.before.before.before.before.before.before.before.before.before.before.before.before in
-    rw (← whole s) (stored_over _ _ _ _ _ _ (one c.before.before.before.before.before) c.if1.true _ (le_trans (more-conditions s (first s)).more (more-doubled s (conditions s (first s))).more))
+    let s = c in
+    rw (← whole s.before.before.before.before.before.before.before.before.before.before.before.before) (stored_over _ _ _ _ _ _ (one c.before.before.before.before.before) c.if-a-gt2048.true _ (le_trans (more-conditions s.before.before.before.before.before.before.before.before.before.before.before.before (first s.before.before.before.before.before.before.before.before.before.before.before.before)).more (more-doubled s.before.before.before.before.before.before.before.before.before.before.before.before (conditions s.before.before.before.before.before.before.before.before.before.before.before.before (first s.before.before.before.before.before.before.before.before.before.before.before.before))).more))
 
-put-conditions-requires : tie.Need-put-conditions-requires
+put-conditions-requires : tie.Need-put_conditions-b-requires
 put-conditions-requires c κs =
     let o = one c.before.before.before.before.before.before.before in
-    let s = c.before.before.before.before.before.before.before.before.before.before.before.before.before.before in
-    let few = c.before.before.if1.false in
+    let s = c in
+    let few = c.if-a-gt2048.false in
     ((grown_holds o.grown s.requires.0 few, o.index few), s.requires.2)
 
-returns-2 : tie.Need-returns-2
+returns-2 : tie.Need-returns-then-b-gt2048
 returns-2 c =
-    let s = c.before.before.before.before.before.before.before.before.before.before.before.before.before.before.before.before.before.before.before.before in
-    rw (← whole s) (stored_over _ _ _ _ _ _ (two c.before.before.before.before.before) c.if2.true _ (more-doubled s (conditions s (first s))).more)
+    let s = c in
+    rw (← whole s.before.before.before.before.before.before.before.before.before.before.before.before.before.before.before.before.before.before.before.before) (stored_over _ _ _ _ _ _ (two c.before.before.before.before.before) c.if-b-gt2048.true _ (more-doubled s.before.before.before.before.before.before.before.before.before.before.before.before.before.before.before.before.before.before.before.before (conditions s.before.before.before.before.before.before.before.before.before.before.before.before.before.before.before.before.before.before.before.before (first s.before.before.before.before.before.before.before.before.before.before.before.before.before.before.before.before.before.before.before.before))).more)
 
-basis-requires : tie.Need-basis-requires
-basis-requires c κs = let s = c.before.before.before.before.before.before.before.before.before.before.before.before.before.before.before.before.before.before.before.before in (omega (arith, s.requires.2.limits.sizes_length), basis_fits s.requires.2.limits 0 (omega arith))
+basis-requires : tie.Need-basis-basis-requires
+basis-requires c κs = let s = c in (omega (arith, s.requires.2.limits.sizes_length), basis_fits s.requires.2.limits 0 (omega arith))
 
-put-keys-requires : tie.Need-put-keys-requires
+put-keys-requires : tie.Need-put_keys-requires
 put-keys-requires c κs =
     let d = two c.before.before.before.before.before.before.before.before in
-    let s = c.before.before.before.before.before.before.before.before.before.before.before.before.before.before.before.before.before.before.before.before.before.before.before in
-    let few = c.before.before.before.if2.false in
-    ((grown_holds d.grown s.requires.0 few, d.index few), (λ i. rw c.before.before.basis.ensures (bounded_part _ (64 * 0) (get_or (sizes s) 0 0) (keys s) (all_low _ _ s.requires.2) i)), omega arith)
+    let s = c in
+    let few = c.if-b-gt2048.false in
+    ((grown_holds d.grown s.requires.0 few, d.index few), (λ i. rw c.basis-basis.ensures (bounded_part _ (64 * 0) (get_or (sizes s.before.before.before.before.before.before.before.before.before.before.before.before.before.before.before.before.before.before.before.before.before.before.before) 0 0) (keys s.before.before.before.before.before.before.before.before.before.before.before.before.before.before.before.before.before.before.before.before.before.before.before) (all_low _ _ s.requires.2) i)), omega arith)
 
-returns-3 : tie.Need-returns-3
+returns-3 : tie.Need-returns
 returns-3 c =
     let s = c.before.before.before.before.before.before.before.before.before.before.before.before.before.before.before.before.before.before.before.before.before.before.before.before.before.before.before.before in
-    rw (← whole s) (stored_then _ _ _ _ _ (two c.before.before.before.before.before.before.before.before.before.before.before.before.before) c.before.before.before.before.before.before.before.before.if2.false (doubled s) _ _ _ (rw c.before.before.before.before.before.before.before.basis.ensures at c.before.before.before.before.put-keys.ensures))
+    rw (← whole s) (stored_then _ _ _ _ _ (two c.before.before.before.before.before.before.before.before.before.before.before.before.before) c.if-b-gt2048.false (doubled s) _ _ _ (rw c.basis-basis.ensures at c.put_keys.ensures))
 
-pub seed-spec : {M : Type 1} → statement M
-seed-spec =
+pub seed_spec : {M : Type 1} → statement M
+seed_spec =
     tie.close
     (tie.spec
     put-polynomial-requires
