@@ -7,7 +7,7 @@ use native.Mathlib.Nat.{add-sub_cancel_left}
 use native.Mathlib.Numerals.{add-one}
 use native.Mathlib.Omega.{arith}
 use lib.ListN.{length, get_or, take, drop, set, replicate, length-replicate, get_or-replicate, length-drop, get_or-eq_default}
-use lib.Seq.{length-take-le, take-take, take-suc, take-suc-set, get_or-take, get_or-drop, get_or-set_same, get_or-set_other, ext_get_or}
+use lib.Seq.{length-take-le, get_or-take, get_or-drop, ext_get_or}
 use Rattle.counting.specs.Counting.{listed, sum_to}
 use Rattle.counting.proofs.Cases.{lt_or_le}
 use Rattle.counting.proofs.Listed.{same_or_not, listed_length, listed_same, listed_at, listed_all, listed_set}

@@ -5,13 +5,11 @@ use mathlib.Core.Logic.{inl, ⊎_elim}
 use mathlib.Core.List.{List, []}
 use Prim.Native.Nat.{ℕ, ◌+◌, ◌-◌, ◌*◌, ◌≤◌, ◌<◌}
 use native.Mathlib.Omega.{arith}
-use lib.Dec.{ltb}
 use lib.ListN.{length, get_or, take, drop, set, length-set}
 use lib.Seq.{take-take, get_or-set_same, get_or-set_other}
 use Rattle.counting.specs.Counting.{listed}
 use Rattle.counting.proofs.Cases.{lt_or_le}
-use Rattle.counting.proofs.Listed.{same_or_not, listed_same, listed_all}
-use Rattle.joining_rule.specs.Sets.{In}
+use Rattle.counting.proofs.Listed.{same_or_not, listed_all}
 use Rattle.joining_rule.specs.Join.{join}
 use Rattle.joining_rule.specs.Rounds.{Bases, State, join_all, adding_bases, round}
 use Rattle.joining_rule.proofs.Rising.{Rising}
@@ -21,8 +19,8 @@ use Rattle.key_set.specs.Table.{keys_in, Stored}
 use Rattle.key_set.proofs.Keys.{keys_rising, keys_first, stored_none}
 use Rattle.flat.specs.Flat.{basis_in}
 use Rattle.flat.proofs.Flat.{part_take, part_length}
-use Rattle.round_laws.specs.Joins.{Together, Has, Through, Blocks, Recent}
-use Rattle.round_laws.specs.Added.{Products, Between, Within}
+use Rattle.round_laws.specs.Joins.{Through, Blocks, Recent}
+use Rattle.round_laws.specs.Added.{Products}
 use Rattle.round_laws.proofs.Joins.{joins_once, join_is}
 use Rattle.round_laws.proofs.Added.{extend_products, between_products, within_products, round_agrees}
 use Rattle.joining_blocks.specs.Standing.{standing, latest, Ready}

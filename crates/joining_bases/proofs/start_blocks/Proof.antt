@@ -1,9 +1,9 @@
 -- `joining_bases::start_blocks` meets its contract: the bases before j are numbered.
 use borrow.Author.Rules.{rules}
 use native.Mathlib.Omega.{arith}
-use mathlib.Core.Path.{◌≡◌, refl, sym, ap, ◌∙◌}
-use Prim.Native.Nat.{ℕ, ◌+◌, ◌-◌, ◌*◌, ◌≤◌, ◌<◌}
-use lib.ListN.{length, get_or, take, drop, set, length-set}
+use mathlib.Core.Path.{sym, ap, ◌∙◌}
+use Prim.Native.Nat.{ℕ, ◌-◌, ◌*◌, ◌≤◌}
+use lib.ListN.{length, get_or}
 use lib.ListN.{length-replicate}
 use Rattle.joining_bases.proofs.Pieces.{taken_long}
 use Rattle.joining_bases.proofs.Labels.{NumberedTo, numbering_start, numbering_turn, numbering_end}

@@ -1,9 +1,9 @@
 -- `joining_bases::start_state` meets its contract: the bases before j have their counts.
 use borrow.Author.Rules.{rules}
 use native.Mathlib.Omega.{arith}
-use mathlib.Core.Path.{◌≡◌, refl, sym, ap, ◌∙◌}
-use Prim.Native.Nat.{ℕ, ◌+◌, ◌-◌, ◌*◌, ◌≤◌, ◌<◌}
-use lib.ListN.{length, get_or, take, drop, set, length-set}
+use mathlib.Core.Path.{◌≡◌, ◌∙◌}
+use Prim.Native.Nat.{ℕ, ◌-◌, ◌≤◌, ◌<◌}
+use lib.ListN.{length, get_or, length-set}
 use mathlib.Core.Logic.{⊎_elim}
 use lib.ListN.{length-replicate}
 use lib.Seq.{get_or-set_same, get_or-set_other}
