@@ -10,73 +10,73 @@ use Rattle.sign_symmetries.proofs.Listing.{behind_zeros, Written, written_start,
 use Rattle.sign_symmetries.proofs.list.Statement.{statement}
 use Rattle.sign_symmetries.proofs.list.Tie as tie
 
-abbrev invariant-loop : tie.invariant-loop
+abbrev invariant-loop : tie.invariant-loop-r
 invariant-loop bytes limit out₀ count₀ r₀ out count r =
     ((r ≤ limit) × (count ≤ r)) × (length out ≡ length out₀) × Written (λ m. even_all m bytes) r count out (drop 256 out₀)
 
-abbrev decreases-loop : tie.decreases-loop
+abbrev decreases-loop : tie.decreases-loop-r
 decreases-loop bytes limit out₀ count₀ r₀ out count r = limit - r
 
-clear-bytes-requires : tie.Need-clear-bytes-requires invariant-loop decreases-loop
-clear-bytes-requires c κs = c.before.before.before.requires.1
+clear-bytes-requires : tie.Need-clear_bytes-requires invariant-loop decreases-loop
+clear-bytes-requires c κs = c.requires.1
 
-loop-holds : tie.Need-loop-init invariant-loop decreases-loop
+loop-holds : tie.Need-loop-r-init invariant-loop decreases-loop
 loop-holds c =
-    let e = c.before.before.clear-bytes.ensures in
+    let e = c.clear_bytes.ensures in
     ((omega arith, omega arith), refl, written_start _ _ (omega arith) _ _ (rw (behind_zeros _ _ e) e))
 
 -- before the bytes are cleared
-abbrev start : tie.At-loop invariant-loop decreases-loop → tie.Start invariant-loop decreases-loop
+abbrev start : tie.At-loop-r invariant-loop decreases-loop → tie.Start invariant-loop decreases-loop
 start l = l.before.before.before.before.before.before.before
 
-cast-mask : tie.Need-overflow-cast-mask invariant-loop decreases-loop
-cast-mask c = omega (arith, (start c.before).pre.0)
+cast-mask : tie.Need-overflow_cast-mask invariant-loop decreases-loop
+cast-mask c = omega (arith, (start c.before).requires.0)
 
-is-even-with-all-requires : tie.Need-is-even-with-all-requires invariant-loop decreases-loop
+is-even-with-all-requires : tie.Need-is_even_with_all-requires invariant-loop decreases-loop
 is-even-with-all-requires c κs = search rules
 
-slice-write-out : tie.Need-slice-write-out invariant-loop decreases-loop
+slice-write-out : tie.Need-bounds-out-count invariant-loop decreases-loop
 slice-write-out c =
-    let l = c.before.before.before in
-    let s = start l in
-    omega (arith, s.pre.0, s.pre.1, l.before.before.before.clear-bytes.auto.0, l.loop.invariant.1)
+    let l = c in
+    let s = start l.before.before.before in
+    omega (arith, s.requires.0, s.requires.1, l.clear_bytes.auto.t, l.loop-r.invariant.1)
 
-add-count : tie.Need-overflow-add-count invariant-loop decreases-loop
-add-count c = omega (arith, (start c.before.before.before).pre.0)
+add-count : tie.Need-overflow_add-count invariant-loop decreases-loop
+add-count c = omega (arith, (start c.before.before.before).requires.0)
 
-add_r : tie.Need-overflow-add-r invariant-loop decreases-loop
-add_r c = omega (arith, (start c.before.before.before).pre.0)
+add_r : tie.Need-overflow_add-r invariant-loop decreases-loop
+add_r c = omega (arith, (start c.before.before.before).requires.0)
 
-loop-less : tie.Need-loop-smaller invariant-loop decreases-loop
+loop-less : tie.Need-loop-r-smaller invariant-loop decreases-loop
 loop-less c = omega arith
 
-loop-again : tie.Need-loop-preserved invariant-loop decreases-loop
+loop-again : tie.Need-loop-r-preserved invariant-loop decreases-loop
 loop-again c =
-    let l = c.before.before.before in
-    let s = start l in
-    let v = l.loop.invariant in
-    let rest = drop 256 l.before.before.before.clear-bytes.new.0 in
+    let l = c in
+    let s = start l.before.before.before in
+    let v = l.loop-r.invariant in
+    let rest = drop 256 l.clear_bytes.new.t in
     ⊎_elim
-    (λ w. let g : l.loop.count < 256 = omega (arith, s.pre.0) in
-    rw (w.1, w.2) ((omega arith, omega arith), simp length-set v.1, written_taken _ l.loop.r l.loop.count l.loop.out rest v.2 (sym w.0.taken ∙ c.before.is-even-with-all.ensures) g))
-    (λ w. rw (w.1, w.2) ((omega arith, omega arith), v.1, written_left _ l.loop.r l.loop.count l.loop.out rest v.2 (sym w.0.left ∙ c.before.is-even-with-all.ensures)))
-    c.if1.branch
+    (λ w. let g : l.loop-r.count < 256 = omega (arith, s.requires.0) in
+    rw (w.1, w.2) ((omega arith, omega arith), simp length-set v.1, written_taken _ l.loop-r.r l.loop-r.count l.loop-r.out rest v.2 (sym w.0.taken ∙ c.is_even_with_all.ensures) g))
+    (λ w. rw (w.1, w.2) ((omega arith, omega arith), v.1, written_left _ l.loop-r.r l.loop-r.count l.loop-r.out rest v.2 (sym w.0.left ∙ c.is_even_with_all.ensures)))
+    c.if-is_even_with_all.branch
 
-same_length : tie.Need-same-length invariant-loop decreases-loop
-same_length c = let l = c.before in l.loop.invariant.1 ∙ l.before.before.before.clear-bytes.auto.0
+same_length : tie.Need-shape_of-out invariant-loop decreases-loop
+same_length c = let l = c in l.loop-r.invariant.1 ∙ l.clear_bytes.auto.t
 
 returns : tie.Need-returns invariant-loop decreases-loop
 returns c =
-    let l = c.before in
-    let s = start l in
-    let v = l.loop.invariant.2 in
-    let e : l.loop.r ≡ s.args.limit = omega arith in
-    let b = l.before.before.before.clear-bytes in
-    let w : Written (λ m. even_all m s.args.bytes.now) s.args.limit l.loop.count l.loop.out (drop 256 s.args.out.now) = rw (e, behind_zeros _ _ b.ensures) at v in
-    (sym w.counted, written_done _ s.args.limit l.loop.count l.loop.out s.args.out.now w)
+    let l = c in
+    let s = start l.before in
+    let v = l.loop-r.invariant.2 in
+    let e : l.loop-r.r ≡ s.args.limit = omega arith in
+    let b = l.clear_bytes in
+    let w : Written (λ m. even_all m s.args.bytes.now) s.args.limit l.loop-r.count l.loop-r.out (drop 256 s.args.out.now) = rw (e, behind_zeros _ _ b.ensures) at v in
+    (sym w.counted, written_done _ s.args.limit l.loop-r.count l.loop-r.out s.args.out.now w)
 
-pub list-spec : {M : Type 1} → statement M
-list-spec =
+pub list_spec : {M : Type 1} → statement M
+list_spec =
     tie.close
     (tie.spec
     invariant-loop

@@ -19,36 +19,36 @@ module _ (short : Bool) (s first second : List ℕ) (r : TwoChecks) (v : Superse
   unfolding superseding_verdict
   decided e f g = rw (← f, ← g) e
 
-check-two-requires : tie.Need-check-two-requires
+check-two-requires : tie.Need-check_two-two-requires
 check-two-requires c κs = search rules
 
-decide-requires : tie.Need-decide-requires
+decide-requires : tie.Need-decide-v-requires
 decide-requires c κs = search rules
 
-cast-number : tie.Need-overflow-cast-number
+cast-number : tie.Need-overflow_cast-number
 cast-number c = search rules
 
-cast-stream : tie.Need-overflow-cast-stream
+cast-stream : tie.Need-overflow_cast-stream
 cast-stream c = search rules
 
-same_length : tie.Need-same-length
+same_length : tie.Need-shape_of-keys
 same_length c = search rules
 
-same-length-2 : tie.Need-same-length-2
+same-length-2 : tie.Need-shape_of-high
 same-length-2 c = search rules
 
-same-length-3 : tie.Need-same-length-3
+same-length-3 : tie.Need-shape_of-low
 same-length-3 c = search rules
 
 returns : tie.Need-returns
 returns c =
-    let d = c.before.before.before in
-    let k = d.before.before.before.before.before.before.before in
-    let a = k.before.before.before.before.before.before.before.before.args in
+    let d = c in
+    let k = d in
+    let a = k.args in
     let short = tables_short (tables a.keys.now a.high.now a.low.now) in
-    let two = k.check-two.ensures in
+    let two = k.check_two-two.ensures in
     let v =
-    decided short a.problem.now a.first.now a.second.now k.check-two.result _ d.decide.ensures
+    decided short a.problem.now a.first.now a.second.now k.check_two-two.result _ d.decide-v.ensures
     two.0 two.1.0 in
     let chosen = ap (λ (w : SupersedingVerdict). w.chosen) v in
     let refusal = ap (λ (w : SupersedingVerdict). w.refusal) v in

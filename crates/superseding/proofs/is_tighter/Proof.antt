@@ -9,16 +9,16 @@ use Rattle.superseding.proofs.is_tighter.Tie as tie
 less-requires : tie.Need-less-requires
 less-requires c κs = search rules
 
-returns : tie.Need-returns
+returns : tie.Need-returns-then-side-eq0
 unfolding is_tighter
-returns c = c.less.ensures ∙ simp (eq-eqb _ _ c.before.if1.true)
+returns c = c.less.ensures ∙ simp (eq-eqb _ _ c.if-side-eq0.true)
 
 less-requires-2 : tie.Need-less-requires-2
 less-requires-2 c κs = search rules
 
-returns-2 : tie.Need-returns-2
+returns-2 : tie.Need-returns
 unfolding is_tighter
-returns-2 c = c.less2.ensures ∙ simp (ne_eqb _ _ c.before.if1.false)
+returns-2 c = c.less-2.ensures ∙ simp (ne_eqb _ _ c.if-side-eq0.false)
 
-pub is-tighter-spec : {M : Type 1} → statement M
-is-tighter-spec = tie.close (tie.spec less-requires returns less-requires-2 returns-2)
+pub is_tighter_spec : {M : Type 1} → statement M
+is_tighter_spec = tie.close (tie.spec less-requires returns less-requires-2 returns-2)

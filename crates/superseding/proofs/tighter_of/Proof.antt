@@ -6,38 +6,38 @@ use Rattle.calls.specs.Superseding.{tighter_of}
 use Rattle.superseding.proofs.tighter_of.Statement.{statement}
 use Rattle.superseding.proofs.tighter_of.Tie as tie
 
-none-back-requires : tie.Need-none-back-requires
+none-back-requires : tie.Need-none_back-requires
 none-back-requires c κs = search rules
 
-returns : tie.Need-returns
+returns : tie.Need-returns-then-a-b
 unfolding tighter_of
-returns c = c.none-back.ensures ∙ simp (ne_eqb _ _ c.before.if1.true)
+returns c = c.none_back.ensures ∙ simp (ne_eqb _ _ c.if-a-b.true)
 
-is-tighter-requires : tie.Need-is-tighter-requires
+is-tighter-requires : tie.Need-is_tighter-second-requires
 is-tighter-requires c κs = search rules
 
-comes-back-requires : tie.Need-comes-back-requires
+comes-back-requires : tie.Need-comes_back-requires
 comes-back-requires c κs = search rules
 
-returns-2 : tie.Need-returns-2
+returns-2 : tie.Need-returns-then-second
 unfolding tighter_of
 returns-2 c =
-    let t = c.before.before in
-    let e = sym t.is-tighter.ensures ∙ c.before.if2.true in
-    c.comes_back.ensures ∙ simp (eq-eqb _ _ t.before.if1.false, e)
+    let t = c in
+    let e = sym t.is_tighter-second.ensures ∙ c.if-second.true in
+    c.comes_back.ensures ∙ simp (eq-eqb _ _ t.if-a-b.false, e)
 
-comes-back-requires-2 : tie.Need-comes-back-requires-2
+comes-back-requires-2 : tie.Need-comes_back-requires-2
 comes-back-requires-2 c κs = search rules
 
-returns-3 : tie.Need-returns-3
+returns-3 : tie.Need-returns
 unfolding tighter_of
 returns-3 c =
-    let t = c.before.before in
-    let e = sym t.is-tighter.ensures ∙ c.before.if2.false in
-    c.comes-back2.ensures ∙ simp (eq-eqb _ _ t.before.if1.false, e)
+    let t = c in
+    let e = sym t.is_tighter-second.ensures ∙ c.if-second.false in
+    c.comes_back-2.ensures ∙ simp (eq-eqb _ _ t.if-a-b.false, e)
 
-pub tighter-of-spec : {M : Type 1} → statement M
-tighter-of-spec =
+pub tighter_of_spec : {M : Type 1} → statement M
+tighter_of_spec =
     tie.close
     (tie.spec
     none-back-requires
