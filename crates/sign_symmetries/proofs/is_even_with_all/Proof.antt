@@ -31,7 +31,7 @@ returns c =
     let l = c in
     let a = l.args in
     let h : l.loop-i.i < length a.bytes.now = omega arith in
-    sym (l.loop-i.invariant.1 ∙ even_next a.mask a.bytes.now l.loop-i.i false h (sym (not-true _ c.if-not-is_even.true) ∙ c.is_even.ensures))
+    sym (l.loop-i.invariant.1 ∙ even_next a.mask a.bytes.now l.loop-i.i false h (sym (c.if-not-is_even.true) ∙ c.is_even.ensures))
 
 add-i : tie.Need-overflow_add-i invariant-loop decreases-loop
 add-i c = search rules
@@ -44,7 +44,7 @@ loop-again c =
     let l = c in
     let a = l.args in
     let h : l.loop-i.i < length a.bytes.now = omega arith in
-    (omega arith, l.loop-i.invariant.1 ∙ even_next a.mask a.bytes.now l.loop-i.i true h (sym (not-false _ c.if-not-is_even.false) ∙ c.is_even.ensures))
+    (omega arith, l.loop-i.invariant.1 ∙ even_next a.mask a.bytes.now l.loop-i.i true h (sym (c.if-not-is_even.false) ∙ c.is_even.ensures))
 
 returns-2 : tie.Need-returns invariant-loop decreases-loop
 returns-2 c =

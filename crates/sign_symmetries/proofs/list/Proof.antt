@@ -2,7 +2,7 @@
 use borrow.Author.Rules.{rules}
 use native.Mathlib.Omega.{arith}
 use mathlib.Core.Path.{◌≡◌, refl, sym, ◌∙◌}
-use mathlib.Core.Logic.{⊎_elim}
+use Rattle.sign_symmetries.proofs.list.Lts.{then-is_even_with_all, else-is_even_with_all}
 use Prim.Native.Nat.{◌-◌, ◌≤◌, ◌<◌}
 use lib.ListN.{length, drop, length-set}
 use Rattle.sign_symmetries.specs.Parities.{even_all}
@@ -56,11 +56,13 @@ loop-again c =
     let s = start l.before.before.before in
     let v = l.loop-r.invariant in
     let rest = drop 256 l.clear_bytes.new.t in
-    ⊎_elim
-    (λ w. let g : l.loop-r.count < 256 = omega (arith, s.requires.0) in
-    rw (w.1, w.2) ((omega arith, omega arith), simp length-set v.1, written_taken _ l.loop-r.r l.loop-r.count l.loop-r.out rest v.2 (sym w.0.taken ∙ c.is_even_with_all.ensures) g))
-    (λ w. rw (w.1, w.2) ((omega arith, omega arith), v.1, written_left _ l.loop-r.r l.loop-r.count l.loop-r.out rest v.2 (sym w.0.left ∙ c.is_even_with_all.ensures)))
-    c.if-is_even_with_all.branch
+    elim c.if-is_even_with_all.branch [
+      | then-is_even_with_all w ↦
+          let g : l.loop-r.count < 256 = omega (arith, s.requires.0) in
+          rw (w.out-is, w.count-is) ((omega arith, omega arith), simp length-set v.1, written_taken _ l.loop-r.r l.loop-r.count l.loop-r.out rest v.2 (sym w.if-is_even_with_all.true ∙ c.is_even_with_all.ensures) g)
+      | else-is_even_with_all w ↦
+          rw (w.out-is, w.count-is) ((omega arith, omega arith), v.1, written_left _ l.loop-r.r l.loop-r.count l.loop-r.out rest v.2 (sym w.if-is_even_with_all.false ∙ c.is_even_with_all.ensures))
+    ]
 
 same_length : tie.Need-shape_of-out invariant-loop decreases-loop
 same_length c = let l = c in l.loop-r.invariant.1 ∙ l.clear_bytes.auto.t
