@@ -20,8 +20,8 @@ sum-requires-2 c κs = search rules
 
 returns : tie.Need-returns
 returns c =
-    let s = c.before.before in
-    summed s.args.v s.args.w _ _ c.before.sum.ensures c.sum2.ensures
+    let s = c in
+    summed s.args.v s.args.w _ _ c.sum.ensures c.sum-2.ensures
 
 pub add_spec : {M : Type 1} → statement M
 add_spec = tie.close (tie.spec sum-requires sum-requires-2 returns)

@@ -12,14 +12,14 @@ all_none : (r : Refusal) (a b : Fraction) → a ≡ none → b ≡ none
     → record { refusal = r; lower = a; upper = b; rules = rules_used 0 0 } ≡ refused_sum r
 all_none r a b x y = rw (x, y) refl
 
-no-fraction-requires : tie.Need-no-fraction-requires
+no-fraction-requires : tie.Need-no_fraction-requires
 no-fraction-requires c κs = search rules
 
-no-fraction-requires-2 : tie.Need-no-fraction-requires-2
+no-fraction-requires-2 : tie.Need-no_fraction-requires-2
 no-fraction-requires-2 c κs = search rules
 
 returns : tie.Need-returns
-returns c = all_none _ _ _ c.before.no_fraction.ensures c.no-fraction2.ensures
+returns c = all_none _ _ _ c.no_fraction.ensures c.no_fraction-2.ensures
 
-pub refuse-spec : {M : Type 1} → statement M
-refuse-spec = tie.close (tie.spec no-fraction-requires no-fraction-requires-2 returns)
+pub refuse_spec : {M : Type 1} → statement M
+refuse_spec = tie.close (tie.spec no-fraction-requires no-fraction-requires-2 returns)

@@ -14,107 +14,107 @@ use Rattle.adjusted_bound.proofs.Scanned.{Summed, summed_none, summed_more, summ
 use Rattle.adjusted_bound.proofs.absolute_sum.Statement.{statement}
 use Rattle.adjusted_bound.proofs.absolute_sum.Tie as tie
 
-abbrev invariant-loop : tie.invariant-loop
+abbrev invariant-loop : tie.invariant-loop-i
 invariant-loop changes count sum₀ i₀ sum i = (i ≤ count) × Summed changes i sum
 
-abbrev decreases-loop : tie.decreases-loop
+abbrev decreases-loop : tie.decreases-loop-i
 decreases-loop changes count sum₀ i₀ sum i = count - i
 
 -- d, of 32 bits
-narrow : (c : tie.After-signed32 invariant-loop decreases-loop) → SFits w32 c.signed32.result
-narrow c = sfits_of c.signed32.type-inv
+narrow : (c : tie.After-signed32-d invariant-loop decreases-loop) → SFits w32 c.signed32-d.result
+narrow c = sfits_of c.signed32-d.type_inv
 
-wide : (c : tie.After-signed32 invariant-loop decreases-loop) → SFits w64 c.signed32.result
+wide : (c : tie.After-signed32-d invariant-loop decreases-loop) → SFits w64 c.signed32-d.result
 wide c = sfits_widen tt (narrow c)
 
 -- the absolute value of the change at hand
-size : (c : tie.After-magnitude invariant-loop decreases-loop) → c.magnitude.result ≡ nat_abs c.before.signed32.result
-size c = simp (to_z-of_z (narrow c.before), to_z-of_z (wide c.before)) at c.magnitude.ensures
+size : (c : tie.After-magnitude-size invariant-loop decreases-loop) → c.magnitude-size.result ≡ nat_abs c.signed32-d.result
+size c = simp (to_z-of_z (narrow c.before), to_z-of_z (wide c.before)) at c.magnitude-size.ensures
 
-change : (c : tie.After-signed32 invariant-loop decreases-loop)
-    → let l = c.before.before.before in
-    c.signed32.result ≡ (change_at l.before.before.args.changes.now l.loop.i).coefficient
+change : (c : tie.After-signed32-d invariant-loop decreases-loop)
+    → let l = c in
+    c.signed32-d.result ≡ (change_at l.args.changes.now l.loop-i.i).coefficient
 unfolding change_at
-change c = c.signed32.ensures ∙ ap (signed 31) c.before.number_at.ensures.0
+change c = c.signed32-d.ensures ∙ ap (signed 31) c.number_at.ensures.0
 
-small : (c : tie.After-magnitude invariant-loop decreases-loop) → c.magnitude.result ≤ 2 ^ 31
+small : (c : tie.After-magnitude-size invariant-loop decreases-loop) → c.magnitude-size.result ≤ 2 ^ 31
 small c = omega (arith, size c, fits_abs (narrow c.before))
 
 -- the sum so far and the size
-low : (c : tie.After-magnitude invariant-loop decreases-loop)
-    → c.before.before.before.before.loop.sum + c.magnitude.result ≤ 2 ^ 40
+low : (c : tie.After-magnitude-size invariant-loop decreases-loop)
+    → c.loop-i.sum-bits + c.magnitude-size.result ≤ 2 ^ 40
 low c =
-    let l = c.before.before.before.before in
-    omega (arith, small c, l.loop.invariant.1.small, l.before.before.requires)
+    let l = c in
+    omega (arith, small c, l.loop-i.invariant.1.small, l.requires)
 
-sum_is : (c : tie.After-magnitude invariant-loop decreases-loop)
-    → let n = c.before.before.before.before.loop.sum in to_z w64 n ≡ pos n
+sum_is : (c : tie.After-magnitude-size invariant-loop decreases-loop)
+    → let n = c.loop-i.sum-bits in to_z w64 n ≡ pos n
 sum_is c = to_z_pos w64 (omega (arith, low c))
 
-size_is : (c : tie.After-magnitude invariant-loop decreases-loop) → to_z w64 c.magnitude.result ≡ pos c.magnitude.result
+size_is : (c : tie.After-magnitude-size invariant-loop decreases-loop) → to_z w64 c.magnitude-size.result ≡ pos c.magnitude-size.result
 size_is c = to_z_pos w64 (omega (arith, low c))
 
 -- the whole sum
-whole : (c : tie.After-loop invariant-loop decreases-loop) → c.before.loop.sum ≤ 2 ^ 39
-whole c = let l = c.before in omega (arith, l.loop.invariant.1.small, l.loop.invariant.0, l.before.before.requires)
+whole : (c : tie.After-loop-i invariant-loop decreases-loop) → c.loop-i.sum-bits ≤ 2 ^ 39
+whole c = let l = c in omega (arith, l.loop-i.invariant.1.small, l.loop-i.invariant.0, l.requires)
 
-whole_is : (c : tie.After-loop invariant-loop decreases-loop) → to_z w64 c.before.loop.sum ≡ pos c.before.loop.sum
+whole_is : (c : tie.After-loop-i invariant-loop decreases-loop) → to_z w64 c.loop-i.sum-bits ≡ pos c.loop-i.sum-bits
 whole_is c = to_z_pos w64 (omega (arith, whole c))
 
-loop-holds : tie.Need-loop-init invariant-loop decreases-loop
-loop-holds c = (omega arith, summed_none c.before.args.changes.now)
+loop-holds : tie.Need-loop-i-init invariant-loop decreases-loop
+loop-holds c = (omega arith, summed_none c.args.changes.now)
 
-mul-number-at : tie.Need-overflow-mul-number-at invariant-loop decreases-loop
+mul-number-at : tie.Need-overflow_mul-i invariant-loop decreases-loop
 mul-number-at c = search rules
 
-add-number-at : tie.Need-overflow-add-number-at invariant-loop decreases-loop
+add-number-at : tie.Need-overflow_add-i invariant-loop decreases-loop
 add-number-at c = search rules
 
-number-at-requires : tie.Need-number-at-requires invariant-loop decreases-loop
+number-at-requires : tie.Need-number_at-requires invariant-loop decreases-loop
 number-at-requires c κs = search rules
 
-signed32-requires : tie.Need-signed32-requires invariant-loop decreases-loop
+signed32-requires : tie.Need-signed32-d-requires invariant-loop decreases-loop
 signed32-requires c κs = search rules
 
-cast-d : tie.Need-overflow-cast-d invariant-loop decreases-loop
+cast-d : tie.Need-overflow_cast-d invariant-loop decreases-loop
 cast-d c = simp (to_z-of_z (narrow c)) (wide c)
 
-magnitude-requires : tie.Need-magnitude-requires invariant-loop decreases-loop
+magnitude-requires : tie.Need-magnitude-size-requires invariant-loop decreases-loop
 magnitude-requires c κs = search rules
 
-cast-size : tie.Need-overflow-cast-size invariant-loop decreases-loop
+cast-size : tie.Need-overflow_cast-size invariant-loop decreases-loop
 cast-size c = abs_fits (omega (arith, low c))
 
-add-sum : tie.Need-overflow-add-sum invariant-loop decreases-loop
+add-sum : tie.Need-overflow_add-sum invariant-loop decreases-loop
 add-sum c = simp (sum_is c, size_is c) (abs_fits (omega (arith, low c)))
 
-add-i : tie.Need-overflow-add-i invariant-loop decreases-loop
+add-i : tie.Need-overflow_add-i-in-loop-i invariant-loop decreases-loop
 add-i c = search rules
 
-loop-less : tie.Need-loop-smaller invariant-loop decreases-loop
+loop-less : tie.Need-loop-i-smaller invariant-loop decreases-loop
 loop-less c = search rules
 
-loop-again : tie.Need-loop-preserved invariant-loop decreases-loop
+loop-again : tie.Need-loop-i-preserved invariant-loop decreases-loop
 loop-again c =
-    let d = c.before in
-    let l = d.before.before.before in
+    let d = c in
+    let l = d in
     let next =
-    summed_more l.before.before.args.changes.now l.loop.i l.loop.sum c.magnitude.result
-    (omega (arith, d.before.before.loop-test.true)) l.loop.invariant.1 (size c ∙ ap nat_abs (change d)) (small c) in
+    summed_more l.args.changes.now l.loop-i.i l.loop-i.sum-bits c.magnitude-size.result
+    (omega (arith, d.loop-i-test.true)) l.loop-i.invariant.1 (size c ∙ ap nat_abs (change d.before)) (small c) in
     (omega arith, simp (sum_is c, size_is c) next)
 
-cast-result : tie.Need-overflow-cast-result invariant-loop decreases-loop
+cast-result : tie.Need-overflow_cast-result invariant-loop decreases-loop
 cast-result c = simp (whole_is c) (tt, omega (arith, whole c))
 
 returns : tie.Need-returns invariant-loop decreases-loop
 returns c =
-    let l = c.before in
-    let s = l.before.before.args.changes.now in
-    let e = summed_all s l.loop.i l.loop.sum (omega (arith, c.loop-test.false)) l.loop.invariant.1 in
+    let l = c in
+    let s = l.args.changes.now in
+    let e = summed_all s l.loop-i.i l.loop-i.sum-bits (omega (arith, c.loop-i-test.false)) l.loop-i.invariant.1 in
     simp (whole_is c) (e, whole c)
 
-pub absolute-sum-spec : {M : Type 1} → statement M
-absolute-sum-spec =
+pub absolute_sum_spec : {M : Type 1} → statement M
+absolute_sum_spec =
     tie.close
     (tie.spec
     invariant-loop

@@ -10,64 +10,64 @@ use Rattle.format.proofs.ProblemVariables.{second_byte}
 use Rattle.adjusted_bound.proofs.answer.Statement.{statement}
 use Rattle.adjusted_bound.proofs.answer.Tie as tie
 
-abbrev start : tie.After-read → tie.Start
+abbrev start : tie.After-read-r → tie.Start
 start c = c.before.before.before.before.before.before
 
 -- the problem that the stream gives, in the arrays
-is-given : (c : tie.Else1)
-    → let r = c.before in
-    GivenFlat (start r).args.problem.now r.read.new.1.0 r.read.new.1.1.0 r.read.new.1.1.1.0
-is-given c = c.before.read.ensures.gives (omega (arith, c.if1.false))
+is-given : (c : tie.Else-number-gt0)
+    → let r = c in
+    GivenFlat (start r.before).args.problem.now r.read-r.new.keys r.read-r.new.coefficients r.read-r.new.sizes
+is-given c = c.read-r.ensures.gives (omega (arith, c.if-number-gt0.false))
 
-read-requires : tie.Need-read-requires
+read-requires : tie.Need-read-r-requires
 read-requires c κs = record { keys_zero = refl; coefficients_zero = refl; sizes_zero = refl }
 
-refuse-problem-requires : tie.Need-refuse-problem-requires
+refuse-problem-requires : tie.Need-refuse_problem-requires
 refuse-problem-requires c κs = search rules
 
-returns : tie.Need-returns
+returns : tie.Need-returns-then-number-gt0
 returns c =
-    let i = c.before in
-    let r = i.before in
-    let a = (start r).args in
-    let e = r.read.ensures.refuses i.if1.true in
-    c.refuse-problem.ensures ∙ sym (ap (λ (o : Outcome Problem). adjusted_read o a.v a.changes.now) e)
+    let i = c in
+    let r = i in
+    let a = (start r.before.before).args in
+    let e = r.read-r.ensures.refuses i.if-number-gt0.true in
+    c.refuse_problem.ensures ∙ sym (ap (λ (o : Outcome Problem). adjusted_read o a.v a.changes.now) e)
 
-shared-slice-read-n : tie.Need-shared-slice-read-n
+shared-slice-read-n : tie.Need-bounds-problem-1
 shared-slice-read-n c = let g = is-given c.before in (second_byte _ g.problem g.read).there
 
-cast-n : tie.Need-overflow-cast-n
+cast-n : tie.Need-overflow_cast-n
 cast-n c = let g = is-given c.before in omega (arith, (second_byte _ g.problem g.read).few)
 
-slice-aggregate-decide : tie.Need-slice-aggregate-decide
-slice-aggregate-decide c = sym c.before.before.before.read.ensures.limits.keys_length
+slice-aggregate-decide : tie.Need-slice_bounds-decide-end
+slice-aggregate-decide c = sym c.read-r.ensures.limits.keys_length
 
-slice-aggregate-decide-2 : tie.Need-slice-aggregate-decide-2
-slice-aggregate-decide-2 c = sym c.before.before.before.before.read.ensures.limits.coefficients_length
+slice-aggregate-decide-2 : tie.Need-slice_bounds-decide-end-2
+slice-aggregate-decide-2 c = sym c.read-r.ensures.limits.coefficients_length
 
-slice-aggregate-decide-3 : tie.Need-slice-aggregate-decide-3
-slice-aggregate-decide-3 c = sym c.before.before.before.before.before.read.ensures.limits.sizes_length
+slice-aggregate-decide-3 : tie.Need-slice_bounds-decide-end-3
+slice-aggregate-decide-3 c = sym c.read-r.ensures.limits.sizes_length
 
 decide-requires : tie.Need-decide-requires
 decide-requires c κs =
-    let i = c.before.before.before.before in
-    let g = is-given i in (
+    let i = c in
+    let g = is-given i.before.before.before.before in (
       g.flat.limits,
       (second_byte _ g.problem g.read).some,
       (second_byte _ g.problem g.read).few,
-      (start i.before).requires,
+      (start i.before.before.before.before.before).requires,
     )
 
-returns-2 : tie.Need-returns-2
+returns-2 : tie.Need-returns
 returns-2 c =
-    let i = c.before.before.before.before.before in
-    let a = (start i.before).args in
-    let g = is-given i in
+    let i = c in
+    let a = (start i.before.before.before.before.before.before).args in
+    let g = is-given i.before.before.before.before.before in
     c.decide.ensures g.problem g.flat (second_byte _ g.problem g.read).named
     ∙ sym (ap (λ (o : Outcome Problem). adjusted_read o a.v a.changes.now) g.read)
 
-pub answer-spec : {M : Type 1} → statement M
-answer-spec =
+pub answer_spec : {M : Type 1} → statement M
+answer_spec =
     tie.close
     (tie.spec
     read-requires

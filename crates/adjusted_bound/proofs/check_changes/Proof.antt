@@ -6,33 +6,33 @@ use Rattle.calls.specs.Adjusted.{changes_refusal}
 use Rattle.adjusted_bound.proofs.check_changes.Statement.{statement}
 use Rattle.adjusted_bound.proofs.check_changes.Tie as tie
 
-change-refusal-requires : tie.Need-change-refusal-requires
+change-refusal-requires : tie.Need-change_refusal-requires
 change-refusal-requires c κs = search rules
 
-returns : tie.Need-returns
+returns : tie.Need-returns-then-changes-gt0
 unfolding changes_refusal
-returns c = c.change-refusal.ensures ∙ simp (lt-ltb _ _ c.before.if1.true)
+returns c = c.change_refusal.ensures ∙ simp (lt-ltb _ _ c.if-changes-gt0.true)
 
-change-refusal-requires-2 : tie.Need-change-refusal-requires-2
+change-refusal-requires-2 : tie.Need-change_refusal-requires-then-count-gt256
 change-refusal-requires-2 c κs = search rules
 
-returns-2 : tie.Need-returns-2
+returns-2 : tie.Need-returns-then-count-gt256
 unfolding changes_refusal
 returns-2 c =
-    let f = c.before in
-    c.change-refusal2.ensures ∙ simp (le-ltb _ _ f.before.if1.false, lt-ltb _ _ f.if2.true)
+    let f = c in
+    c.change_refusal-then-count-gt256.ensures ∙ simp (le-ltb _ _ f.if-changes-gt0.false, lt-ltb _ _ f.if-count-gt256.true)
 
-check-fit-requires : tie.Need-check-fit-requires
+check-fit-requires : tie.Need-check_fit-requires
 check-fit-requires c κs = search rules
 
-returns-3 : tie.Need-returns-3
+returns-3 : tie.Need-returns
 unfolding changes_refusal
 returns-3 c =
-    let f = c.before in
-    c.check-fit.ensures ∙ simp (le-ltb _ _ f.before.if1.false, le-ltb _ _ f.if2.false)
+    let f = c in
+    c.check_fit.ensures ∙ simp (le-ltb _ _ f.if-changes-gt0.false, le-ltb _ _ f.if-count-gt256.false)
 
-pub check-changes-spec : {M : Type 1} → statement M
-check-changes-spec =
+pub check_changes_spec : {M : Type 1} → statement M
+check_changes_spec =
     tie.close
     (tie.spec
     change-refusal-requires

@@ -14,117 +14,117 @@ use Rattle.adjusted_bound.proofs.Boxes.{no_equality, no_terms_lem, this_way, tha
 use Rattle.adjusted_bound.proofs.is_box.Statement.{statement}
 use Rattle.adjusted_bound.proofs.is_box.Tie as tie
 
-abbrev start : tie.Else1 → tie.Start
+abbrev start : tie.Else-is_equality → tie.Start
 start c = c.before.before.before.before
 
-inequality : (c : tie.Else1) → let a = (start c).args in equality_in a.sizes.now a.j ≡ false
-inequality c = sym c.before.is-equality.ensures ∙ c.if1.false
+inequality : (c : tie.Else-is_equality) → let a = (start c).args in equality_in a.sizes.now a.j ≡ false
+inequality c = sym c.is_equality.ensures ∙ c.if-is_equality.false
 
 -- the coefficients are numbers of 32 bits
-abbrev from-d : tie.After-d → tie.Start
+abbrev from-d : tie.After-d-1 → tie.Start
 from-d c = start c.before.before.before.before.before.before
 
-first_fits : (c : tie.After-d) → let a = (from-d c).args in SFits w32 (get_or a.coefficients.now (32 * a.j) (pos 0))
-first_fits c = sfits_of c.before.c.given
+first_fits : (c : tie.After-d-1) → let a = (from-d c).args in SFits w32 (get_or a.coefficients.now (32 * a.j) (pos 0))
+first_fits c = sfits_of c.c-1.given
 
-second_fits : (c : tie.After-d)
+second_fits : (c : tie.After-d-1)
     → let a = (from-d c).args in SFits w32 (get_or a.coefficients.now (32 * a.j + 1) (pos 0))
-second_fits c = sfits_of c.d.given
+second_fits c = sfits_of c.d-1.given
 
-is-equality-requires : tie.Need-is-equality-requires
-is-equality-requires c κs = omega (arith, c.before.before.requires.0.sizes_length)
+is-equality-requires : tie.Need-is_equality-requires
+is-equality-requires c κs = omega (arith, c.requires.0.sizes_length)
 
-returns : tie.Need-returns
+returns : tie.Need-returns-then-is_equality
 returns c =
-    let e = c.before in
-    let a = e.before.before.before.args in
+    let e = c in
+    let a = e.args in
     λ i s.
-    no_equality i a.keys.now a.coefficients.now a.sizes.now a.j (sym e.is-equality.ensures ∙ c.if1.true)
+    no_equality i a.keys.now a.coefficients.now a.sizes.now a.j (sym e.is_equality.ensures ∙ c.if-is_equality.true)
 
-add-if2 : tie.Need-overflow-add-if2
+add-if2 : tie.Need-overflow_add-j
 add-if2 c = search rules
 
-mul-if2 : tie.Need-overflow-mul-if2
+mul-if2 : tie.Need-offset_bounds-sizes-j
 mul-if2 c = search rules
 
-shared-slice-read-if2 : tie.Need-shared-slice-read-if2
+shared-slice-read-if2 : tie.Need-bounds-sizes-j
 shared-slice-read-if2 c = search rules
 
-returns-2 : tie.Need-returns-2
+returns-2 : tie.Need-returns-then-sizes-j-ne2
 returns-2 c =
-    let d = c.before.before in
-    let a = (start d).args in
-    λ i s. no_terms_lem i a.keys.now a.coefficients.now a.sizes.now a.j (inequality d) c.if2.true
+    let d = c in
+    let a = (start d.before.before).args in
+    λ i s. no_terms_lem i a.keys.now a.coefficients.now a.sizes.now a.j (inequality d.before.before) c.if-sizes-j-ne2.true
 
-mul_at : tie.Need-overflow-mul-at
+mul_at : tie.Need-overflow_mul-at
 mul_at c = search rules
 
-add-k : tie.Need-overflow-add-k
+add-k : tie.Need-overflow_add-k
 add-k c = search rules
 
-mul-k : tie.Need-overflow-mul-k
+mul-k : tie.Need-offset_bounds-keys-at
 mul-k c = search rules
 
-shared-slice-read-k : tie.Need-shared-slice-read-k
+shared-slice-read-k : tie.Need-bounds-keys-at
 shared-slice-read-k c = search rules
 
-add-l : tie.Need-overflow-add-l
+add-l : tie.Need-overflow_add-l
 add-l c = search rules
 
-add-l-2 : tie.Need-overflow-add-l-2
+add-l-2 : tie.Need-overflow_add-l-2
 add-l-2 c = search rules
 
-mul-l : tie.Need-overflow-mul-l
+mul-l : tie.Need-offset_bounds-keys-at-2
 mul-l c = search rules
 
-shared-slice-read-l : tie.Need-shared-slice-read-l
+shared-slice-read-l : tie.Need-bounds-keys-at-2
 shared-slice-read-l c = search rules
 
-mul-c : tie.Need-overflow-mul-c
+mul-c : tie.Need-offset_bounds-coefficients-at
 mul-c c = search rules
 
-shared-slice-copy-out-c : tie.Need-shared-slice-copy-out-c
+shared-slice-copy-out-c : tie.Need-bounds-coefficients-at
 shared-slice-copy-out-c c = search rules
 
-add-d : tie.Need-overflow-add-d
+add-d : tie.Need-overflow_add-d
 add-d c = search rules
 
-mul-d : tie.Need-overflow-mul-d
+mul-d : tie.Need-offset_bounds-coefficients-at-2
 mul-d c = search rules
 
-shared-slice-copy-out-d : tie.Need-shared-slice-copy-out-d
+shared-slice-copy-out-d : tie.Need-bounds-coefficients-at-2
 shared-slice-copy-out-d c = search rules
 
-are-terms-requires : tie.Need-are-terms-requires
+are-terms-requires : tie.Need-are_terms-requires
 are-terms-requires c κs = search rules
 
-returns-3 : tie.Need-returns-3
+returns-3 : tie.Need-returns-then-are_terms
 returns-3 c =
-    let t = c.before in
-    let d = t.before.before.before.before.before in
-    let e = d.before.before in
-    let a = (start e).args in
+    let t = c in
+    let d = t in
+    let e = d in
+    let a = (start e.before.before.before.before.before.before.before.before).args in
     λ i s.
-    this_way i a.keys.now a.coefficients.now a.sizes.now a.j (inequality e) d.if2.false a.square s
-    (sym (simp (to_z-of_z, first_fits t.before, second_fits t.before) at t.are-terms.ensures) ∙ c.if3.true)
+    this_way i a.keys.now a.coefficients.now a.sizes.now a.j (inequality e.before.before.before.before.before.before.before.before) d.if-sizes-j-ne2.false a.square s
+    (sym (simp (to_z-of_z, first_fits t.before.before, second_fits t.before.before) at t.are_terms.ensures) ∙ c.if-are_terms.true)
 
-are-terms-requires-2 : tie.Need-are-terms-requires-2
+are-terms-requires-2 : tie.Need-are_terms-requires-2
 are-terms-requires-2 c κs = search rules
 
-returns-4 : tie.Need-returns-4
+returns-4 : tie.Need-returns
 returns-4 c =
-    let f = c.before in
-    let t = f.before in
-    let d = t.before.before.before.before.before in
-    let e = d.before.before in
-    let a = (start e).args in
+    let f = c in
+    let t = f in
+    let d = t in
+    let e = d in
+    let a = (start e.before.before.before.before.before.before.before.before.before).args in
     λ i s.
-    simp (to_z-of_z, first_fits t.before, second_fits t.before) at c.are-terms2.ensures
-    ∙ that_way i a.keys.now a.coefficients.now a.sizes.now a.j (inequality e) d.if2.false a.square s
-    (sym (simp (to_z-of_z, first_fits t.before, second_fits t.before) at t.are-terms.ensures) ∙ f.if3.false)
+    simp (to_z-of_z, first_fits t.before.before.before, second_fits t.before.before.before) at c.are_terms-2.ensures
+    ∙ that_way i a.keys.now a.coefficients.now a.sizes.now a.j (inequality e.before.before.before.before.before.before.before.before.before) d.if-sizes-j-ne2.false a.square s
+    (sym (simp (to_z-of_z, first_fits t.before.before.before, second_fits t.before.before.before) at t.are_terms.ensures) ∙ f.if-are_terms.false)
 
-pub is-box-spec : {M : Type 1} → statement M
-is-box-spec =
+pub is_box_spec : {M : Type 1} → statement M
+is_box_spec =
     tie.close
     (tie.spec
     is-equality-requires

@@ -4,14 +4,14 @@ use Rattle.adjusted_bound.proofs.Coefficients.{same_bits}
 use Rattle.adjusted_bound.proofs.is_term.Statement.{statement}
 use Rattle.adjusted_bound.proofs.is_term.Tie as tie
 
-returns : tie.Need-returns
+returns : tie.Need-returns-then-key-other
 returns c =
-    let a = c.before.args in
-    let f = c.before.ranges in
-    rw (eq-eqb a.key a.other c.if1.true) (same_bits a.c a.d f.c f.d)
+    let a = c.args in
+    let f = c.ranges in
+    rw (eq-eqb a.key a.other c.if-key-other.true) (same_bits a.c a.d f.c f.d)
 
-returns-2 : tie.Need-returns-2
-returns-2 c = let a = c.before.args in rw (ne_eqb a.key a.other c.if1.false)
+returns-2 : tie.Need-returns-else-key-other
+returns-2 c = let a = c.args in rw (ne_eqb a.key a.other c.if-key-other.false)
 
-pub is-term-spec : {M : Type 1} → statement M
-is-term-spec = tie.close (tie.spec returns returns-2)
+pub is_term_spec : {M : Type 1} → statement M
+is_term_spec = tie.close (tie.spec returns returns-2)

@@ -26,25 +26,25 @@ module _ (c : tie.Start) where
 
   -- both parts of the difference are numbers of 64 bits
   kept : to_z w64 (of_z w64 c.args.f.num) ≡ c.args.f.num
-  kept = to_z-of_z (abs_fits (omega (arith, c.requires.0.num)))
+  kept = to_z-of_z {w = w64} (abs_fits (omega (arith, c.requires.0.num)))
 
   positive : to_z w64 product ≡ pos product
   positive = to_z_pos w64 (omega (arith, low))
 
-mul-t3 : tie.Need-overflow-mul-t3
+mul-t3 : tie.Need-overflow_mul-result
 mul-t3 c = omega (arith, low c.before)
 
-cast-t4 : tie.Need-overflow-cast-t4
+cast-t4 : tie.Need-overflow_cast-result
 cast-t4 c = abs_fits (omega (arith, low c.before))
 
-sub-t5 : tie.Need-overflow-sub-t5
-sub-t5 c = let s = c.before.before.before in simp (kept s, positive s) (fits s)
+sub-t5 : tie.Need-overflow_sub-result
+sub-t5 c = let s = c in simp (kept s.before.before.before, positive s.before.before.before) (fits s.before.before.before)
 
 returns : tie.Need-returns
 unfolding moved_bound
 returns c =
-    let s = c.before.before.before in
-    λ l e. simp (kept s, positive s, to_z-of_z (fits s)) (ap (λ (n : ℕ). fraction (s.args.f.num -ℤ pos (s.args.f.den * n)) s.args.f.den) e)
+    let s = c in
+    λ l e. simp (kept s.before.before.before, positive s.before.before.before, to_z-of_z (fits s.before.before.before)) (ap (λ (n : ℕ). fraction (s.args.f.num -ℤ pos (s.args.f.den * n)) s.args.f.den) e)
 
-pub moved-spec : {M : Type 1} → statement M
-moved-spec = tie.close (tie.spec mul-t3 cast-t4 sub-t5 returns)
+pub moved_spec : {M : Type 1} → statement M
+moved_spec = tie.close (tie.spec mul-t3 cast-t4 sub-t5 returns)
