@@ -1,11 +1,13 @@
 -- Parts of a stream put one behind another into a list that may be too short for them.
-use mathlib.Core.Path.{◌≡◌, refl, sym, ap, ap₂, ◌∙◌}
-use mathlib.Core.List.{List, [], ◌∷◌, ◌++◌, append_assoc, append-nil}
+use mathlib.Core.Path.{◌≡◌, refl, sym, ap, ◌∙◌}
+use mathlib.Core.List.{List, [], ◌∷◌, ◌++◌}
 use mathlib.Core.Logic.{◌⊎◌, ⊎_elim}
 use Prim.Native.Nat.{ℕ, zero, suc, ◌+◌, ◌-◌, ◌≤◌}
 use native.Mathlib.Omega.{arith}
-use lib.ListN.{length, take, drop, length-drop, drop_of_length-le}
-use lib.Seq.{slice, take_all, take-take, drop-drop, length-take-le, paste, length-paste, take-paste, drop-paste}
+use lib.ListN.{length, take, drop}
+use lib.Seq.{slice, take_all, take-take, length-take-le, paste, length-paste, take-paste, drop-paste}
+use borrow.Rule.Slice.PartMut.{put_mid}
+use Rattle.std.proofs.lemmas.Slice.{put_mid-paste}
 use Rattle.office_check.specs.Steps.{Least, Filled}
 
 -- ---- one part
@@ -39,17 +41,12 @@ module _ (before : List ℕ) (len : ℕ) (part : List ℕ) (n : ℕ) (low : len 
           (λ e. ap (λ (m : ℕ). take m part) e)
           h
 
-  -- as the code leaves it: m bytes of a source, behind len elements, and what is left of the others
-  pub filled_by : (src last : List ℕ) (m k : ℕ) → src ≡ take n part → m ≡ length src → k ≡ length before - len
-      → last ≡ take m src ++ drop m (take k (drop len before))
-      → Filled before len part (take len before ++ (last ++ drop k (drop len before))) (len + n)
-  filled_by src last m k e f g h =
-      let long = length-drop len before in
-      let z : m ≡ n = f ∙ ap length e ∙ length-take-le n part least.first in
-      let one : take m src ≡ take n part = take_all m src (omega arith) ∙ e in
-      let two : drop m (take k (drop len before)) ≡ drop (len + n) before =
-      ap₂ drop z (take_all k (drop len before) (omega arith)) ∙ drop-drop n len before in
-      let three : drop k (drop len before) ≡ [] = drop_of_length-le (drop len before) {i = k} (omega arith) in
-      rw
-      (h, one, two, three, append-nil (take n part ++ drop (len + n) before), ← append_assoc (take len before) (take n part) (drop (len + n) before))
-      filled
+  -- as the code leaves it: the part's first n elements in the place of k behind len elements
+  pub filled_by : (k : ℕ) (last : List ℕ) → n ≡ k → last ≡ take n part
+      → Filled before len part (put_mid len k before last) (len + n)
+  filled_by k last e h =
+      let long = length-take-le n part least.first in
+      let pasted : put_mid len k before last ≡ paste before len part n =
+      put_mid-paste len k before last (take n part) n h e (sym long)
+      ∙ ap (λ (x : List ℕ). take len before ++ x ++ drop (len + n) before) (take_all n (take n part) (omega (arith, long))) in
+      rw pasted filled

@@ -18,42 +18,40 @@ copied : (short : Bool) (s t copy : List ℕ) (n : ℕ) → copy ≡ take n (wit
     → check_verdict short s copy ≡ check_verdict short s (without_notes t)
 copied short s t copy n h e = rw (h, e) (check_beginning short s (without_notes t))
 
-slice-aggregate-remove : tie.Need-slice-aggregate-remove
+slice-aggregate-remove : tie.Need-slice_bounds-remove-end
 slice-aggregate-remove c = search rules
 
-remove-requires : tie.Need-remove-requires
+remove-requires : tie.Need-remove-len-requires
 remove-requires c κs = search rules
 
-array-share-prefix-copy : tie.Need-array-share-prefix-copy
+array-share-prefix-copy : tie.Need-slice_bounds-copy-end
 array-share-prefix-copy c = search rules
 
-slice-aggregate-check : tie.Need-slice-aggregate-check
+slice-aggregate-check : tie.Need-slice_bounds-check-end
 slice-aggregate-check c = sym (length-take-le _ _ (array-share-prefix-copy c.before))
 
 check-requires : tie.Need-check-requires
 check-requires c κs = search rules
 
-same_length : tie.Need-same-length
+same_length : tie.Need-shape_of-keys
 same_length c = search rules
 
-same-length-2 : tie.Need-same-length-2
+same-length-2 : tie.Need-shape_of-high
 same-length-2 c = search rules
 
-same-length-3 : tie.Need-same-length-3
+same-length-3 : tie.Need-shape_of-low
 same-length-3 c = search rules
 
 returns : tie.Need-returns
 returns c =
-    let k = c.before.before.before.before in
-    let r = k.before.before.before.before.before.before in
-    let s = r.before.before.before.before.before in (
-      k.check.ensures.0
-          ∙ copied _ _ s.args.certificate.now _ _ r.remove.ensures.0 (sym (slice-aggregate-remove r.before)),
-      k.check.ensures.1.0,
+    let l : tie.After-copy-1 = c.before.before.before.before.before.before.before.before.before.before.before in (
+      c.check.ensures.0
+          ∙ copied _ _ c.args.certificate.now _ _ c.remove-len.ensures.0 (sym (slice-aggregate-remove l)),
+      c.check.ensures.1.0,
     )
 
-pub check-noted-spec : {M : Type 1} → statement M
-check-noted-spec =
+pub check_noted_spec : {M : Type 1} → statement M
+check_noted_spec =
     tie.close
     (tie.spec
     slice-aggregate-remove

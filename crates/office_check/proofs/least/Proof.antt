@@ -5,11 +5,11 @@ use mathlib.Core.Logic.{inl, inr}
 use Rattle.office_check.proofs.least.Statement.{statement}
 use Rattle.office_check.proofs.least.Tie as tie
 
-returns : tie.Need-returns
+returns : tie.Need-returns-then-a-b
 returns c = record { first = omega arith; second = omega arith; one = inl refl }
 
-returns-2 : tie.Need-returns-2
+returns-2 : tie.Need-returns-else-a-b
 returns-2 c = record { first = omega arith; second = omega arith; one = inr refl }
 
-pub least-spec : {M : Type 1} → statement M
-least-spec = tie.close (tie.spec returns returns-2)
+pub least_spec : {M : Type 1} → statement M
+least_spec = tie.close (tie.spec returns returns-2)

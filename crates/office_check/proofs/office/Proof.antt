@@ -8,78 +8,78 @@ use Rattle.office_check.proofs.Answers.{without_notes_lem, buffer_left_lem, send
 use Rattle.office_check.proofs.office.Statement.{statement}
 use Rattle.office_check.proofs.office.Tie as tie
 
-walk-requires : tie.Need-walk-requires
+walk-requires : tie.Need-walk-w-requires
 walk-requires c κs = search rules
 
-slice-aggregate-check : tie.Need-slice-aggregate-check
+slice-aggregate-check : tie.Need-slice_bounds-check-end
 slice-aggregate-check c =
-    let w = c.before.before in
-    let s = w.before.before.before.before.before in
-    sym (length-take-le _ _ (omega (arith, w.walk.ensures.1, end_inside s.args.certificate.now)))
+    let w = c in
+    let s = w in
+    sym (length-take-le _ _ (omega (arith, w.walk-w.ensures.1, end_inside s.args.certificate.now)))
 
-check-requires : tie.Need-check-requires
+check-requires : tie.Need-check-check-requires
 check-requires c κs = search rules
 
-same_length : tie.Need-same-length
+same_length : tie.Need-shape_of-keys-then-notes-eq0
 same_length c = search rules
 
-same-length-2 : tie.Need-same-length-2
+same-length-2 : tie.Need-shape_of-high-then-notes-eq0
 same-length-2 c = search rules
 
-same-length-3 : tie.Need-same-length-3
+same-length-3 : tie.Need-shape_of-low-then-notes-eq0
 same-length-3 c = search rules
 
-returns : tie.Need-returns
+returns : tie.Need-returns-then-notes-eq0
 returns c =
-    let k = c.before.before.before.before in
-    let i = k.before.before.before.before.before in
-    let w = i.before in
-    let s = w.before.before.before.before.before in
+    let k = c in
+    let i = k in
+    let w = i in
+    let s = w in
     let a = s.args in
-    let none = sym w.walk.ensures.0 ∙ i.if1.true in
+    let none = sym w.walk-w.ensures.0 ∙ i.if-notes-eq0.true in
     let verdict =
-    without_notes_lem _ a.problem.now a.certificate.now a.buffer.now _ _ none w.walk.ensures.1 k.check.ensures.0 in
+    without_notes_lem _ a.problem.now a.certificate.now a.buffer.now _ _ none w.walk-w.ensures.1 k.check-check.ensures.0 in
     let buffer = buffer_left_lem _ a.problem.now a.certificate.now a.buffer.now none in
-    (verdict, (buffer, (k.check.ensures.1.0, clauses _ _ _ _ _ _ verdict buffer)))
+    (verdict, (buffer, (k.check-check.ensures.1.0, clauses _ _ _ _ _ _ verdict buffer)))
 
-check-noted-requires : tie.Need-check-noted-requires
+check-noted-requires : tie.Need-check_noted-v-requires
 check-noted-requires c κs = search rules
 
 answer-requires : tie.Need-answer-requires
 answer-requires c κs =
-    let k = c.before.before.before.before.before in
-    let w = k.before.before.before.before.before in
-    let s = w.before.before.before.before.before in
+    let k = c in
+    let w = k in
+    let s = w in
     let a = s.args in
-    (w.walk.ensures.0, sendable _ a.problem.now a.certificate.now a.buffer.now _ k.check-noted.ensures.0)
+    (w.walk-w.ensures.0, sendable _ a.problem.now a.certificate.now a.buffer.now _ k.check_noted-v.ensures.0)
 
-same-length-4 : tie.Need-same-length-4
+same-length-4 : tie.Need-shape_of-buffer
 same-length-4 c = search rules
 
-same-length-5 : tie.Need-same-length-5
+same-length-5 : tie.Need-shape_of-keys
 same-length-5 c = search rules
 
-same-length-6 : tie.Need-same-length-6
+same-length-6 : tie.Need-shape_of-high
 same-length-6 c = search rules
 
-same-length-7 : tie.Need-same-length-7
+same-length-7 : tie.Need-shape_of-low
 same-length-7 c = search rules
 
-returns-2 : tie.Need-returns-2
+returns-2 : tie.Need-returns
 returns-2 c =
-    let d = c.before.before in
-    let k = d.before.before.before.before.before.before in
-    let w = k.before.before.before.before.before in
-    let s = w.before.before.before.before.before in
+    let d = c in
+    let k = d in
+    let w = k in
+    let s = w in
     let a = s.args in
-    let e = k.check-noted.ensures in
+    let e = k.check_noted-v.ensures in
     let verdict = with_notes _ a.problem.now a.certificate.now a.buffer.now _ e.0 _ d.answer.ensures.0 in
     let buffer =
     buffer_with _ a.problem.now a.certificate.now a.buffer.now _ e.0 _ _ verdict d.answer.ensures.1 in
     (verdict, (buffer, (e.1, clauses _ _ _ _ _ _ verdict buffer)))
 
-pub office-spec : {M : Type 1} → statement M
-office-spec =
+pub office_spec : {M : Type 1} → statement M
+office_spec =
     tie.close
     (tie.spec
     walk-requires

@@ -8,60 +8,60 @@ use Rattle.weekly_report.proofs.Counts.{Counting, counting_none, counted_past, c
 use Rattle.weekly_report.proofs.count_records.Statement.{statement}
 use Rattle.weekly_report.proofs.count_records.Tie as tie
 
-abbrev invariant-loop : tie.invariant-loop
+abbrev invariant-loop : tie.invariant-loop-at
 invariant-loop s at₀ count₀ at count = Counting s at count
 
-abbrev decreases-loop : tie.decreases-loop
+abbrev decreases-loop : tie.decreases-loop-at
 decreases-loop s at₀ count₀ at count = length s - at
 
-loop-holds : tie.Need-loop-init invariant-loop decreases-loop
-loop-holds c = counting_none c.before.args.s.now
+loop-holds : tie.Need-loop-at-init invariant-loop decreases-loop
+loop-holds c = counting_none c.args.s.now
 
-returns : tie.Need-returns invariant-loop decreases-loop
+returns : tie.Need-returns-then-count-eq64 invariant-loop decreases-loop
 returns c =
-    let t = c.before in
-    let l = t.before.loop in
-    counted_past _ l.at l.count l.invariant t.loop-test.true c.if1.true
+    let t = c in
+    let l = t.loop-at in
+    counted_past _ l.at l.count l.invariant t.loop-at-test.true c.if-count-eq64.true
 
-end-at-requires : tie.Need-end-at-requires invariant-loop decreases-loop
+end-at-requires : tie.Need-end_at-end-requires invariant-loop decreases-loop
 end-at-requires c κs = search rules
 
-returns-2 : tie.Need-returns-2 invariant-loop decreases-loop
+returns-2 : tie.Need-returns-then-end-eq0 invariant-loop decreases-loop
 returns-2 c =
-    let e = c.before in
-    let t = e.before.before in
-    let l = t.before.loop in
-    counted_cut _ l.at l.count l.invariant t.loop-test.true (end_cut _ l.at _ e.end-at.ensures c.if2.true)
+    let e = c in
+    let t = e in
+    let l = t.loop-at in
+    counted_cut _ l.at l.count l.invariant t.loop-at-test.true (end_cut _ l.at _ e.end_at-end.ensures c.if-end-eq0.true)
 
-add-count : tie.Need-overflow-add-count invariant-loop decreases-loop
-add-count c = omega (arith, c.before.before.before.before.loop.invariant.few)
+add-count : tie.Need-overflow_add-count invariant-loop decreases-loop
+add-count c = omega (arith, c.loop-at.invariant.few)
 
-loop-less : tie.Need-loop-smaller invariant-loop decreases-loop
+loop-less : tie.Need-loop-at-smaller invariant-loop decreases-loop
 loop-less c =
-    let e = c.before in
-    let t = e.before.before in
-    let l = t.before.loop in
-    let s = t.before.before.before.args.s.now in
-    let w = end_whole s l.at _ e.end-at.ensures (omega arith) in
+    let e = c in
+    let t = e in
+    let l = t.loop-at in
+    let s = t.args.s.now in
+    let w = end_whole s l.at _ e.end_at-end.ensures (omega arith) in
     omega (arith, w.0, w.1)
 
-loop-again : tie.Need-loop-preserved invariant-loop decreases-loop
+loop-again : tie.Need-loop-at-preserved invariant-loop decreases-loop
 loop-again c =
-    let e = c.before in
-    let t = e.before.before in
-    let l = t.before.loop in
-    let s = t.before.before.before.args.s.now in
-    let w = end_whole s l.at _ e.end-at.ensures (omega arith) in
+    let e = c in
+    let t = e in
+    let l = t.loop-at in
+    let s = t.args.s.now in
+    let w = end_whole s l.at _ e.end_at-end.ensures (omega arith) in
     rw w.1
-    (counting_more _ l.at l.count l.invariant t.loop-test.true (omega (arith, l.invariant.few)) w.0)
+    (counting_more _ l.at l.count l.invariant t.loop-at-test.true (omega (arith, l.invariant.few)) w.0)
 
-returns-3 : tie.Need-returns-3 invariant-loop decreases-loop
+returns-3 : tie.Need-returns invariant-loop decreases-loop
 returns-3 c =
-    let l = c.before.loop in
-    counted_all _ l.at l.count l.invariant c.loop-test.false
+    let l = c.loop-at in
+    counted_all _ l.at l.count l.invariant c.loop-at-test.false
 
-pub count-records-spec : {M : Type 1} → statement M
-count-records-spec =
+pub count_records_spec : {M : Type 1} → statement M
+count_records_spec =
     tie.close
     (tie.spec
     invariant-loop

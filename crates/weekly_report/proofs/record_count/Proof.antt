@@ -26,28 +26,28 @@ cut : (o : Outcome (List Runs)) (place : ℕ) → refused 12 place ≡ count_fro
 cut (refused number at) place e = refl
 cut (given l) place e = clash (cc)
 
-count-records-requires : tie.Need-count-records-requires
+count-records-requires : tie.Need-count_records-requires
 count-records-requires c κs = search rules
 
-enum-known-count : tie.Need-enum-known-count
+enum-known-count : tie.Need-enum_known-count
 enum-known-count c = search rules
 
-enum_told : tie.Need-enum-told
+enum_told : tie.Need-enum_told-1
 enum_told c = search rules
 
-returns : tie.Need-returns
+returns : tie.Need-returns-in-Whole
 returns c =
-    let k = c.before in
-    let n = k.before.before in
-    let o = records_of n.before.before.args.records.now in
-    let e = sym (ap count_outcome k.count.given.1) ∙ n.count-records.ensures in
+    let k = c in
+    let n = k in
+    let o = records_of n.args.records.now in
+    let e = sym (ap count_outcome k.in-Whole.is) ∙ n.count_records.ensures in
     (whole o _ e, whole-zeros o _ e)
 
-returns-2 : tie.Need-returns-2
+returns-2 : tie.Need-returns-in-Cut
 returns-2 c =
-    let n = c.before.before in
-    let o = records_of n.before.before.args.records.now in
-    (cut o _ (sym (ap count_outcome c.enum_told.given.1) ∙ n.count-records.ensures), λ place e. refl)
+    let n = c in
+    let o = records_of n.args.records.now in
+    (cut o _ (sym (ap count_outcome c.in-Cut.is) ∙ n.count_records.ensures), λ place e. refl)
 
-pub record-count-spec : {M : Type 1} → statement M
-record-count-spec = tie.close (tie.spec count-records-requires enum-known-count enum_told returns returns-2)
+pub record_count_spec : {M : Type 1} → statement M
+record_count_spec = tie.close (tie.spec count-records-requires enum-known-count enum_told returns returns-2)

@@ -16,122 +16,122 @@ abbrev lent : tie.Start → Tables
 lent s = tables s.args.keys.now s.args.high.now s.args.low.now
 
 -- the call's beginning, where the tables are long enough
-abbrev start : tie.Else1 → tie.Start
+abbrev start : tie.Else-is_short → tie.Start
 start c = c.before.before.before.before.before
 
-not_short : (c : tie.Else1) → tables_short (lent (start c)) ≡ false
-not_short c = sym c.before.is-short.ensures ∙ c.if1.false
+not_short : (c : tie.Else-is_short) → tables_short (lent (start c)) ≡ false
+not_short c = sym c.is_short.ensures ∙ c.if-is_short.false
 
 -- the records are bytes
-known : (c : tie.After-shared-slice-known) → Bounded 255 c.before.args.records.now
-known c i = omega (arith, c.shared-slice-known.given i)
+known : (c : tie.After-shared_slice_known-1) → Bounded 255 c.args.records.now
+known c i = omega (arith, c.shared_slice_known-1.given i)
 
-bytes : (c : tie.Else1) → Bounded 255 (start c).args.records.now
+bytes : (c : tie.Else-is_short) → Bounded 255 (start c).args.records.now
 bytes c = known c.before.before.before.before
 
-long : (c : tie.Else1) → Long (lent (start c))
+long : (c : tie.Else-is_short) → Long (lent (start c))
 long c = tables_long _ (not_short c)
 
-is-short-requires : tie.Need-is-short-requires
+is-short-requires : tie.Need-is_short-requires
 is-short-requires c κs = search rules
 
 refuse-requires : tie.Need-refuse-requires
 refuse-requires c κs = search rules
 
-returns : tie.Need-returns
+returns : tie.Need-returns-then-is_short
 returns c =
-    let i = c.before in
-    let s = i.before.before.before.before.before in
-    tables_short_lem _ _ (lent s) (known i.before.before.before.before) (sym i.before.is-short.ensures ∙ i.if1.true) _ c.refuse.ensures
+    let i = c in
+    let s = i in
+    tables_short_lem _ _ (lent s.before.before.before.before.before.before) (known i.before.before.before.before.before) (sym i.is_short.ensures ∙ i.if-is_short.true) _ c.refuse.ensures
 
-count-records-requires : tie.Need-count-records-requires
+count-records-requires : tie.Need-count_records-requires
 count-records-requires c κs = search rules
 
-enum-known-count : tie.Need-enum-known-count
+enum-known-count : tie.Need-enum_known-count
 enum-known-count c = search rules
 
-refuse-requires-2 : tie.Need-refuse-requires-2
+refuse-requires-2 : tie.Need-refuse-requires-then-out-count
 refuse-requires-2 c κs = search rules
 
-returns-2 : tie.Need-returns-2
+returns-2 : tie.Need-returns-then-out-count
 returns-2 c =
-    let i = c.before in
-    let k = i.before.before in
-    let n = k.before.before in
-    let e = n.before in
-    output_short _ _ _ (bytes e) (not_short e) _ n.count-records.ensures _ k.count.given.1 i.if2.true _ c.refuse2.ensures
+    let i = c in
+    let k = i in
+    let n = k in
+    let e = n in
+    output_short _ _ _ (bytes e.before.before.before.before) (not_short e.before.before.before.before) _ n.count_records.ensures _ k.in-Whole.is i.if-out-count.true _ c.refuse-then-out-count.ensures
 
-answer-records-requires : tie.Need-answer-records-requires
+answer-records-requires : tie.Need-answer_records-requires
 answer-records-requires c κs =
-    let i = c.before.before.before.before in
-    let k = i.before.before in
-    let n = k.before.before in
-    let e = n.before in
-    (roomy _ _ (lent (start e)) (bytes e) (not_short e) _ n.count-records.ensures _ k.count.given.1 i.if2.false, long e)
+    let i = c in
+    let k = i in
+    let n = k in
+    let e = n in
+    (roomy _ _ (lent (start e.before.before.before.before.before.before.before)) (bytes e.before.before.before.before.before.before.before) (not_short e.before.before.before.before.before.before.before) _ n.count_records.ensures _ k.in-Whole.is i.if-out-count.false, long e.before.before.before.before.before.before.before)
 
-enum-known-place : tie.Need-enum-known-place
+enum-known-place : tie.Need-enum_known-place
 enum-known-place c = search rules
 
-clear-tables-requires : tie.Need-clear-tables-requires
-clear-tables-requires c κs = long c.before.before.before.before.before.before.before
+clear-tables-requires : tie.Need-clear_tables-requires
+clear-tables-requires c κs = long c.before.before.before.before.before
 
-refuse-requires-3 : tie.Need-refuse-requires-3
+refuse-requires-3 : tie.Need-refuse-requires-in-Cut
 refuse-requires-3 c κs = search rules
 
-same_length : tie.Need-same-length
+same_length : tie.Need-shape_of-out
 same_length c = search rules
 
-same-length-2 : tie.Need-same-length-2
+same-length-2 : tie.Need-shape_of-keys-else-out-count
 same-length-2 c =
-    let a = c.before.before.before.before.before.before in
-    (cleared_same (long a.before.before.before.before.before.before.before.before.before.before) a.answer-records.ensures.1).keys
+    let a = c in
+    (cleared_same (long a.before.before.before.before.before.before.before.before.before.before.before.before.before.before) a.answer_records.ensures.1).keys
 
-same-length-3 : tie.Need-same-length-3
+same-length-3 : tie.Need-shape_of-high-else-out-count
 same-length-3 c =
-    let a = c.before.before.before.before.before.before in
-    (cleared_same (long a.before.before.before.before.before.before.before.before.before.before) a.answer-records.ensures.1).high
+    let a = c in
+    (cleared_same (long a.before.before.before.before.before.before.before.before.before.before.before.before.before.before) a.answer_records.ensures.1).high
 
-same-length-4 : tie.Need-same-length-4
+same-length-4 : tie.Need-shape_of-low-else-out-count
 same-length-4 c =
-    let a = c.before.before.before.before.before.before in
-    (cleared_same (long a.before.before.before.before.before.before.before.before.before.before) a.answer-records.ensures.1).low
+    let a = c in
+    (cleared_same (long a.before.before.before.before.before.before.before.before.before.before.before.before.before.before) a.answer_records.ensures.1).low
 
-returns-3 : tie.Need-returns-3
+returns-3 : tie.Need-returns-else-out-count
 returns-3 c =
-    let a = c.before.before.before.before.before.before in
-    let i = a.before.before.before.before.before in
-    let k = i.before.before in
-    let n = k.before.before in
-    let e = n.before in
-    all_answered _ _ _ (bytes e) (not_short e) _ n.count-records.ensures _ k.count.given.1 i.if2.false _ _ _
-    a.answer-records.ensures.0 a.answer-records.ensures.1
+    let a = c in
+    let i = a in
+    let k = i in
+    let n = k in
+    let e = n in
+    all_answered _ _ _ (bytes e.before.before.before.before.before.before.before.before.before.before.before.before.before.before) (not_short e.before.before.before.before.before.before.before.before.before.before.before.before.before.before) _ n.count_records.ensures _ k.in-Whole.is i.if-out-count.false _ _ _
+    a.answer_records.ensures.0 a.answer_records.ensures.1
 
-same-length-5 : tie.Need-same-length-5
+same-length-5 : tie.Need-shape_of-keys-in-Cut
 same-length-5 c =
-    let t = c.before.before.before.before.before in
-    (cleared_same (long t.before.before.before.before.before.before.before.before) t.clear-tables.ensures).keys
+    let t = c in
+    (cleared_same (long t.before.before.before.before.before.before.before.before.before.before.before) t.clear_tables.ensures).keys
 
-same-length-6 : tie.Need-same-length-6
+same-length-6 : tie.Need-shape_of-high-in-Cut
 same-length-6 c =
-    let t = c.before.before.before.before.before in
-    (cleared_same (long t.before.before.before.before.before.before.before.before) t.clear-tables.ensures).high
+    let t = c in
+    (cleared_same (long t.before.before.before.before.before.before.before.before.before.before.before) t.clear_tables.ensures).high
 
-same-length-7 : tie.Need-same-length-7
+same-length-7 : tie.Need-shape_of-low-in-Cut
 same-length-7 c =
-    let t = c.before.before.before.before.before in
-    (cleared_same (long t.before.before.before.before.before.before.before.before) t.clear-tables.ensures).low
+    let t = c in
+    (cleared_same (long t.before.before.before.before.before.before.before.before.before.before.before) t.clear_tables.ensures).low
 
-returns-4 : tie.Need-returns-4
+returns-4 : tie.Need-returns-in-Cut
 returns-4 c =
-    let t = c.before.before.before.before.before in
-    let p = t.before.before.before.before.before in
-    let n = p.before.before in
-    let e = n.before in
-    records_cut _ _ _ (bytes e) (not_short e) _ n.count-records.ensures _ p.place.given.1 _ _ c.refuse3.ensures
-    t.clear-tables.ensures
+    let t = c in
+    let p = t in
+    let n = p in
+    let e = n in
+    records_cut _ _ _ (bytes e.before.before.before.before.before.before.before.before.before.before.before) (not_short e.before.before.before.before.before.before.before.before.before.before.before) _ n.count_records.ensures _ p.in-Cut.is _ _ c.refuse-in-Cut.ensures
+    t.clear_tables.ensures
 
-pub report-spec : {M : Type 1} → statement M
-report-spec =
+pub report_spec : {M : Type 1} → statement M
+report_spec =
     tie.close
     (tie.spec
     is-short-requires
