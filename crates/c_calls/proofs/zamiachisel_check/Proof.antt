@@ -12,31 +12,30 @@ use Rattle.c_calls.proofs.Whole.{too_short, whole}
 use Rattle.c_calls.proofs.zamiachisel_check.Statement.{statement}
 use Rattle.c_calls.proofs.zamiachisel_check.Tie as tie
 
-returns : tie.Need-returns
+returns : tie.Need-returns-then-verdict-lt-CHECK
 unfolding check_verdict check_numbers problem_of
 returns c =
-    let a = c.before.before.before.before.before.args in
+    let a = c.args in
     let lent : Tables = tables a.keys.now a.high.now a.low.now in
     let of : Bool → CheckVerdict = λ b. check_verdict b a.problem.now a.certificate.now in
-    too_short 9 a.verdict.now (tables_short lent) check_numbers of (λ b. b) lent c.if1.true refl refl
+    too_short 9 a.verdict.now (tables_short lent) check_numbers of (λ b. b) lent c.if-verdict-lt-CHECK.true refl refl
 
-returns-2 : tie.Need-returns-2
+returns-2 : tie.Need-returns
 unfolding check_numbers
 returns-2 c =
-    let p = c.before.before in
-    let q = p.before.before.before in
-    let k = q.before.before.before.before.before in
-    let i = k.before.before.before.before in
-    let a = i.before.before.before.before.before.args in
+    let p = c in
+    let q = p in
+    let k = q in
+    let i = k in
+    let a = i.args in
     let lent : Tables = tables a.keys.now a.high.now a.low.now in
     let of : Bool → CheckVerdict = λ b. check_verdict b a.problem.now a.certificate.now in
-    let v = k.check.result in
-    let e = k.check.ensures in
-    let l = k.check.new.1.1 in
-    whole 9 a.verdict.now (tables_short lent) check_numbers of (λ b. b) lent i.if1.false v e.0 q.check-numbers.result p.put-numbers.new.0 p.put-numbers.result (tables l.0 l.1.0 l.1.1.0) q.check-numbers.ensures p.put-numbers.ensures.0 p.put-numbers.ensures.1 e.1.0 (check_run a.verdict.now v e.1.1.1.1.1.1.1.1.1.1.1.0)
+    let v = k.check-v.result in
+    let e = k.check-v.ensures in
+    whole 9 a.verdict.now (tables_short lent) check_numbers of (λ b. b) lent i.if-verdict-lt-CHECK.false v e.0 q.check_numbers-numbers.result p.put_numbers.new.run p.put_numbers.result (tables k.check-v.new.keys k.check-v.new.high k.check-v.new.low) q.check_numbers-numbers.ensures p.put_numbers.ensures.0 p.put_numbers.ensures.1 e.1.0 (check_run a.verdict.now v e.1.1.1.1.1.1.1.1.1.1.1.0)
 
-pub zamiachisel-check-spec : {M : Type 1} → statement M
-zamiachisel-check-spec =
+pub zamiachisel_check_spec : {M : Type 1} → statement M
+zamiachisel_check_spec =
     tie.close
     (tie.spec
     returns

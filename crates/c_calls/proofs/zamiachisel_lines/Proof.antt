@@ -11,15 +11,15 @@ use Rattle.c_calls.proofs.zamiachisel_lines.Tie as tie
 
 returns : tie.Need-returns
 returns c =
-    let p = c.before.before in
-    let l = p.before.before in
-    let k = l.before.before.before.before in
-    let e = l.pair-lines.ensures ∙ ap pair_lines k.pair.ensures.0 in
-    let a = k.before.before.before.before.before.before.before.before.args in
-    (p.put-text.ensures.0 ∙ ap length e, p.put-text.ensures.1 ∙ ap (λ (x : List ℕ). text_left x a.out.now) e)
+    let p = c in
+    let l = p in
+    let k = l in
+    let e = l.pair_lines.ensures ∙ ap pair_lines k.pair-v.ensures.0 in
+    let a = k.args in
+    (p.put_text.ensures.0 ∙ ap length e, p.put_text.ensures.1 ∙ ap (λ (x : List ℕ). text_left x a.out.now) e)
 
-pub zamiachisel-lines-spec : {M : Type 1} → statement M
-zamiachisel-lines-spec =
+pub zamiachisel_lines_spec : {M : Type 1} → statement M
+zamiachisel_lines_spec =
     tie.close
     (tie.spec
     (λ c. search rules)

@@ -63,26 +63,26 @@ module _ (out problem low high : List ℕ) where
         (f ∙ rw (le-ltb (length out) record_length h, e) refl)
 
 -- the certificates are bytes
-known : (c : tie.After-slice-known)
-    → let a = c.before.before.before.before.args in Bytes (three_runs a.problem.now a.low.now a.high.now)
+known : (c : tie.After-slice_known-1)
+    → let a = c.args in Bytes (three_runs a.problem.now a.low.now a.high.now)
 known c = record {
-  low = λ i. omega (arith, c.before.before.shared-slice-known2.given i);
-  high = λ i. omega (arith, c.before.shared-slice-known3.given i);
+  low = λ i. omega (arith, c.shared_slice_known-2-1.given i);
+  high = λ i. omega (arith, c.shared_slice_known-3-1.given i);
 }
 
-returns : tie.Need-returns
-returns c = short _ _ _ _ (known c.before) c.if1.true
+returns : tie.Need-returns-then-out-lt32
+returns c = short _ _ _ _ (known c.before) c.if-out-lt32.true
 
-returns-2 : tie.Need-returns-2
+returns-2 : tie.Need-returns
 returns-2 c =
-    let p = c.before.before.before in
-    let q = p.before.before.before.before.before in
-    let e = q.before.before.before.before in
-    long _ _ _ _ (known e.before) e.if1.false _ _ _ q.pair.ensures.0 c.number_of.ensures
+    let p = c in
+    let q = p in
+    let e = q in
+    long _ _ _ _ (known e.before.before.before.before.before.before.before.before.before.before.before.before.before.before) e.if-out-lt32.false _ _ _ q.pair-v.ensures.0 c.number_of.ensures
     p.put_record.ensures
 
-pub zamiachisel-record-spec : {M : Type 1} → statement M
-zamiachisel-record-spec =
+pub zamiachisel_record_spec : {M : Type 1} → statement M
+zamiachisel_record_spec =
     tie.close
     (tie.spec
     returns

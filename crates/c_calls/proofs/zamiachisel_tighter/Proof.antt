@@ -5,29 +5,29 @@ use Rattle.calls.specs.Superseding.{stream_of}
 use Rattle.c_calls.proofs.zamiachisel_tighter.Statement.{statement}
 use Rattle.c_calls.proofs.zamiachisel_tighter.Tie as tie
 
-choose-requires : tie.Need-choose-requires
+choose-requires : tie.Need-choose-chosen-requires
 choose-requires c κs = search rules
 
-stream-of-requires : tie.Need-stream-of-requires
+stream-of-requires : tie.Need-stream_of-requires
 stream-of-requires c κs = search rules
 
-same_length : tie.Need-same-length
+same_length : tie.Need-shape_of-keys
 same_length c = search rules
 
-same-length-2 : tie.Need-same-length-2
+same-length-2 : tie.Need-shape_of-high
 same-length-2 c = search rules
 
-same-length-3 : tie.Need-same-length-3
+same-length-3 : tie.Need-shape_of-low
 same-length-3 c = search rules
 
 returns : tie.Need-returns
 returns c =
-    let k = c.before.before.before.before.before.choose.ensures in
-    let back = c.stream-of.ensures in
+    let k = c.choose-chosen.ensures in
+    let back = c.stream_of.ensures in
     let z = k.1.1.1 in
     (back ∙ ap stream_of k.0, (k.1.0, (k.1.1.0, (z.refusal, λ h. back ∙ ap stream_of (z.none h)))))
 
-pub zamiachisel-tighter-spec : {M : Type 1} → statement M
-zamiachisel-tighter-spec =
+pub zamiachisel_tighter_spec : {M : Type 1} → statement M
+zamiachisel_tighter_spec =
     tie.close
     (tie.spec choose-requires stream-of-requires same_length same-length-2 same-length-3 returns)

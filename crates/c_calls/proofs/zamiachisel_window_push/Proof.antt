@@ -51,32 +51,32 @@ module _ (run s : List ℕ) (a : Fraction) where
           rw (le-ltb (length run) 7 h, le-ltb (length s) 65 g)
           (number ∙ rw (is, e) refl, (put ∙ rw (is, e) refl, (kept, (rw kept (state_arrivals s a g), zeros is number put))))
 
-returns : tie.Need-returns
+returns : tie.Need-returns-then-verdict-lt-WINDOW
 returns c =
-    let a = c.before.before.before.args in
-    run_short a.verdict.now a.state.now (fraction a.numerator a.denominator) c.if1.true
+    let a = c.args in
+    run_short a.verdict.now a.state.now (fraction a.numerator a.denominator) c.if-verdict-lt-WINDOW.true
 
-returns-2 : tie.Need-returns-2
+returns-2 : tie.Need-returns-then-state-lt65
 returns-2 c =
-    let a = c.before.before.before.before.args in
-    state-short a.verdict.now a.state.now (fraction a.numerator a.denominator) c.before.if1.false
-    c.if2.true
+    let a = c.args in
+    state-short a.verdict.now a.state.now (fraction a.numerator a.denominator) c.if-verdict-lt-WINDOW.false
+    c.if-state-lt65.true
 
-returns-3 : tie.Need-returns-3
+returns-3 : tie.Need-returns
 returns-3 c =
-    let p = c.before.before in
-    let q = p.before.before.before in
-    let k = q.before.before.before in
-    let s = k.before.before.before.before.before.before in
+    let p = c in
+    let q = p in
+    let k = q in
+    let s = k in
     let a = s.args in
-    let e = simp (to_z-of_z s.ranges.numerator) at k.push.ensures in
-    let put = p.put-numbers.ensures in
-    pushed a.verdict.now a.state.now (fraction a.numerator a.denominator) k.before.before.before.if1.false
-    k.before.before.if2.false k.push.result e.0 q.push-numbers.result p.put-numbers.new.0
-    k.push.new.0 p.put-numbers.result q.push-numbers.ensures put.0 put.1 e.1
+    let e = simp (to_z-of_z s.ranges.numerator) at k.push-v.ensures in
+    let put = p.put_numbers.ensures in
+    pushed a.verdict.now a.state.now (fraction a.numerator a.denominator) k.if-verdict-lt-WINDOW.false
+    k.if-state-lt65.false k.push-v.result e.0 q.push_numbers-numbers.result p.put_numbers.new.run
+    k.push-v.new.state p.put_numbers.result q.push_numbers-numbers.ensures put.0 put.1 e.1
 
-pub zamiachisel-window-push-spec : {M : Type 1} → statement M
-zamiachisel-window-push-spec =
+pub zamiachisel_window_push_spec : {M : Type 1} → statement M
+zamiachisel_window_push_spec =
     tie.close
     (tie.spec
     returns
