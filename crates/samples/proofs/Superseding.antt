@@ -7,7 +7,7 @@ use Prim.Native.Nat.{ℕ}
 use Rattle.calls.specs.Superseding.{is_tighter, tighter_of, superseding_of, superseding_verdict, part_of, stream_of}
 use Rattle.calls.specs.declared.Refusal.{Refusal}
 use Rattle.samples.proofs.Computing.{checking}
-use Rattle.samples.specs.Streams.{problem_f, problem_fWith, rule, low_f, half_f, loose_low_f, high_f, loose_high_f, certificate_i}
+use Rattle.samples.specs.Streams.{problem_f, problem_f_with, rule, low_f, half_f, loose_low_f, high_f, loose_high_f, certificate_i}
 use Rattle.samples.specs.Verdicts.{refusal}
 
 -- the four numbers, the number of the certificate that comes back, or 0, and its bytes
@@ -45,7 +45,7 @@ pub superseding :
     ∷ outcome false problem_f low_f high_f
     ∷ outcome false problem_f loose_high_f low_f
     ∷ outcome false [] low_f loose_low_f
-    ∷ outcome false (problem_fWith (rule 3)) low_f loose_low_f
+    ∷ outcome false (problem_f_with (rule 3)) low_f loose_low_f
     ∷ outcome true problem_f low_f loose_low_f
     ∷ []
     ≡ back 1 low_f

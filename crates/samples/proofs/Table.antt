@@ -20,7 +20,7 @@ use Rattle.lines.specs.Answers.{answer_to}
 use Rattle.lines.specs.Lines.{ascii}
 use Rattle.samples.proofs.Computing.{joining, blocking, checking, pairing, printing}
 use Rattle.samples.specs.Verdicts.{over, blocks_found, blocks_refused, check_accepted, check_refused, pair_accepted, pair_refused}
-use Rattle.samples.specs.Streams.{problem_a, problem_c, problem_d, problem_e, problem_f, certificate_a, certificate_b, certificate_d, low_f, high_f, certificate_i, small, minus, row, equality_row, entry, entry_minus, wide_entry, equality, inequality, problem_equal, nine_conditions, low_equal, high_equal, problem_wide, certificate_wide, certificate_wide_d, with_entries, with_row, problem_crossed, low_crossed, high_crossed, rule, order, variables, end, objective_term, exponents, problem_eWith, problem_zero, certificate_e, certificate_beside, certificate_across, certificate_zero}
+use Rattle.samples.specs.Streams.{problem_a, problem_c, problem_d, problem_e, problem_f, certificate_a, certificate_b, certificate_d, low_f, high_f, certificate_i, small, minus, row, equality_row, entry, entry_minus, wide_entry, equality, inequality, problem_equal, nine_conditions, low_equal, high_equal, problem_wide, certificate_wide, certificate_wide_d, with_entries, with_row, problem_crossed, low_crossed, high_crossed, rule, order, variables, end, objective_term, exponents, problem_e_with, problem_zero, certificate_e, certificate_beside, certificate_across, certificate_zero}
 
 -- ---- the starred samples
 -- what a case is: a problem with a lower and an upper certificate. One that a letter does not name is the empty stream,
@@ -297,13 +297,13 @@ refusing number place = record { verdict = blocks_refused number place; zero = 7
 -- problem of nothing but its rule
 pub rules :
     map blocks_on
-    (problem_eWith (rule 1)
-    ∷ problem_eWith (rule 2)
-    ∷ problem_eWith (rule 0)
-    ∷ problem_eWith (rule 3)
+    (problem_e_with (rule 1)
+    ∷ problem_e_with (rule 2)
+    ∷ problem_e_with (rule 0)
+    ∷ problem_e_with (rule 3)
     ∷ (rule 2 ++ problem_e)
     ∷ (variables 1 ++ objective_term (exponents 6 0) 1 ++ rule 2 ++ end)
-    ∷ problem_eWith (rule 2 ++ rule 2)
+    ∷ problem_e_with (rule 2 ++ rule 2)
     ∷ (variables 1 ++ (8 ∷ []))
     ∷ (variables 1 ++ rule 2 ++ end)
     ∷ [])
@@ -322,7 +322,7 @@ rules = refl
 
 -- under rule 2 the first round of E changes nothing
 pub rounds_E_two :
-    map (λ k. state_after k (read_problem (problem_eWith (rule 2)))) (0 ∷ 1 ∷ [])
+    map (λ k. state_after k (read_problem (problem_e_with (rule 2)))) (0 ∷ 1 ∷ [])
     ≡ two_bases (0 ∷ 1 ∷ []) (0 ∷ []) (0 ∷ 1 ∷ 6 ∷ [])
     ∷ two_bases (0 ∷ 1 ∷ []) (0 ∷ []) (0 ∷ 1 ∷ 6 ∷ [])
     ∷ []
@@ -332,13 +332,13 @@ rounds_E_two = refl
 -- the bound 0 of E is accepted under either rule, in 1 round and in 3; x³ is not in S under rule 2, and yet counted and
 -- compared, as x × x × x of basis 1; and a row on 1 and x³ is in two blocks under rule 2, and in one under rule 1
 pub checks_E :
-    check_verdict false (problem_eWith (rule 2)) certificate_e
-    ∷ check_verdict false (problem_eWith (rule 1)) certificate_e
+    check_verdict false (problem_e_with (rule 2)) certificate_e
+    ∷ check_verdict false (problem_e_with (rule 1)) certificate_e
     ∷ check_verdict false problem_e certificate_e
-    ∷ check_verdict false (problem_eWith (rule 2)) certificate_beside
-    ∷ check_verdict false (problem_eWith (rule 1)) certificate_beside
-    ∷ check_verdict false (problem_eWith (rule 2)) certificate_across
-    ∷ check_verdict false (problem_eWith (rule 1)) certificate_across
+    ∷ check_verdict false (problem_e_with (rule 2)) certificate_beside
+    ∷ check_verdict false (problem_e_with (rule 1)) certificate_beside
+    ∷ check_verdict false (problem_e_with (rule 2)) certificate_across
+    ∷ check_verdict false (problem_e_with (rule 1)) certificate_across
     ∷ []
     ≡ check_accepted 0 (over (pos 0) 1) 1 2
     ∷ check_accepted 0 (over (pos 0) 1) 3 1
@@ -358,21 +358,21 @@ checks_E = refl
 -- second time after 01 and after 08; 08 after 09; 09 cut, after 01 and after 08; a problem of nothing but its order
 pub orders :
     map blocks_on
-    (problem_eWith (order 1)
-    ∷ problem_eWith (order 2)
-    ∷ problem_eWith (order 3)
-    ∷ problem_eWith (order 4)
-    ∷ problem_eWith (rule 1 ++ order 1)
-    ∷ problem_eWith (rule 2 ++ order 1)
-    ∷ problem_eWith (rule 2 ++ order 255)
-    ∷ problem_eWith (order 0)
-    ∷ problem_eWith (rule 2 ++ order 0)
+    (problem_e_with (order 1)
+    ∷ problem_e_with (order 2)
+    ∷ problem_e_with (order 3)
+    ∷ problem_e_with (order 4)
+    ∷ problem_e_with (rule 1 ++ order 1)
+    ∷ problem_e_with (rule 2 ++ order 1)
+    ∷ problem_e_with (rule 2 ++ order 255)
+    ∷ problem_e_with (order 0)
+    ∷ problem_e_with (rule 2 ++ order 0)
     ∷ (order 1 ++ problem_e)
     ∷ (variables 1 ++ objective_term (exponents 6 0) 1 ++ order 1 ++ end)
     ∷ (variables 1 ++ inequality ++ equality ++ order 1 ++ end)
-    ∷ problem_eWith (order 1 ++ order 1)
-    ∷ problem_eWith (rule 2 ++ order 1 ++ order 1)
-    ∷ problem_eWith (order 1 ++ rule 2)
+    ∷ problem_e_with (order 1 ++ order 1)
+    ∷ problem_e_with (rule 2 ++ order 1 ++ order 1)
+    ∷ problem_e_with (order 1 ++ rule 2)
     ∷ (variables 1 ++ (9 ∷ []))
     ∷ (variables 1 ++ rule 1 ++ (9 ∷ []))
     ∷ (variables 1 ++ order 1 ++ end)

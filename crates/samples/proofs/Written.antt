@@ -10,7 +10,7 @@ use Rattle.written.specs.Bytes.{operand_number, operand_bytes, command_bytes}
 use Rattle.written.specs.ProblemWritten.{problem_bytes, problem_stream, objective_commands, term_commands, condition_commands, basis_commands, in_stream, encode_problem}
 use Rattle.written.specs.CertificateWritten.{certificate_bytes, certificate_stream, entry_command, entry_commands, row_commands, encode_certificate}
 use Rattle.samples.proofs.Computing.{judging}
-use Rattle.samples.specs.Streams.{rule, order, problem_a, problem_c, problem_d, problem_fWith, problem_f, problem_equal, problem_wide, low_f, high_f, low_equal, high_equal, certificate_a, certificate_wide}
+use Rattle.samples.specs.Streams.{rule, order, problem_a, problem_c, problem_d, problem_f_with, problem_f, problem_equal, problem_wide, low_f, high_f, low_equal, high_equal, certificate_a, certificate_wide}
 
 -- what is read, written again
 abbrev written_by : {A : Type 0} → (A → List ℕ) → Outcome A → Outcome (List ℕ)
@@ -35,9 +35,9 @@ problems =
     ∷ problem_c
     ∷ problem_d
     ∷ problem_f
-    ∷ problem_fWith (rule 2)
-    ∷ problem_fWith (order 3)
-    ∷ problem_fWith (rule 2 ++ order 3)
+    ∷ problem_f_with (rule 2)
+    ∷ problem_f_with (order 3)
+    ∷ problem_f_with (rule 2 ++ order 3)
     ∷ problem_equal
     ∷ problem_wide
     ∷ []

@@ -84,8 +84,8 @@ problem_d =
 
 -- objective x⁶, constraint x, basis 0: 1, x³; basis 1: x. What stands between 01 and 02 is given, and what begins the
 -- constraint
-abbrev pub problem_eOf : List ℕ → List ℕ → List ℕ
-problem_eOf begins between =
+abbrev pub problem_e_of : List ℕ → List ℕ → List ℕ
+problem_e_of begins between =
     variables 1
     ++ between
     ++ objective_term (exponents 6 0) 1
@@ -96,19 +96,19 @@ problem_eOf begins between =
     ++ member_command 1 (exponents 1 0)
     ++ end
 
-abbrev pub problem_eWith : List ℕ → List ℕ
-problem_eWith between = problem_eOf inequality between
+abbrev pub problem_e_with : List ℕ → List ℕ
+problem_e_with between = problem_e_of inequality between
 
 abbrev pub problem_e : List ℕ
-problem_e = problem_eWith []
+problem_e = problem_e_with []
 
 -- the same with the equality x in place of the constraint
 abbrev pub problem_zero : List ℕ → List ℕ
-problem_zero between = problem_eOf equality between
+problem_zero between = problem_e_of equality between
 
 -- objective x, constraint 1 − x², bases {1, x} and {1}
-abbrev pub problem_fWith : List ℕ → List ℕ
-problem_fWith between =
+abbrev pub problem_f_with : List ℕ → List ℕ
+problem_f_with between =
     variables 1
     ++ between
     ++ objective_term (exponents 1 0) 1
@@ -121,7 +121,7 @@ problem_fWith between =
     ++ end
 
 abbrev pub problem_f : List ℕ
-problem_f = problem_fWith []
+problem_f = problem_f_with []
 
 -- document 02's equalities: objective x, equality x − 1, basis 1: 1
 abbrev pub problem_equal : List ℕ

@@ -1,7 +1,7 @@
 -- Streams of problems with a pair for each, for request 12.
 use Rattle.std.specs.Prelude.{List, ◌++◌, ℕ}
 use Rattle.calls.specs.AddedBounds.{Streams, streams}
-use Rattle.samples.specs.Streams.{variables, exponents, condition_term, condition_minus, end, header, finish, rule, problem_f, problem_fWith, low_f, half_f, high_f}
+use Rattle.samples.specs.Streams.{variables, exponents, condition_term, condition_minus, end, header, finish, rule, problem_f, problem_f_with, low_f, half_f, high_f}
 
 abbrev pub case_f : Streams
 case_f = streams problem_f low_f high_f
@@ -11,7 +11,7 @@ abbrev pub halves_f : Streams
 halves_f = streams problem_f half_f high_f
 
 abbrev pub ruled_f : ℕ → Streams
-ruled_f r = streams (problem_fWith (rule r)) low_f high_f
+ruled_f r = streams (problem_f_with (rule r)) low_f high_f
 
 -- n variables and some conditions, no objective: both bounds are 0
 abbrev pub without : ℕ → List ℕ → Streams

@@ -134,9 +134,60 @@ pub fn answer_start<R: Env + Files>(
     }
 }
 
+// The bytes of a file, at the start of the buffer, and how many. A missing file is a week without records, and so is
+// one that cannot be read; standard error says which.
+fn read_file<R: Files>(rt: &R, err: &impl Print, path: &[u8], bytes: &mut [u8]) -> usize
+    ensures { result ≤ length bytes.new }
+{
+    file_reader::read_file(
+        rt,
+        err,
+        b"weekcheck",
+        path,
+        b"7,340,032",
+        b"there are no records",
+        bytes,
+    )
+}
+
+// The bytes of the file that the first argument names, or of week.bin where there is none.
+fn read_week<R: Env + Files>(rt: &R, err: &impl Print, bytes: &mut [u8]) -> usize
+    ensures { result ≤ length bytes.new }
+{
+    if !arguments::is_given(rt, 1) {
+        return read_file(rt, err, b"week.bin", bytes);
+    }
+    let mut path = [0u8; 4096];
+    match arguments::take(rt, 1, &mut path) {
+        Ok(n) => read_file(rt, err, text::cut(&path, n), bytes),
+        Err(e) => {
+            messages::no_path(err, &e);
+            0
+        }
+    }
+}
+
+// The text for the file, which is read into the buffer: the text for the bytes at its start as it is left, as many as
+// are returned.
+pub fn answer<R: Env + Files>(
+    rt: &R,
+    err: &impl Print,
+    records: &mut [u8; 7340032],
+    text: &mut [u8; 8192],
+) -> Answered
+    ensures text { take result.text text.new ≡ week_answer (take result.records records.new) }
+    ensures lengths { (result.records ≤ 7340032) × (length text.new ≡ 8192) }
+{
+    if arguments::is_given(rt, 2) {
+        messages::more_arguments(err);
+    }
+    let n = read_week(rt, err, records);
+    answer_first(records, n, text)
+}
+
 // The text for a longer file, by its start and what is read on of it, all of it at the start of the buffer: the text for
 // the bytes there as it is left, as many as are returned. The path is what messages name.
-pub fn answer<F: std::io::Read + Drop>(
+pub fn answer_rest<F: std::io::Read + Drop>(
     err: &impl Print,
     path: &[u8],
     start: &[u8; 262144],

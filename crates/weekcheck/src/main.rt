@@ -57,7 +57,7 @@ fn write_long<F: io::Read + Drop>(
 ) -> io::Result<()> {
     let mut records = [0u8; 7340032];
     let mut text = [0u8; 8192];
-    let answered = week_file::answer(err, path, start, file, &mut records, &mut text);
+    let answered = week_file::answer_rest(err, path, start, file, &mut records, &mut text);
     out.write_all(text::cut(&text, answered.text))
 }
 

@@ -19,7 +19,7 @@ use crate::records::{Record, PAIR, REPORT, RUN, SUM};
 
 /// The divisor that the index of the support has as a rule, and that of the index of pairs.
 const SUPPORT: u64 = 3_821;
-const PAIRS: u64 = 1_499;
+const PAIRS: u64 = 2_039;
 
 /// The most members of the support.
 const MOST: usize = 2_048;
