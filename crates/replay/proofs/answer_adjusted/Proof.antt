@@ -6,10 +6,10 @@ use Rattle.replay.proofs.answer_adjusted.Statement.{statement}
 use Rattle.replay.proofs.answer_adjusted.Tie as tie
 
 returns : tie.Need-returns
-returns c = c.adjusted-line.ensures ∙ ap adjusted_line c.before.before.before.before.moved-bound.ensures.0
+returns c = c.adjusted_line.ensures ∙ ap adjusted_line c.moved_bound-v.ensures.0
 
-pub answer-adjusted-spec : {M : Type 1} → statement M
-answer-adjusted-spec =
+pub answer_adjusted_spec : {M : Type 1} → statement M
+answer_adjusted_spec =
     tie.close
     (tie.spec
     (λ c. search rules)

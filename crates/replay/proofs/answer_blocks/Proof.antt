@@ -16,11 +16,11 @@ same_line p q = cc
 returns : tie.Need-returns
 unfolding blocks_short
 returns c =
-    let called = c.before.before.before.before.before.before in
-    c.blocks-line.ensures ∙ same_line called.blocks2.ensures.0 called.blocks2.ensures.1.0
+    let called = c in
+    c.blocks_line.ensures ∙ same_line called.blocks-v.ensures.0 called.blocks-v.ensures.1.0
 
-pub answer-blocks-spec : {M : Type 1} → statement M
-answer-blocks-spec =
+pub answer_blocks_spec : {M : Type 1} → statement M
+answer_blocks_spec =
     tie.close
     (tie.spec
     (λ c. search rules)

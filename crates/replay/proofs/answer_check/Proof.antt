@@ -6,10 +6,10 @@ use Rattle.replay.proofs.answer_check.Statement.{statement}
 use Rattle.replay.proofs.answer_check.Tie as tie
 
 returns : tie.Need-returns
-returns c = c.check-line.ensures ∙ ap check_line c.before.before.before.before.check.ensures.0
+returns c = c.check_line.ensures ∙ ap check_line c.check-v.ensures.0
 
-pub answer-check-spec : {M : Type 1} → statement M
-answer-check-spec =
+pub answer_check_spec : {M : Type 1} → statement M
+answer_check_spec =
     tie.close
     (tie.spec
     (λ c. search rules)

@@ -6,10 +6,10 @@ use Rattle.replay.proofs.answer_pair.Statement.{statement}
 use Rattle.replay.proofs.answer_pair.Tie as tie
 
 returns : tie.Need-returns
-returns c = c.pair_line.ensures ∙ ap pair_line c.before.before.before.before.pair.ensures.0
+returns c = c.pair_line.ensures ∙ ap pair_line c.pair-v.ensures.0
 
-pub answer-pair-spec : {M : Type 1} → statement M
-answer-pair-spec =
+pub answer_pair_spec : {M : Type 1} → statement M
+answer_pair_spec =
     tie.close
     (tie.spec
     (λ c. search rules)

@@ -37,50 +37,50 @@ module _ (kind : ℕ) (problem first second : List ℕ) where
           unfolding record_answer
           of_none a = rw (ne_eqb kind 0x62 b, ne_eqb kind 0x63 c, ne_eqb kind 0x70 p, ne_eqb kind 0x73 s, ne_eqb kind 0x61 a) refl
 
-returns : tie.Need-returns
+returns : tie.Need-returns-then-kind-eq98
 returns c =
-    let s = c.before.before.before.before.before.args in
-    c.answer-blocks.ensures ∙ of_blocks s.kind s.problem.now s.first.now s.second.now
-    c.before.if1.true
+    let s = c.args in
+    c.answer_blocks.ensures ∙ of_blocks s.kind s.problem.now s.first.now s.second.now
+    c.if-kind-eq98.true
 
-returns-2 : tie.Need-returns-2
+returns-2 : tie.Need-returns-then-kind-eq99
 returns-2 c =
-    let s = c.before.before.before.before.before.before.args in
-    c.answer-check.ensures ∙ of-check s.kind s.problem.now s.first.now s.second.now
-    c.before.before.if1.false c.before.if2.true
+    let s = c.args in
+    c.answer_check.ensures ∙ of-check s.kind s.problem.now s.first.now s.second.now
+    c.if-kind-eq98.false c.if-kind-eq99.true
 
-returns-3 : tie.Need-returns-3
+returns-3 : tie.Need-returns-then-kind-eq112
 returns-3 c =
-    let i = c.before.before.before in
-    let s = i.before.before.before.before.args in
-    c.answer-pair.ensures ∙ of_pair s.kind s.problem.now s.first.now s.second.now i.if1.false
-    c.before.before.if2.false c.before.if3.true
+    let i = c in
+    let s = i.args in
+    c.answer_pair.ensures ∙ of_pair s.kind s.problem.now s.first.now s.second.now i.if-kind-eq98.false
+    c.if-kind-eq99.false c.if-kind-eq112.true
 
-returns-4 : tie.Need-returns-4
+returns-4 : tie.Need-returns-then-kind-eq115
 returns-4 c =
-    let i = c.before.before.before.before in
-    let s = i.before.before.before.before.args in
-    c.answer-symmetries.ensures ∙ of-symmetries s.kind s.problem.now s.first.now s.second.now
-    i.if1.false c.before.before.before.if2.false c.before.before.if3.false c.before.if4.true
+    let i = c in
+    let s = i.args in
+    c.answer_symmetries.ensures ∙ of-symmetries s.kind s.problem.now s.first.now s.second.now
+    i.if-kind-eq98.false c.if-kind-eq99.false c.if-kind-eq112.false c.if-kind-eq115.true
 
-returns-5 : tie.Need-returns-5
+returns-5 : tie.Need-returns-then-kind-eq97
 returns-5 c =
-    let p = c.before.before.before in
-    let i = p.before.before in
-    let s = i.before.before.before.before.args in
-    c.answer-adjusted.ensures ∙ of-adjusted s.kind s.problem.now s.first.now s.second.now
-    i.if1.false p.before.if2.false p.if3.false c.before.before.if4.false c.before.if5.true
+    let p = c in
+    let i = p in
+    let s = i.args in
+    c.answer_adjusted.ensures ∙ of-adjusted s.kind s.problem.now s.first.now s.second.now
+    i.if-kind-eq98.false p.if-kind-eq99.false p.if-kind-eq112.false c.if-kind-eq115.false c.if-kind-eq97.true
 
-returns-6 : tie.Need-returns-6
+returns-6 : tie.Need-returns
 returns-6 c =
-    let p = c.before.before in
-    let i = p.before.before in
-    let s = i.before.before.before.before.args in
-    of_none s.kind s.problem.now s.first.now s.second.now i.if1.false p.before.if2.false
-    p.if3.false c.before.if4.false c.if5.false
+    let p = c in
+    let i = p in
+    let s = i.args in
+    of_none s.kind s.problem.now s.first.now s.second.now i.if-kind-eq98.false p.if-kind-eq99.false
+    p.if-kind-eq112.false c.if-kind-eq115.false c.if-kind-eq97.false
 
-pub answer-record-spec : {M : Type 1} → statement M
-answer-record-spec =
+pub answer_record_spec : {M : Type 1} → statement M
+answer_record_spec =
     tie.close
     (tie.spec
     (λ c κs. search rules)

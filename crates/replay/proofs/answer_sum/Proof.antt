@@ -6,10 +6,10 @@ use Rattle.replay.proofs.answer_sum.Statement.{statement}
 use Rattle.replay.proofs.answer_sum.Tie as tie
 
 returns : tie.Need-returns
-returns c = c.sum-line.ensures ∙ ap sum_line c.before.before.before.before.sum.ensures.0
+returns c = c.sum_line.ensures ∙ ap sum_line c.sum-v.ensures.0
 
-pub answer-sum-spec : {M : Type 1} → statement M
-answer-sum-spec =
+pub answer_sum_spec : {M : Type 1} → statement M
+answer_sum_spec =
     tie.close
     (tie.spec
     (λ c. search rules)

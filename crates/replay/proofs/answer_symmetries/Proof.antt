@@ -16,11 +16,11 @@ same_line p q = cc
 returns : tie.Need-returns
 unfolding symmetries_short
 returns c =
-    let called = c.before.before.before.before.before.before in
-    c.symmetries-line.ensures ∙ same_line called.symmetries.ensures.0 called.symmetries.ensures.1.0
+    let called = c in
+    c.symmetries_line.ensures ∙ same_line called.symmetries-v.ensures.0 called.symmetries-v.ensures.1.0
 
-pub answer-symmetries-spec : {M : Type 1} → statement M
-answer-symmetries-spec =
+pub answer_symmetries_spec : {M : Type 1} → statement M
+answer_symmetries_spec =
     tie.close
     (tie.spec
     (λ c. search rules)

@@ -10,14 +10,14 @@ use Rattle.replay.proofs.arrival_at.Tie as tie
 
 returns : tie.Need-returns
 returns c =
-    let n = c.before in
+    let n = c in
     ap₂ fraction
-    (to_z-of_z {w = w64} (sfits_of n.signed64.type-inv) ∙ n.signed64.ensures
-    ∙ ap (signed 63) n.before.number_at.ensures.0)
-    c.number-at2.ensures.0
+    (to_z-of_z {w = w64} (sfits_of n.signed64-num.type_inv) ∙ n.signed64-num.ensures
+    ∙ ap (signed 63) n.number_at.ensures.0)
+    c.number_at-den.ensures.0
 
-pub arrival-at-spec : {M : Type 1} → statement M
-arrival-at-spec =
+pub arrival_at_spec : {M : Type 1} → statement M
+arrival_at_spec =
     tie.close
     (tie.spec
     (λ c. search rules)

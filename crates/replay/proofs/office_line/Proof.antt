@@ -13,12 +13,12 @@ line v w a b e f = rw (e, f)
 
 returns : tie.Need-returns
 returns c =
-    let k = c.before.before in
-    let e = k.before.before.before.before.before.before.before.before.office.ensures in
-    k.office-line.ensures ∙ line _ _ _ _ e.0 e.1.0
+    let k = c in
+    let e = k.office-v.ensures in
+    k.office_line.ensures ∙ line _ _ _ _ e.0 e.1.0
 
-pub office-line-spec : {M : Type 1} → statement M
-office-line-spec =
+pub office_line_spec : {M : Type 1} → statement M
+office_line_spec =
     tie.close
     (tie.spec
     (λ c. search rules)

@@ -12,20 +12,20 @@ use Rattle.replay.proofs.report_line.Tie as tie
 line : (v w : ReportVerdict) (a b : List ℕ) → v ≡ w → a ≡ b → report_line v a ≡ report_line w b
 line v w a b e f = rw (e, f)
 
-report-line-requires : tie.Need-report-line-requires
+report-line-requires : tie.Need-report_line-requires
 report-line-requires c κs =
-    let o = c.before.before.before.before.before.before in
-    let s = o.before.before.before.before.before.before.before.before.before in
-    omega (arith, s.requires, o.output.given)
+    let o = c in
+    let s = o in
+    omega (arith, s.requires, o.output-1.given)
 
 returns : tie.Need-returns
 returns c =
-    let k = c.before.before in
-    let e = k.before.before.before.before.before.before.before.before.report.ensures in
-    k.report-line.ensures ∙ line _ _ _ _ e.0 e.1.0
+    let k = c in
+    let e = k.report-v.ensures in
+    k.report_line.ensures ∙ line _ _ _ _ e.0 e.1.0
 
-pub report-line-spec : {M : Type 1} → statement M
-report-line-spec =
+pub report_line_spec : {M : Type 1} → statement M
+report_line_spec =
     tie.close
     (tie.spec
     (λ c. search rules)

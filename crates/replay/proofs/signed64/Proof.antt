@@ -32,24 +32,24 @@ module _ (x : ℕ) (h : 2 ^ 63 ≤ x) (k : x < 2 ^ 64) where
   turned_back : to_z w64 (of_z w64 (negsuc 0 -ℤ to_z w64 (18446744073709551615 - x))) ≡ signed 63 x
   turned_back = to_z-of_z turned_fits ∙ turned ∙ sym (below_all x k) ∙ upper 63 x h
 
-cast-result : tie.Need-overflow-cast-result
+cast-result : tie.Need-overflow_cast-result
 cast-result c = search rules
 
-returns : tie.Need-returns
-returns c = to_z_pos w64 (omega arith) ∙ lower 63 c.before.args.x (omega arith)
+returns : tie.Need-returns-then-x-lt9223372036854775808
+returns c = to_z_pos w64 (omega arith) ∙ lower 63 c.args.x (omega arith)
 
-sub-result : tie.Need-overflow-sub-result
+sub-result : tie.Need-overflow_sub-result
 sub-result c = search rules
 
-cast-result-2 : tie.Need-overflow-cast-result-2
+cast-result-2 : tie.Need-overflow_cast-result-2
 cast-result-2 c = search rules
 
-sub-result-2 : tie.Need-overflow-sub-result-2
-sub-result-2 c = turned_fits c.before.args.x (omega arith) (omega (arith, c.before.ranges.x.fits))
+sub-result-2 : tie.Need-overflow_sub-result-2
+sub-result-2 c = turned_fits c.args.x (omega arith) (omega (arith, c.ranges.x.fits))
 
-returns-2 : tie.Need-returns-2
-returns-2 c = turned_back c.before.args.x (omega arith) (omega (arith, c.before.ranges.x.fits))
+returns-2 : tie.Need-returns
+returns-2 c = turned_back c.args.x (omega arith) (omega (arith, c.ranges.x.fits))
 
-pub signed64-spec : {M : Type 1} → statement M
-signed64-spec =
+pub signed64_spec : {M : Type 1} → statement M
+signed64_spec =
     tie.close (tie.spec cast-result returns sub-result cast-result-2 sub-result-2 returns-2)

@@ -28,28 +28,28 @@ module _ (first second part : List ℕ) where
       → tighter_line f part ≡ tighter_verdict v first second
   line v f e h = rw (e, h)
 
-abbrev start : tie.After-tighter → tie.Start
+abbrev start : tie.After-tighter-part → tie.Start
 start c = c.before.before.before.before.before.before.before.before.before.before.before.before
 
-tighter-line-requires : tie.Need-tighter-line-requires
+tighter-line-requires : tie.Need-tighter_line-requires
 tighter-line-requires c κs =
-    let t = c.before.before.before.before in
-    let s = start t in
+    let t = c in
+    let s = start t.before.before.before.before in
     let a = s.args in
     let v = superseding_verdict false a.problem.now a.first.now a.second.now in
-    room a.first.now a.second.now _ v.chosen _ t.tighter.ensures.0 s.pre.0 s.pre.1
+    room a.first.now a.second.now _ v.chosen _ t.tighter-part.ensures.0 s.requires.0 s.requires.1
 
 returns : tie.Need-returns
 returns c =
-    let k = c.before.before in
-    let t = k.before.before.before.before.before in
-    let a = (start t).args in
+    let k = c in
+    let t = k in
+    let a = (start t.before.before.before.before.before.before.before).args in
     let v = superseding_verdict false a.problem.now a.first.now a.second.now in
-    let e = t.tighter.ensures in
-    k.tighter-line.ensures ∙ line a.first.now a.second.now _ v _ e.1.1.0 e.0
+    let e = t.tighter-part.ensures in
+    k.tighter_line.ensures ∙ line a.first.now a.second.now _ v _ e.1.1.0 e.0
 
-pub tighter-line-spec : {M : Type 1} → statement M
-tighter-line-spec =
+pub tighter_line_spec : {M : Type 1} → statement M
+tighter_line_spec =
     tie.close
     (tie.spec
     (λ c. search rules)

@@ -11,20 +11,20 @@ use Rattle.replay.proofs.tool_line.Tie as tie
 line : (n m : ℕ) (a b : List ℕ) → n ≡ m → a ≡ b → tool_line n a ≡ tool_line m b
 line n m a b e f = rw (e, f)
 
-tool-line-requires : tie.Need-tool-line-requires
+tool-line-requires : tie.Need-tool_line-requires
 tool-line-requires c κs =
-    let o = c.before.before.before in
-    let s = o.before.before.before.before.before.before.before.before in
-    omega (arith, s.requires, o.output.given)
+    let o = c in
+    let s = o in
+    omega (arith, s.requires, o.output-1.given)
 
 returns : tie.Need-returns
 returns c =
-    let k = c.before.before in
-    let e = k.before.before.before.before.before.zamiachisel-record.ensures in
-    k.tool-line.ensures ∙ line _ _ _ _ e.0 e.1.0
+    let k = c in
+    let e = k.zamiachisel_record-number.ensures in
+    k.tool_line.ensures ∙ line _ _ _ _ e.0 e.1.0
 
-pub tool-line-spec : {M : Type 1} → statement M
-tool-line-spec =
+pub tool_line_spec : {M : Type 1} → statement M
+tool_line_spec =
     tie.close
     (tie.spec
     (λ c κs. search rules)

@@ -1,0 +1,11 @@
+-- `window_line`: what is written, with the outcomes that are left, is the line.
+use Rattle.std.proofs.Common.{◌+◌, ◌-◌, ◌*◌, ◌/◌, ◌≤◌, length}
+use Rattle.replay.proofs.Written.{Written}
+use Rattle.replay.proofs.window_line.Given as goal
+
+abbrev pub invariant-loop-i : goal.invariant-loop-i
+invariant-loop-i l =
+    (l.i ≤ length l.run / 16) × ((l.at ≤ 6 + 65 * l.i) × Written l.run l.out l.at l.window l.i)
+
+abbrev pub decreases-loop-i : goal.decreases-loop-i
+decreases-loop-i l = length l.run / 16 - l.i
