@@ -78,8 +78,8 @@ enum zamiachisel_length {
 };
 
 /* Bytes of stack that are enough for any call. What a call of the library that this folder builds needs at most is computed from
-   its frames (tools/stack): blocks 129,232; check 129,696; check_two 129,760; choose 129,888; lines 180,288; moved_bound 141,056;
-   office 179,472; pair 129,712; record 178,880; record_count 8; report 129,808; sum 152,528; symmetries 129,280; tighter 129,840;
+   its frames (tools/stack): blocks 139,584; check 139,904; check_two 139,952; choose 140,080; lines 192,912; moved_bound 151,264;
+   office 189,680; pair 139,904; record 189,072; record_count 8; report 140,016; sum 162,672; symmetries 139,600; tighter 140,032;
    window_push 880. */
 enum zamiachisel_stack { ZAMIACHISEL_STACK_BYTES = 262144 };
 
