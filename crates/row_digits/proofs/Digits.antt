@@ -246,9 +246,12 @@ module _ {d : ℤ → ℤ} {factors : List ℤ} {t : ℕ} {held : List ℤ} {wid
   set_more : {now : Bool} → t < length held → (now ≡ false → (wide ≡ false) × (high_digit l ≡ pos 0)) → HoldsDigits d factors (t + 1) (set held t (d l)) now
   set_more b n = digits_more (λ k h. get_or-set_other held t k (d l) (pos 0) (λ e. omega arith)) (get_or-set_same held t (d l) (pos 0) b) n
 
-  -- of a wide factor
+  -- of a wide factor, and of one that is not
   pub digits_wide : t < length held → HoldsDigits d factors (t + 1) (set held t (d l)) true
   digits_wide b = set_more b (λ e. clash (cc))
+
+  pub digits_narrow : t < length held → high_digit l ≡ pos 0 → HoldsDigits d factors (t + 1) (set held t (d l)) wide
+  digits_narrow b z = set_more b (λ e. (e, z))
 
   -- in place
   pub digits_kept : get_or held t (pos 0) ≡ d l → high_digit l ≡ pos 0 → HoldsDigits d factors (t + 1) held wide
