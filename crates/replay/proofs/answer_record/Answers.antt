@@ -1,12 +1,8 @@
 -- `answer_record`: by the kind.
-use borrow.Author.Rules.{rules}
 use borrow.Author.Tests.{eq-eqb, ne_eqb}
-use mathlib.Core.Path.{◌≡◌, refl, ◌∙◌}
-use mathlib.Core.List.{List, []}
-use Prim.Native.Nat.{ℕ}
+use Rattle.std.proofs.Common.{◌≡◌, refl, ◌∙◌, List, [], ℕ}
 use Rattle.replay.specs.Records.{blocks_answer, check_answer, pair_answer, symmetries_answer, adjusted_answer, record_answer}
-use Rattle.replay.proofs.answer_record.Statement.{statement}
-use Rattle.replay.proofs.answer_record.Tie as tie
+use Rattle.replay.proofs.answer_record.Goals as goal
 
 module _ (kind : ℕ) (problem first second : List ℕ) where
   of_blocks : kind ≡ 0x62 → blocks_answer problem ≡ record_answer kind problem first second
@@ -37,60 +33,37 @@ module _ (kind : ℕ) (problem first second : List ℕ) where
           unfolding record_answer
           of_none a = rw (ne_eqb kind 0x62 b, ne_eqb kind 0x63 c, ne_eqb kind 0x70 p, ne_eqb kind 0x73 s, ne_eqb kind 0x61 a) refl
 
-returns : tie.Need-returns-then-kind-eq98
-returns c =
+pub returns-then-kind-eq98 : goal.returns-then-kind-eq98
+returns-then-kind-eq98 c =
     let s = c.args in
-    c.answer_blocks.ensures ∙ of_blocks s.kind s.problem.now s.first.now s.second.now
-    c.if-kind-eq98.true
+    c.answer_blocks.ensures ∙ of_blocks s.kind s.problem.now s.first.now s.second.now c.if-kind-eq98.true
 
-returns-2 : tie.Need-returns-then-kind-eq99
-returns-2 c =
+pub returns-then-kind-eq99 : goal.returns-then-kind-eq99
+returns-then-kind-eq99 c =
     let s = c.args in
     c.answer_check.ensures ∙ of-check s.kind s.problem.now s.first.now s.second.now
     c.if-kind-eq98.false c.if-kind-eq99.true
 
-returns-3 : tie.Need-returns-then-kind-eq112
-returns-3 c =
-    let i = c in
-    let s = i.args in
-    c.answer_pair.ensures ∙ of_pair s.kind s.problem.now s.first.now s.second.now i.if-kind-eq98.false
-    c.if-kind-eq99.false c.if-kind-eq112.true
+pub returns-then-kind-eq112 : goal.returns-then-kind-eq112
+returns-then-kind-eq112 c =
+    let s = c.args in
+    c.answer_pair.ensures ∙ of_pair s.kind s.problem.now s.first.now s.second.now
+    c.if-kind-eq98.false c.if-kind-eq99.false c.if-kind-eq112.true
 
-returns-4 : tie.Need-returns-then-kind-eq115
-returns-4 c =
-    let i = c in
-    let s = i.args in
+pub returns-then-kind-eq115 : goal.returns-then-kind-eq115
+returns-then-kind-eq115 c =
+    let s = c.args in
     c.answer_symmetries.ensures ∙ of-symmetries s.kind s.problem.now s.first.now s.second.now
-    i.if-kind-eq98.false c.if-kind-eq99.false c.if-kind-eq112.false c.if-kind-eq115.true
+    c.if-kind-eq98.false c.if-kind-eq99.false c.if-kind-eq112.false c.if-kind-eq115.true
 
-returns-5 : tie.Need-returns-then-kind-eq97
-returns-5 c =
-    let p = c in
-    let i = p in
-    let s = i.args in
+pub returns-then-kind-eq97 : goal.returns-then-kind-eq97
+returns-then-kind-eq97 c =
+    let s = c.args in
     c.answer_adjusted.ensures ∙ of-adjusted s.kind s.problem.now s.first.now s.second.now
-    i.if-kind-eq98.false p.if-kind-eq99.false p.if-kind-eq112.false c.if-kind-eq115.false c.if-kind-eq97.true
+    c.if-kind-eq98.false c.if-kind-eq99.false c.if-kind-eq112.false c.if-kind-eq115.false c.if-kind-eq97.true
 
-returns-6 : tie.Need-returns
-returns-6 c =
-    let p = c in
-    let i = p in
-    let s = i.args in
-    of_none s.kind s.problem.now s.first.now s.second.now i.if-kind-eq98.false p.if-kind-eq99.false
-    p.if-kind-eq112.false c.if-kind-eq115.false c.if-kind-eq97.false
-
-pub answer_record_spec : {M : Type 1} → statement M
-answer_record_spec =
-    tie.close
-    (tie.spec
-    (λ c κs. search rules)
-    returns
-    (λ c κs. search rules)
-    returns-2
-    (λ c κs. search rules)
-    returns-3
-    (λ c κs. search rules)
-    returns-4
-    (λ c κs. search rules)
-    returns-5
-    returns-6)
+pub returns : goal.returns
+returns c =
+    let s = c.args in
+    of_none s.kind s.problem.now s.first.now s.second.now
+    c.if-kind-eq98.false c.if-kind-eq99.false c.if-kind-eq112.false c.if-kind-eq115.false c.if-kind-eq97.false
