@@ -1,16 +1,16 @@
 -- Laws of the index: what it tells of a key, and how it grows by one more.
 use mathlib.Core.Path.{◌≡◌, refl, sym, ap, ◌∙◌}
-use mathlib.Core.Bool.{Bool, true, false}
+use mathlib.Core.Bool.{true, false}
 use mathlib.Core.List.{List, [], ◌∷◌}
 use Prim.Native.Nat.{ℕ, zero, suc, ◌+◌, ◌-◌, ◌%◌, ◌≤◌, ◌<◌}
 use native.Mathlib.Nat.{add_comm, mod-lt, mod-eq_of_lt, mod-add-mod, add-mod_right}
 use native.Mathlib.Omega.{arith}
-use borrow.Author.Tests.{eqb-true, eq-eqb, ne_eqb}
+use borrow.Author.Tests.{eq-eqb, ne_eqb}
 use lib.Dec.{eqb}
 use lib.ListN.{length, get_or, take, set, replicate, length-set, length-replicate, get_or-replicate}
 use lib.Seq.{get_or-set_same, get_or-set_other, get_or-take, length-take-le}
 use Rattle.hash_chain.specs.Chain.{Chain}
-use Rattle.hash_chain.proofs.Chain.{last_le, Search, chain_start, chain_as, chain_next, search_start, search_here, search_less, search_step}
+use Rattle.hash_chain.proofs.Chain.{last_le, Search, chain_start, chain_as, chain_next, search_start, search_less, search_step}
 use Rattle.joining_rule.specs.Sets.{member, insert}
 use Rattle.key_set.specs.Table.{first, divisor_in, keys_in, Holds, has_rest, Indexed, Linked, noted, BesideMark, Stored}
 use Rattle.key_set.proofs.Keys.{inside, stored_new}

@@ -1,10 +1,11 @@
 -- The support in a lent table: its keys are the table's first numbers, each once, in the order in which they came. An
 -- index of 6,144 numbers finds them.
-use Rattle.std.specs.Prelude.{◌≡◌, Bool, false, List, [], ℕ, ◌+◌, ◌-◌, ◌%◌, ◌≤◌, ◌<◌, min, eqb, length, get_or, take, drop, set}
+use Rattle.std.specs.Prelude.{◌≡◌, Bool, false, List, [], ℕ, ◌+◌, ◌-◌, ◌%◌, ◌≤◌, ◌<◌, min, eqb, length, get_or, take, drop, set, Result, Ok, Err}
 use Rattle.hash_chain.specs.Chain.{Chain}
 use Rattle.joining_rule.specs.Sets.{member, insert_all}
 use Rattle.key_set.specs.declared.Found.{Found}
 use Rattle.key_set.specs.declared.Found.TheVariants.{At, Nowhere}
+use Rattle.key_set.specs.declared.Full.{Full}
 
 -- the set of the table's first n numbers
 unfoldable pub keys_in : ℕ → List ℕ → List ℕ
@@ -63,6 +64,11 @@ pub record BesideMark (idx idx' : List ℕ) : Type 0 where
   pub same : (q : ℕ) → (q ≡ 4094 → ⊥) → get_or idx' q 0 ≡ get_or idx q 0
 
 -- ---- growth
+-- the number of the keys that are answered: 2,049 where there would be more than 2,048
+abbrev pub count_in : Result ℕ Full → ℕ
+count_in (Ok n) = n
+count_in (Err f) = 2049
+
 -- the table t, grown to hold the set S: r is the number of its keys, which t' holds, or 2,049 where S has more than
 -- 2,048
 pub record Grown (S t : List ℕ) (r : ℕ) (t' : List ℕ) : Type 0 where

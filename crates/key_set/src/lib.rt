@@ -9,9 +9,9 @@
 // Place BELOW of the index has how far its divisor is below FIRST, and place MARK the mark; a remainder is below both.
 #![tactic(auto)]
 
-ghost use Rattle.std.specs.Prelude.{◌≡◌, ℕ, ◌+◌, ◌%◌, ◌≤◌, ◌<◌, length, get_or, take};
+ghost use Rattle.std.specs.Prelude.{◌≡◌, ℕ, ◌+◌, ◌%◌, ◌≤◌, ◌<◌, length, get_or, take, IfOk};
 ghost use Rattle.joining_rule.specs.Sets.{member, insert};
-ghost use Rattle.key_set.specs.Table.{first, divisor_in, keys_in, Holds, Divided, Indexed, Linked, noted, Finds, Stored, BesideMark};
+ghost use Rattle.key_set.specs.Table.{first, divisor_in, keys_in, Holds, Divided, Indexed, Linked, noted, Finds, count_in, Stored, BesideMark};
 
 // A divisor with which few keys share a place. Any number up to 4,094 would do.
 pub const FIRST: usize = 3821;
@@ -149,33 +149,44 @@ fn mark(index: &mut [u16], steps: usize)
     }
 }
 
-// The set with a key put in whose place in the index is known, and the number of its keys: 2,049 where it would have
-// more than 2,048.
-pub fn put_at(table: &mut [u64], index: &mut [u16], len: usize, key: u64, at: usize) -> usize
+// The support would have more than 2,048 keys.
+#[derive(Clone, Copy, Debug, PartialEq, Eq)]
+pub struct Full;
+
+// The set with a key put in whose place in the index is known, and the number of its keys.
+pub fn put_at(
+    table: &mut [u64],
+    index: &mut [u16],
+    len: usize,
+    key: u64,
+    at: usize,
+) -> Result<usize, Full>
     requires { (Holds table.old len × Indexed index.old table.old len) × (at ≡ key % divisor_in index.old) }
-    ensures { Stored len (insert key (keys_in len table.old)) table.old result table.new
+    ensures { Stored len (insert key (keys_in len table.old)) table.old (count_in result) table.new
         index.new
+        × IfOk result (λ n. n ≤ 2048)
         × (divisor_in index.new ≡ divisor_in index.old) }
 {
     match find_at(table, index, len, key, at) {
-        Found::At(_) => len,
+        Found::At(_) => Ok(len),
         Found::Nowhere(steps) => {
             if 2047 < len {
-                return 2049;
+                return Err(Full);
             }
             table[len] = key;
             note(index, len, at);
             mark(index, steps);
-            len + 1
+            Ok(len + 1)
         }
     }
 }
 
 // The same for any key.
-pub fn put(table: &mut [u64], index: &mut [u16], len: usize, key: u64) -> usize
+pub fn put(table: &mut [u64], index: &mut [u16], len: usize, key: u64) -> Result<usize, Full>
     requires { Holds table.old len × Indexed index.old table.old len }
-    ensures { Stored len (insert key (keys_in len table.old)) table.old result table.new
-        index.new }
+    ensures { Stored len (insert key (keys_in len table.old)) table.old (count_in result) table.new
+        index.new
+        × IfOk result (λ n. n ≤ 2048) }
 {
     put_at(table, index, len, key, slot(index, key))
 }
@@ -282,20 +293,16 @@ fn spread(table: &[u64], index: &mut [u16], len: usize)
 
 // The set with its last key put in, as by `put`. From then on it is only looked at, so the keys are spread anew where
 // many of them shared a remainder with any of the divisors so far.
-pub fn put_last(table: &mut [u64], index: &mut [u16], len: usize, key: u64) -> usize
+pub fn put_last(table: &mut [u64], index: &mut [u16], len: usize, key: u64) -> Result<usize, Full>
     requires { Holds table.old len × Indexed index.old table.old len }
-    ensures { Stored len (insert key (keys_in len table.old)) table.old result table.new
-        index.new }
+    ensures { Stored len (insert key (keys_in len table.old)) table.old (count_in result) table.new
+        index.new
+        × IfOk result (λ n. n ≤ 2048) }
 {
-    let n = put(table, index, len, key);
-    if 2048 < n {
-        return n;
-    }
-    if index[BELOW] == 0 {
-        if index[MARK] == 0 {
-            return n;
-        }
+    let n = put(table, index, len, key)?;
+    if index[BELOW] == 0 && index[MARK] == 0 {
+        return Ok(n);
     }
     spread(table, index, n);
-    n
+    Ok(n)
 }

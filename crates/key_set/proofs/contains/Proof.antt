@@ -1,6 +1,5 @@
 -- `key_set::contains` meets its contract.
 use borrow.Author.Rules.{rules}
-use Prim.Native.Nat.{◌-◌}
 use Rattle.key_set.proofs.Keys.{found_at, found_nowhere}
 use Rattle.key_set.proofs.contains.Statement.{statement}
 use Rattle.key_set.proofs.contains.Tie as tie

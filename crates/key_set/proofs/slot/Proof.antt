@@ -1,6 +1,6 @@
 -- `slot`: both ways divide by the divisor of the index.
 use borrow.Author.Rules.{rules}
-use mathlib.Core.Path.{◌≡◌, sym, ap, ◌∙◌}
+use mathlib.Core.Path.{sym, ap, ◌∙◌}
 use Prim.Native.Nat.{ℕ, ◌%◌}
 use Rattle.key_set.proofs.slot.Statement.{statement}
 use Rattle.key_set.proofs.slot.Tie as tie

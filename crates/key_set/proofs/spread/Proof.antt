@@ -1,7 +1,5 @@
 -- `spread`: with every divisor that is tried the index is that of the keys.
 use borrow.Author.Rules.{rules}
-use native.Mathlib.Omega.{arith}
-use mathlib.Core.Path.{sym, ◌∙◌}
 use Prim.Native.Nat.{◌-◌, ◌≤◌}
 use Rattle.key_set.specs.Table.{Indexed}
 use Rattle.key_set.proofs.Index.{linked}
