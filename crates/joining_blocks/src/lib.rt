@@ -9,9 +9,9 @@ ghost use Rattle.joining_rule.specs.Join.{merged};
 ghost use Rattle.round_laws.specs.Joins.{Two};
 ghost use Rattle.round_laws.specs.Lists.{Lists, TwoBlocks};
 ghost use Rattle.joining_blocks.specs.Standing.{reached, Ready, Grew};
-ghost use Rattle.joining_blocks.specs.Arrays.{standing_at, SameArrays};
+ghost use Rattle.joining_blocks.specs.Tables.{standing_at, SameTables};
 
-use joining_products::Cross;
+use joining_products::{Basis, Cross};
 use key_set::Full;
 
 // How far a joining is: it looks at the members of the support from `since` on, before `until`; the support has `len`
@@ -27,17 +27,14 @@ pub struct Reach {
     pub adds: bool,
 }
 
-// One basis while it joins: its keys and the exponents of its multiplier, its blocks, the index of its pairs, and the
-// support with its index.
+// What a joining of one basis changes: its blocks, the index of its pairs, and the support with its index.
 #[derive(Drop)]
-pub struct Joining<'a, 'b> {
-    pub basis: &'a [u64],
-    pub exponents: &'a [u64],
-    pub labels: &'b mut [u8],
-    pub follow: &'b mut [u8],
-    pub pairs: &'b mut [u16],
-    pub table: &'b mut [u64],
-    pub index: &'b mut [u16],
+pub struct Tables<'a> {
+    pub labels: &'a mut [u8],
+    pub follow: &'a mut [u8],
+    pub pairs: &'a mut [u16],
+    pub table: &'a mut [u64],
+    pub index: &'a mut [u16],
 }
 
 // The block b put behind the first index of the block a.
@@ -59,22 +56,20 @@ fn splice(labels: &mut [u8], follow: &mut [u8], m: Cross)
     follow[a] = m.b;
 }
 
-impl Joining<'_, '_> {
+impl Tables<'_> {
     // Two blocks made one, with their products put in where the basis adds.
-    fn merge(&mut self, r: Reach, m: Cross) -> Result<Reach, Full>
-        requires { Ready self.old.exponents.now self.old.basis.now (standing_at self.old r)
+    fn merge(&mut self, basis: Basis<'_>, r: Reach, m: Cross) -> Result<Reach, Full>
+        requires { Ready basis.exponents.now basis.keys.now (standing_at self.old r)
             × TwoBlocks m.a m.b self.old.labels.now self.old.follow.now }
-        ensures grew { Grew self.old.exponents.now self.old.basis.now (Two m.a m.b)
+        ensures grew { Grew basis.entry.exponents.now basis.entry.keys.now (Two m.a m.b)
             (standing_at self.old r) (standing_at self.new (reached r result)) }
         ensures room { IfOk result (λ q. q.len ≤ 2048) }
-        ensures same { SameArrays self.old self.new }
+        ensures same { SameTables self.old self.new }
     {
-        let (basis, exponents) = (self.basis, self.exponents);
         let follow = &mut *self.follow;
-        let (pairs, table, index) = (&mut *self.pairs, &mut *self.table, &mut *self.index);
         let len = if r.adds {
             joining_products::add_cross(
-                follow, basis, exponents, pairs, table, index, r.len, m,
+                follow, basis, self.pairs, self.table, self.index, r.len, m,
             )?
         } else {
             r.len
@@ -88,14 +83,14 @@ impl Joining<'_, '_> {
     }
 
     // The blocks of two indices made one.
-    pub fn join_two(&mut self, r: Reach, p: usize) -> Result<Reach, Full>
-        requires { Ready self.old.exponents.now self.old.basis.now (standing_at self.old r)
-            × (p / 64 < length self.old.basis.now)
-            × (p % 64 < length self.old.basis.now) }
-        ensures grew { Grew self.old.exponents.now self.old.basis.now (Two (p / 64) (p % 64))
+    pub fn join_two(&mut self, basis: Basis<'_>, r: Reach, p: usize) -> Result<Reach, Full>
+        requires { Ready basis.exponents.now basis.keys.now (standing_at self.old r)
+            × (p / 64 < length basis.keys.now)
+            × (p % 64 < length basis.keys.now) }
+        ensures grew { Grew basis.entry.exponents.now basis.entry.keys.now (Two (p / 64) (p % 64))
             (standing_at self.old r) (standing_at self.new (reached r result)) }
         ensures room { IfOk result (λ q. q.len ≤ 2048) }
-        ensures same { SameArrays self.old self.new }
+        ensures same { SameTables self.old self.new }
     {
         let a = self.labels[p / 64];
         let b = self.labels[p % 64];
@@ -107,6 +102,6 @@ impl Joining<'_, '_> {
         } else {
             Cross { a: b, b: a }
         };
-        self.merge(r, m)
+        self.merge(basis, r, m)
     }
 }

@@ -1,8 +1,8 @@
--- `joining_blocks::Joining::join_two` meets its contract: where the blocks are two, the lower number goes first.
+-- `joining_blocks::Tables::join_two` meets its contract: where the blocks are two, the lower number goes first.
 use Rattle.joining_blocks.proofs.Grew.{grew_same}
 use Rattle.joining_blocks.proofs.Merged.{two_same, two_grew, two_turned}
-use Rattle.joining_blocks.proofs.Joining.join_two.Goals as goal
-use Rattle.joining_blocks.proofs.Joining.join_two.Goals.{then-a-b-2, else-a-b-2}
+use Rattle.joining_blocks.proofs.Tables.join_two.Goals as goal
+use Rattle.joining_blocks.proofs.Tables.join_two.Goals.{then-a-b-2, else-a-b-2}
 
 pub returns-then-a-b-clause-grew : goal.returns-then-a-b-clause-grew
 returns-then-a-b-clause-grew c =

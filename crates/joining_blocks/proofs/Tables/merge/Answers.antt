@@ -1,9 +1,9 @@
--- `joining_blocks::Joining::merge` meets its contract: in both branches the support is that of the blocks made one.
+-- `joining_blocks::Tables::merge` meets its contract: in both branches the support is that of the blocks made one.
 use Rattle.std.proofs.Common.{refl, ◌∙◌, arith}
 use Rattle.joining_blocks.proofs.Grew.{grew_full}
 use Rattle.joining_blocks.proofs.Merged.{some_left, merge_adds, merge_only, merge_full, merge_grew}
-use Rattle.joining_blocks.proofs.Joining.merge.Goals as goal
-use Rattle.joining_blocks.proofs.Joining.merge.Goals.{then-r+in_ok-len, else-r}
+use Rattle.joining_blocks.proofs.Tables.merge.Goals as goal
+use Rattle.joining_blocks.proofs.Tables.merge.Goals.{then-r+in_ok-len, else-r}
 
 pub returns-in_err-len-clause-grew : goal.returns-in_err-len-clause-grew
 returns-in_err-len-clause-grew c =
