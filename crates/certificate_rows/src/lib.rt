@@ -1,11 +1,20 @@
 // What stands at an offset of a certificate stream that is read: the operands of a row's command and of an entry's, and
-// where the next entry stands.
+// where the next entry stands; and the rows of such a stream.
 #![tactic(auto)]
 
 ghost use Rattle.std.specs.Prelude.{◌≡◌, ◌+◌, ◌≤◌, length};
 ghost use Rattle.format.specs.declared.certificate.Command.TheVariants as C;
 ghost use Rattle.format.specs.CertificateLayout.{certificate_size};
 ghost use Rattle.certificate_rows.specs.Offsets.{size_at, entry_at, basis_at, weight_at, EntryStands};
+
+// The rows of a certificate that is read: its bytes, the offsets of its rows, of which row r stands from starts[r] to
+// starts[r + 1], and how many rows there are.
+#[derive(Clone, Copy)]
+pub struct Rows<'a> {
+    pub stream: &'a [u8],
+    pub starts: &'a [usize; 129],
+    pub count: usize,
+}
 
 // The basis of the row whose command stands at an offset.
 pub fn basis_at(s: &[u8], at: usize) -> usize
