@@ -1,7 +1,7 @@
 -- Laws of the support's growth in its table: two growths one after the other, and a loop that grows it.
 use mathlib.Core.Path.{◌≡◌, refl, sym, ap, ◌∙◌}
 use mathlib.Core.List.{List}
-use Prim.Native.Nat.{ℕ, ◌+◌, ◌%◌, ◌≤◌, ◌<◌}
+use Prim.Native.Nat.{ℕ, ◌+◌, ◌≤◌, ◌<◌}
 use native.Mathlib.Omega.{arith}
 use native.Mathlib.Numerals.{add-one}
 use lib.ListN.{length, get_or, take, drop, drop_of_length-le}
@@ -93,10 +93,6 @@ module _ (t₀ : List ℕ) where
     pub growing_full : (S' t' idx' : List ℕ) → Stored n S' t 2049 t' idx' → (f' : List ℕ → List ℕ) → f (keys_in n t) ≡ f' S' → Extends S' (f' S')
         → (r : Result ℕ Full) → IsErr r → Stored n₀ goal t₀ (count_in r) t' idx' × IfOk r (λ k. k ≤ 2048)
     growing_full S' t' idx' g f' e x r w = (rw (count_full r w) (growing_stop S' 2049 t' idx' g f' e (omega arith) x), IfOk-from_err r _ w)
-
--- a remainder, where the divisor is known
-pub by_divisor : (r k d e : ℕ) → d ≡ e → r ≡ k % e → r ≡ k % d
-by_divisor r k d e u v = v ∙ ap (λ (n : ℕ). k % n) (sym u)
 
 -- ---- the loops' parts
 module _ (T : List ℕ) (s : ℕ) (S : List ℕ) where

@@ -128,6 +128,7 @@ fn add_row(
     let k = c.b as usize;
     let mut n = len;
     let mut i = c.a as usize;
+    // A walk along a list, each of whose places tells the next.
     while i < 64 {
         n = add_pair(table, index, n, exponents, basis, pairs, i, k)?;
         i = follow[i] as usize;
@@ -159,6 +160,7 @@ pub fn add_cross(
 {
     let mut n = len;
     let mut k = m.b;
+    // Such a walk, too.
     while k < 64 {
         let c = Cross { a: m.a, b: k };
         n = add_row(follow, basis, exponents, pairs, table, index, n, c)?;

@@ -1,13 +1,13 @@
 -- Laws of the index: what it tells of a key, and how it grows by one more.
 use mathlib.Core.Path.{◌≡◌, refl, sym, ap, ◌∙◌}
 use mathlib.Core.Bool.{true, false}
-use mathlib.Core.List.{List, [], ◌∷◌}
+use mathlib.Core.List.{List, [], ◌∷◌, ◌++◌}
 use Prim.Native.Nat.{ℕ, zero, suc, ◌+◌, ◌-◌, ◌%◌, ◌≤◌, ◌<◌}
 use native.Mathlib.Nat.{add_comm, mod-lt, mod-eq_of_lt, mod-add-mod, add-mod_right}
 use native.Mathlib.Omega.{arith}
 use borrow.Author.Tests.{eq-eqb, ne_eqb}
 use lib.Dec.{eqb}
-use lib.ListN.{length, get_or, take, set, replicate, length-set, length-replicate, get_or-replicate}
+use lib.ListN.{length, get_or, take, drop, set, replicate, length-set, length-append, length-drop, length-replicate, get_or-append, get_or-replicate}
 use lib.Seq.{get_or-set_same, get_or-set_other, get_or-take, length-take-le}
 use Rattle.hash_chain.specs.Chain.{Chain}
 use Rattle.hash_chain.proofs.Chain.{last_le, Search, chain_start, chain_as, chain_next, search_start, search_less, search_step}
@@ -105,6 +105,14 @@ indexed_none idx t l b z = record {
   some = b;
   chain = chain_start 4096 (divisor_in idx) (has_rest (divisor_in idx) t) (omega arith) idx (λ h u. z h (omega arith));
 }
+
+-- an index of 6,144 numbers with its first 4,096 places cleared, and a divisor
+pub indexed_cleared : (idx t : List ℕ) (below : ℕ) → length idx ≡ 6144 → below < first → Indexed (set (replicate 4096 0 ++ drop 4096 idx) 4095 below) t 0
+indexed_cleared idx t below l b =
+    let z = replicate 4096 0 ++ drop 4096 idx in
+    let long : length z ≡ 6144 = omega (arith, length-append (replicate 4096 0) (drop 4096 idx), length-replicate {A = ℕ} 4096 0, length-drop 4096 idx) in
+    indexed_none (set z 4095 below) t (length-set z 4095 below ∙ long) (rw (get_or-set_same z 4095 below 0 (omega arith)) b)
+    (λ q u. get_or-set_other z 4095 q below 0 (λ w. omega arith) ∙ get_or-append (replicate 4096 0) (drop 4096 idx) 0 q (omega (arith, length-replicate {A = ℕ} 4096 0)) ∙ get_or-replicate {A = ℕ} 4096 q 0 0 (omega arith))
 
 pub indexed_start : (t : List ℕ) → Indexed (replicate 6144 0) t 0
 indexed_start t =

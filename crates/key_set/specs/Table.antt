@@ -3,8 +3,6 @@
 use Rattle.std.specs.Prelude.{◌≡◌, Bool, false, List, [], ℕ, ◌+◌, ◌-◌, ◌%◌, ◌≤◌, ◌<◌, min, eqb, length, get_or, take, drop, set, Result, Ok, Err}
 use Rattle.hash_chain.specs.Chain.{Chain}
 use Rattle.joining_rule.specs.Sets.{member, insert_all}
-use Rattle.key_set.specs.declared.Found.{Found}
-use Rattle.key_set.specs.declared.Found.TheVariants.{At, Nowhere}
 use Rattle.key_set.specs.declared.Full.{Full}
 
 -- the set of the table's first n numbers
@@ -18,9 +16,9 @@ pub record Holds (t : List ℕ) (n : ℕ) : Type 0 where
   pub apart : length (keys_in n t) ≡ n
 
 -- where a key stands in a list, if it does
-abbrev pub Finds : ℕ → List ℕ → Found → Type 0
-Finds k l (At p) = (p < length l) × (get_or l p 0 ≡ k)
-Finds k l (Nowhere steps) = (member k l ≡ false) × (steps ≤ length l)
+abbrev pub Finds : ℕ → List ℕ → Result ℕ ℕ → Type 0
+Finds k l (Ok p) = (p < length l) × (get_or l p 0 ≡ k)
+Finds k l (Err steps) = (member k l ≡ false) × (steps ≤ length l)
 
 -- ---- the index
 -- the divisor that an index has as a rule. Any number up to 4,094 would do; with this one few keys share a place

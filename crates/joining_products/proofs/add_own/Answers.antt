@@ -1,5 +1,5 @@
 -- `joining_products::add_own` meets its contract.
-use Rattle.std.proofs.Common.{◌<◌, ◌+◌, sym, ap, ◌∙◌, arith}
+use Rattle.std.proofs.Common.{◌+◌, sym, ap, ◌∙◌, arith}
 use lib.ListN.{length}
 use Rattle.counting.specs.Counting.{from_to}
 use Rattle.counting.proofs.Steps.{from_to_done, from_to_more}
