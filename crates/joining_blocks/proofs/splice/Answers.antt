@@ -1,5 +1,5 @@
 -- `joining_blocks::splice` meets its contract.
-use Prim.Native.Nat.{◌≤◌, ◌<◌}
+use Prim.Native.Nat.{◌≤◌}
 use native.Mathlib.Omega.{arith}
 use lib.ListN.{length}
 use Rattle.round_laws.proofs.Merging.{merging_start, merging_step, merging_less, merging_labels, merging_lists}

@@ -1,5 +1,4 @@
 -- `joining_blocks::splice`: the indices from k on have still to be given the number a.
-use Prim.Native.Nat.{ℕ}
 use lib.ListN.{length}
 use Rattle.round_laws.specs.Lists.{list_from}
 use Rattle.round_laws.proofs.Merging.{Merging}
