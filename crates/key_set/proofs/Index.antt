@@ -106,13 +106,19 @@ indexed_none idx t l b z = record {
   chain = chain_start 4096 (divisor_in idx) (has_rest (divisor_in idx) t) (omega arith) idx (λ h u. z h (omega arith));
 }
 
--- an index of 6,144 numbers with its first 4,096 places cleared, and a divisor
-pub indexed_cleared : (idx t : List ℕ) (below : ℕ) → length idx ≡ 6144 → below < first → Indexed (set (replicate 4096 0 ++ drop 4096 idx) 4095 below) t 0
-indexed_cleared idx t below l b =
-    let z = replicate 4096 0 ++ drop 4096 idx in
-    let long : length z ≡ 6144 = omega (arith, length-append (replicate 4096 0) (drop 4096 idx), length-replicate {A = ℕ} 4096 0, length-drop 4096 idx) in
-    indexed_none (set z 4095 below) t (length-set z 4095 below ∙ long) (rw (get_or-set_same z 4095 below 0 (omega arith)) b)
-    (λ q u. get_or-set_other z 4095 q below 0 (λ w. omega arith) ∙ get_or-append (replicate 4096 0) (drop 4096 idx) 0 q (omega (arith, length-replicate {A = ℕ} 4096 0)) ∙ get_or-replicate {A = ℕ} 4096 q 0 0 (omega arith))
+-- an index whose first n places are cleared, and a divisor
+pub indexed_cleared : (n : ℕ) (idx z t : List ℕ) (below : ℕ) → z ≡ replicate (length (take n idx)) 0 → length idx ≡ 6144 → first ≤ n → n ≤ 6144 → below < first → Indexed (set (z ++ drop n idx) 4095 below) t 0
+indexed_cleared n idx z t below e l f m b =
+    let k : z ≡ replicate n 0 = e ∙ ap (λ (j : ℕ). replicate j 0) (length-take-le n idx (omega arith)) in
+    let some : length z ≡ n = ap length k ∙ length-replicate {A = ℕ} n 0 in
+    let whole = z ++ drop n idx in
+    let long : length whole ≡ 6144 = omega (arith, length-append z (drop n idx), length-drop n idx) in
+    indexed_none (set whole 4095 below) t (length-set whole 4095 below ∙ long) (rw (get_or-set_same whole 4095 below 0 (omega arith)) b)
+    (λ q u.
+    get_or-set_other whole 4095 q below 0 (λ w. omega arith)
+    ∙ get_or-append z (drop n idx) 0 q (omega arith)
+    ∙ ap (λ (y : List ℕ). get_or y q 0) k
+    ∙ get_or-replicate {A = ℕ} n q 0 0 (omega arith))
 
 pub indexed_start : (t : List ℕ) → Indexed (replicate 6144 0) t 0
 indexed_start t =
