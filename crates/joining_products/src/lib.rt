@@ -18,7 +18,7 @@ use key_set::Full;
 // Up to so many monomials a basis joins by its pairs: that is faster than making their index.
 pub const PLAIN: usize = 16;
 
-// Two blocks, by their numbers, the lower one first; or a block and an index.
+// Two blocks, by their numbers, the lower one first.
 #[derive(Clone, Copy, Debug, PartialEq, Eq)]
 pub struct Cross {
     pub a: u8,
@@ -104,7 +104,7 @@ fn add_pair(
     add_slotted(table, index, len, exponents, pairs, s)
 }
 
-// Those of an index with each index of a block.
+// The products of index k with each index of the block a put in.
 fn add_row(
     follow: &[u8],
     basis: &[u64],
@@ -113,21 +113,21 @@ fn add_row(
     table: &mut [u64],
     index: &mut [u16],
     len: usize,
-    c: Cross,
+    a: u8,
+    k: usize,
 ) -> Result<usize, Full>
     requires { AddingAsks exponents.now basis.now pairs.old table.old index.old len
         × (length follow.now ≡ 64)
-        × IndexList (length basis.now) follow.now c.a
-        × (c.b < length basis.now) }
+        × IndexList (length basis.now) follow.now a
+        × (k < length basis.now) }
     ensures { AddedAll exponents.now basis.now
-        (add_list exponents.now basis.now c.b (list_from follow.now c.a)
+        (add_list exponents.now basis.now k (list_from follow.now a)
         (keys_in len table.old))
         len table.old pairs.old (count_in result) table.new index.new pairs.new
         × IfOk result (λ n. n ≤ 2048) }
 {
-    let k = c.b as usize;
     let mut n = len;
-    let mut i = c.a as usize;
+    let mut i = a as usize;
     // A walk along a list, each of whose places tells the next.
     while i < 64 {
         n = add_pair(table, index, n, exponents, basis, pairs, i, k)?;
@@ -159,12 +159,11 @@ pub fn add_cross(
         × IfOk result (λ n. n ≤ 2048) }
 {
     let mut n = len;
-    let mut k = m.b;
+    let mut k = m.b as usize;
     // Such a walk, too.
     while k < 64 {
-        let c = Cross { a: m.a, b: k };
-        n = add_row(follow, basis, exponents, pairs, table, index, n, c)?;
-        k = follow[k as usize];
+        n = add_row(follow, basis, exponents, pairs, table, index, n, m.a, k)?;
+        k = follow[k] as usize;
     }
     Ok(n)
 }

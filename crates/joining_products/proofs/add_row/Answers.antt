@@ -19,7 +19,7 @@ pub returns-in_err-n : goal.returns-in_err-n
 returns-in_err-n c =
     let follow = c.args.follow.now in
     adding_full _ _ _ _ _ _ _ _ _ _ _ c.loop-i.invariant.1 _ _ _ _ c.in_err-n.ensures.0
-    (add_list c.args.exponents.now c.args.basis.now c.args.c.b (list_from follow (get_or follow c.loop-i.i 0)))
+    (add_list c.args.exponents.now c.args.basis.now c.args.k (list_from follow (get_or follow c.loop-i.i 0)))
     (row_turn _ _ _ c.loop-i.invariant.0 c.loop-i-test.true _ _ _ _) (list_extends c.args.exponents.now c.args.basis.now _ _ _) _ c.from_residual.ensures.0
 
 pub loop-i-smaller : goal.loop-i-smaller

@@ -10,7 +10,7 @@ use Rattle.joining_products.proofs.add_row.Given as goal
 abbrev pub invariant-loop-i : goal.invariant-loop-i
 invariant-loop-i l =
     IndexList (length l.basis) l.follow l.i
-    × Adding l.exponents l.basis l.fn.table l.fn.pairs l.len (add_list l.exponents l.basis l.k (list_from l.follow l.fn.c.a) (keys_in l.len l.fn.table))
+    × Adding l.exponents l.basis l.fn.table l.fn.pairs l.len (add_list l.exponents l.basis l.k (list_from l.follow l.fn.a) (keys_in l.len l.fn.table))
     (add_list l.exponents l.basis l.k (list_from l.follow l.i)) l.n l.table l.index l.pairs
 
 abbrev pub decreases-loop-i : goal.decreases-loop-i
