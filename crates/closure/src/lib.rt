@@ -81,12 +81,7 @@ fn put_conditions(
 }
 
 // The start of the support: the exponents of the objective and of the conditions, and twice those of basis 0.
-fn seed(
-    keys: &[u64],
-    sizes: &[usize],
-    table: &mut [u64],
-    index: &mut [u16],
-) -> Result<usize, Full>
+fn seed(keys: &[u64], sizes: &[usize], table: &mut [u64], index: &mut [u16]) -> Result<usize, Full>
     requires { (2048 ≤ length table.old) × Indexed index.old table.old 0 × FlatKeys keys.now sizes.now }
     ensures { Stored 0 (start_in keys.now sizes.now) table.old (count_in result) table.new
         index.new
