@@ -233,30 +233,41 @@ fn join_rows(tables: &mut Tables<'_>, basis: Basis<'_>, start: Reach) -> Result<
 }
 
 // The joining of a basis. One block joins nothing.
+fn join_tables(tables: &mut Tables<'_>, basis: Basis<'_>, r: Reach) -> Result<Reach, Full>
+    requires { JoiningAsks basis.exponents.now basis.keys.now (standing_at tables.old r) }
+    ensures grew { Grew basis.entry.exponents.now basis.entry.keys.now
+        (Through basis.entry.exponents.now basis.entry.keys.now (keys_in r.until tables.old.table.now))
+        (standing_at tables.old r) (standing_at tables.new (reached r result)) }
+    ensures room { IfOk result (λ q. q.len ≤ 2048) }
+    ensures same { SameTables tables.old tables.new }
+{
+    if r.blocks < 2 {
+        return Ok(r);
+    }
+    if basis.keys.len() <= joining_products::PLAIN {
+        return join_rows(tables, basis, r);
+    }
+    join_members(tables, basis, r)
+}
+
+// The same with tables that are lent one by one.
 pub fn join(
     labels: &mut [u8],
     follow: &mut [u8],
-    basis: &[u64],
-    exponents: &[u64],
+    basis: Basis<'_>,
     pairs: &mut [u16],
     table: &mut [u64],
     index: &mut [u16],
     r: Reach,
 ) -> Result<Reach, Full>
-    requires { JoiningAsks exponents.now basis.now (standing labels.old follow.old pairs.old table.old index.old r) }
-    ensures { Grew exponents.now basis.now
-        (Through exponents.now basis.now (keys_in r.until table.old))
+    requires { JoiningAsks basis.exponents.now basis.keys.now
+        (standing labels.old follow.old pairs.old table.old index.old r) }
+    ensures { Grew basis.entry.exponents.now basis.entry.keys.now
+        (Through basis.entry.exponents.now basis.entry.keys.now (keys_in r.until table.old))
         (standing labels.old follow.old pairs.old table.old index.old r)
         (standing labels.new follow.new pairs.new table.new index.new (reached r result))
         × IfOk result (λ q. q.len ≤ 2048) }
 {
-    if r.blocks < 2 {
-        return Ok(r);
-    }
-    let basis = Basis {
-        keys: basis,
-        exponents,
-    };
     let mut tables = Tables {
         labels,
         follow,
@@ -264,8 +275,5 @@ pub fn join(
         table,
         index,
     };
-    if basis.keys.len() <= joining_products::PLAIN {
-        return join_rows(&mut tables, basis, r);
-    }
-    join_members(&mut tables, basis, r)
+    join_tables(&mut tables, basis, r)
 }

@@ -36,9 +36,10 @@ pub returns-in_err-r-clause-grew : goal.returns-in_err-r-clause-grew
 returns-in_err-r-clause-grew c =
     (grew_full _ _ _ _ _ _ _ _ _ _ (sum_as _ _ _ _ _ _ c.in-Some.ensures.sum c.in_err-r.ensures.grew) refl _ c.from_residual.ensures.0).0
 
-pub bounds-tables-at : goal.bounds-pairs-at-2
+pub bounds-tables-at : goal.bounds-tables-at
 bounds-tables-at c =
-    omega (arith, told_low _ c.requires.0.blocks.few _ c.in-Some.ensures.pair, (c.requires.0.index.all c.requires.1).remainders.long)
+    let after = (c.in_ok-r.ensures.grew.fits c.in_ok-r.ensures.room).ready in
+    omega (arith, told_low _ c.requires.0.blocks.few _ c.in-Some.ensures.pair, (after.index.all c.requires.1).remainders.long)
 
 pub returns-clause-grew : goal.returns-clause-grew
 returns-clause-grew c =
