@@ -177,17 +177,16 @@ pub fn add_squares(
     table: &mut [u64],
     index: &mut [u16],
     len: usize,
-    basis: &[u64],
-    exponents: &[u64],
+    basis: Basis<'_>,
 ) -> Result<usize, Full>
-    requires { ForBasis table.old index.old len exponents.now basis.now }
-    ensures { Stored len (add_squares exponents.now basis.now (keys_in len table.old))
+    requires { ForBasis table.old index.old len basis.exponents.now basis.keys.now }
+    ensures { Stored len (add_squares basis.entry.exponents.now basis.entry.keys.now (keys_in len table.old))
         table.old (count_in result) table.new index.new
         × IfOk result (λ n. n ≤ 2048) }
 {
     let mut n = len;
-    for &b in basis {
-        n = add_terms(table, index, n, exponents, 2 * b)?;
+    for &b in basis.keys {
+        n = add_terms(table, index, n, basis.exponents, 2 * b)?;
     }
     key_set::shorten(table, index, n);
     Ok(n)
@@ -196,25 +195,30 @@ pub fn add_squares(
 // The products of index i with itself and each index after it in its block put in.
 fn add_own(
     labels: &[u8],
-    basis: &[u64],
-    exponents: &[u64],
+    basis: Basis<'_>,
     table: &mut [u64],
     index: &mut [u16],
     len: usize,
     i: usize,
 ) -> Result<usize, Full>
-    requires { ForBasis table.old index.old len exponents.now basis.now
-        × (length labels.now ≡ length basis.now)
-        × (i < length basis.now) }
+    requires { ForBasis table.old index.old len basis.exponents.now basis.keys.now
+        × (length labels.now ≡ length basis.keys.now)
+        × (i < length basis.keys.now) }
     ensures { Stored len
-        (add_row exponents.now basis.now labels.now i
+        (add_row basis.entry.exponents.now basis.entry.keys.now labels.now i
         (keys_in len table.old)) table.old (count_in result) table.new index.new
         × IfOk result (λ n. n ≤ 2048) }
 {
     let mut n = len;
-    for k in i..basis.len() {
+    for k in i..basis.keys.len() {
         if labels[i] == labels[k] {
-            n = add_terms(table, index, n, exponents, basis[i] + basis[k])?;
+            n = add_terms(
+                table,
+                index,
+                n,
+                basis.exponents,
+                basis.keys[i] + basis.keys[k],
+            )?;
         }
     }
     key_set::shorten(table, index, n);
@@ -224,22 +228,21 @@ fn add_own(
 // The products of every pair in one block put in.
 pub fn add_blocks(
     labels: &[u8],
-    basis: &[u64],
-    exponents: &[u64],
+    basis: Basis<'_>,
     table: &mut [u64],
     index: &mut [u16],
     len: usize,
 ) -> Result<usize, Full>
-    requires { ForBasis table.old index.old len exponents.now basis.now
-        × (length labels.now ≡ length basis.now) }
+    requires { ForBasis table.old index.old len basis.exponents.now basis.keys.now
+        × (length labels.now ≡ length basis.keys.now) }
     ensures { Stored len
-        (extend exponents.now basis.now labels.now (keys_in len table.old))
+        (extend basis.entry.exponents.now basis.entry.keys.now labels.now (keys_in len table.old))
         table.old (count_in result) table.new index.new
         × IfOk result (λ n. n ≤ 2048) }
 {
     let mut n = len;
-    for i in 0..basis.len() {
-        n = add_own(labels, basis, exponents, table, index, n, i)?;
+    for i in 0..basis.keys.len() {
+        n = add_own(labels, basis, table, index, n, i)?;
     }
     Ok(n)
 }
