@@ -103,19 +103,19 @@ module _ {s labels : List ℕ} {from to : ℕ} where
       searching_long = step_long t
 
       -- where the entry's block number is
-      module _ {j i : ℕ} (f : j ≡ basis_at s from) (e : i ≡ (entry_at s x).index) where
-        number_is : block_at labels (basis_at s from) (entry_at s x).index ≡ get_or labels (64 * j + i) 0
-        number_is = rw (f, e)
+      module _ {o : ℕ} (e : o ≡ 64 * basis_at s from + (entry_at s x).index) where
+        number_is : block_at labels (basis_at s from) (entry_at s x).index ≡ get_or labels o 0
+        number_is = rw e
 
-        pub searching_low : 64 * j + i < length labels
+        pub searching_low : o < length labels
         searching_low = let b = both.0 in let q = k.row.basis in let n = k.row.labels_length in omega arith
 
-        pub searching_found : (get_or labels (64 * j + i) 0 ≡ first → ⊥) → SplitTold (Some x) (answer s labels from to)
+        pub searching_found : (get_or labels o 0 ≡ first → ⊥) → SplitTold (Some x) (answer s labels from to)
         unfolding first_outside entry_at
         searching_found d =
             told_some _ _ (sym (sym k.same ∙ rw (t.is, first_outside, ne_eqb (block_at labels (basis_at s from) (entry_at s x).index) first (λ q. d (sym number_is ∙ q)))))
 
-        pub searching_more : get_or labels (64 * j + i) 0 ≡ first → {y : ℕ} → y ≡ x + size_at s x → Searching s labels from to first y
+        pub searching_more : get_or labels o 0 ≡ first → {y : ℕ} → y ≡ x + size_at s x → Searching s labels from to first y
         unfolding first_outside
         searching_more d z = rw z (record {
           row = k.row;
@@ -126,12 +126,12 @@ module _ {s labels : List ℕ} {from to : ℕ} where
         })
 
   -- the first entry's block number
-  module _ (k : RowIndexed s from to labels) (h : from + 4 < to) {j i : ℕ} (f : j ≡ basis_at s from) (e : i ≡ (entry_at s (from + 4)).index) where
-    pub row_low : 64 * j + i < length labels
-    row_low = searching_low (searching_start k h) h f e
+  module _ (k : RowIndexed s from to labels) (h : from + 4 < to) {o : ℕ} (e : o ≡ 64 * basis_at s from + (entry_at s (from + 4)).index) where
+    pub row_low : o < length labels
+    row_low = searching_low (searching_start k h) h e
 
-    pub row_searched : Searching s labels from to (get_or labels (64 * j + i) 0) (from + 4)
-    row_searched = rw (f, e) (searching_start k h)
+    pub row_searched : Searching s labels from to (get_or labels o 0) (from + 4)
+    row_searched = rw e (searching_start k h)
 
 -- those of a row's walk that the search applies
 pub ruleset searching = (row_inside, row_none, row_low, row_searched, searching_more)

@@ -1,5 +1,4 @@
 -- `row_split`: what is asked at an entry, and what the walk has found.
-use mathlib.Core.Path.{◌∙◌}
 use native.Mathlib.Omega.{arith}
 use Rattle.row_blocks.proofs.Splits.{row_first, searching_end, searching_entry, searching_long, searching_low, searching_found}
 use Rattle.row_blocks.proofs.row_split.Goals as goal
@@ -11,12 +10,10 @@ pub index_at-requires-in-loop-x : goal.index_at-requires-in-loop-x
 index_at-requires-in-loop-x c = searching_entry c.loop-x.invariant c.loop-x-test.true
 
 pub bounds-labels-part-in-loop-x : goal.bounds-labels-part-in-loop-x
-bounds-labels-part-in-loop-x c =
-    searching_low c.loop-x.invariant c.loop-x-test.true c.basis_at-part.ensures (c.from-in-loop-x.ensures ∙ c.index_at-in-loop-x.ensures)
+bounds-labels-part-in-loop-x c = searching_low c.loop-x.invariant c.loop-x-test.true (omega arith)
 
 pub returns-then-labels-part : goal.returns-then-labels-part
-returns-then-labels-part c =
-    searching_found c.loop-x.invariant c.loop-x-test.true c.basis_at-part.ensures (c.from-in-loop-x.ensures ∙ c.index_at-in-loop-x.ensures) c.if-labels-part.true
+returns-then-labels-part c = searching_found c.loop-x.invariant c.loop-x-test.true (omega arith) c.if-labels-part.true
 
 pub after_entry-x-requires : goal.after_entry-x-requires
 after_entry-x-requires c = searching_entry c.loop-x.invariant c.loop-x-test.true
