@@ -132,6 +132,7 @@ fn settle(
 }
 
 // The most rounds at a sparse order: as many as it says, and enough for any problem where none is named.
+#[tactic(auto, unfolding(joining_rule::specs::Rounds::most_rounds))]
 fn most_rounds(order: usize) -> usize
     ensures { result ≡ most_rounds order }
 {

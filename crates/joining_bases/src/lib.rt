@@ -56,6 +56,7 @@ pub struct Closed {
 }
 
 // How many bases add to the support in a round.
+#[tactic(auto, unfolding(joining_rule::specs::Rounds::adding_bases))]
 pub fn adding_bases(rule: usize) -> usize
     ensures { result ≡ adding_bases rule }
 {
