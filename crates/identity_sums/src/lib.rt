@@ -30,8 +30,8 @@ fn add_term(
         (λ k. value_of x.high x.low *ℤ c *ℤ match k key) unit hi.new lo.new }
 {
     match key_set::find_at(table, index, n, key, at) {
-        key_set::Found::At(p) => wide_sums::add(hi, lo, p, x, c as i64),
-        key_set::Found::Nowhere(_) => {}
+        Ok(p) => wide_sums::add(hi, lo, p, x, c as i64),
+        Err(_) => {}
     }
 }
 

@@ -21,30 +21,30 @@ add-requires c κs =
     let f = q in
     let s = f in
     let p = s.requires in
-    let t = sought_at p.0.support s.args.key _ f.find_at.ensures _ q.in-At.is in
-    let b = found_inside p.0.support s.args.key _ f.find_at.ensures _ q.in-At.is in
+    let t = sought_at p.0.support s.args.key _ f.find_at.ensures _ q.in-Ok.is in
+    let b = found_inside p.0.support s.args.key _ f.find_at.ensures _ q.in-Ok.is in
     simp (to_z-of_z, s.ranges.c, wide s.before.before.before.before.before.before) (
       room_high p.0 s.args.key _ t s.args.x s.args.c b p.1,
       room_low p.0 s.args.key _ t s.args.x s.args.c b p.1,
     )
 
-returns : tie.Need-returns-in-At
+returns : tie.Need-returns-in-Ok
 returns c =
     let a = c in
     let q = a in
     let f = q in
     let s = f in
     let p = s.requires in
-    let t = sought_at p.0.support s.args.key _ f.find_at.ensures _ q.in-At.is in
-    let b = found_inside p.0.support s.args.key _ f.find_at.ensures _ q.in-At.is in
+    let t = sought_at p.0.support s.args.key _ f.find_at.ensures _ q.in-Ok.is in
+    let b = found_inside p.0.support s.args.key _ f.find_at.ensures _ q.in-Ok.is in
     let e = simp (to_z-of_z, s.ranges.c, wide s.before.before.before.before.before.before.before.before.before) at a.add.ensures in
     grown_at p.0 s.args.key _ t s.args.x s.args.c b p.1 e.0 e.1
 
-returns-2 : tie.Need-returns-in-Nowhere
+returns-2 : tie.Need-returns-in-Err
 returns-2 c =
     let f = c in
     let s = f in
-    grown_gap s.requires.0 s.args.key _ (sought_nowhere s.requires.0.support s.args.key _ f.find_at.ensures _ c.in-Nowhere.is) s.args.x s.args.c (omega arith)
+    grown_gap s.requires.0 s.args.key _ (sought_nowhere s.requires.0.support s.args.key _ f.find_at.ensures _ c.in-Err.is) s.args.x s.args.c (omega arith)
 
 pub add_term_spec : {M : Type 1} → statement M
 add_term_spec =
