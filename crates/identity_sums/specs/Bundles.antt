@@ -1,0 +1,19 @@
+-- What is said of the sums with the compared keys as one value, and of a polynomial with its two arrays as one.
+use Rattle.std.specs.Prelude.{List, ℕ, ℤ, length}
+use Rattle.polynomial.specs.Terms.{Term}
+use Rattle.flat.specs.TermArrays.{terms_in}
+use Rattle.identity_sums.specs.declared.Compared.{Compared}
+use Rattle.identity_sums.specs.declared.Terms.{Terms}
+use Rattle.identity_sums.specs.Tables.{Ready, SumsGrown}
+
+-- the sums at the compared keys have room for c
+abbrev pub ReadyFor : Compared → List ℤ → List ℤ → ℕ → Type 0
+ReadyFor keys hi lo c = Ready keys.table.now keys.index.now keys.count hi lo c
+
+-- the sums at the compared keys have grown by f of the key, and by at most c
+abbrev pub Grown : Compared → List ℤ → List ℤ → (ℕ → ℤ) → ℕ → List ℤ → List ℤ → Type 0
+Grown keys hi₀ lo₀ f c hi₁ lo₁ = SumsGrown keys.table.now keys.count hi₀ lo₀ f c hi₁ lo₁
+
+-- the terms of a polynomial that two arrays hold
+abbrev pub held : Terms → List Term
+held t = terms_in (length t.exponents.now) t.exponents.now t.coefficients.now
