@@ -1,10 +1,12 @@
 -- What is said of the sums with the compared keys as one value, and of a polynomial with its two arrays as one.
 use Rattle.std.specs.Prelude.{List, ℕ, ℤ, length}
 use Rattle.polynomial.specs.Terms.{Term}
+use Rattle.key_set.specs.Table.{divisor_in}
 use Rattle.flat.specs.TermArrays.{terms_in}
 use Rattle.identity_sums.specs.declared.Compared.{Compared}
 use Rattle.identity_sums.specs.declared.Terms.{Terms}
-use Rattle.identity_sums.specs.Tables.{Ready, SumsGrown}
+use Rattle.identity_sums.specs.declared.Placed.{Placed}
+use Rattle.identity_sums.specs.Tables.{Ready, SumsGrown, Slots, Addable}
 
 -- the sums at the compared keys have room for c
 abbrev pub ReadyFor : Compared → List ℤ → List ℤ → ℕ → Type 0
@@ -17,3 +19,11 @@ Grown keys hi₀ lo₀ f c hi₁ lo₁ = SumsGrown keys.table.now keys.count hi�
 -- the terms of a polynomial that two arrays hold
 abbrev pub held : Terms → List Term
 held t = terms_in (length t.exponents.now) t.exponents.now t.coefficients.now
+
+-- a polynomial may be added x times, moved by a key
+abbrev pub AddableTerms : Terms → ℕ → ℤ → Type 0
+AddableTerms t key x = Addable t.exponents.now t.coefficients.now key x
+
+-- the places of a polynomial's exponents are those in the index of the compared keys
+abbrev pub PlacedBy : Compared → Placed → Type 0
+PlacedBy keys p = Slots (divisor_in keys.index.now) p.terms.exponents.now p.slots

@@ -10,8 +10,8 @@ ghost use Rattle.polynomial.specs.Algebra.{sum, match, coefficient};
 ghost use Rattle.accepting.specs.Identity.{claim_of};
 ghost use Rattle.key_set.specs.Table.{divisor_in, Divided};
 ghost use Rattle.wide_sums.specs.Sums.{value_of};
-ghost use Rattle.identity_sums.specs.Tables.{unit, claim_most, Slots, Scaled, Addable, Negates};
-ghost use Rattle.identity_sums.specs.Bundles.{ReadyFor, Grown, held};
+ghost use Rattle.identity_sums.specs.Tables.{unit, claim_most, Scaled, Negates};
+ghost use Rattle.identity_sums.specs.Bundles.{ReadyFor, Grown, held, AddableTerms, PlacedBy};
 
 use format::certificate::Header;
 
@@ -53,45 +53,44 @@ fn add_term(
     }
 }
 
-// The places of exponents in the index of keys. With them the place of a sum is found without a division.
-pub fn slots_in(index: &[u16; 6144], exponents: &[u64]) -> [usize; 32]
-    requires { (length exponents.now ≤ 32) × Divided index.now }
-    ensures { Slots (divisor_in index.now) exponents.now result }
+// A polynomial, and the places of its exponents in the index of the compared keys. With them the place of a sum is found
+// without a division.
+#[derive(Clone, Copy)]
+pub struct Placed<'a> {
+    pub terms: Terms<'a>,
+    pub slots: [usize; 32],
+}
+
+pub fn place<'a, 'b>(keys: Compared<'a>, terms: Terms<'b>) -> Placed<'b>
+    requires { (length terms.exponents.now ≤ 32) × Divided keys.index.now }
+    ensures { PlacedBy keys.entry result × (result.terms ≡ terms.entry) }
 {
+    let index = keys.index;
     let mut slots = [0; 32];
-    for t in 0..exponents.len() {
-        slots[t] = key_set::slot(index, exponents[t]);
+    for t in 0..terms.exponents.len() {
+        slots[t] = key_set::slot(index, terms.exponents[t]);
     }
-    slots
+    Placed { terms, slots }
 }
 
 // Adds x times a polynomial, moved by a key. The number x is cut once for all terms.
-pub fn add_terms(
-    keys: Compared,
-    hi: &mut [i64],
-    lo: &mut [i64],
-    terms: Terms,
-    slots: &[usize; 32],
-    key: u64,
-    x: i64,
-)
-    requires ready { ReadyFor keys hi.old lo.old (length terms.exponents.now * unit) }
-    requires addable { Addable terms.exponents.now terms.coefficients.now key x
-        × Slots (divisor_in keys.index.now) terms.exponents.now slots.now }
+pub fn add_terms(keys: Compared, hi: &mut [i64], lo: &mut [i64], placed: &Placed, key: u64, x: i64)
+    requires ready { ReadyFor keys hi.old lo.old (length placed.now.terms.exponents.now * unit) }
+    requires addable { AddableTerms placed.now.terms key x × PlacedBy keys placed.now }
     ensures { Grown keys.entry hi.old lo.old
-        (λ k. x *ℤ sum (λ t. match k (key + t)) (held terms.entry))
-        (length terms.entry.exponents.now * unit) hi.new lo.new }
+        (λ k. x *ℤ sum (λ t. match k (key + t)) (held placed.now.terms))
+        (length placed.now.terms.exponents.now * unit) hi.new lo.new }
 {
     let Terms {
         exponents,
         coefficients,
-    } = terms;
+    } = placed.terms;
     let index = keys.index;
     let h = wide_sums::cut(x);
     let d = key_set::divisor(index);
     let slot = key_set::slot(index, key);
     for t in 0..exponents.len() {
-        let at = key_set::slot_of_sum(d, slot, slots[t]);
+        let at = key_set::slot_of_sum(d, slot, placed.slots[t]);
         add_term(keys, hi, lo, key + exponents[t], at, h, coefficients[t]);
     }
 }

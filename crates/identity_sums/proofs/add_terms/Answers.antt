@@ -15,7 +15,7 @@ add_term-requires c =
     let p = c.requires.addable in
     let v = c.loop-t.invariant in
     let t = c.loop-t-test.true in
-    let f : SFits w32 (get_or c.args.terms.coefficients.now c.loop-t.t (pos 0)) = search rules in (
+    let f : SFits w32 (get_or c.args.placed.now.terms.coefficients.now c.loop-t.t (pos 0)) = search rules in (
       ready_after c.requires.ready v.3.grown (omega (arith, t)),
       simp (v.0, to_z-of_z, c.ranges.x, f) (scaled_entry _ _ p.0.small (p.0.coefficients_small c.loop-t.t)),
       slot_of_product _ _ _ _ _ _ _ v.1 v.2 (p.1.each c.loop-t.t t) c.slot_of_sum-at.ensures,
@@ -24,10 +24,10 @@ add_term-requires c =
 pub loop-t-preserved : goal.loop-t-preserved
 loop-t-preserved c =
     let v = c.loop-t.invariant in
-    let f : SFits w32 (get_or c.args.terms.coefficients.now c.loop-t.t (pos 0)) = search rules in
+    let f : SFits w32 (get_or c.args.placed.now.terms.coefficients.now c.loop-t.t (pos 0)) = search rules in
     (v.0, v.1, v.2, summing_more v.3 (grown_same (rw (to_z-of_z f) at c.add_term.ensures) (λ k. halves_times _ _ v.0 _ _) (omega arith)))
 
 pub returns : goal.returns
 returns c =
-    let e : c.loop-t.t ≡ length c.args.terms.exponents.now = omega arith in
+    let e : c.loop-t.t ≡ length c.args.placed.now.terms.exponents.now = omega arith in
     rw (← e) (simp (to_z-of_z c.ranges.x) at c.loop-t.invariant.3.grown)

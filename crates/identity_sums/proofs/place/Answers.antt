@@ -3,12 +3,12 @@ use Rattle.std.proofs.Math.ListN.{set, length-set}
 use Rattle.std.proofs.lemmas.List.{get_or-set_same, get_or-set_other}
 use borrow.Author.Count.{below_more}
 use Rattle.key_set.specs.Table.{divisor_in}
-use Rattle.identity_sums.proofs.slots_in.Goals as goal
+use Rattle.identity_sums.proofs.place.Goals as goal
 
 pub loop-t-preserved : goal.loop-t-preserved
 loop-t-preserved c =
     let v = c.loop-t.invariant in
-    let noted = λ (i : ℕ). get_or (set c.loop-t.slots c.loop-t.t c.slot.result) i 0 ≡ get_or c.args.exponents.now i 0 % divisor_in c.args.index.now in (
+    let noted = λ (i : ℕ). get_or (set c.loop-t.slots c.loop-t.t c.slot.result) i 0 ≡ get_or c.args.terms.exponents.now i 0 % divisor_in c.args.keys.index.now in (
       simp length-set v.0,
       below_more noted c.loop-t.t
           (λ i b. get_or-set_other _ c.loop-t.t i _ 0 (λ e. omega arith) ∙ v.1 i b)
