@@ -5,14 +5,16 @@
 // to say that both still lead to the same table.
 #![tactic(auto)]
 
-ghost use Rattle.std.specs.Prelude.{◌≡◌, ◌+◌, ◌*◌, ◌%◌, ◌≤◌, nat_abs, neg_ℤ, ◌*ℤ◌, length};
+ghost use Rattle.std.specs.Prelude.{◌≡◌, ◌+◌, ◌*◌, ◌%◌, ◌≤◌, ◌<◌, nat_abs, neg_ℤ, ◌*ℤ◌, length, get_or};
 ghost use Rattle.polynomial.specs.Algebra.{sum, match, coefficient};
 ghost use Rattle.accepting.specs.Identity.{claim_of};
+ghost use Rattle.flat.specs.Flat.{exponents_at, coefficients_at, count_at};
 ghost use Rattle.key_set.specs.Table.{divisor_in, Divided};
 ghost use Rattle.wide_sums.specs.Sums.{value_of};
 ghost use Rattle.identity_sums.specs.Tables.{unit, claim_most, Scaled, Negates};
-ghost use Rattle.identity_sums.specs.Bundles.{ReadyFor, Grown, held, AddableTerms, PlacedBy};
+ghost use Rattle.identity_sums.specs.Bundles.{IsPolynomial, ReadyFor, Grown, held, AddableTerms, PlacedBy};
 
+use flat::Arrays;
 use format::certificate::Header;
 
 // The compared keys: the first `count` numbers of a table, and their index.
@@ -28,6 +30,19 @@ pub struct Compared<'a> {
 pub struct Terms<'a> {
     pub exponents: &'a [u64],
     pub coefficients: &'a [i32],
+}
+
+// Polynomial j of a problem: a multiplier, or the objective.
+pub fn polynomial(problem: Arrays, j: usize) -> Terms
+    requires { (count_at j < length problem.sizes.now)
+        × (exponents_at j + get_or problem.sizes.now (count_at j) 0 ≤ length problem.keys.now)
+        × (coefficients_at j + get_or problem.sizes.now (count_at j) 0 ≤ length problem.coefficients.now) }
+    ensures { IsPolynomial problem.entry j result }
+{
+    Terms {
+        exponents: flat::exponents(problem.keys, problem.sizes, j),
+        coefficients: flat::coefficients(problem.coefficients, problem.sizes, j),
+    }
 }
 
 // Adds c times a number, in its halves, at the place of a key, where it has one.
