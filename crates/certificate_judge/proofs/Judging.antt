@@ -17,7 +17,7 @@ use Rattle.certificate_reader.specs.Rows.{GivenRows}
 use Rattle.certificate_reader.proofs.Walk.{given_walkable}
 use Rattle.identity_rows.specs.Walk.{Comparable}
 use Rattle.identity_check.specs.Compare.{difference_of, Given}
-use Rattle.identity_check.specs.declared.Difference.{Difference}
+use Rattle.std.specs.Prelude as Prelude
 use Rattle.std.specs.Prelude.{Err}
 use Rattle.certificate_judge.specs.Steps.{JoinedProblem, judged_of, judged_from}
 
@@ -48,7 +48,7 @@ module _ (P : Problem) (s : List ℕ) where
     pub judge_split : (at : ℕ) → SplitTold (Place.At at) (split_place P c.rows) → Err (certificate_refusal stream 8 at 0) ≡ judged_of stream (judge P s)
     judge_split at f = rw (judged (Place.At at) f) refl
 
-    pub judge_compared : (t : Header) (d : Difference) → SplitTold Place.Nowhere (split_place P c.rows) → t ≡ c.header → d ≡ difference_of (difference_key P c) → judged_from stream t d ≡ judged_of stream (judge P s)
+    pub judge_compared : (t : Header) (d : Prelude.Option ℕ) → SplitTold Place.Nowhere (split_place P c.rows) → t ≡ c.header → d ≡ difference_of (difference_key P c) → judged_from stream t d ≡ judged_of stream (judge P s)
     judge_compared t d f g h = rw (judged Place.Nowhere f, g, h) (go (difference_key P c))
       where
         go : (o : Option ℕ) → judged_from stream c.header (difference_of o) ≡ judged_of stream (by_identity c o)

@@ -24,22 +24,6 @@ use Rattle.identity_rows.proofs.Walks.{squares_are}
 use Rattle.identity_check.proofs.Carries.{reached_start, reached_same, reached_of, reached_divided}
 use Rattle.identity_check.proofs.Untouched.{near_untouched, shrunk_untouched, untouched_then}
 
--- after a division there is room again
-pub divided_ready : {table idx : List ℕ} {n c found r : ℕ} {hi₀ lo₀ hi₁ lo₁ : List ℤ} → Ready table idx n hi₀ lo₀ c
-    → DividedSums table n n found hi₀ lo₀ hi₁ lo₁ r → (d : ℕ) → d ≤ 2 ^ 62 + 2 ^ 61 → Ready table idx n hi₁ lo₁ d
-divided_ready r h d l =
-    record {
-      support = r.support;
-      index = r.index;
-      high = shrunk_room h.high r.high.long (omega arith);
-      low = shrunk_room h.low r.low.long (omega arith);
-    }
-
--- and after the part that is added then, room for a carry
-pub summed_ready : {f : Problem → ℕ → ℤ} {keys : List ℕ} {coefficients : List ℤ} {sizes table idx : List ℕ} {n c found r : ℕ} {hi₀ lo₀ hi₁ lo₁ hi₂ lo₂ : List ℤ}
-    → Ready table idx n hi₀ lo₀ c → DividedSums table n n found hi₀ lo₀ hi₁ lo₁ r → Summed f keys coefficients sizes table n 9 hi₁ lo₁ hi₂ lo₂ → Ready table idx n hi₂ lo₂ (2 ^ 36)
-summed_ready r h m = ready_after (divided_ready r h (9 * table_unit + 2 ^ 36) (omega arith)) m.grown (omega arith)
-
 module _ {keys : List ℕ} {coefficients : List ℤ} {sizes table : List ℕ} {n : ℕ} where
   -- the sum at a place, for the problem that the arrays hold
   summed_there : {f : Problem → ℕ → ℤ} {c : ℕ} {hi₀ lo₀ hi₁ lo₁ : List ℤ} → Summed f keys coefficients sizes table n c hi₀ lo₀ hi₁ lo₁

@@ -52,9 +52,6 @@ module _ {keys : List ℕ} {n : ℕ} {hi₀ hi₁ lo₀ lo₁ : List ℤ} where
         low = near_then x.low y.low l;
       }
 
-pub ready_less : {keys idx : List ℕ} {n : ℕ} {hi lo : List ℤ} {c d : ℕ} → Ready keys idx n hi lo c → d ≤ c → Ready keys idx n hi lo d
-ready_less r l = record { support = r.support; index = r.index; high = room_less r.high l; low = room_less r.low l }
-
 pub grown_none : {keys : List ℕ} {n : ℕ} {hi lo : List ℤ} {f : ℕ → ℤ} {c : ℕ} → ((q : ℕ) → q < n → f (get_or keys q 0) ≡ pos 0) → SumsGrown keys n hi lo f c hi lo
 grown_none {hi = hi} {lo = lo} e =
     record {

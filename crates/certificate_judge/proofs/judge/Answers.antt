@@ -1,5 +1,5 @@
 -- `judge`: each return by what the reading, the walk over the rows and the comparison decide.
-use Rattle.std.proofs.Common.{arith, ap, ◌∙◌}
+use Rattle.std.proofs.Common.{rules, arith, ap, ◌∙◌}
 use Rattle.std.specs.Prelude.{Err}
 use Rattle.certificate_reader.proofs.Shapes.{flat_sized}
 use Rattle.certificate_reader.proofs.Walk.{given_walkable}
@@ -24,7 +24,7 @@ difference-requires c =
     let w = c.requires.0 in
     let j = w.joined in
     let v = c.validate-r.ensures w.problem j.limits (flat_sized j.flat) in
-    ((j.holds, j.index), joined_comparable j (v.gives (omega (arith, c.if-r-gt0.false))), c.requires.1)
+    ((j.holds, j.index), (joined_comparable j (v.gives (omega (arith, c.if-r-gt0.false))), search rules), c.requires.1)
 
 pub returns-in-At-clause-judgement : goal.returns-in-At-clause-judgement
 returns-in-At-clause-judgement c p j =
