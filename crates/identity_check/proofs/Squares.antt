@@ -1,7 +1,7 @@
 -- All parts of the squares, one after another: what is known of the whole sums.
 use mathlib.Core.Path.{◌≡◌, refl, sym, ap, ◌∙◌}
 use mathlib.Core.List.{List}
-use Prim.Native.Nat.{ℕ, ◌+◌, ◌*◌, ◌^◌, ◌≤◌, ◌<◌}
+use Prim.Native.Nat.{ℕ, ◌≤◌, ◌<◌}
 use native.Mathlib.Omega.{arith}
 use lib.IntN.{ℤ, pos, ◌+ℤ◌, ◌*ℤ◌, +ℤ_assoc}
 use lib.ListN.{get_or}
@@ -13,13 +13,9 @@ use Rattle.accepting.specs.Identity.{squares}
 use Rattle.flat.specs.Flat.{FlatProblem}
 use Rattle.certificate_rows.specs.Offsets.{rows_by}
 use Rattle.wide_sums.specs.Sums.{step, value_at}
-use Rattle.wide_sums.proofs.Tables.{shrunk_room}
 use Rattle.row_digits.specs.declared.Part.TheVariants.{Low, Cross, High}
-use Rattle.identity_sums.specs.Tables.{Ready}
-use Rattle.identity_rows.specs.Spread.{table_unit}
 use Rattle.identity_rows.specs.Walk.{Comparable, on_bases, bases_in, beyond, Alone, Summed}
 use Rattle.identity_check.specs.Compare.{DividedSums, Reached, Carried}
-use Rattle.identity_sums.proofs.Growth.{ready_after}
 use Rattle.identity_rows.proofs.Walks.{squares_are}
 use Rattle.identity_check.proofs.Carries.{reached_start, reached_same, reached_of, reached_divided}
 use Rattle.identity_check.proofs.Untouched.{near_untouched, shrunk_untouched, untouched_then}
