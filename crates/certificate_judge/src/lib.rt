@@ -16,7 +16,6 @@ use certificate_rows::Rows;
 use flat::Arrays;
 use format::certificate::Header;
 use identity_sums::Compared;
-use row_blocks::Place;
 
 // Where nothing is refused: number 0, and the other fields are 0.
 pub const NO_REFUSAL: Refusal = Refusal {
@@ -99,33 +98,28 @@ pub fn judge(
     ensures rest { SumsRest high.old low.old high.new low.new }
 {
     let mut starts = [0usize; 129];
-    let r = certificate_reader::validate(sizes, s, &mut starts);
-    if r.number > 0 {
-        return Err(certificate_refusal(stream, r.number, r.place, 0));
+    let r = match certificate_reader::validate(sizes, s, &mut starts) {
+        Ok(r) => r,
+        Err(m) => return Err(certificate_refusal(stream, u8::from(m.fault), m.place, 0)),
+    };
+    let rows = Rows {
+        stream: s,
+        starts: &starts,
+        count: r.rows,
+    };
+    if let Some(place) = row_blocks::split_place(rows, labels) {
+        return Err(certificate_refusal(stream, 8, place, 0));
     }
-    match row_blocks::split_place(s, &starts, r.rows, labels) {
-        Place::At(place) => Err(certificate_refusal(stream, 8, place, 0)),
-        Place::Nowhere => {
-            let rows = Rows {
-                stream: s,
-                starts: &starts,
-                count: r.rows,
-            };
-            let problem = Arrays {
-                keys,
-                coefficients,
-                sizes,
-            };
-            let compared = Compared {
-                table,
-                count: n,
-                index,
-            };
-            by_identity(
-                stream,
-                r.header,
-                difference(rows, r.header, problem, compared, high, low),
-            )
-        }
-    }
+    let problem = Arrays {
+        keys,
+        coefficients,
+        sizes,
+    };
+    let compared = Compared {
+        table,
+        count: n,
+        index,
+    };
+    let found = difference(rows, r.header, problem, compared, high, low);
+    by_identity(stream, r.header, found)
 }
