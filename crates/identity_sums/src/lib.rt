@@ -63,8 +63,8 @@ fn add_term(
 {
     let index = keys.index;
     match key_set::find_at(keys.table, index, keys.count, key, at) {
-        key_set::Found::At(p) => wide_sums::add(hi, lo, p, x, c as i64),
-        key_set::Found::Nowhere(_) => {}
+        Ok(p) => wide_sums::add(hi, lo, p, x, c as i64),
+        Err(_) => {}
     }
 }
 
