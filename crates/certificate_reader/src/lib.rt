@@ -165,6 +165,7 @@ pub fn validate(sizes: &[usize], s: &[u8], starts: &mut [usize; 129]) -> Result<
     let mut header = NO_HEADER;
     let mut progress = Progress::default();
     let mut at = 0;
+    // By offset: the next command stands where this one and the entries behind it end.
     while at < s.len() {
         let i = match verdict_at(sizes, progress, s, at) {
             Ok(i) => i,

@@ -141,9 +141,6 @@ pub record Splitting (s starts labels : List ℕ) (rows r : ℕ) : Type 0 where
   pub within : r ≤ rows
   pub same : split_by (block_at labels) (drop r (rows_by s starts rows)) ≡ split_by (block_at labels) (rows_by s starts rows)
 
-pub splitting_start : {s starts labels : List ℕ} {rows : ℕ} → Splitting s starts labels rows 0
-splitting_start = record { within = omega arith; same = refl }
-
 -- a row that is reached has its numbers
 pub splitting_indexed : {s starts labels : List ℕ} {rows r : ℕ} → Walkable s starts rows → length labels ≡ 576 → r < rows → RowIndexed s (get_or starts r 0) (get_or starts (r + 1) 0) labels
 splitting_indexed {s} {starts} {labels} {rows} {r} w l h =

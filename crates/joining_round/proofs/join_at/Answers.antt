@@ -1,7 +1,5 @@
 -- `joining_round::join_at` meets its contract: the parts of basis j are lent, and what the joining leaves is put in
 -- place.
-use Rattle.std.proofs.Common.{arith}
-use Rattle.joining_bases.proofs.Turns.{arrays_sizes}
 use Rattle.joining_round.proofs.Lending.{lend_small, left_small, lend_large, left_large}
 use Rattle.joining_round.proofs.join_at.Goals as goal
 
