@@ -16,7 +16,6 @@ use Rattle.certificate_reader.specs.Rows.{GivenRows}
 use Rattle.certificate_reader.proofs.Walk.{given_walkable}
 use Rattle.identity_rows.specs.Walk.{Comparable}
 use Rattle.identity_check.specs.Compare.{difference_of, Given}
-use Rattle.identity_check.specs.declared.Difference.{Difference}
 use Rattle.std.specs.Prelude.{Err, Some, None}
 use Rattle.std.specs.Prelude as Code
 use Rattle.certificate_judge.specs.Steps.{JoinedProblem, judged_of, judged_from}
@@ -48,7 +47,7 @@ module _ (P : Problem) (s : List ℕ) where
     pub judge_split : (at : ℕ) → SplitTold (Some at) (split_place P c.rows) → Err (certificate_refusal stream 8 at 0) ≡ judged_of stream (judge P s)
     judge_split at f = rw (judged (Some at) f) refl
 
-    pub judge_compared : (t : Header) (d : Difference) → SplitTold None (split_place P c.rows) → t ≡ c.header → d ≡ difference_of (difference_key P c) → judged_from stream t d ≡ judged_of stream (judge P s)
+    pub judge_compared : (t : Header) (d : Code.Option ℕ) → SplitTold None (split_place P c.rows) → t ≡ c.header → d ≡ difference_of (difference_key P c) → judged_from stream t d ≡ judged_of stream (judge P s)
     judge_compared t d f g h = rw (judged None f, g, h) (go (difference_key P c))
       where
         go : (o : Option ℕ) → judged_from stream c.header (difference_of o) ≡ judged_of stream (by_identity c o)

@@ -21,7 +21,7 @@ use Rattle.key_set.proofs.Keys.{inside, keys_apart}
 use Rattle.key_set.proofs.Index.{rest_sum}
 use Rattle.wide_sums.specs.Sums.{value_of, value_at, Room, added_at}
 use Rattle.wide_sums.specs.declared.Halves.{Halves}
-use Rattle.wide_sums.proofs.Tables.{added_at_lem, added_near, room_at, room_less, room_after, near_none, near_more, near_then}
+use Rattle.wide_sums.proofs.Tables.{added_at_lem, added_near, room_at, room_after, near_none, near_more, near_then}
 use Rattle.identity_sums.specs.Tables.{unit, Sought, Ready, SumsGrown, Scaled}
 
 module _ {keys : List ℕ} {n : ℕ} {hi₀ hi₁ lo₀ lo₁ : List ℤ} where
@@ -50,9 +50,6 @@ module _ {keys : List ℕ} {n : ℕ} {hi₀ hi₁ lo₀ lo₁ : List ℤ} where
         high = near_then x.high y.high l;
         low = near_then x.low y.low l;
       }
-
-pub ready_less : {keys idx : List ℕ} {n : ℕ} {hi lo : List ℤ} {c d : ℕ} → Ready keys idx n hi lo c → d ≤ c → Ready keys idx n hi lo d
-ready_less r l = record { support = r.support; index = r.index; high = room_less r.high l; low = room_less r.low l }
 
 pub grown_none : {keys : List ℕ} {n : ℕ} {hi lo : List ℤ} {f : ℕ → ℤ} {c : ℕ} → ((q : ℕ) → q < n → f (get_or keys q 0) ≡ pos 0) → SumsGrown keys n hi lo f c hi lo
 grown_none {hi = hi} {lo = lo} e =

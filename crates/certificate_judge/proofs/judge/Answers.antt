@@ -20,7 +20,7 @@ pub difference-found-requires : goal.difference-found-requires
 difference-found-requires c =
     let w = c.requires.0 in
     let j = w.joined in
-    ((j.holds, j.index), joined_comparable j (c.in-Ok.ensures w.problem j.limits (flat_sized j.flat)), c.requires.1)
+    ((j.holds, j.index), (joined_comparable j (c.in-Ok.ensures w.problem j.limits (flat_sized j.flat)), omega arith), c.requires.1)
 
 pub returns-in-Some-clause-judgement : goal.returns-in-Some-clause-judgement
 returns-in-Some-clause-judgement c p j =
