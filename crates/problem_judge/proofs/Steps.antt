@@ -1,6 +1,6 @@
 -- Laws of the chain: what was read and joined is the problem's outcome, and what was judged is the certificates'.
 use mathlib.Core.Path.{◌≡◌, refl, sym, ap, subst, ◌∙◌}
-use mathlib.Core.Bool.{Bool, true, false}
+use mathlib.Core.Bool.{Bool, false}
 use mathlib.Core.List.{List}
 use Prim.Native.Nat.{ℕ, ◌≤◌}
 use native.Mathlib.Omega.{arith}
@@ -19,7 +19,6 @@ use Rattle.calls.specs.Refusals.{problem_refusal}
 use Rattle.calls.specs.Tables.{table_length}
 use Rattle.calls.specs.Checks.{problem_of}
 use Rattle.flat.specs.Flat.{FlatLimits, FlatProblem}
-use Rattle.key_set.specs.Table.{keys_in}
 use Rattle.closure.specs.Tables.{ClosureLeft}
 use Rattle.closure.specs.declared.Joined.{Joined}
 use Rattle.key_set.specs.declared.Full.{Full}

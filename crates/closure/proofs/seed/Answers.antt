@@ -1,8 +1,7 @@
 -- `closure::seed` meets its contract: three growths of the table, one after another, are the start of the support.
-use Rattle.std.proofs.Common.{ℕ, ◌*◌, length, get_or, ap, arith}
+use Rattle.std.proofs.Common.{◌*◌, length, get_or, ap, arith}
 use Rattle.counting.proofs.Bounded.{bounded_part}
 use Rattle.key_set.proofs.Keys.{grown_holds, keys_none}
-use Rattle.flat.proofs.Flat.{basis_fits}
 use Rattle.joining_bases.proofs.Ready.{stored_full}
 use Rattle.closure.proofs.Start.{first, conditions, doubled, start_is, doubled_more, conditions_more, stored_then}
 use Rattle.closure.proofs.Laid.{all_low}

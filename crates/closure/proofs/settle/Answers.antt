@@ -1,6 +1,6 @@
 -- `closure::settle` meets its contract: the rounds, the products that may be missing and the zero exponent, one growth of
 -- the table after another.
-use Rattle.std.proofs.Common.{refl, arith}
+use Rattle.std.proofs.Common.{arith}
 use Rattle.key_set.specs.Table.{keys_in}
 use Rattle.key_set.proofs.Keys.{grown_holds}
 use Rattle.closure.proofs.Settled.{labels_held, products_held, close_large, products_large, products_long, products_rest, put_large, put_small, len_is, put_keys, put_long, put_rest, left_full}

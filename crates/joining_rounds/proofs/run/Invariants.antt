@@ -1,5 +1,4 @@
 -- `joining_rounds::run`: those rounds that are left lead to the outcome.
-use Rattle.std.proofs.Common.{◌≡◌, length}
 use Rattle.key_set.specs.Table.{keys_in}
 use Rattle.joining_rule.specs.Rounds.{closing_of}
 use Rattle.joining_bases.specs.Parts.{bases_in}
