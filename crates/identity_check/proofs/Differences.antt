@@ -137,9 +137,15 @@ module _ {p : Problem} {c : Certificate} {s starts : List ℕ} {rows : ℕ} {hea
     unfolding difference_key
     key_is = rw given.compared
 
+    pub found_same : r ≡ None → None ≡ difference_of (difference_key p c)
+    found_same e = ap difference_of (sym (tables_same _ _ z.support total total_is r least e) ∙ key_is)
+
+    pub found_differs : (x : ℕ) → r ≡ Some x → Some x ≡ difference_of (difference_key p c)
+    found_differs x e = ap difference_of (sym (tables_differ _ _ z.support total total_is r least x e) ∙ key_is)
+
     found_by : (o : Option ℕ) → r ≡ o → o ≡ difference_of (difference_key p c)
-    found_by None e = ap difference_of (sym (tables_same _ _ z.support total total_is r least e) ∙ key_is)
-    found_by (Some x) e = ap difference_of (sym (tables_differ _ _ z.support total total_is r least x e) ∙ key_is)
+    found_by None e = found_same e
+    found_by (Some x) e = found_differs x e
 
     pub found_is : r ≡ difference_of (difference_key p c)
     found_is = found_by r refl

@@ -24,8 +24,8 @@ use Rattle.identity_check.proofs.Carries.{reached_start, reached_same, reached_o
 use Rattle.identity_check.proofs.Untouched.{near_untouched, shrunk_untouched, untouched_then}
 
 -- after a division there is room again
-pub divided_ready : {table idx : List ℕ} {n c found r : ℕ} {hi₀ lo₀ hi₁ lo₁ : List ℤ} → Ready table idx n hi₀ lo₀ c
-    → DividedSums table n n found hi₀ lo₀ hi₁ lo₁ r → (d : ℕ) → d ≤ 2 ^ 62 + 2 ^ 61 → Ready table idx n hi₁ lo₁ d
+pub divided_ready : {table idx : List ℕ} {n c : ℕ} {found r : Option ℕ} {hi₀ lo₀ hi₁ lo₁ : List ℤ} → Ready table idx n hi₀ lo₀ c
+    → DividedSums table n found hi₀ lo₀ hi₁ lo₁ r → (d : ℕ) → d ≤ 2 ^ 62 + 2 ^ 61 → Ready table idx n hi₁ lo₁ d
 divided_ready r h d l =
     record {
       support = r.support;
