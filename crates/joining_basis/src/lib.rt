@@ -1,6 +1,9 @@
 // The joining of one basis: a basis above PLAIN monomials joins by the members that came last, through the index of its
 // pairs; a smaller one by its pairs, and needs no index. The arrays are those of joining_pairs, joining_products and
 // joining_blocks.
+//
+// The arrays stay parameters of their own: a struct with a `&mut` to each is no plainer, as each contract would have to
+// say that all still lead to the same arrays.
 #![tactic(auto)]
 
 ghost use Rattle.std.specs.Prelude.{◌≡◌, ℕ, ◌+◌, ◌*◌, ◌/◌, ◌%◌, ◌^◌, ◌<◌, ◌≤◌, false, cond, List, length, take, ◌==◌, slice_index, IfOk};
