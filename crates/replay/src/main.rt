@@ -8,7 +8,7 @@
 #![tactic(auto)]
 
 ghost use Rattle.std.specs.Prelude.{◌≡◌, true, ◌++◌, ◌+◌, ◌*◌, ◌/◌, ◌≤◌, length, take};
-ghost use Rattle.format.specs.Operands.{number, signed};
+ghost use Rattle.format.specs.Operands.{number};
 ghost use Rattle.lines.specs.Lines.{arrival_word};
 ghost use Rattle.lines.specs.Texts.{text_of};
 ghost use Rattle.text.specs.Appending.{Appended};
@@ -108,23 +108,13 @@ fn answer_record(kind: u8, problem: &[u8], first: &[u8], second: &[u8]) -> Text
     }
 }
 
-// The signed number of 64 bits, in two's complement.
-fn signed64(x: u64) -> i64
-    ensures { result ≡ signed 63 x }
-{
-    if x < 9223372036854775808 {
-        return x as i64;
-    }
-    -1 - ((18446744073709551615 - x) as i64)
-}
-
 // Arrival i of a run.
 fn arrival_at(run: &[u8], i: usize) -> Fraction
     requires { 16 * i + 16 ≤ length run.now }
     ensures { result ≡ arrival_at run.now i }
 {
     let at = 16 * i;
-    let num = signed64(operand_reader::number_at(run, at, 8));
+    let num = operand_reader::signed64(operand_reader::number_at(run, at, 8));
     let den = operand_reader::number_at(run, at + 8, 8);
     Fraction { num, den }
 }
