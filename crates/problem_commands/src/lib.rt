@@ -3,6 +3,7 @@
 #![tactic(auto)]
 
 ghost use Rattle.std.specs.Prelude.{◌≡◌, ◌+◌, ◌≤◌, ◌<◌, length};
+ghost use Rattle.faults.specs.Numbers.{number_in};
 ghost use Rattle.format.specs.Layouts.{ZeroUnknown};
 ghost use Rattle.format.specs.declared.problem.Command.TheVariants as C;
 ghost use Rattle.format.specs.ProblemLayout.{problem_command, problem_size, problem_decoded};
@@ -10,21 +11,17 @@ ghost use Rattle.format.specs.ProblemRules.{Problem, order_place, problem_placed
 ghost use Rattle.problem_commands.specs.Checks.{early};
 ghost use Rattle.polynomial.specs.Monomial.{degree, within};
 
+use faults::Fault;
 use format::problem::{Command, Instruction};
 
-// The total degree, digit by digit.
+// The total degree: the sum of the exponents, which are the bytes of the key.
 pub fn degree_of(key: u64) -> u64
     ensures { result ≡ degree key }
 {
-    let mut sum: u64 = 0;
-    let mut rest = key;
-    let mut i: usize = 0;
-    while i < 8 {
-        sum += rest % 256;
-        rest /= 256;
-        i += 1;
-    }
-    sum
+    key.to_le_bytes()
+        .iter()
+        .map(|exponent| u64::from(*exponent))
+        .sum()
 }
 
 // Whether the exponents of the variables above n are 0.
@@ -70,10 +67,14 @@ pub fn length_of(byte: u8) -> usize
 }
 
 // The offset at which a 09 may stand. A byte that the stream does not have is no 08.
+#[tactic(auto, unfolding(format::specs::ProblemRules::order_place))]
 fn order_place(s: &[u8]) -> usize
     ensures { result ≡ order_place s.now }
 {
-    if 2 < s.len() && s[2] == 8 { 4 } else { 2 }
+    match s {
+        [_, _, 8, ..] => 4,
+        _ => 2,
+    }
 }
 
 // Whether a command may stand at an offset of a stream, after `count` conditions.
@@ -154,15 +155,21 @@ pub fn is_allowed(n: usize, count: usize, i: Instruction) -> bool
 }
 
 // The checks 3 and 2 of the command at an offset: they need one number of what was read before it.
-pub fn check_at(count: usize, command: Command, len: usize, s: &[u8], at: usize) -> u8
+pub fn check_at(
+    count: usize,
+    command: Command,
+    len: usize,
+    s: &[u8],
+    at: usize,
+) -> Result<(), Fault>
     requires { (at < length s.now) × (command ≡ problem_command_at s.now at) × (len ≡ problem_size command) }
-    ensures { (p : Problem) → length p.conditions ≡ count → result ≡ early p s.now at }
+    ensures { (p : Problem) → length p.conditions ≡ count → number_in result ≡ early p s.now at }
 {
     if !is_placed(count, s, at, command) {
-        return 3;
+        return Err(Fault::Misplaced);
     }
     if s.len() - at < len {
-        return 2;
+        return Err(Fault::Cut);
     }
-    0
+    Ok(())
 }
