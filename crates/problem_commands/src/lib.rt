@@ -34,6 +34,7 @@ pub fn is_within(n: usize, key: u64) -> bool
     key >> (8 * n) == 0
 }
 
+#[tactic(auto, unfolding(format::specs::ProblemLayout::problem_command))]
 pub fn command_of(byte: u8) -> Command
     ensures { result ≡ problem_command byte }
 {
@@ -52,6 +53,7 @@ pub fn command_of(byte: u8) -> Command
 }
 
 // The length of the command that a byte names, with its byte; 0 where it names none.
+#[tactic(auto, unfolding(format::specs::ProblemLayout::problem_command))]
 pub fn length_of(byte: u8) -> usize
     ensures layout { result ≡ problem_size (problem_command byte) }
     ensures unknown { ZeroUnknown C.Unknown (problem_command byte) result }
@@ -131,6 +133,7 @@ pub fn decode_at(command: Command, s: &[u8], at: usize) -> Instruction
 }
 
 // Whether a monomial is one in n variables, of total degree at most a limit.
+#[tactic(auto, unfolding(format::specs::ProblemRules::fitting))]
 pub fn is_fitting(n: usize, limit: u64, key: u64) -> bool
     ensures { result ≡ fitting n limit key }
 {
@@ -142,15 +145,15 @@ pub fn is_allowed(n: usize, count: usize, i: Instruction) -> bool
     ensures { (p : Problem) → p.variables ≡ n → length p.conditions ≡ count → result ≡ problem_operands_fit p i }
 {
     match i {
-        Instruction::Variables(m) => 1 <= m && m <= 8,
+        Instruction::Variables(m) => (1..=8).contains(&m),
         Instruction::Objective(key, c) => is_fitting(n, 32, key) && operand_reader::is_nonzero(c),
         Instruction::Inequality => true,
         Instruction::Term(key, c) => is_fitting(n, 16, key) && operand_reader::is_nonzero(c),
         Instruction::Member(j, key) => j <= count && is_fitting(n, 8, key),
         Instruction::End => true,
         Instruction::Equality => true,
-        Instruction::Rule(r) => 1 <= r && r <= 2,
-        Instruction::Order(k) => 1 <= k && k <= 255,
+        Instruction::Rule(r) => (1..=2).contains(&r),
+        Instruction::Order(k) => (1..=255).contains(&k),
     }
 }
 
