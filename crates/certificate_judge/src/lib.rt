@@ -8,7 +8,6 @@ ghost use Rattle.calls.specs.Refusals.{problem_refusal, certificate_refusal};
 ghost use Rattle.key_set.specs.Table.{Holds, Indexed};
 ghost use Rattle.identity_rows.specs.Walk.{Comparable};
 ghost use Rattle.identity_check.specs.Compare.{Answered};
-ghost use Rattle.certificate_judge.specs.declared.Judged.TheVariants as Judged;
 ghost use Rattle.certificate_judge.specs.Steps.{JoinedProblem, Judgeable, LongSums, SumsRest};
 ghost use Rattle.certificate_judge.specs.Steps.{judged_of, judged_from};
 
@@ -17,32 +16,40 @@ use format::certificate::Header;
 use identity_check::Difference;
 use row_blocks::Place;
 
-// What becomes of one certificate: a refusal, or it is accepted, and what its first command states.
-#[derive(Clone, Copy)]
-pub enum Judged {
-    Refused(Refusal),
-    Accepted(Header),
+// Where nothing is refused: number 0, and the other fields are 0.
+pub const NO_REFUSAL: Refusal = Refusal {
+    number: 0,
+    stream: 0,
+    place: 0,
+    key: 0,
+};
+
+// A refusal of the problem, which is stream 0. Only refusal 9 has a key, and it is a certificate's.
+pub fn problem_refusal(number: u8, place: usize) -> Refusal
+    ensures { result ≡ problem_refusal number place }
+{
+    certificate_refusal(0, number, place, 0)
 }
 
-// A refusal of a certificate.
-fn refuse(stream: u8, number: u8, place: usize, key: u64) -> Judged
-    ensures { result ≡ Judged.Refused (certificate_refusal stream number place key) }
+// A refusal of a certificate, which is stream 1 or 2.
+pub fn certificate_refusal(stream: u8, number: u8, place: usize, key: u64) -> Refusal
+    ensures { result ≡ certificate_refusal stream number place key }
 {
-    Judged::Refused(Refusal {
+    Refusal {
         number,
         stream,
         place,
         key,
-    })
+    }
 }
 
 // A certificate whose rows keep to the blocks, by its identity.
-fn by_identity(stream: u8, header: Header, found: Difference) -> Judged
+fn by_identity(stream: u8, header: Header, found: Difference) -> Result<Header, Refusal>
     ensures { result ≡ judged_from stream header found }
 {
     match found {
-        Difference::Differs(key) => refuse(stream, 9, 0, key),
-        Difference::Same => Judged::Accepted(header),
+        Difference::Differs(key) => Err(certificate_refusal(stream, 9, 0, key)),
+        Difference::Same => Ok(header),
     }
 }
 
@@ -86,7 +93,8 @@ fn difference(
     )
 }
 
-// One certificate against a problem with its blocks: it by commands, 8 by rows, 9. The compared keys are the first n
+// What becomes of one certificate against a problem with its blocks: it by commands, 8 by rows, 9; or it is accepted,
+// and what its first command states. The compared keys are the first n
 // numbers of `table`, with `index`; the sums at them are kept in `high` and `low`, before place 2,048 only.
 pub fn judge(
     stream: u8,
@@ -100,7 +108,7 @@ pub fn judge(
     index: &[u16; 6144],
     high: &mut [i64],
     low: &mut [i64],
-) -> Judged
+) -> Result<Header, Refusal>
     requires { Judgeable keys.now coefficients.now sizes.now labels.now table.now n index.now
         × LongSums high.old low.old }
     ensures judgement { (p : Problem)
@@ -110,22 +118,19 @@ pub fn judge(
 {
     let mut starts = [0usize; 129];
     let r = certificate_reader::validate(sizes, s, &mut starts);
-    let number = r.number;
-    if 0 < number {
-        return refuse(stream, number, r.place, 0);
+    if r.number > 0 {
+        return Err(certificate_refusal(stream, r.number, r.place, 0));
     }
-    let rows = r.rows;
-    let t = r.header;
-    match row_blocks::split_place(s, &starts, rows, labels) {
-        Place::At(place) => refuse(stream, 8, place, 0),
+    match row_blocks::split_place(s, &starts, r.rows, labels) {
+        Place::At(place) => Err(certificate_refusal(stream, 8, place, 0)),
         Place::Nowhere => by_identity(
             stream,
-            t,
+            r.header,
             difference(
                 s,
                 &starts,
-                rows,
-                t,
+                r.rows,
+                r.header,
                 keys,
                 coefficients,
                 sizes,
@@ -136,16 +141,5 @@ pub fn judge(
                 low,
             ),
         ),
-    }
-}
-
-pub fn problem_refusal(number: u8, place: usize) -> Refusal
-    ensures { result ≡ problem_refusal number place }
-{
-    Refusal {
-        number,
-        stream: 0,
-        place,
-        key: 0,
     }
 }

@@ -17,11 +17,12 @@ pub struct Rows<'a> {
 }
 
 // The basis of the row whose command stands at an offset.
+#[tactic(auto, unfolding(format::specs::Operands::number))]
 pub fn basis_at(s: &[u8], at: usize) -> usize
     requires { at + certificate_size C.Row ≤ length s.now }
     ensures { result ≡ basis_at s.now at }
 {
-    operand_reader::number_at(s, at + 1, 1) as usize
+    s[at + 1] as usize
 }
 
 // Its weight, which has a sign where the command is 14.
@@ -38,14 +39,16 @@ pub fn weight_at(s: &[u8], at: usize) -> i64
 }
 
 // The index of the entry whose command stands at an offset.
+#[tactic(auto, unfolding(crate::specs::Offsets::entry_at, format::specs::Operands::number))]
 pub fn index_at(s: &[u8], at: usize) -> u8
     requires { EntryStands s.now at }
     ensures { result ≡ (entry_at s.now at).index }
 {
-    operand_reader::number_at(s, at + 1, 1) as u8
+    s[at + 1]
 }
 
 // Its factor, which has 32 bits where the command is 15.
+#[tactic(auto, using(crate::proofs::Offsets::wide_byte, crate::proofs::Offsets::other_byte), unfolding(crate::specs::Offsets::entry_at))]
 pub fn factor_at(s: &[u8], at: usize) -> i32
     requires { EntryStands s.now at }
     ensures { result ≡ (entry_at s.now at).factor }
@@ -60,6 +63,7 @@ pub fn factor_at(s: &[u8], at: usize) -> i32
 }
 
 // The offset after it: the step of every walk over the entries of a row.
+#[tactic(auto, using(crate::proofs::Offsets::wide_byte, crate::proofs::Offsets::other_byte))]
 pub fn after_entry(s: &[u8], at: usize) -> usize
     requires { EntryStands s.now at }
     ensures { result ≡ at + size_at s.now at }

@@ -149,11 +149,14 @@ fn add_basis(
         × RoomFor sizes.now g.new
         × (result ≡ false → Alone (on_basis (rows_by s.now starts.now rows) j)) }
 {
-    let found = row_products::add_basis_rows(g, s, starts, rows, j, part);
-    let wide = found.wide;
-    if !found.any {
-        return wide;
-    }
+    let all = certificate_rows::Rows {
+        stream: s,
+        starts,
+        count: rows,
+    };
+    let Some(wide) = row_products::add_basis_rows(g, all, j, part) else {
+        return false;
+    };
     let basis = flat::basis(keys, sizes, j);
     let es = flat::exponents(keys, sizes, j);
     let cs = flat::coefficients(coefficients, sizes, j);

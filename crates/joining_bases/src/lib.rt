@@ -6,7 +6,7 @@
 // Place j of `state` has the number of its blocks, and place 9 + j the bits of the sums of its pairs.
 #![tactic(auto)]
 
-ghost use Rattle.std.specs.Prelude.{◌≡◌, true, ℕ, ◌≤◌, ◌<◌, length, get_or, replicate};
+ghost use Rattle.std.specs.Prelude.{◌≡◌, ◌↔◌, IsTrue, ℕ, ◌≤◌, ◌<◌, length, get_or, replicate};
 ghost use Rattle.counting.specs.Counting.{listed, sum_to};
 ghost use Rattle.key_set.specs.Table.{keys_in, Stored};
 ghost use Rattle.joining_rule.specs.Rounds.{extend_to, adding_bases};
@@ -20,10 +20,8 @@ fn number(part: &mut [u8])
     requires { length part.old ≤ 64 }
     ensures { part.new ≡ listed (length part.old) (λ i. i) }
 {
-    let mut i = 0;
-    while i < part.len() {
-        part[i] = i as u8;
-        i += 1;
+    for (i, label) in part.iter_mut().enumerate() {
+        *label = i as u8;
     }
 }
 
@@ -32,12 +30,9 @@ pub fn start_blocks(labels: &mut [u8], sizes: &[usize])
     requires { Sizes sizes.now × (labels.old ≡ replicate 576 255) }
     ensures { SingleBlocks sizes.now labels.new }
 {
-    let mut j = 0;
-    while j < 9 {
+    for j in 0..9 {
         let a = 64 * j;
-        let e = a + sizes[j];
-        number(&mut labels[a..e]);
-        j += 1;
+        number(&mut labels[a..a + sizes[j]]);
     }
 }
 
@@ -81,13 +76,7 @@ pub fn total(state: &[u64; 18]) -> usize
     requires { (j : ℕ) → j < 9 → get_or state.now j 0 ≤ 64 }
     ensures { result ≡ sum_to 9 (λ j. get_or state.now j 0) }
 {
-    let mut n = 0;
-    let mut j = 0;
-    while j < 9 {
-        n += state[j] as usize;
-        j += 1;
-    }
-    n
+    state[..9].iter().map(|&n| n as usize).sum()
 }
 
 // The products of each index with itself put in, for the bases before `adding`.
@@ -156,32 +145,22 @@ pub fn note_all(pairs: &mut [u16], state: &mut [u64; 18], keys: &[u64], sizes: &
         × (length state.new ≡ length state.old)
         × ((j : ℕ) → j < 9 → get_or state.new j 0 ≡ get_or state.old j 0) }
 {
-    let mut j = 0;
-    while j < 9 {
+    for j in 0..9 {
         if joining_products::PLAIN < sizes[j] {
             let basis = flat::basis(keys, sizes, j);
             let exponents = flat::exponents(keys, sizes, j);
             let a = 6240 * j;
-            let e = a + 6240;
-            state[9 + j] = joining_pairs::note(&mut pairs[a..e], basis, exponents);
+            state[9 + j] = joining_pairs::note(&mut pairs[a..a + 6240], basis, exponents);
         }
-        j += 1;
     }
 }
 
 // Whether every basis is small.
 pub fn are_small(sizes: &[usize]) -> bool
     requires { 9 ≤ length sizes.now }
-    ensures { result ≡ true → (j : ℕ) → j < 9 → get_or sizes.now j 0 ≤ plain }
+    ensures { IsTrue result ↔ ((j : ℕ) → j < 9 → get_or sizes.now j 0 ≤ plain) }
 {
-    let mut j = 0;
-    while j < 9 {
-        if joining_products::PLAIN < sizes[j] {
-            return false;
-        }
-        j += 1;
-    }
-    true
+    sizes[..9].iter().all(|&n| n <= joining_products::PLAIN)
 }
 
 // Each basis has as many blocks as monomials.
@@ -190,10 +169,8 @@ pub fn start_state(sizes: &[usize]) -> [u64; 18]
     ensures { (length result ≡ 18) × ((j : ℕ) → j < 9 → get_or result j 0 ≡ get_or sizes.now j 0) }
 {
     let mut state = [0u64; 18];
-    let mut j = 0;
-    while j < 9 {
-        state[j] = sizes[j] as u64;
-        j += 1;
+    for (j, &n) in sizes[..9].iter().enumerate() {
+        state[j] = n as u64;
     }
     state
 }

@@ -121,18 +121,6 @@ pub fn close(
     let mut follow = [255u8; 576];
     joining_bases::start_blocks(labels, sizes);
     let mut state = joining_bases::start_state(sizes);
-    if joining_products::PLAIN < sizes[0] {
-        return run_indexed(
-            labels,
-            &mut follow,
-            keys,
-            sizes,
-            table,
-            index,
-            &mut state,
-            support,
-        );
-    }
     if joining_bases::are_small(sizes) {
         let mut none = [0u16; 1];
         return run(

@@ -13,7 +13,7 @@ use Rattle.format.specs.ProblemRules.{Problem, read_problem}
 use Rattle.format.proofs.ProblemLimits.{read_limits}
 use Rattle.joining_rule.specs.Joining.{bases_of, closing, too_large, block_total}
 use Rattle.accepting.specs.Judgement.{compared_keys, judge}
-use Rattle.calls.specs.Outcome.{refused, given}
+use Rattle.calls.specs.Outcome.{refused}
 use Rattle.calls.specs.declared.Refusal.{Refusal}
 use Rattle.calls.specs.Refusals.{problem_refusal}
 use Rattle.calls.specs.Tables.{table_length}
@@ -23,8 +23,8 @@ use Rattle.key_set.specs.Table.{keys_in}
 use Rattle.closure.specs.Tables.{ClosureLeft}
 use Rattle.closure.specs.declared.Joined.{Joined}
 use Rattle.certificate_judge.specs.Steps.{JoinedProblem, judged_of}
-use Rattle.certificate_judge.specs.declared.Judged.{Judged}
-use Rattle.problem_judge.specs.declared.Prepared.TheVariants as Prepared
+use Rattle.format.specs.declared.certificate.Header.{Header}
+use Rattle.std.specs.Prelude.{Result, Ok, Err}
 use Rattle.problem_judge.specs.Chain.{Prepares, PreparedLeft, ends_with, both_judged, two_of}
 
 -- ---- the problem's outcome
@@ -80,7 +80,7 @@ module _ (s : List ℕ) (p : Problem) (read : read_problem s ≡ Stream.given p)
 -- ---- what is left of the stream
 module _ {s keys : List ℕ} {coefficients : List ℤ} {sizes labels t t' idx : List ℕ} (limits : FlatLimits keys coefficients sizes)
     (rest : drop table_length t' ≡ drop table_length t) where
-  pub left_refused : (f : Refusal) → problem_of false s ≡ refused f → PreparedLeft s (Prepared.Refused f) keys coefficients sizes labels t t' idx
+  pub left_refused : (f : Refusal) → problem_of false s ≡ refused f → PreparedLeft s (Err f) keys coefficients sizes labels t t' idx
   left_refused f e = record {
     limits = limits;
     refuses = λ g q. let i : f ≡ g = cc in e ∙ ap refused i;
@@ -88,7 +88,7 @@ module _ {s keys : List ℕ} {coefficients : List ℤ} {sizes labels t t' idx : 
     rest = rest;
   }
 
-  pub left_ready : (j : Joined) → Prepares s j keys coefficients sizes labels t' idx → PreparedLeft s (Prepared.Ready j) keys coefficients sizes labels t t' idx
+  pub left_ready : (j : Joined) → Prepares s j keys coefficients sizes labels t' idx → PreparedLeft s (Ok j) keys coefficients sizes labels t t' idx
   left_ready j p = record {
     limits = limits;
     refuses = λ g q. clash (cc);
@@ -97,7 +97,7 @@ module _ {s keys : List ℕ} {coefficients : List ℤ} {sizes labels t t' idx : 
   }
 
 -- ---- the certificates, by what became of each
-pub two_of_lem : (stream : ℕ) (p : Problem) (first second : List ℕ) (a b : Judged) (ends : Bool) (rounds rule : ℕ)
+pub two_of_lem : (stream : ℕ) (p : Problem) (first second : List ℕ) (a b : Result Header Refusal) (ends : Bool) (rounds rule : ℕ)
     → a ≡ judged_of 1 (judge p first) → b ≡ judged_of stream (judge p second) → ends ≡ ends_with stream a
     → rounds ≡ (closing p).rounds → rule ≡ p.rule → both_judged rounds rule ends a b ≡ two_of stream p first second
 unfolding two_of

@@ -13,23 +13,16 @@ ghost use Rattle.certificate_judge.specs.Steps.{JoinedProblem, Judgeable, LongSu
 ghost use Rattle.problem_judge.specs.Chain.{PreparedLeft, both_refused, ends_with, two_of, two_judged};
 
 use calls::Refusal;
-use certificate_judge::Judged;
 use closure::Joined;
 use flat::RULE;
-
-// A problem that was read and joined, or its refusal.
-#[derive(Clone, Copy)]
-pub enum Prepared {
-    Refused(Refusal),
-    Ready(Joined),
-}
+use format::certificate::Header;
 
 // What became of two certificates for one problem, with its rounds and its rule. Where the problem is refused, so is
 // each certificate, and rounds and rule are 0.
 #[derive(Clone, Copy)]
 pub struct TwoJudged {
-    pub first: Judged,
-    pub second: Judged,
+    pub first: Result<Header, Refusal>,
+    pub second: Result<Header, Refusal>,
     pub rounds: usize,
     pub rule: usize,
 }
@@ -44,7 +37,7 @@ pub fn prepare(
     labels: &mut [u8; 576],
     table: &mut [u64],
     index: &mut [u16; 6144],
-) -> Prepared
+) -> Result<Joined, Refusal>
     requires { FlatZero keys.old coefficients.old sizes.old
         × (table_length ≤ length table.old)
         × Indexed index.old table.old 0 }
@@ -52,15 +45,14 @@ pub fn prepare(
         labels.new table.old table.new index.new }
 {
     let r = problem_reader::read(problem, keys, coefficients, sizes);
-    let number = r.number;
-    if 0 < number {
-        return Prepared::Refused(certificate_judge::problem_refusal(number, r.place));
+    if r.number > 0 {
+        return Err(certificate_judge::problem_refusal(r.number, r.place));
     }
     let j = closure::join(keys, sizes, labels, table, index);
     if j.full {
-        return Prepared::Refused(certificate_judge::problem_refusal(7, 0));
+        return Err(certificate_judge::problem_refusal(7, 0));
     }
-    Prepared::Ready(j)
+    Ok(j)
 }
 
 // A refusal before a certificate is looked at is that of both.
@@ -68,8 +60,8 @@ fn both_refused(refusal: Refusal) -> TwoJudged
     ensures { result ≡ both_refused refusal }
 {
     TwoJudged {
-        first: Judged::Refused(refusal),
-        second: Judged::Refused(refusal),
+        first: Err(refusal),
+        second: Err(refusal),
         rounds: 0,
         rule: 0,
     }
@@ -77,13 +69,10 @@ fn both_refused(refusal: Refusal) -> TwoJudged
 
 // Whether the first certificate ends the call. The second of a pair, stream 2, is looked at only where the first was
 // accepted; one that stands by itself, stream 1, always is.
-fn ends_with(stream: u8, first: Judged) -> bool
+fn ends_with(stream: u8, first: Result<Header, Refusal>) -> bool
     ensures { result ≡ ends_with stream first }
 {
-    match first {
-        Judged::Refused(_) => stream == 2,
-        Judged::Accepted(_) => false,
-    }
+    first.is_err() && stream == 2
 }
 
 // Two certificates against a problem with its blocks.
@@ -109,7 +98,6 @@ fn judge_both(
         → result ≡ two_of stream p first.now second.now }
     ensures rest { SumsRest high.old low.old high.new low.new }
 {
-    let n = j.len;
     let rule = sizes[RULE];
     let a = certificate_judge::judge(
         1,
@@ -119,32 +107,28 @@ fn judge_both(
         sizes,
         labels,
         table,
-        n,
+        j.len,
         index,
         high,
         low,
     );
-    if ends_with(stream, a) {
-        return TwoJudged {
-            first: a,
-            second: a,
-            rounds: j.rounds,
-            rule,
-        };
-    }
-    let b = certificate_judge::judge(
-        stream,
-        second,
-        keys,
-        coefficients,
-        sizes,
-        labels,
-        table,
-        n,
-        index,
-        high,
-        low,
-    );
+    let b = if ends_with(stream, a) {
+        a
+    } else {
+        certificate_judge::judge(
+            stream,
+            second,
+            keys,
+            coefficients,
+            sizes,
+            labels,
+            table,
+            j.len,
+            index,
+            high,
+            low,
+        )
+    };
     TwoJudged {
         first: a,
         second: b,
@@ -183,8 +167,8 @@ fn judge_streams(
         table,
         &mut index,
     ) {
-        Prepared::Refused(f) => both_refused(f),
-        Prepared::Ready(j) => judge_both(
+        Err(f) => both_refused(f),
+        Ok(j) => judge_both(
             stream,
             first,
             second,

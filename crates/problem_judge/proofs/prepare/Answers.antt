@@ -1,0 +1,23 @@
+-- `prepare`: a refusal of the stream, 7, or the problem with its blocks.
+use Rattle.std.proofs.Common.{refl, sym, ap, ◌∙◌, arith}
+use Rattle.calls.specs.Outcome.{refused}
+use Rattle.problem_judge.proofs.Steps.{problem_refused, problem_full_lem, prepares, left_refused, left_ready}
+use Rattle.problem_judge.proofs.prepare.Goals as goal
+
+pub returns-then-r-gt0 : goal.returns-then-r-gt0
+returns-then-r-gt0 c =
+    let r = c.read-r.ensures in
+    left_refused r.limits refl _ (problem_refused _ _ _ (r.refuses c.if-r-gt0.true) ∙ ap refused (sym c.problem_refusal.ensures))
+
+pub returns-then-j : goal.returns-then-j
+returns-then-j c =
+    let g = c.read-r.ensures.gives (omega (arith, c.if-r-gt0.false)) in
+    let left = c.join-j.ensures g.problem _ g.flat in
+    left_refused g.flat.limits left.rest _
+    (problem_full_lem _ _ g.read left c.if-j.true ∙ ap refused (sym c.problem_refusal-then-j.ensures))
+
+pub returns : goal.returns
+returns c =
+    let g = c.read-r.ensures.gives (omega (arith, c.if-r-gt0.false)) in
+    let left = c.join-j.ensures g.problem _ g.flat in
+    left_ready g.flat.limits left.rest _ (prepares _ _ g.read left g.flat c.requires.1 c.if-j.false)
