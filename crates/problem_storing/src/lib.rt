@@ -7,7 +7,7 @@ ghost use Rattle.std.proofs.Math.Seq.{paste};
 ghost use Rattle.faults.specs.Numbers.{number_in};
 ghost use Rattle.format.specs.ProblemLimits.{most_objective_terms};
 ghost use Rattle.problem_commands.specs.Checks.{late_in};
-ghost use Rattle.problem_storing.specs.Stores.{no_terms, terms, stored_if};
+ghost use Rattle.problem_storing.specs.Stores.{no_terms, terms, stored_if, term_stored_if};
 ghost use Rattle.flat.specs.Flat.{objective_number, exponents_at, coefficients_at, count_at, kind_number, FlatLimits};
 ghost use Rattle.flat.specs.TermArrays.{FilledTerms};
 ghost use Rattle.polynomial.specs.Monomial.{among};
@@ -45,6 +45,20 @@ impl Polynomial {
         q.coefficients[0] = 1;
         q.count = 1;
         q
+    }
+
+    // One term more, where the checks 5 and 6 let it in.
+    pub fn put(&mut self, key: u64, c: i32) -> Result<(), Fault>
+        requires { self.old.count ≤ 32 }
+        ensures { (number_in result ≡ late_in self.old.keys 0 self.old.count key 32)
+            × (self.new ≡ term_stored_if (number_in result) self.old key c) }
+    {
+        let n = self.count;
+        check_room(&self.keys, 0, n, key, 32)?;
+        self.keys[n] = key;
+        self.coefficients[n] = c;
+        self.count = n + 1;
+        Ok(())
     }
 }
 
