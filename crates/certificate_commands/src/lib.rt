@@ -118,8 +118,7 @@ fn entry_fits(sizes: &[usize], g: Progress, i: u8, l: i32) -> bool
     ensures { (p : Problem) (c : Certificate) → Sized p sizes.now → g ≡ progress_of c
         → result ≡ entry_fits p c i l }
 {
-    let j = g.basis;
-    (i as usize) < sizes[j] && operand_reader::is_nonzero(l)
+    (i as usize) < sizes[g.basis] && operand_reader::is_nonzero(l)
 }
 
 // Whether a command's operands keep their rules.

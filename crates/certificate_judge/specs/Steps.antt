@@ -1,5 +1,5 @@
 -- What the steps of a call hand on: a problem with its blocks, and what became of one certificate.
-use Rattle.std.specs.Prelude.{◌≡◌, List, ℕ, ◌≤◌, ℤ, length, drop, Result, Ok, Err}
+use Rattle.std.specs.Prelude.{◌≡◌, List, ℕ, ◌≤◌, ℤ, length, drop, Option, Some, None, Result, Ok, Err}
 use Rattle.format.specs.ProblemRules.{Problem}
 use Rattle.format.proofs.WithinLimits.{Limits}
 use Rattle.format.specs.declared.certificate.Header.{Header}
@@ -12,7 +12,6 @@ use Rattle.calls.specs.Refusals.{certificate_refusal}
 use Rattle.calls.specs.declared.Refusal.{Refusal}
 use Rattle.flat.specs.Flat.{FlatProblem}
 use Rattle.key_set.specs.Table.{keys_in, Holds, Indexed}
-use Rattle.identity_check.specs.declared.Difference.{Difference}
 
 -- a problem within its limits in its arrays; its blocks; and the compared keys, the first n numbers of a table in some
 -- order, with their index
@@ -47,6 +46,6 @@ judged_of stream (J.refused number place key) = Err (certificate_refusal stream 
 judged_of stream (J.accepted c) = Ok c.header
 
 -- refusal 9 with its key, or the header
-abbrev pub judged_from : ℕ → Header → Difference → Result Header Refusal
-judged_from stream t (Difference.Differs key) = Err (certificate_refusal stream 9 0 key)
-judged_from stream t Difference.Same = Ok t
+abbrev pub judged_from : ℕ → Header → Option ℕ → Result Header Refusal
+judged_from stream t (Some key) = Err (certificate_refusal stream 9 0 key)
+judged_from stream t None = Ok t

@@ -6,15 +6,16 @@ ghost use Rattle.format.specs.ProblemRules.{Problem};
 ghost use Rattle.accepting.specs.Judgement as J;
 ghost use Rattle.calls.specs.Refusals.{problem_refusal, certificate_refusal};
 ghost use Rattle.key_set.specs.Table.{Holds, Indexed};
-ghost use Rattle.identity_rows.specs.Walk.{Comparable};
-ghost use Rattle.identity_check.specs.Compare.{Answered};
+ghost use Rattle.identity_rows.specs.Bundles.{ComparableIn};
+ghost use Rattle.identity_check.specs.Bundles.{AnsweredFor};
 ghost use Rattle.certificate_judge.specs.Steps.{JoinedProblem, Judgeable, LongSums, SumsRest};
 ghost use Rattle.certificate_judge.specs.Steps.{judged_of, judged_from};
 
 use calls::Refusal;
+use certificate_rows::Rows;
+use flat::Arrays;
 use format::certificate::Header;
-use identity_check::Difference;
-use row_blocks::Place;
+use identity_sums::Compared;
 
 // Where nothing is refused: number 0, and the other fields are 0.
 pub const NO_REFUSAL: Refusal = Refusal {
@@ -43,54 +44,34 @@ pub fn certificate_refusal(stream: u8, number: u8, place: usize, key: u64) -> Re
     }
 }
 
-// A certificate whose rows keep to the blocks, by its identity.
-fn by_identity(stream: u8, header: Header, found: Difference) -> Result<Header, Refusal>
+// A certificate whose rows keep to the blocks, by its identity: the key at which the sides differ, if they do.
+fn by_identity(stream: u8, header: Header, found: Option<u64>) -> Result<Header, Refusal>
     ensures { result ≡ judged_from stream header found }
 {
     match found {
-        Difference::Differs(key) => Err(certificate_refusal(stream, 9, 0, key)),
-        Difference::Same => Ok(header),
+        Some(key) => Err(certificate_refusal(stream, 9, 0, key)),
+        None => Ok(header),
     }
 }
 
 // The sums at the compared keys set to 0, and the identity of a certificate whose rows keep to the blocks looked at.
 fn difference(
-    s: &[u8],
-    starts: &[usize; 129],
-    rows: usize,
+    rows: Rows,
     header: Header,
-    keys: &[u64],
-    coefficients: &[i32],
-    sizes: &[usize],
-    table: &[u64],
-    n: usize,
-    index: &[u16; 6144],
+    problem: Arrays,
+    keys: Compared,
     high: &mut [i64],
     low: &mut [i64],
-) -> Difference
-    requires { (Holds table.now n × Indexed index.now table.now n)
-        × Comparable s.now starts.now rows keys.now coefficients.now sizes.now
+) -> Option<u64>
+    requires { (Holds keys.table.now keys.count × Indexed keys.index.now keys.table.now keys.count)
+        × ComparableIn rows problem
         × LongSums high.old low.old }
-    ensures { Answered s.now starts.now rows header keys.now coefficients.now
-        sizes.now table.now n result high.old low.old high.new
-        low.new }
+    ensures { AnsweredFor rows.entry header problem.entry keys.entry result
+        high.old low.old high.new low.new }
 {
-    work_tables::clear_signed(high, n);
-    work_tables::clear_signed(low, n);
-    identity_check::compare(
-        s,
-        starts,
-        rows,
-        header,
-        keys,
-        coefficients,
-        sizes,
-        table,
-        n,
-        index,
-        high,
-        low,
-    )
+    work_tables::clear_signed(high, keys.count);
+    work_tables::clear_signed(low, keys.count);
+    identity_check::compare(rows, header, problem, keys, high, low)
 }
 
 // What becomes of one certificate against a problem with its blocks: it by commands, 8 by rows, 9; or it is accepted,
@@ -117,29 +98,28 @@ pub fn judge(
     ensures rest { SumsRest high.old low.old high.new low.new }
 {
     let mut starts = [0usize; 129];
-    let r = certificate_reader::validate(sizes, s, &mut starts);
-    if r.number > 0 {
-        return Err(certificate_refusal(stream, r.number, r.place, 0));
+    let r = match certificate_reader::validate(sizes, s, &mut starts) {
+        Ok(r) => r,
+        Err(m) => return Err(certificate_refusal(stream, u8::from(m.fault), m.place, 0)),
+    };
+    let rows = Rows {
+        stream: s,
+        starts: &starts,
+        count: r.rows,
+    };
+    if let Some(place) = row_blocks::split_place(rows, labels) {
+        return Err(certificate_refusal(stream, 8, place, 0));
     }
-    match row_blocks::split_place(s, &starts, r.rows, labels) {
-        Place::At(place) => Err(certificate_refusal(stream, 8, place, 0)),
-        Place::Nowhere => by_identity(
-            stream,
-            r.header,
-            difference(
-                s,
-                &starts,
-                r.rows,
-                r.header,
-                keys,
-                coefficients,
-                sizes,
-                table,
-                n,
-                index,
-                high,
-                low,
-            ),
-        ),
-    }
+    let problem = Arrays {
+        keys,
+        coefficients,
+        sizes,
+    };
+    let compared = Compared {
+        table,
+        count: n,
+        index,
+    };
+    let found = difference(rows, r.header, problem, compared, high, low);
+    by_identity(stream, r.header, found)
 }

@@ -50,3 +50,6 @@ module _ (p : Problem) (c : Certificate) (s : List ℕ) (at : ℕ) where
           pub verdict_0 : certificate_full c (certificate_instruction_at s at) ≡ false → 0 ≡ certificate_refusal_at p c s at
           unfolding certificate_refusal_at first_refusal
           verdict_0 f = rw (o, le-leb (at + certificate_size (certificate_command_at s at)) (length s) w, a, r, f)
+
+-- all of them
+pub ruleset verdicts = (verdict_3, verdict_2, verdict_4, verdict_5, verdict_6, verdict_0)

@@ -1,4 +1,5 @@
 -- The smallest key whose sum is not 0 is the first at which the claim and the squares differ.
+use Rattle.std.proofs.Common.{None, Some}
 use mathlib.Core.Path.{◌≡◌, refl, sym, ap, ap₂, ◌∙◌}
 use mathlib.Core.Logic.{⊎_elim}
 use mathlib.Core.Bool.{Bool, true, false, cond}
@@ -28,7 +29,6 @@ use Rattle.key_set.specs.Table.{keys_in, Holds, Indexed}
 use Rattle.key_set.proofs.Keys.{keys_rising, keys_at, at_keys}
 use Rattle.wide_sums.specs.Sums.{value_at}
 use Rattle.certificate_rows.specs.Offsets.{rows_by}
-use Rattle.identity_check.specs.declared.Difference.TheVariants.{Same, Differs}
 use Rattle.identity_sums.specs.Tables.{unit, Ready, SumsGrown}
 use Rattle.identity_check.specs.Compare.{difference_of, Nonzero, Zeroed, Smallest, Carried, Given}
 use Rattle.identity_sums.proofs.Growth.{grown_same}
@@ -136,8 +136,8 @@ module _ {p : Problem} {c : Certificate} {s starts : List ℕ} {rows : ℕ} {hea
     unfolding difference_key
     key_is = rw given.compared
 
-    pub found_same : n ≤ r → Same ≡ difference_of (difference_key p c)
+    pub found_same : n ≤ r → None ≡ difference_of (difference_key p c)
     found_same h = ap difference_of (sym (tables_same _ _ z.support total total_is r least h) ∙ key_is)
 
-    pub found_differs : r < n → Differs (get_or table r 0) ≡ difference_of (difference_key p c)
+    pub found_differs : r < n → Some (get_or table r 0) ≡ difference_of (difference_key p c)
     found_differs h = ap difference_of (sym (tables_differ _ _ z.support total total_is r least h) ∙ key_is)

@@ -1,7 +1,7 @@
 -- All parts of the squares, one after another: what is known of the whole sums.
 use mathlib.Core.Path.{◌≡◌, refl, sym, ap, ◌∙◌}
 use mathlib.Core.List.{List}
-use Prim.Native.Nat.{ℕ, ◌+◌, ◌*◌, ◌^◌, ◌≤◌, ◌<◌}
+use Prim.Native.Nat.{ℕ, ◌≤◌, ◌<◌}
 use native.Mathlib.Omega.{arith}
 use lib.IntN.{ℤ, pos, ◌+ℤ◌, ◌*ℤ◌, +ℤ_assoc}
 use lib.ListN.{get_or}
@@ -13,32 +13,12 @@ use Rattle.accepting.specs.Identity.{squares}
 use Rattle.flat.specs.Flat.{FlatProblem}
 use Rattle.certificate_rows.specs.Offsets.{rows_by}
 use Rattle.wide_sums.specs.Sums.{step, value_at}
-use Rattle.wide_sums.proofs.Tables.{shrunk_room}
 use Rattle.row_digits.specs.declared.Part.TheVariants.{Low, Cross, High}
-use Rattle.identity_sums.specs.Tables.{Ready}
-use Rattle.identity_rows.specs.Spread.{table_unit}
 use Rattle.identity_rows.specs.Walk.{Comparable, on_bases, bases_in, beyond, Alone, Summed}
 use Rattle.identity_check.specs.Compare.{DividedSums, Reached, Carried}
-use Rattle.identity_sums.proofs.Growth.{ready_after}
 use Rattle.identity_rows.proofs.Walks.{squares_are}
 use Rattle.identity_check.proofs.Carries.{reached_start, reached_same, reached_of, reached_divided}
 use Rattle.identity_check.proofs.Untouched.{near_untouched, shrunk_untouched, untouched_then}
-
--- after a division there is room again
-pub divided_ready : {table idx : List ℕ} {n c found r : ℕ} {hi₀ lo₀ hi₁ lo₁ : List ℤ} → Ready table idx n hi₀ lo₀ c
-    → DividedSums table n n found hi₀ lo₀ hi₁ lo₁ r → (d : ℕ) → d ≤ 2 ^ 62 + 2 ^ 61 → Ready table idx n hi₁ lo₁ d
-divided_ready r h d l =
-    record {
-      support = r.support;
-      index = r.index;
-      high = shrunk_room h.high r.high.long (omega arith);
-      low = shrunk_room h.low r.low.long (omega arith);
-    }
-
--- and after the part that is added then, room for a carry
-pub summed_ready : {f : Problem → ℕ → ℤ} {keys : List ℕ} {coefficients : List ℤ} {sizes table idx : List ℕ} {n c found r : ℕ} {hi₀ lo₀ hi₁ lo₁ hi₂ lo₂ : List ℤ}
-    → Ready table idx n hi₀ lo₀ c → DividedSums table n n found hi₀ lo₀ hi₁ lo₁ r → Summed f keys coefficients sizes table n 9 hi₁ lo₁ hi₂ lo₂ → Ready table idx n hi₂ lo₂ (2 ^ 36)
-summed_ready r h m = ready_after (divided_ready r h (9 * table_unit + 2 ^ 36) (omega arith)) m.grown (omega arith)
 
 module _ {keys : List ℕ} {coefficients : List ℤ} {sizes table : List ℕ} {n : ℕ} where
   -- the sum at a place, for the problem that the arrays hold

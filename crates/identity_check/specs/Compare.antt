@@ -1,6 +1,6 @@
 -- Refusal 9 by the tables: what the comparison asks for, and its answer's cases.
-use Rattle.std.specs.Prelude.{◌≡◌, ◌⊎◌, List, ℕ, ◌^◌, ◌≤◌, ◌<◌, ℤ, pos, ◌+ℤ◌, ◌*ℤ◌, length, get_or, drop}
-use Rattle.std.proofs.Math.Option.{Option, none, some}
+use Rattle.std.specs.Prelude.{◌≡◌, ◌⊎◌, Option, Some, None, List, ℕ, ◌^◌, ◌≤◌, ◌<◌, ℤ, pos, ◌+ℤ◌, ◌*ℤ◌, length, get_or, drop}
+use Rattle.std.proofs.Math.Option as Math
 use Rattle.format.specs.ProblemRules.{Problem}
 use Rattle.format.specs.CertificateRules.{Certificate}
 use Rattle.format.specs.declared.certificate.Header.{Header}
@@ -9,13 +9,11 @@ use Rattle.key_set.specs.Table.{keys_in, Holds}
 use Rattle.wide_sums.specs.Sums.{base, value_at, Shrunk, Uneven, Floor}
 use Rattle.flat.specs.Flat.{FlatProblem}
 use Rattle.certificate_rows.specs.Offsets.{rows_by}
-use Rattle.identity_check.specs.declared.Difference.{Difference}
-use Rattle.identity_check.specs.declared.Difference.TheVariants.{Same, Differs}
 
 -- the answer's cases: the key of refusal 9, or none
-abbrev pub difference_of : Option ℕ → Difference
-difference_of (some k) = Differs k
-difference_of none = Same
+abbrev pub difference_of : Math.Option ℕ → Option ℕ
+difference_of (Math.some k) = Some k
+difference_of Math.none = None
 
 -- the first n numbers of the table differ, and the sums at their places are 0
 pub record Zeroed (table : List ℕ) (n : ℕ) (hi lo : List ℤ) : Type 0 where
@@ -85,7 +83,7 @@ pub record Carried (f : Problem → ℕ → ℤ) (keys : List ℕ) (coefficients
 
 -- the answer for the problem and the certificate, and what is left of the sums
 pub record Answered (s starts : List ℕ) (rows : ℕ) (header : Header) (keys : List ℕ) (coefficients : List ℤ)
-    (sizes table : List ℕ) (n : ℕ) (r : Difference) (hi₀ lo₀ hi₁ lo₁ : List ℤ) : Type 0 where
+    (sizes table : List ℕ) (n : ℕ) (r : Option ℕ) (hi₀ lo₀ hi₁ lo₁ : List ℤ) : Type 0 where
   pub difference : (p : Problem) (c : Certificate) → Given p c s starts rows header keys coefficients sizes table n
       → r ≡ difference_of (difference_key p c)
   pub high : Untouched hi₀ hi₁

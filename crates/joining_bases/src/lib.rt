@@ -6,14 +6,16 @@
 // Place j of `state` has the number of its blocks, and place 9 + j the bits of the sums of its pairs.
 #![tactic(auto)]
 
-ghost use Rattle.std.specs.Prelude.{◌≡◌, ◌↔◌, IsTrue, ℕ, ◌≤◌, ◌<◌, length, get_or, replicate};
+ghost use Rattle.std.specs.Prelude.{◌≡◌, ◌↔◌, IsTrue, ℕ, ◌≤◌, ◌<◌, length, get_or, replicate, IfOk};
 ghost use Rattle.counting.specs.Counting.{listed, sum_to};
-ghost use Rattle.key_set.specs.Table.{keys_in, Stored};
+ghost use Rattle.key_set.specs.Table.{keys_in, count_in, Stored};
 ghost use Rattle.joining_rule.specs.Rounds.{extend_to, adding_bases};
 ghost use Rattle.joining_products.specs.Adding.{plain};
 ghost use Rattle.joining_bases.specs.Parts.{bases_in, labels_in, squares_to, Sizes, Arrays, SingleBlocks};
 ghost use Rattle.joining_bases.specs.Nine.{AllNoted};
 ghost use Rattle.joining_bases.specs.Settled.{Supported, Missing};
+
+use key_set::Full;
 
 // Each index of a basis is a block of its own.
 fn number(part: &mut [u8])
@@ -38,16 +40,15 @@ pub fn start_blocks(labels: &mut [u8], sizes: &[usize])
 
 // The support beside its table: how many keys it has, the joining rule by which it grows, and in how many rounds at
 // most.
-#[derive(Clone, Copy)]
+#[derive(Clone, Copy, Debug, PartialEq, Eq)]
 pub struct Support {
     pub len: usize,
     pub rule: usize,
     pub most: usize,
 }
 
-// What the rounds leave beside the block numbers: how many keys the support has (2,049 where it has too many), how many
-// rounds, how many blocks.
-#[derive(Drop)]
+// What the rounds leave beside the block numbers: how many keys the support has, how many rounds, how many blocks.
+#[derive(Clone, Copy, Debug, PartialEq, Eq)]
 pub struct Closed {
     pub len: usize,
     pub rounds: usize,
@@ -55,6 +56,7 @@ pub struct Closed {
 }
 
 // How many bases add to the support in a round.
+#[tactic(auto, unfolding(joining_rule::specs::Rounds::adding_bases))]
 pub fn adding_bases(rule: usize) -> usize
     ensures { result ≡ adding_bases rule }
 {
@@ -63,7 +65,7 @@ pub fn adding_bases(rule: usize) -> usize
 
 // How far a round is: the members after the first `since` came in the round before, and the support had `until` keys
 // when it began; now it has `len`, and the bases before `adding` add.
-#[derive(Drop)]
+#[derive(Clone, Copy, Debug, PartialEq, Eq)]
 pub struct Stage {
     pub since: usize,
     pub until: usize,
@@ -87,24 +89,20 @@ pub fn add_squares(
     keys: &[u64],
     sizes: &[usize],
     adding: usize,
-) -> usize
+) -> Result<usize, Full>
     requires { Supported table.old index.old len keys.now sizes.now × (adding ≤ 9) }
     ensures { Stored len
         (squares_to adding (bases_in keys.now sizes.now) (keys_in len table.old))
-        table.old result table.new index.new }
+        table.old (count_in result) table.new index.new
+        × IfOk result (λ n. n ≤ 2048) }
 {
     let mut n = len;
-    let mut j = 0;
-    while j < adding {
+    for j in 0..adding {
         let basis = flat::basis(keys, sizes, j);
         let exponents = flat::exponents(keys, sizes, j);
-        n = joining_products::add_squares(table, index, n, basis, exponents);
-        if 2048 < n {
-            return n;
-        }
-        j += 1;
+        n = joining_products::add_squares(table, index, n, basis, exponents)?;
     }
-    n
+    Ok(n)
 }
 
 // The in-block products that the support may lack after the rounds, put in: those of the bases that do not add.
@@ -115,27 +113,23 @@ pub fn put_missing(
     table: &mut [u64],
     index: &mut [u16],
     support: Support,
-) -> usize
+) -> Result<usize, Full>
     requires { Missing table.old index.old support keys.now sizes.now labels.now }
     ensures { Stored support.len
         (extend_to 9 (bases_in keys.now sizes.now)
         (labels_in sizes.now labels.now) (keys_in support.len table.old))
-        table.old result table.new index.new }
+        table.old (count_in result) table.new index.new
+        × IfOk result (λ n. n ≤ 2048) }
 {
     let mut n = support.len;
-    let mut j = adding_bases(support.rule);
-    while j < 9 {
+    for j in adding_bases(support.rule)..9 {
         let basis = flat::basis(keys, sizes, j);
         let exponents = flat::exponents(keys, sizes, j);
         let a = 64 * j;
-        let e = a + sizes[j];
-        n = joining_products::add_blocks(&labels[a..e], basis, exponents, table, index, n);
-        if 2048 < n {
-            return n;
-        }
-        j += 1;
+        let part = &labels[a..a + sizes[j]];
+        n = joining_products::add_blocks(part, basis, exponents, table, index, n)?;
     }
-    n
+    Ok(n)
 }
 
 // The pairs of every basis that is not small put into the index, and the bits of their sums into `state`.

@@ -3,18 +3,19 @@
 // joining_blocks.
 #![tactic(auto)]
 
-ghost use Rattle.std.specs.Prelude.{◌≡◌, ℕ, ◌+◌, ◌*◌, ◌/◌, ◌%◌, ◌^◌, ◌<◌, ◌≤◌, false, cond, List, length, take, ◌==◌, slice_index};
+ghost use Rattle.std.specs.Prelude.{◌≡◌, ℕ, ◌+◌, ◌*◌, ◌/◌, ◌%◌, ◌^◌, ◌<◌, ◌≤◌, false, cond, List, length, take, ◌==◌, slice_index, IfOk};
 ghost use Rattle.counting.specs.Counting.{Bounded};
 ghost use Rattle.joining_rule.specs.Join.{linked};
 ghost use Rattle.key_set.specs.Table.{keys_in};
 ghost use Rattle.round_laws.specs.Joins.{WithSum, Through, SomeOf, LinkedIn};
 ghost use Rattle.round_laws.specs.Fits.{SumBits, Fitting};
 ghost use Rattle.joining_pairs.specs.Limits.{ForSums, ForBasis};
-ghost use Rattle.joining_pairs.specs.Pairs.{sum_at, FindsSum};
+ghost use Rattle.joining_pairs.specs.Pairs.{sum_at, LastPair};
 ghost use Rattle.joining_products.specs.Adding.{plain};
-ghost use Rattle.joining_blocks.specs.Standing.{standing, latest, Ready, Grew, JoiningAsks};
+ghost use Rattle.joining_blocks.specs.Standing.{standing, reached, latest, Ready, Grew, JoiningAsks};
 
 use joining_blocks::Reach;
+use key_set::Full;
 
 // Whether t + s is among the members before `until` for some exponent t of the multiplier.
 fn is_linked(
@@ -28,12 +29,10 @@ fn is_linked(
     requires { ForSums table.now index.now len exponents.now s × (until ≤ len) }
     ensures { result ≡ linked (keys_in until table.now) exponents.now s }
 {
-    let mut i = 0;
-    while i < exponents.len() {
-        if key_set::is_before(table, index, until, len, exponents[i] + s) {
+    for &t in exponents {
+        if key_set::is_before(table, index, until, len, t + s) {
             return true;
         }
-        i += 1;
     }
     false
 }
@@ -49,32 +48,30 @@ fn join_chain(
     index: &mut [u16],
     start: Reach,
     first: usize,
-) -> Reach
+) -> Result<Reach, Full>
     requires { Ready exponents.now basis.now (standing labels.old follow.old pairs.old table.old index.old start)
         × (plain < length basis.now)
-        × FindsSum basis.now (sum_at basis.now first) first
-        × (first < 4096) }
+        × LastPair basis.now (sum_at basis.now first) first }
     ensures { Grew exponents.now basis.now
         (WithSum basis.now (sum_at basis.now first))
         (standing labels.old follow.old pairs.old table.old index.old start)
-        (standing labels.new follow.new pairs.new table.new index.new result) }
+        (standing labels.new follow.new pairs.new table.new index.new (reached start result))
+        × IfOk result (λ q. q.len ≤ 2048) }
 {
     let s = joining_pairs::sum_at(basis, first);
     let mut r = start;
     let mut v = first + 1;
+    // No `for`: it goes from link to link.
     while 0 < v {
         let p = v - 1;
         if joining_pairs::sum_at(basis, p) == s {
             r = joining_blocks::join_two(
                 labels, follow, basis, exponents, pairs, table, index, r, p,
-            );
-            if 2048 < r.len {
-                return r;
-            }
+            )?;
         }
         v = pairs[joining_pairs::LINKS + p] as usize;
     }
-    r
+    Ok(r)
 }
 
 // The blocks of every two indices with the sum s made one, once.
@@ -88,26 +85,26 @@ fn join_sum(
     index: &mut [u16],
     start: Reach,
     s: u64,
-) -> Reach
+) -> Result<Reach, Full>
     requires { Ready exponents.now basis.now (standing labels.old follow.old pairs.old table.old index.old start)
         × (plain < length basis.now) }
     ensures { Grew exponents.now basis.now (WithSum basis.now s)
         (standing labels.old follow.old pairs.old table.old index.old start)
-        (standing labels.new follow.new pairs.new table.new index.new result) }
+        (standing labels.new follow.new pairs.new table.new index.new (reached start result))
+        × IfOk result (λ q. q.len ≤ 2048) }
 {
-    let p = joining_pairs::find_sum(basis, pairs, s, joining_pairs::remainder(s));
-    if 4095 < p {
-        return start;
-    }
+    let Some(p) = joining_pairs::find_sum(basis, pairs, s, joining_pairs::remainder(s)) else {
+        return Ok(start);
+    };
     let at = joining_pairs::told_at(p);
     if 1 < pairs[at] {
-        return start;
+        return Ok(start);
     }
     let r = join_chain(
         labels, follow, basis, exponents, pairs, table, index, start, p,
-    );
+    )?;
     pairs[at] = 2;
-    r
+    Ok(r)
 }
 
 // The numbers x - t that have no bits but those, in turn, and how many they are. A number that has others is written
@@ -120,12 +117,10 @@ fn note_fits(fits: &mut [u64; 32], exponents: &[u64], bits: u64, x: u64) -> usiz
         → Fitting exponents.now B x (take result fits.new)) }
 {
     let mut n = 0;
-    let mut i = 0;
-    while i < exponents.len() {
-        let s = std::num::wrapping_sub_u64(x, exponents[i]);
+    for &t in exponents {
+        let s = std::num::wrapping_sub_u64(x, t);
         fits[n] = s;
         n += if s | bits == bits { 1 } else { 0 };
-        i += 1;
     }
     n
 }
@@ -141,25 +136,22 @@ fn join_sums(
     index: &mut [u16],
     start: Reach,
     sums: &[u64],
-) -> Reach
+) -> Result<Reach, Full>
     requires { Ready exponents.now basis.now (standing labels.old follow.old pairs.old table.old index.old start)
         × (plain < length basis.now) }
     ensures { Grew exponents.now basis.now (SomeOf (WithSum basis.now) sums.now)
         (standing labels.old follow.old pairs.old table.old index.old start)
-        (standing labels.new follow.new pairs.new table.new index.new result) }
+        (standing labels.new follow.new pairs.new table.new index.new (reached start result))
+        × IfOk result (λ q. q.len ≤ 2048) }
 {
     let mut r = start;
-    let mut i = 0;
-    while i < sums.len() {
-        r = join_sum(
-            labels, follow, basis, exponents, pairs, table, index, r, sums[i],
-        );
-        if joining_blocks::is_over(r) {
-            return r;
+    for &s in sums {
+        r = join_sum(labels, follow, basis, exponents, pairs, table, index, r, s)?;
+        if r.blocks == 1 {
+            return Ok(r);
         }
-        i += 1;
     }
-    r
+    Ok(r)
 }
 
 // The joining by the members that came last.
@@ -172,19 +164,19 @@ fn join_members(
     table: &mut [u64],
     index: &mut [u16],
     start: Reach,
-) -> Reach
+) -> Result<Reach, Full>
     requires { Ready exponents.now basis.now (standing labels.old follow.old pairs.old table.old index.old start)
         × (plain < length basis.now) }
     ensures { Grew exponents.now basis.now
         (Through exponents.now basis.now
         (latest table.old start.since start.until))
         (standing labels.old follow.old pairs.old table.old index.old start)
-        (standing labels.new follow.new pairs.new table.new index.new result) }
+        (standing labels.new follow.new pairs.new table.new index.new (reached start result))
+        × IfOk result (λ q. q.len ≤ 2048) }
 {
     let mut fits = [0u64; 32];
     let mut r = start;
-    let mut m = start.since;
-    while m < start.until {
+    for m in start.since..start.until {
         let n = note_fits(&mut fits, exponents, start.bits, table[m]);
         r = join_sums(
             labels,
@@ -196,13 +188,12 @@ fn join_members(
             index,
             r,
             &fits[..n],
-        );
-        if joining_blocks::is_over(r) {
-            return r;
+        )?;
+        if r.blocks == 1 {
+            return Ok(r);
         }
-        m += 1;
     }
-    r
+    Ok(r)
 }
 
 // Whether the pair at a place is to be joined: it is linked, and in two blocks.
@@ -249,30 +240,26 @@ fn join_row(
     index: &mut [u16],
     start: Reach,
     i: usize,
-) -> Reach
+) -> Result<Reach, Full>
     requires { Ready exponents.now basis.now (standing labels.old follow.old pairs.old table.old index.old start)
         × (i < length basis.now) }
     ensures { Grew exponents.now basis.now
         (LinkedIn exponents.now basis.now (keys_in start.until table.old) (64 * i)
         (64 * (i + 1)))
         (standing labels.old follow.old pairs.old table.old index.old start)
-        (standing labels.new follow.new pairs.new table.new index.new result) }
+        (standing labels.new follow.new pairs.new table.new index.new (reached start result))
+        × IfOk result (λ q. q.len ≤ 2048) }
 {
     let mut r = start;
-    let mut k = i + 1;
-    while k < basis.len() {
+    for k in i + 1..basis.len() {
         let p = 64 * i + k;
         if is_open(labels, basis, exponents, table, index, r.until, r.len, p) {
             r = joining_blocks::join_two(
                 labels, follow, basis, exponents, pairs, table, index, r, p,
-            );
-            if 2048 < r.len {
-                return r;
-            }
+            )?;
         }
-        k += 1;
     }
-    r
+    Ok(r)
 }
 
 // The joining by the pairs of the basis.
@@ -285,23 +272,22 @@ fn join_rows(
     table: &mut [u64],
     index: &mut [u16],
     start: Reach,
-) -> Reach
+) -> Result<Reach, Full>
     requires { Ready exponents.now basis.now (standing labels.old follow.old pairs.old table.old index.old start) }
     ensures { Grew exponents.now basis.now
         (Through exponents.now basis.now (keys_in start.until table.old))
         (standing labels.old follow.old pairs.old table.old index.old start)
-        (standing labels.new follow.new pairs.new table.new index.new result) }
+        (standing labels.new follow.new pairs.new table.new index.new (reached start result))
+        × IfOk result (λ q. q.len ≤ 2048) }
 {
     let mut r = start;
-    let mut i = 0;
-    while i < basis.len() {
-        r = join_row(labels, follow, basis, exponents, pairs, table, index, r, i);
-        if joining_blocks::is_over(r) {
-            return r;
+    for i in 0..basis.len() {
+        r = join_row(labels, follow, basis, exponents, pairs, table, index, r, i)?;
+        if r.blocks == 1 {
+            return Ok(r);
         }
-        i += 1;
     }
-    r
+    Ok(r)
 }
 
 // The joining of a basis. One block joins nothing.
@@ -314,15 +300,16 @@ pub fn join(
     table: &mut [u64],
     index: &mut [u16],
     r: Reach,
-) -> Reach
+) -> Result<Reach, Full>
     requires { JoiningAsks exponents.now basis.now (standing labels.old follow.old pairs.old table.old index.old r) }
     ensures { Grew exponents.now basis.now
         (Through exponents.now basis.now (keys_in r.until table.old))
         (standing labels.old follow.old pairs.old table.old index.old r)
-        (standing labels.new follow.new pairs.new table.new index.new result) }
+        (standing labels.new follow.new pairs.new table.new index.new (reached r result))
+        × IfOk result (λ q. q.len ≤ 2048) }
 {
     if r.blocks < 2 {
-        return r;
+        return Ok(r);
     }
     if basis.len() <= joining_products::PLAIN {
         return join_rows(labels, follow, basis, exponents, pairs, table, index, r);

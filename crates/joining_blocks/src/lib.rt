@@ -4,18 +4,19 @@
 // of every pair in one block.
 #![tactic(auto)]
 
-ghost use Rattle.std.specs.Prelude.{◌≡◌, ◌⊎◌, true, false, ◌/◌, ◌%◌, ◌≤◌, ◌<◌, length};
+ghost use Rattle.std.specs.Prelude.{◌≡◌, ◌/◌, ◌%◌, ◌≤◌, ◌<◌, length, IfOk};
 ghost use Rattle.joining_rule.specs.Join.{merged};
 ghost use Rattle.round_laws.specs.Joins.{Two};
 ghost use Rattle.round_laws.specs.Lists.{Lists, TwoBlocks};
-ghost use Rattle.joining_blocks.specs.Standing.{standing, Ready, Grew};
+ghost use Rattle.joining_blocks.specs.Standing.{standing, reached, Ready, Grew};
 
 use joining_products::Cross;
+use key_set::Full;
 
 // How far a joining is: it looks at the members of the support from `since` on, before `until`; the support has `len`
-// keys, 2,049 where they are too many, and the basis `blocks` blocks. No sum of a pair has other bits than `bits`,
-// where the basis is not small. `adds` says whether its products are added.
-#[derive(Clone, Copy)]
+// keys, and the basis `blocks` blocks. No sum of a pair has other bits than `bits`, where the basis is not small. `adds`
+// says whether its products are added.
+#[derive(Clone, Copy, Debug, PartialEq, Eq)]
 pub struct Reach {
     pub since: usize,
     pub until: usize,
@@ -34,6 +35,7 @@ fn splice(labels: &mut [u8], follow: &mut [u8], m: Cross)
     let a = m.a as usize;
     let mut last = m.b as usize;
     let mut k = last;
+    // A walk along a list, each of whose places tells the next.
     while k < labels.len() {
         labels[k] = m.a;
         last = k;
@@ -54,26 +56,25 @@ fn merge(
     index: &mut [u16],
     r: Reach,
     m: Cross,
-) -> Reach
+) -> Result<Reach, Full>
     requires { Ready exponents.now basis.now (standing labels.old follow.old pairs.old table.old index.old r)
         × TwoBlocks m.a m.b labels.old follow.old }
     ensures { Grew exponents.now basis.now (Two m.a m.b)
         (standing labels.old follow.old pairs.old table.old index.old r)
-        (standing labels.new follow.new pairs.new table.new index.new result) }
+        (standing labels.new follow.new pairs.new table.new index.new (reached r result))
+        × IfOk result (λ q. q.len ≤ 2048) }
 {
-    let mut n = r.len;
-    if r.adds {
-        n = joining_products::add_cross(follow, basis, exponents, pairs, table, index, n, m);
-    }
+    let len = if r.adds {
+        joining_products::add_cross(follow, basis, exponents, pairs, table, index, r.len, m)?
+    } else {
+        r.len
+    };
     splice(labels, follow, m);
-    Reach {
-        since: r.since,
-        until: r.until,
-        len: n,
+    Ok(Reach {
+        len,
         blocks: r.blocks - 1,
-        bits: r.bits,
-        adds: r.adds,
-    }
+        ..r
+    })
 }
 
 // The blocks of two indices made one.
@@ -87,18 +88,19 @@ pub fn join_two(
     index: &mut [u16],
     r: Reach,
     p: usize,
-) -> Reach
+) -> Result<Reach, Full>
     requires { Ready exponents.now basis.now (standing labels.old follow.old pairs.old table.old index.old r)
         × (p / 64 < length basis.now)
         × (p % 64 < length basis.now) }
     ensures { Grew exponents.now basis.now (Two (p / 64) (p % 64))
         (standing labels.old follow.old pairs.old table.old index.old r)
-        (standing labels.new follow.new pairs.new table.new index.new result) }
+        (standing labels.new follow.new pairs.new table.new index.new (reached r result))
+        × IfOk result (λ q. q.len ≤ 2048) }
 {
     let a = labels[p / 64];
     let b = labels[p % 64];
     if a == b {
-        return r;
+        return Ok(r);
     }
     let m = if a < b {
         Cross { a, b }
@@ -106,11 +108,4 @@ pub fn join_two(
         Cross { a: b, b: a }
     };
     merge(labels, follow, basis, exponents, pairs, table, index, r, m)
-}
-
-// Whether nothing is left to join, or the support has too many keys.
-pub fn is_over(r: Reach) -> bool
-    ensures { (result ≡ true → (r.blocks ≡ 1) ⊎ (2048 < r.len)) × (result ≡ false → r.len ≤ 2048) }
-{
-    r.blocks == 1 || 2048 < r.len
 }

@@ -1,6 +1,6 @@
 -- Laws of the chain: what was read and joined is the problem's outcome, and what was judged is the certificates'.
 use mathlib.Core.Path.{◌≡◌, refl, sym, ap, subst, ◌∙◌}
-use mathlib.Core.Bool.{Bool, true, false}
+use mathlib.Core.Bool.{Bool, false}
 use mathlib.Core.List.{List}
 use Prim.Native.Nat.{ℕ, ◌≤◌}
 use native.Mathlib.Omega.{arith}
@@ -19,9 +19,9 @@ use Rattle.calls.specs.Refusals.{problem_refusal}
 use Rattle.calls.specs.Tables.{table_length}
 use Rattle.calls.specs.Checks.{problem_of}
 use Rattle.flat.specs.Flat.{FlatLimits, FlatProblem}
-use Rattle.key_set.specs.Table.{keys_in}
 use Rattle.closure.specs.Tables.{ClosureLeft}
 use Rattle.closure.specs.declared.Joined.{Joined}
+use Rattle.key_set.specs.declared.Full.{Full}
 use Rattle.certificate_judge.specs.Steps.{JoinedProblem, judged_of}
 use Rattle.format.specs.declared.certificate.Header.{Header}
 use Rattle.std.specs.Prelude.{Result, Ok, Err}
@@ -33,48 +33,41 @@ pub problem_refused : (s : List ℕ) (n place : ℕ) → read_problem s ≡ Stre
 unfolding problem_of
 problem_refused s n place e = rw e refl
 
-module _ (s : List ℕ) (p : Problem) (read : read_problem s ≡ Stream.given p) {t : List ℕ} {j : Joined} {t' idx' l' : List ℕ}
-    (left : ClosureLeft (bases_of p) (closing p) t j t' idx' l') where
-  full_is : j.full ≡ too_large p
-  unfolding too_large
-  full_is = left.full
-
+module _ (s : List ℕ) (p : Problem) (read : read_problem s ≡ Stream.given p) {t t' idx' l' : List ℕ} where
   -- a joining that is full is refusal 7
-  pub problem_full_lem : j.full ≡ true → problem_of false s ≡ refused (problem_refusal 7 0)
-  unfolding problem_of
-  problem_full_lem e = rw (read, sym full_is ∙ e) refl
+  pub problem_full_lem : {f : Full} → ClosureLeft (bases_of p) (closing p) t (Err f) t' idx' l' → problem_of false s ≡ refused (problem_refusal 7 0)
+  unfolding problem_of too_large
+  problem_full_lem left = rw (read, sym left.full) refl
 
   -- one that is not leaves the problem with its blocks
-  module _ {keys : List ℕ} {coefficients : List ℤ} {sizes : List ℕ} (flat : FlatProblem p keys coefficients sizes)
-      (long : 2048 ≤ length t) (few : j.full ≡ false) where
+  module _ {j : Joined} (left : ClosureLeft (bases_of p) (closing p) t (Ok j) t' idx' l') {keys : List ℕ} {coefficients : List ℤ} {sizes : List ℕ}
+      (flat : FlatProblem p keys coefficients sizes) (long : 2048 ≤ length t) where
     joins : JoinedProblem p keys coefficients sizes l' t' j.len idx'
     unfolding compared_keys
     joins =
         let S = compared_keys p in
-        let n : j.len ≡ length S = left.len few in
-        let e : keys_in j.len t' ≡ S = left.keys few in
         record {
           limits = read_limits s p read;
           flat = flat;
-          labels_are = left.labels few;
+          labels_are = left.labels;
           holds =
               record {
-                few = rw n (ltb-false 2048 (length S) (sym left.full ∙ few));
+                few = rw left.len (ltb-false 2048 (length S) (sym left.full));
                 room = omega (arith, long, left.long);
-                apart = ap length e ∙ sym n;
+                apart = ap length left.keys ∙ sym left.len;
               };
-          compared = e;
-          index = left.index few;
+          compared = left.keys;
+          index = left.index;
         }
 
     pub prepares : Prepares s j keys coefficients sizes l' t' idx'
-    unfolding problem_of block_total
+    unfolding problem_of block_total too_large
     prepares = record {
       problem = p;
-      gives = rw (read, sym full_is ∙ few) refl;
+      gives = rw (read, sym left.full) refl;
       joined = joins;
-      rounds = left.rounds few;
-      blocks = left.blocks few;
+      rounds = left.rounds;
+      blocks = left.blocks;
     }
 
 -- ---- what is left of the stream

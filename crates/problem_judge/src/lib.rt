@@ -48,11 +48,10 @@ pub fn prepare(
     if r.number > 0 {
         return Err(certificate_judge::problem_refusal(r.number, r.place));
     }
-    let j = closure::join(keys, sizes, labels, table, index);
-    if j.full {
-        return Err(certificate_judge::problem_refusal(7, 0));
+    match closure::join(keys, sizes, labels, table, index) {
+        Ok(j) => Ok(j),
+        Err(_) => Err(certificate_judge::problem_refusal(7, 0)),
     }
-    Ok(j)
 }
 
 // A refusal before a certificate is looked at is that of both.

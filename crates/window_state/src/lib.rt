@@ -9,13 +9,13 @@ ghost use Rattle.verdict_numbers.specs.States.{gap_in, window_in, state_length, 
 use calls::{Fraction, GapWindow, WindowVerdict};
 
 // The gap of an age.
+#[tactic(auto, unfolding(verdict_numbers::specs::States::gap_in))]
 fn gap_in(state: &[u64], age: usize) -> Fraction
     requires { 2 * age + 1 < length state.now }
     ensures { result ≡ gap_in state.now age }
 {
-    let at = 2 * age;
-    let num = operand_reader::signed64(state[at]);
-    let den = state[at + 1];
+    let num = operand_reader::signed64(state[2 * age]);
+    let den = state[2 * age + 1];
     Fraction { num, den }
 }
 
@@ -25,28 +25,20 @@ fn window_in(state: &[u64]) -> GapWindow
     ensures { result ≡ window_in state.now }
 {
     let mut gaps = [fractions::NONE; 32];
-    let mut i = 0;
-    while i < 32 {
-        let gap = gap_in(state, i);
-        gaps[i] = gap;
-        i += 1;
+    for age in 0..32 {
+        gaps[age] = gap_in(state, age);
     }
     let count = state[64] as usize;
     GapWindow { gaps, count }
 }
 
-// The new gap stands first, and the others a place later: the oldest is pushed out. From the last on, so that nothing is
-// written over before it is moved.
+// The new gap stands first, and the others a place later: the oldest comes round to the front, and is written over.
 fn put_newest(state: &mut [u64], newest: Fraction)
     requires { state_length ≤ length state.old }
     ensures { let s = state.old in
         state.new ≡ with_fraction newest (take 62 s ++ drop 64 s) }
 {
-    let mut i = 64;
-    while 2 < i {
-        i -= 1;
-        state[i] = state[i - 2];
-    }
+    state[..64].rotate_right(2);
     state[0] = record_writer::bits(newest.num);
     state[1] = newest.den;
 }

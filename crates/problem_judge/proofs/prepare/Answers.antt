@@ -9,15 +9,14 @@ returns-then-r-gt0 c =
     let r = c.read-r.ensures in
     left_refused r.limits refl _ (problem_refused _ _ _ (r.refuses c.if-r-gt0.true) ∙ ap refused (sym c.problem_refusal.ensures))
 
-pub returns-then-j : goal.returns-then-j
-returns-then-j c =
+pub returns-in-Ok : goal.returns-in-Ok
+returns-in-Ok c =
     let g = c.read-r.ensures.gives (omega (arith, c.if-r-gt0.false)) in
-    let left = c.join-j.ensures g.problem _ g.flat in
-    left_refused g.flat.limits left.rest _
-    (problem_full_lem _ _ g.read left c.if-j.true ∙ ap refused (sym c.problem_refusal-then-j.ensures))
+    let left = c.in-Ok.ensures g.problem _ g.flat in
+    left_ready g.flat.limits left.rest _ (prepares _ _ g.read left g.flat c.requires.1)
 
-pub returns : goal.returns
-returns c =
+pub returns-in-Err : goal.returns-in-Err
+returns-in-Err c =
     let g = c.read-r.ensures.gives (omega (arith, c.if-r-gt0.false)) in
-    let left = c.join-j.ensures g.problem _ g.flat in
-    left_ready g.flat.limits left.rest _ (prepares _ _ g.read left g.flat c.requires.1 c.if-j.false)
+    let left = c.in-Err.ensures g.problem _ g.flat in
+    left_refused g.flat.limits left.rest _ (problem_full_lem _ _ g.read left ∙ ap refused (sym c.problem_refusal-in-Err.ensures))

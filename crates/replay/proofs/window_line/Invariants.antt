@@ -10,6 +10,3 @@ invariant-loop-i l = record {
   same_length : length l.out ≡ length l.initial.out;
   written : Written l.run l.out l.at l.window l.i;
 }
-
-abbrev pub decreases-loop-i : goal.decreases-loop-i
-decreases-loop-i l = length l.run / 16 - l.i
