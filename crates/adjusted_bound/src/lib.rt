@@ -235,10 +235,8 @@ fn answer(problem: &[u8], v: CheckVerdict, changes: &[u8]) -> AdjustedVerdict
     let mut keys = [0u64; 1120];
     let mut coefficients = [0i32; 544];
     let mut sizes = [0usize; 31];
-    let r = problem_reader::read(problem, &mut keys, &mut coefficients, &mut sizes);
-    let number = r.number;
-    if 0 < number {
-        return refuse_problem(number, r.place);
+    if let Err(m) = problem_reader::read(problem, &mut keys, &mut coefficients, &mut sizes) {
+        return refuse_problem(u8::from(m.fault), m.place);
     }
     let n = problem[1] as usize;
     decide(&keys, &coefficients, &sizes, n, v, changes)
