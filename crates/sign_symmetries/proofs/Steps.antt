@@ -2,12 +2,10 @@
 use mathlib.Core.Path.{◌≡◌, refl, ap, ◌∙◌}
 use mathlib.Core.Bool.{Bool, true}
 use mathlib.Core.List.{List}
-use mathlib.Core.Logic.{◌⊎◌, inl, inr}
 use Prim.Native.Nat.{ℕ, ◌≤◌, ◌<◌}
-use native.Mathlib.Omega.{arith}
 use lib.IntN.{ℤ}
 use lib.ListN.{length}
-use Rattle.counting.proofs.Cases.{clash, lt_or_le}
+use Rattle.counting.proofs.Cases.{clash}
 use Rattle.format.specs.ProblemRules.{Problem}
 use Rattle.calls.specs.Tables.{Tables, tables_short}
 use Rattle.calls.specs.Outcome.{Outcome, given, ◌then◌, told}
