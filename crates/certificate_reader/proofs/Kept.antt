@@ -32,7 +32,6 @@ use Rattle.certificate_rows.specs.Offsets.{size_at}
 use Rattle.certificate_reader.specs.Rows.{GivenRows}
 use Rattle.certificate_reader.specs.Verdicts.{Told, EntryThere, EntriesRead, none, more}
 use Rattle.certificate_commands.proofs.Asked.{rows_are, floor_more}
-use Rattle.certificate_reader.proofs.Checks.{entry_command_lem}
 use Rattle.certificate_reader.proofs.Noted.{Noted, noted_start, noted_next}
 
 -- ---- the header and the progress of what has been read after a command
@@ -167,6 +166,11 @@ module _ (p : Problem) (s : List ℕ) where
 pub run_from : {sizes s : List ℕ} {g : Progress} {from : ℕ} {h : Progress} {at : ℕ} → EntriesRead sizes s g from h at → from ≤ at
 run_from none = omega arith
 run_from (more w e v) = omega (arith, run_from w)
+
+-- the command that its byte names
+pub entry_command_lem : (s : List ℕ) (at : ℕ) → get_or s at 0 ≡ 0x12 → certificate_command_at s at ≡ C.Entry
+unfolding certificate_command
+entry_command_lem s at e = rw e
 
 -- an entry leaves the progress within its limits
 pub entry_within : (s : List ℕ) (g : Progress) (at : ℕ) → EntryThere s at → ProgressWithin g → ProgressWithin (advanced g (certificate_instruction_at s at))

@@ -32,7 +32,7 @@ pub struct Reading {
 // The checks of a command that stands at an offset, in their order: the first that it fails, or what it says. Each
 // command is decoded once, for its checks and for what is kept of it. Where the command is a constant the compiler leaves
 // out what is asked of the others.
-#[tactic(auto, using(crate::proofs::Checks::verdicts))]
+#[tactic(auto, unfolding(format::specs::CertificateRules::certificate_refusal_at, format::specs::Commands::first_refusal))]
 fn verdict_of(
     command: Command,
     sizes: &[usize],
@@ -63,7 +63,7 @@ fn verdict_of(
 }
 
 // Those of a row by command 11, apart, so that they are compiled for it alone.
-#[tactic(auto, using(crate::proofs::Checks::row_command_lem))]
+#[tactic(auto, unfolding(format::specs::CertificateLayout::certificate_command))]
 fn row_verdict(sizes: &[usize], g: Progress, s: &[u8], at: usize) -> Result<Instruction, Fault>
     requires { Asked sizes.now g s.now at × (get_or s.now at 0 ≡ 0x11) }
     ensures { Told sizes.now g s.now at result }

@@ -48,7 +48,7 @@ pub fn index_at(s: &[u8], at: usize) -> u8
 }
 
 // Its factor, which has 32 bits where the command is 15.
-#[tactic(auto, using(crate::proofs::Offsets::wide_byte, crate::proofs::Offsets::other_byte), unfolding(crate::specs::Offsets::entry_at))]
+#[tactic(auto, unfolding(crate::specs::Offsets::entry_at, format::specs::CertificateLayout::certificate_command))]
 pub fn factor_at(s: &[u8], at: usize) -> i32
     requires { EntryStands s.now at }
     ensures { result ≡ (entry_at s.now at).factor }
@@ -63,7 +63,7 @@ pub fn factor_at(s: &[u8], at: usize) -> i32
 }
 
 // The offset after it: the step of every walk over the entries of a row.
-#[tactic(auto, using(crate::proofs::Offsets::wide_byte, crate::proofs::Offsets::other_byte))]
+#[tactic(auto, unfolding(format::specs::CertificateLayout::certificate_command))]
 pub fn after_entry(s: &[u8], at: usize) -> usize
     requires { EntryStands s.now at }
     ensures { result ≡ at + size_at s.now at }

@@ -53,10 +53,8 @@ fn widest(window: GapWindow) -> AgedGap
         if fractions::less(*newer, widest.gap) {
             widest.age += 1;
         } else {
-            widest = AgedGap {
-                gap: *newer,
-                age: 0,
-            };
+            widest.gap = *newer;
+            widest.age = 0;
         }
     }
     widest

@@ -13,7 +13,7 @@ abbrev pub ZeroedAt : Compared → List ℤ → List ℤ → Type 0
 ZeroedAt keys hi lo = Zeroed keys.table.now keys.count hi lo × Indexed keys.index.now keys.table.now keys.count
 
 -- the sums at the compared keys grew by f of the problem that the arrays hold: what is known of the whole sums then
-abbrev pub CarriedAt : (Problem → ℕ → ℤ) → Arrays → Compared → List ℤ → List ℤ → List ℤ → List ℤ → ℕ → Type 0
+abbrev pub CarriedAt : (Problem → ℕ → ℤ) → Arrays → Compared → List ℤ → List ℤ → List ℤ → List ℤ → Option ℕ → Type 0
 CarriedAt f a keys hi₀ lo₀ hi₁ lo₁ r =
     Carried f a.keys.now a.coefficients.now a.sizes.now keys.table.now keys.count hi₀ lo₀ hi₁ lo₁ r
 

@@ -17,7 +17,7 @@ ghost use Rattle.identity_sums.specs.Bundles.{ReadyFor};
 ghost use Rattle.identity_rows.specs.Spread.{table_unit};
 ghost use Rattle.identity_rows.specs.Walk.{RoomFor, bases_in, beyond};
 ghost use Rattle.identity_rows.specs.Bundles.{rows_in, ComparableIn};
-ghost use Rattle.identity_check.specs.Compare.{Smaller, Smallest, Nonzero, DividedSums};
+ghost use Rattle.identity_check.specs.Compare.{smaller_of, Smallest, Nonzero, DividedSums};
 ghost use Rattle.identity_check.specs.Bundles.{ZeroedAt, CarriedAt, AnsweredFor};
 
 use certificate_rows::Rows;
@@ -26,47 +26,45 @@ use format::certificate::Header;
 use identity_sums::Compared;
 use row_digits::Part;
 
-// Of two places the one with the smaller key. The first may be n, which is no place.
-fn smaller(table: &[u64], n: usize, a: usize, b: usize) -> usize
-    requires { (n ≤ length table.now) × (b < n) }
-    ensures { Smaller table.now n a b result }
+// The smaller of a key that may be known and another.
+fn smaller(known: Option<u64>, key: u64) -> u64
+    ensures { result ≡ smaller_of known key }
 {
-    if a < n && table[a] <= table[b] { a } else { b }
+    known.map_or(key, |k| k.min(key))
 }
 
-// Divides the first n sums by 2^16, rounding down. A sum that is no multiple of 2^16 cannot become 0 by what is added
-// to it 2^16 times: the place with the smallest key of those and of `found`, which may be n.
-fn divide_sums(table: &[u64], n: usize, hi: &mut [i64], lo: &mut [i64], found: usize) -> usize
-    requires { (n ≤ length table.now) × HasRoom n (2 ^ 36) hi.old × (n ≤ length lo.old) }
-    ensures { DividedSums table.now n n found hi.old lo.old hi.new
-        lo.new result }
+// Divides the sums by 2^16, rounding down. A sum that is no multiple of 2^16 cannot become 0 by what is added to it 2^16
+// times: the smallest key of those and of `found`, if there is any.
+fn divide_sums(keys: Compared, hi: &mut [i64], lo: &mut [i64], found: Option<u64>) -> Option<u64>
+    requires { (keys.count ≤ length keys.table.now) × HasRoom keys.count (2 ^ 36) hi.old × (keys.count ≤ length lo.old) }
+    ensures { DividedSums keys.entry.table.now keys.entry.count found hi.old lo.old hi.new lo.new result }
 {
-    let mut r = found;
-    for k in 0..n {
+    let mut least = found;
+    for k in 0..keys.count {
         if !wide_sums::divide(hi, lo, k) {
-            r = smaller(table, n, r, k);
+            least = Some(smaller(least, keys.table[k]));
         }
     }
-    r
+    least
 }
 
-// The place with the smallest key of those among the first n whose sum is not 0 and of `found`, which may be n.
-fn smallest(table: &[u64], n: usize, hi: &[i64], lo: &[i64], found: usize) -> usize
-    requires { (n ≤ length table.now) × (n ≤ length hi.now) × (n ≤ length lo.now) }
-    ensures { Smallest (Nonzero hi.now lo.now) table.now n n found result }
+// The smallest key of those whose sum is not 0 and of `found`, if there is any.
+fn smallest(keys: Compared, hi: &[i64], lo: &[i64], found: Option<u64>) -> Option<u64>
+    requires { (keys.count ≤ length keys.table.now) × (keys.count ≤ length hi.now) × (keys.count ≤ length lo.now) }
+    ensures { Smallest (Nonzero hi.now lo.now) keys.entry.table.now keys.entry.count found result }
 {
-    let mut r = found;
-    for i in 0..n {
+    let mut least = found;
+    for i in 0..keys.count {
         if !wide_sums::is_zero(hi, lo, i) {
-            r = smaller(table, n, r, i);
+            least = Some(smaller(least, keys.table[i]));
         }
     }
-    r
+    least
 }
 
 // Adds the parts of the squares that only wide factors have, 2^16 and 2^32 times. The sums are divided by 2^16 before
-// each, so that they stay as small as a part: the place with the smallest key of those whose sum is known not to become
-// 0, or n.
+// each, so that they stay as small as a part: the smallest key of those whose sum is known not to become 0, if there is
+// any.
 fn add_wide_parts(
     g: &mut [i64],
     rows: Rows,
@@ -74,22 +72,22 @@ fn add_wide_parts(
     keys: Compared,
     hi: &mut [i64],
     lo: &mut [i64],
-) -> usize
+) -> Option<u64>
     requires ready { ReadyFor keys hi.old lo.old (2 ^ 36) }
     requires comparable { ComparableIn rows problem × RoomFor problem.sizes.now g.old }
     ensures { CarriedAt
         (λ p k. pos step *ℤ beyond (rows_in rows.entry) (bases_in problem.entry.sizes.now) p k)
         problem.entry keys.entry hi.old lo.old hi.new lo.new result }
 {
-    let first = divide_sums(keys.table, keys.count, hi, lo, keys.count);
+    let first = divide_sums(keys, hi, lo, None);
     identity_rows::sum_rows(g, rows, Part::Cross, problem, keys, hi, lo);
-    let second = divide_sums(keys.table, keys.count, hi, lo, first);
+    let second = divide_sums(keys, hi, lo, first);
     identity_rows::sum_rows(g, rows, Part::High, problem, keys, hi, lo);
     second
 }
 
 // Adds the weighted square of every row: the first part of the products, and where a row has a wide factor the others.
-// The place with the smallest key of those whose sum is known not to be 0, or n.
+// The smallest key of those whose sum is known not to be 0, if there is any.
 fn add_squares(
     g: &mut [i64],
     rows: Rows,
@@ -97,7 +95,7 @@ fn add_squares(
     keys: Compared,
     hi: &mut [i64],
     lo: &mut [i64],
-) -> usize
+) -> Option<u64>
     requires ready { ReadyFor keys hi.old lo.old (9 * table_unit + 2 ^ 36) }
     requires comparable { ComparableIn rows problem × RoomFor problem.sizes.now g.old }
     ensures { CarriedAt (λ p k. coefficient k (squares p (rows_in rows.entry)))
@@ -106,7 +104,7 @@ fn add_squares(
     if identity_rows::sum_rows(g, rows, Part::Low, problem, keys, hi, lo) {
         return add_wide_parts(g, rows, problem, keys, hi, lo);
     }
-    keys.count
+    None
 }
 
 // Compares the claim with the weighted squares, at the compared keys, with a table of sums by indices of N places: minus
@@ -128,12 +126,7 @@ fn compare_in<const N: usize>(
     let objective = identity_sums::polynomial(problem, flat::OBJECTIVE);
     identity_sums::add_claim(keys, hi, lo, objective, header);
     let known = add_squares(&mut g, rows, problem, keys, hi, lo);
-    let found = smallest(keys.table, keys.count, hi, lo, known);
-    if found < keys.count {
-        Some(keys.table[found])
-    } else {
-        None
-    }
+    smallest(keys, hi, lo, known)
 }
 
 // Whether some basis is not small.

@@ -15,6 +15,7 @@ ghost use Rattle.joining_bases.specs.Parts.{bases_in, labels_in, squares_to, Siz
 ghost use Rattle.joining_bases.specs.Nine.{AllNoted};
 ghost use Rattle.joining_bases.specs.Settled.{Supported, Missing};
 
+use joining_products::Basis;
 use key_set::Full;
 
 // Each index of a basis is a block of its own.
@@ -98,9 +99,11 @@ pub fn add_squares(
 {
     let mut n = len;
     for j in 0..adding {
-        let basis = flat::basis(keys, sizes, j);
-        let exponents = flat::exponents(keys, sizes, j);
-        n = joining_products::add_squares(table, index, n, basis, exponents)?;
+        let basis = Basis {
+            keys: flat::basis(keys, sizes, j),
+            exponents: flat::exponents(keys, sizes, j),
+        };
+        n = joining_products::add_squares(table, index, n, basis)?;
     }
     Ok(n)
 }
@@ -123,11 +126,13 @@ pub fn put_missing(
 {
     let mut n = support.len;
     for j in adding_bases(support.rule)..9 {
-        let basis = flat::basis(keys, sizes, j);
-        let exponents = flat::exponents(keys, sizes, j);
+        let basis = Basis {
+            keys: flat::basis(keys, sizes, j),
+            exponents: flat::exponents(keys, sizes, j),
+        };
         let a = 64 * j;
         let part = &labels[a..a + sizes[j]];
-        n = joining_products::add_blocks(part, basis, exponents, table, index, n)?;
+        n = joining_products::add_blocks(part, basis, table, index, n)?;
     }
     Ok(n)
 }

@@ -13,8 +13,10 @@ ghost use Rattle.joining_pairs.specs.Limits.{ForSums, ForBasis};
 ghost use Rattle.joining_pairs.specs.Pairs.{sum_at, LastPair};
 ghost use Rattle.joining_products.specs.Adding.{plain};
 ghost use Rattle.joining_blocks.specs.Standing.{standing, reached, latest, Ready, Grew, JoiningAsks};
+ghost use Rattle.joining_blocks.specs.Tables.{standing_at, SameTables};
 
-use joining_blocks::Reach;
+use joining_blocks::{Reach, Tables};
+use joining_products::Basis;
 use key_set::Full;
 
 // Whether t + s is among the members before `until` for some exponent t of the multiplier.
@@ -39,71 +41,55 @@ fn is_linked(
 
 // The blocks of every two indices with the sum of the last such pair, at a place, made one.
 fn join_chain(
-    labels: &mut [u8],
-    follow: &mut [u8],
-    basis: &[u64],
-    exponents: &[u64],
-    pairs: &mut [u16],
-    table: &mut [u64],
-    index: &mut [u16],
+    tables: &mut Tables<'_>,
+    basis: Basis<'_>,
     start: Reach,
     first: usize,
 ) -> Result<Reach, Full>
-    requires { Ready exponents.now basis.now (standing labels.old follow.old pairs.old table.old index.old start)
-        × (plain < length basis.now)
-        × LastPair basis.now (sum_at basis.now first) first }
-    ensures { Grew exponents.now basis.now
-        (WithSum basis.now (sum_at basis.now first))
-        (standing labels.old follow.old pairs.old table.old index.old start)
-        (standing labels.new follow.new pairs.new table.new index.new (reached start result))
-        × IfOk result (λ q. q.len ≤ 2048) }
+    requires { Ready basis.exponents.now basis.keys.now (standing_at tables.old start)
+        × (plain < length basis.keys.now)
+        × LastPair basis.keys.now (sum_at basis.keys.now first) first }
+    ensures grew { Grew basis.entry.exponents.now basis.entry.keys.now
+        (WithSum basis.entry.keys.now (sum_at basis.entry.keys.now first))
+        (standing_at tables.old start)
+        (standing_at tables.new (reached start result)) }
+    ensures room { IfOk result (λ q. q.len ≤ 2048) }
+    ensures same { SameTables tables.old tables.new }
 {
-    let s = joining_pairs::sum_at(basis, first);
+    let s = joining_pairs::sum_at(basis.keys, first);
     let mut r = start;
     let mut v = first + 1;
     // No `for`: it goes from link to link.
     while 0 < v {
         let p = v - 1;
-        if joining_pairs::sum_at(basis, p) == s {
-            r = joining_blocks::join_two(
-                labels, follow, basis, exponents, pairs, table, index, r, p,
-            )?;
+        if joining_pairs::sum_at(basis.keys, p) == s {
+            r = tables.join_two(basis, r, p)?;
         }
-        v = pairs[joining_pairs::LINKS + p] as usize;
+        v = tables.pairs[joining_pairs::LINKS + p] as usize;
     }
     Ok(r)
 }
 
 // The blocks of every two indices with the sum s made one, once.
-fn join_sum(
-    labels: &mut [u8],
-    follow: &mut [u8],
-    basis: &[u64],
-    exponents: &[u64],
-    pairs: &mut [u16],
-    table: &mut [u64],
-    index: &mut [u16],
-    start: Reach,
-    s: u64,
-) -> Result<Reach, Full>
-    requires { Ready exponents.now basis.now (standing labels.old follow.old pairs.old table.old index.old start)
-        × (plain < length basis.now) }
-    ensures { Grew exponents.now basis.now (WithSum basis.now s)
-        (standing labels.old follow.old pairs.old table.old index.old start)
-        (standing labels.new follow.new pairs.new table.new index.new (reached start result))
-        × IfOk result (λ q. q.len ≤ 2048) }
+fn join_sum(tables: &mut Tables<'_>, basis: Basis<'_>, start: Reach, s: u64) -> Result<Reach, Full>
+    requires { Ready basis.exponents.now basis.keys.now (standing_at tables.old start)
+        × (plain < length basis.keys.now) }
+    ensures grew { Grew basis.entry.exponents.now basis.entry.keys.now (WithSum basis.entry.keys.now s)
+        (standing_at tables.old start)
+        (standing_at tables.new (reached start result)) }
+    ensures room { IfOk result (λ q. q.len ≤ 2048) }
+    ensures same { SameTables tables.old tables.new }
 {
-    let Some(p) = joining_pairs::find_sum(basis, pairs, s, joining_pairs::remainder(s)) else {
+    let pairs = &mut *tables.pairs;
+    let Some(p) = joining_pairs::find_sum(basis.keys, pairs, s, joining_pairs::remainder(s)) else {
         return Ok(start);
     };
     let at = joining_pairs::told_at(p);
     if 1 < pairs[at] {
         return Ok(start);
     }
-    let r = join_chain(
-        labels, follow, basis, exponents, pairs, table, index, start, p,
-    )?;
-    pairs[at] = 2;
+    let r = join_chain(tables, basis, start, p)?;
+    tables.pairs[at] = 2;
     Ok(r)
 }
 
@@ -127,26 +113,22 @@ fn note_fits(fits: &mut [u64; 32], exponents: &[u64], bits: u64, x: u64) -> usiz
 
 // The blocks of every two indices with one of these sums made one.
 fn join_sums(
-    labels: &mut [u8],
-    follow: &mut [u8],
-    basis: &[u64],
-    exponents: &[u64],
-    pairs: &mut [u16],
-    table: &mut [u64],
-    index: &mut [u16],
+    tables: &mut Tables<'_>,
+    basis: Basis<'_>,
     start: Reach,
     sums: &[u64],
 ) -> Result<Reach, Full>
-    requires { Ready exponents.now basis.now (standing labels.old follow.old pairs.old table.old index.old start)
-        × (plain < length basis.now) }
-    ensures { Grew exponents.now basis.now (SomeOf (WithSum basis.now) sums.now)
-        (standing labels.old follow.old pairs.old table.old index.old start)
-        (standing labels.new follow.new pairs.new table.new index.new (reached start result))
-        × IfOk result (λ q. q.len ≤ 2048) }
+    requires { Ready basis.exponents.now basis.keys.now (standing_at tables.old start)
+        × (plain < length basis.keys.now) }
+    ensures grew { Grew basis.entry.exponents.now basis.entry.keys.now (SomeOf (WithSum basis.entry.keys.now) sums.now)
+        (standing_at tables.old start)
+        (standing_at tables.new (reached start result)) }
+    ensures room { IfOk result (λ q. q.len ≤ 2048) }
+    ensures same { SameTables tables.old tables.new }
 {
     let mut r = start;
     for &s in sums {
-        r = join_sum(labels, follow, basis, exponents, pairs, table, index, r, s)?;
+        r = join_sum(tables, basis, r, s)?;
         if r.blocks == 1 {
             return Ok(r);
         }
@@ -155,40 +137,22 @@ fn join_sums(
 }
 
 // The joining by the members that came last.
-fn join_members(
-    labels: &mut [u8],
-    follow: &mut [u8],
-    basis: &[u64],
-    exponents: &[u64],
-    pairs: &mut [u16],
-    table: &mut [u64],
-    index: &mut [u16],
-    start: Reach,
-) -> Result<Reach, Full>
-    requires { Ready exponents.now basis.now (standing labels.old follow.old pairs.old table.old index.old start)
-        × (plain < length basis.now) }
-    ensures { Grew exponents.now basis.now
-        (Through exponents.now basis.now
-        (latest table.old start.since start.until))
-        (standing labels.old follow.old pairs.old table.old index.old start)
-        (standing labels.new follow.new pairs.new table.new index.new (reached start result))
-        × IfOk result (λ q. q.len ≤ 2048) }
+fn join_members(tables: &mut Tables<'_>, basis: Basis<'_>, start: Reach) -> Result<Reach, Full>
+    requires { Ready basis.exponents.now basis.keys.now (standing_at tables.old start)
+        × (plain < length basis.keys.now) }
+    ensures grew { Grew basis.entry.exponents.now basis.entry.keys.now
+        (Through basis.entry.exponents.now basis.entry.keys.now
+        (latest tables.old.table.now start.since start.until))
+        (standing_at tables.old start)
+        (standing_at tables.new (reached start result)) }
+    ensures room { IfOk result (λ q. q.len ≤ 2048) }
+    ensures same { SameTables tables.old tables.new }
 {
     let mut fits = [0u64; 32];
     let mut r = start;
     for m in start.since..start.until {
-        let n = note_fits(&mut fits, exponents, start.bits, table[m]);
-        r = join_sums(
-            labels,
-            follow,
-            basis,
-            exponents,
-            pairs,
-            table,
-            index,
-            r,
-            &fits[..n],
-        )?;
+        let n = note_fits(&mut fits, basis.exponents, start.bits, tables.table[m]);
+        r = join_sums(tables, basis, r, &fits[..n])?;
         if r.blocks == 1 {
             return Ok(r);
         }
@@ -197,92 +161,70 @@ fn join_members(
 }
 
 // Whether the pair at a place is to be joined: it is linked, and in two blocks.
-fn is_open(
-    labels: &[u8],
-    basis: &[u64],
-    exponents: &[u64],
-    table: &[u64],
-    index: &[u16],
-    until: usize,
-    len: usize,
-    p: usize,
-) -> bool
-    requires { ForBasis table.now index.now len exponents.now basis.now
-        × (until ≤ len)
-        × (length labels.now ≡ length basis.now)
-        × (p / 64 < length basis.now)
-        × (p % 64 < length basis.now) }
+fn is_open(tables: &Tables<'_>, basis: Basis<'_>, r: Reach, p: usize) -> bool
+    requires { ForBasis tables.now.table.now tables.now.index.now r.len basis.exponents.now basis.keys.now
+        × (r.until ≤ r.len)
+        × (length tables.now.labels.now ≡ length basis.keys.now)
+        × (p / 64 < length basis.keys.now)
+        × (p % 64 < length basis.keys.now) }
     ensures { result
-        ≡ cond (slice_index labels.now (p / 64) == slice_index labels.now (p % 64)) false
-        (linked (keys_in until table.now) exponents.now (sum_at basis.now p)) }
+        ≡ cond (slice_index tables.now.labels.now (p / 64) == slice_index tables.now.labels.now (p % 64)) false
+        (linked (keys_in r.until tables.now.table.now) basis.entry.exponents.now (sum_at basis.entry.keys.now p)) }
 {
-    if labels[p / 64] == labels[p % 64] {
+    if tables.labels[p / 64] == tables.labels[p % 64] {
         return false;
     }
+    let s = joining_pairs::sum_at(basis.keys, p);
     is_linked(
-        table,
-        index,
-        until,
-        len,
-        exponents,
-        joining_pairs::sum_at(basis, p),
+        tables.table,
+        tables.index,
+        r.until,
+        r.len,
+        basis.exponents,
+        s,
     )
 }
 
 // Index i with each index after it.
 fn join_row(
-    labels: &mut [u8],
-    follow: &mut [u8],
-    basis: &[u64],
-    exponents: &[u64],
-    pairs: &mut [u16],
-    table: &mut [u64],
-    index: &mut [u16],
+    tables: &mut Tables<'_>,
+    basis: Basis<'_>,
     start: Reach,
     i: usize,
 ) -> Result<Reach, Full>
-    requires { Ready exponents.now basis.now (standing labels.old follow.old pairs.old table.old index.old start)
-        × (i < length basis.now) }
-    ensures { Grew exponents.now basis.now
-        (LinkedIn exponents.now basis.now (keys_in start.until table.old) (64 * i)
+    requires { Ready basis.exponents.now basis.keys.now (standing_at tables.old start)
+        × (i < length basis.keys.now) }
+    ensures grew { Grew basis.entry.exponents.now basis.entry.keys.now
+        (LinkedIn basis.entry.exponents.now basis.entry.keys.now (keys_in start.until tables.old.table.now) (64 * i)
         (64 * (i + 1)))
-        (standing labels.old follow.old pairs.old table.old index.old start)
-        (standing labels.new follow.new pairs.new table.new index.new (reached start result))
-        × IfOk result (λ q. q.len ≤ 2048) }
+        (standing_at tables.old start)
+        (standing_at tables.new (reached start result)) }
+    ensures room { IfOk result (λ q. q.len ≤ 2048) }
+    ensures same { SameTables tables.old tables.new }
 {
     let mut r = start;
-    for k in i + 1..basis.len() {
+    for k in i + 1..basis.keys.len() {
         let p = 64 * i + k;
-        if is_open(labels, basis, exponents, table, index, r.until, r.len, p) {
-            r = joining_blocks::join_two(
-                labels, follow, basis, exponents, pairs, table, index, r, p,
-            )?;
+        if is_open(tables, basis, r, p) {
+            r = tables.join_two(basis, r, p)?;
         }
     }
     Ok(r)
 }
 
 // The joining by the pairs of the basis.
-fn join_rows(
-    labels: &mut [u8],
-    follow: &mut [u8],
-    basis: &[u64],
-    exponents: &[u64],
-    pairs: &mut [u16],
-    table: &mut [u64],
-    index: &mut [u16],
-    start: Reach,
-) -> Result<Reach, Full>
-    requires { Ready exponents.now basis.now (standing labels.old follow.old pairs.old table.old index.old start) }
-    ensures { Grew exponents.now basis.now
-        (Through exponents.now basis.now (keys_in start.until table.old))
-        (standing labels.old follow.old pairs.old table.old index.old start)
-        (standing labels.new follow.new pairs.new table.new index.new (reached start result))
-        × IfOk result (λ q. q.len ≤ 2048) }
+fn join_rows(tables: &mut Tables<'_>, basis: Basis<'_>, start: Reach) -> Result<Reach, Full>
+    requires { Ready basis.exponents.now basis.keys.now (standing_at tables.old start) }
+    ensures grew { Grew basis.entry.exponents.now basis.entry.keys.now
+        (Through basis.entry.exponents.now basis.entry.keys.now (keys_in start.until tables.old.table.now))
+        (standing_at tables.old start)
+        (standing_at tables.new (reached start result)) }
+    ensures room { IfOk result (λ q. q.len ≤ 2048) }
+    ensures same { SameTables tables.old tables.new }
 {
     let mut r = start;
-    for i in 0..basis.len() {
-        r = join_row(labels, follow, basis, exponents, pairs, table, index, r, i)?;
+    for i in 0..basis.keys.len() {
+        r = join_row(tables, basis, r, i)?;
         if r.blocks == 1 {
             return Ok(r);
         }
@@ -291,28 +233,47 @@ fn join_rows(
 }
 
 // The joining of a basis. One block joins nothing.
+fn join_tables(tables: &mut Tables<'_>, basis: Basis<'_>, r: Reach) -> Result<Reach, Full>
+    requires { JoiningAsks basis.exponents.now basis.keys.now (standing_at tables.old r) }
+    ensures grew { Grew basis.entry.exponents.now basis.entry.keys.now
+        (Through basis.entry.exponents.now basis.entry.keys.now (keys_in r.until tables.old.table.now))
+        (standing_at tables.old r) (standing_at tables.new (reached r result)) }
+    ensures room { IfOk result (λ q. q.len ≤ 2048) }
+    ensures same { SameTables tables.old tables.new }
+{
+    if r.blocks < 2 {
+        return Ok(r);
+    }
+    if basis.keys.len() <= joining_products::PLAIN {
+        return join_rows(tables, basis, r);
+    }
+    join_members(tables, basis, r)
+}
+
+// The same with tables that are lent one by one.
 pub fn join(
     labels: &mut [u8],
     follow: &mut [u8],
-    basis: &[u64],
-    exponents: &[u64],
+    basis: Basis<'_>,
     pairs: &mut [u16],
     table: &mut [u64],
     index: &mut [u16],
     r: Reach,
 ) -> Result<Reach, Full>
-    requires { JoiningAsks exponents.now basis.now (standing labels.old follow.old pairs.old table.old index.old r) }
-    ensures { Grew exponents.now basis.now
-        (Through exponents.now basis.now (keys_in r.until table.old))
+    requires { JoiningAsks basis.exponents.now basis.keys.now
+        (standing labels.old follow.old pairs.old table.old index.old r) }
+    ensures { Grew basis.entry.exponents.now basis.entry.keys.now
+        (Through basis.entry.exponents.now basis.entry.keys.now (keys_in r.until table.old))
         (standing labels.old follow.old pairs.old table.old index.old r)
         (standing labels.new follow.new pairs.new table.new index.new (reached r result))
         × IfOk result (λ q. q.len ≤ 2048) }
 {
-    if r.blocks < 2 {
-        return Ok(r);
-    }
-    if basis.len() <= joining_products::PLAIN {
-        return join_rows(labels, follow, basis, exponents, pairs, table, index, r);
-    }
-    join_members(labels, follow, basis, exponents, pairs, table, index, r)
+    let mut tables = Tables {
+        labels,
+        follow,
+        pairs,
+        table,
+        index,
+    };
+    join_tables(&mut tables, basis, r)
 }

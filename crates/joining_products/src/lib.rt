@@ -18,6 +18,13 @@ use key_set::Full;
 // Up to so many monomials a basis joins by its pairs: that is faster than making their index.
 pub const PLAIN: usize = 16;
 
+// One basis: the keys of its monomials, and the exponents of its multiplier.
+#[derive(Clone, Copy)]
+pub struct Basis<'a> {
+    pub keys: &'a [u64],
+    pub exponents: &'a [u64],
+}
+
 // Two blocks, by their numbers, the lower one first.
 #[derive(Clone, Copy, Debug, PartialEq, Eq)]
 pub struct Cross {
@@ -79,36 +86,34 @@ fn add_pair(
     table: &mut [u64],
     index: &mut [u16],
     len: usize,
-    exponents: &[u64],
-    basis: &[u64],
+    basis: Basis<'_>,
     pairs: &mut [u16],
     i: usize,
     k: usize,
 ) -> Result<usize, Full>
-    requires { AddingAsks exponents.now basis.now pairs.old table.old index.old len
-        × (i < length basis.now)
-        × (k < length basis.now) }
-    ensures { AddedAll exponents.now basis.now
-        (add_terms exponents.now (get_or basis.now i 0 + get_or basis.now k 0)
+    requires { AddingAsks basis.exponents.now basis.keys.now pairs.old table.old index.old len
+        × (i < length basis.keys.now)
+        × (k < length basis.keys.now) }
+    ensures { AddedAll basis.entry.exponents.now basis.entry.keys.now
+        (add_terms basis.entry.exponents.now (get_or basis.entry.keys.now i 0 + get_or basis.entry.keys.now k 0)
         (keys_in len table.old))
         len table.old pairs.old (count_in result) table.new index.new pairs.new
         × IfOk result (λ n. n ≤ 2048) }
 {
-    let s = basis[i] + basis[k];
-    if basis.len() <= PLAIN {
-        return add_terms(table, index, len, exponents, s);
+    let s = basis.keys[i] + basis.keys[k];
+    if basis.keys.len() <= PLAIN {
+        return add_terms(table, index, len, basis.exponents, s);
     }
-    if joining_pairs::is_done(pairs, basis, i, k) {
+    if joining_pairs::is_done(pairs, basis.keys, i, k) {
         return Ok(len);
     }
-    add_slotted(table, index, len, exponents, pairs, s)
+    add_slotted(table, index, len, basis.exponents, pairs, s)
 }
 
 // The products of index k with each index of the block a put in.
 fn add_row(
     follow: &[u8],
-    basis: &[u64],
-    exponents: &[u64],
+    basis: Basis<'_>,
     pairs: &mut [u16],
     table: &mut [u64],
     index: &mut [u16],
@@ -116,12 +121,12 @@ fn add_row(
     a: u8,
     k: usize,
 ) -> Result<usize, Full>
-    requires { AddingAsks exponents.now basis.now pairs.old table.old index.old len
+    requires { AddingAsks basis.exponents.now basis.keys.now pairs.old table.old index.old len
         × (length follow.now ≡ 64)
-        × IndexList (length basis.now) follow.now a
-        × (k < length basis.now) }
-    ensures { AddedAll exponents.now basis.now
-        (add_list exponents.now basis.now k (list_from follow.now a)
+        × IndexList (length basis.keys.now) follow.now a
+        × (k < length basis.keys.now) }
+    ensures { AddedAll basis.entry.exponents.now basis.entry.keys.now
+        (add_list basis.entry.exponents.now basis.entry.keys.now k (list_from follow.now a)
         (keys_in len table.old))
         len table.old pairs.old (count_in result) table.new index.new pairs.new
         × IfOk result (λ n. n ≤ 2048) }
@@ -130,7 +135,7 @@ fn add_row(
     let mut i = a as usize;
     // A walk along a list, each of whose places tells the next.
     while i < 64 {
-        n = add_pair(table, index, n, exponents, basis, pairs, i, k)?;
+        n = add_pair(table, index, n, basis, pairs, i, k)?;
         i = follow[i] as usize;
     }
     key_set::shorten(table, index, n);
@@ -140,20 +145,19 @@ fn add_row(
 // Those of each index of the block b with each index of the block a.
 pub fn add_cross(
     follow: &[u8],
-    basis: &[u64],
-    exponents: &[u64],
+    basis: Basis<'_>,
     pairs: &mut [u16],
     table: &mut [u64],
     index: &mut [u16],
     len: usize,
     m: Cross,
 ) -> Result<usize, Full>
-    requires { AddingAsks exponents.now basis.now pairs.old table.old index.old len
+    requires { AddingAsks basis.exponents.now basis.keys.now pairs.old table.old index.old len
         × (length follow.now ≡ 64)
-        × IndexList (length basis.now) follow.now m.a
-        × IndexList (length basis.now) follow.now m.b }
-    ensures { AddedAll exponents.now basis.now
-        (add_lists exponents.now basis.now (list_from follow.now m.a)
+        × IndexList (length basis.keys.now) follow.now m.a
+        × IndexList (length basis.keys.now) follow.now m.b }
+    ensures { AddedAll basis.entry.exponents.now basis.entry.keys.now
+        (add_lists basis.entry.exponents.now basis.entry.keys.now (list_from follow.now m.a)
         (list_from follow.now m.b) (keys_in len table.old))
         len table.old pairs.old (count_in result) table.new index.new pairs.new
         × IfOk result (λ n. n ≤ 2048) }
@@ -162,7 +166,7 @@ pub fn add_cross(
     let mut k = m.b as usize;
     // Such a walk, too.
     while k < 64 {
-        n = add_row(follow, basis, exponents, pairs, table, index, n, m.a, k)?;
+        n = add_row(follow, basis, pairs, table, index, n, m.a, k)?;
         k = follow[k] as usize;
     }
     Ok(n)
@@ -173,17 +177,16 @@ pub fn add_squares(
     table: &mut [u64],
     index: &mut [u16],
     len: usize,
-    basis: &[u64],
-    exponents: &[u64],
+    basis: Basis<'_>,
 ) -> Result<usize, Full>
-    requires { ForBasis table.old index.old len exponents.now basis.now }
-    ensures { Stored len (add_squares exponents.now basis.now (keys_in len table.old))
+    requires { ForBasis table.old index.old len basis.exponents.now basis.keys.now }
+    ensures { Stored len (add_squares basis.entry.exponents.now basis.entry.keys.now (keys_in len table.old))
         table.old (count_in result) table.new index.new
         × IfOk result (λ n. n ≤ 2048) }
 {
     let mut n = len;
-    for &b in basis {
-        n = add_terms(table, index, n, exponents, 2 * b)?;
+    for &b in basis.keys {
+        n = add_terms(table, index, n, basis.exponents, 2 * b)?;
     }
     key_set::shorten(table, index, n);
     Ok(n)
@@ -192,25 +195,30 @@ pub fn add_squares(
 // The products of index i with itself and each index after it in its block put in.
 fn add_own(
     labels: &[u8],
-    basis: &[u64],
-    exponents: &[u64],
+    basis: Basis<'_>,
     table: &mut [u64],
     index: &mut [u16],
     len: usize,
     i: usize,
 ) -> Result<usize, Full>
-    requires { ForBasis table.old index.old len exponents.now basis.now
-        × (length labels.now ≡ length basis.now)
-        × (i < length basis.now) }
+    requires { ForBasis table.old index.old len basis.exponents.now basis.keys.now
+        × (length labels.now ≡ length basis.keys.now)
+        × (i < length basis.keys.now) }
     ensures { Stored len
-        (add_row exponents.now basis.now labels.now i
+        (add_row basis.entry.exponents.now basis.entry.keys.now labels.now i
         (keys_in len table.old)) table.old (count_in result) table.new index.new
         × IfOk result (λ n. n ≤ 2048) }
 {
     let mut n = len;
-    for k in i..basis.len() {
+    for k in i..basis.keys.len() {
         if labels[i] == labels[k] {
-            n = add_terms(table, index, n, exponents, basis[i] + basis[k])?;
+            n = add_terms(
+                table,
+                index,
+                n,
+                basis.exponents,
+                basis.keys[i] + basis.keys[k],
+            )?;
         }
     }
     key_set::shorten(table, index, n);
@@ -220,22 +228,21 @@ fn add_own(
 // The products of every pair in one block put in.
 pub fn add_blocks(
     labels: &[u8],
-    basis: &[u64],
-    exponents: &[u64],
+    basis: Basis<'_>,
     table: &mut [u64],
     index: &mut [u16],
     len: usize,
 ) -> Result<usize, Full>
-    requires { ForBasis table.old index.old len exponents.now basis.now
-        × (length labels.now ≡ length basis.now) }
+    requires { ForBasis table.old index.old len basis.exponents.now basis.keys.now
+        × (length labels.now ≡ length basis.keys.now) }
     ensures { Stored len
-        (extend exponents.now basis.now labels.now (keys_in len table.old))
+        (extend basis.entry.exponents.now basis.entry.keys.now labels.now (keys_in len table.old))
         table.old (count_in result) table.new index.new
         × IfOk result (λ n. n ≤ 2048) }
 {
     let mut n = len;
-    for i in 0..basis.len() {
-        n = add_own(labels, basis, exponents, table, index, n, i)?;
+    for i in 0..basis.keys.len() {
+        n = add_own(labels, basis, table, index, n, i)?;
     }
     Ok(n)
 }

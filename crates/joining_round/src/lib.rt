@@ -10,6 +10,7 @@ ghost use Rattle.joining_bases.specs.Nine.{nine, stage, begun, AsksAt, JoinedAt,
 
 use joining_bases::Stage;
 use joining_blocks::Reach;
+use joining_products::Basis;
 use key_set::Full;
 
 // Basis j joins.
@@ -30,18 +31,20 @@ fn join_at(
         index.new (reached r result)
         × IfOk result (λ x. x.len ≤ 2048) }
 {
-    let basis = flat::basis(keys, sizes, j);
-    let exponents = flat::exponents(keys, sizes, j);
+    let basis = Basis {
+        keys: flat::basis(keys, sizes, j),
+        exponents: flat::exponents(keys, sizes, j),
+    };
     let a = 64 * j;
     let part = &mut labels[a..a + sizes[j]];
     let links = &mut follow[a..a + 64];
     if sizes[j] <= joining_products::PLAIN {
         let mut none = [0u16; 1];
-        return joining_basis::join(part, links, basis, exponents, &mut none, table, index, r);
+        return joining_basis::join(part, links, basis, &mut none, table, index, r);
     }
     let p = 6240 * j;
     let sums = &mut pairs[p..p + 6240];
-    joining_basis::join(part, links, basis, exponents, sums, table, index, r)
+    joining_basis::join(part, links, basis, sums, table, index, r)
 }
 
 // A round: every basis joins by the members before `until`, and adds the products of the blocks that it makes one. The

@@ -1,8 +1,7 @@
 -- `entry_run`: the entries before the offset are read, none of them refused.
 use mathlib.Core.Path.{sym}
 use Rattle.certificate_reader.specs.Verdicts.{EntryThere, none, more}
-use Rattle.certificate_reader.proofs.Checks.{entry_command_lem}
-use Rattle.certificate_reader.proofs.Kept.{entry_within}
+use Rattle.certificate_reader.proofs.Kept.{entry_command_lem, entry_within}
 use Rattle.certificate_reader.proofs.entry_run.Goals as goal
 
 pub loop-entry-init : goal.loop-entry-init

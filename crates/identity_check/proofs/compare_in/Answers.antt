@@ -7,7 +7,7 @@ use Rattle.identity_sums.proofs.Growth.{ready_after}
 use Rattle.identity_rows.proofs.Room.{room_for_all}
 use Rattle.identity_rows.proofs.Walks.{room_zeros}
 use Rattle.identity_check.proofs.Untouched.{near_untouched, untouched_then}
-use Rattle.identity_check.proofs.Differences.{zeroed_ready, claim_most_lem, found_same, found_differs}
+use Rattle.identity_check.proofs.Differences.{zeroed_ready, claim_most_lem, found_is}
 use Rattle.identity_check.proofs.compare_in.Goals as goal
 
 pub add_claim-requires : goal.add_claim-requires
@@ -31,26 +31,14 @@ add_squares-known-requires-clause-ready g c =
 pub add_squares-known-requires-clause-comparable : goal.add_squares-known-requires-clause-comparable
 add_squares-known-requires-clause-comparable g c = (c.requires.comparable.1, room_zeros _ c.requires.room.0)
 
-pub returns-then-found-keys : goal.returns-then-found-keys
-returns-then-found-keys g c =
+pub returns : goal.returns
+returns g c =
     let z = c.requires.comparable.0.0 in
     let o = c.polynomial-objective.ensures in
     let a = c.add_claim.ensures in
     let m = c.add_squares-known.ensures in
     record {
-      difference = λ p k given. found_differs given o.exponents o.coefficients z a m c.smallest-found.ensures c.if-found-keys.true;
-      high = untouched_then (near_untouched z.support.few a.high) m.high;
-      low = untouched_then (near_untouched z.support.few a.low) m.low;
-    }
-
-pub returns-else-found-keys : goal.returns-else-found-keys
-returns-else-found-keys g c =
-    let z = c.requires.comparable.0.0 in
-    let o = c.polynomial-objective.ensures in
-    let a = c.add_claim.ensures in
-    let m = c.add_squares-known.ensures in
-    record {
-      difference = λ p k given. found_same given o.exponents o.coefficients z a m c.smallest-found.ensures c.if-found-keys.false;
+      difference = λ p k given. found_is given o.exponents o.coefficients z a m c.smallest.ensures;
       high = untouched_then (near_untouched z.support.few a.high) m.high;
       low = untouched_then (near_untouched z.support.few a.low) m.low;
     }

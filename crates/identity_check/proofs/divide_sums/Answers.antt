@@ -15,13 +15,12 @@ divide-requires c =
 pub loop-k-preserved : goal.loop-k-preserved
 loop-k-preserved c =
     let v = c.loop-k.invariant in
-    let t = c.loop-k-test.true in
     elim c.if-not-divide.branch [
-      | then-not-divide w ↦ rw w.r-is (dividing_uneven v c.divide.ensures w.if-not-divide.true t w.smaller-r.ensures)
-      | else-not-divide w ↦ rw w.r-is (dividing_exact v c.divide.ensures w.if-not-divide.false)
+      | then-not-divide w ↦ rw (w.least-is, w.smaller.ensures) (dividing_uneven v c.divide.ensures w.if-not-divide.true)
+      | else-not-divide w ↦ rw w.least-is (dividing_exact v c.divide.ensures w.if-not-divide.false)
     ]
 
 pub returns : goal.returns
 returns c =
-    let e : c.loop-k.k ≡ c.args.n = omega arith in
+    let e : c.loop-k.k ≡ c.args.keys.count = omega arith in
     rw e at c.loop-k.invariant

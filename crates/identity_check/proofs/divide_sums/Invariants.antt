@@ -3,4 +3,4 @@ use Rattle.identity_check.specs.Compare.{DividedSums}
 use Rattle.identity_check.proofs.divide_sums.Given as goal
 
 abbrev pub invariant-loop-k : goal.invariant-loop-k
-invariant-loop-k l = DividedSums l.table l.n l.k l.found l.initial.hi l.initial.lo l.hi l.lo l.r
+invariant-loop-k l = DividedSums l.keys.table.now l.k l.fn.found l.initial.hi l.initial.lo l.hi l.lo l.least

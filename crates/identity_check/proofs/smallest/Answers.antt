@@ -9,13 +9,12 @@ loop-i-init c = smallest_start
 pub loop-i-preserved : goal.loop-i-preserved
 loop-i-preserved c =
     let v = c.loop-i.invariant in
-    let t = c.loop-i-test.true in
     elim c.if-not-is_zero.branch [
-      | then-not-is_zero w ↦ rw w.r-is (smallest_more v t (c.is_zero.ensures.no w.if-not-is_zero.true) w.smaller-r.ensures)
-      | else-not-is_zero w ↦ rw w.r-is (smallest_not v (λ f. f (c.is_zero.ensures.yes w.if-not-is_zero.false)))
+      | then-not-is_zero w ↦ rw (w.least-is, w.smaller.ensures) (smallest_more v (c.is_zero.ensures.no w.if-not-is_zero.true))
+      | else-not-is_zero w ↦ rw w.least-is (smallest_not v (λ f. f (c.is_zero.ensures.yes w.if-not-is_zero.false)))
     ]
 
 pub returns : goal.returns
 returns c =
-    let e : c.loop-i.i ≡ c.args.n = omega arith in
+    let e : c.loop-i.i ≡ c.args.keys.count = omega arith in
     rw e at c.loop-i.invariant

@@ -3,4 +3,4 @@ use Rattle.identity_check.specs.Compare.{Nonzero, Smallest}
 use Rattle.identity_check.proofs.smallest.Given as goal
 
 abbrev pub invariant-loop-i : goal.invariant-loop-i
-invariant-loop-i l = Smallest (Nonzero l.hi l.lo) l.table l.n l.i l.found l.r
+invariant-loop-i l = Smallest (Nonzero l.hi l.lo) l.keys.table.now l.i l.fn.found l.least

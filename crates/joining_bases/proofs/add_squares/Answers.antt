@@ -12,17 +12,17 @@ loop-j-init c =
 
 pub add_squares-requires : goal.add_squares-requires
 add_squares-requires c =
-    rw (c.exponents-exponents.ensures, c.basis-basis.ensures)
+    rw (c.exponents.ensures, c.basis.ensures)
     (record { support = c.loop-j.invariant.holds; index = c.loop-j.invariant.index; basis = c.requires.0.arrays.limits c.loop-j.j (omega arith) })
 
 pub returns-in_err-n : goal.returns-in_err-n
 returns-in_err-n c =
-    let e = rw (c.exponents-exponents.ensures, c.basis-basis.ensures) at c.in_err-n.ensures.0 in
+    let e = rw (c.exponents.ensures, c.basis.ensures) at c.in_err-n.ensures.0 in
     growing_full _ _ _ _ _ _ _ c.loop-j.invariant _ _ _ e (squares_from c.args.adding (bases_in c.args.keys.now c.args.sizes.now) (c.loop-j.j + 1)) (squares_more _ _ c.loop-j.j _ (omega arith)) (squares_rest _ _ (c.loop-j.j + 1) _) _ c.from_residual.ensures.0
 
 pub loop-j-preserved : goal.loop-j-preserved
 loop-j-preserved c =
-    let e = rw (c.exponents-exponents.ensures, c.basis-basis.ensures) at c.in_ok-n.ensures.0 in
+    let e = rw (c.exponents.ensures, c.basis.ensures) at c.in_ok-n.ensures.0 in
     growing_step _ _ _ _ _ _ _ c.loop-j.invariant _ _ _ _ e _ (squares_more _ _ c.loop-j.j _ (omega arith)) c.in_ok-n.ensures.1 (squares_extend _ _ _)
 
 pub returns : goal.returns

@@ -22,7 +22,7 @@ pub add_blocks-requires : goal.add_blocks-requires
 add_blocks-requires c =
     let j = c.loop-j.j in
     let a = c.requires.held.arrays in
-    rw (c.exponents-exponents.ensures, c.basis-basis.ensures) (
+    rw (c.exponents.ensures, c.basis.ensures) (
       record { support = c.loop-j.invariant.holds; index = c.loop-j.invariant.index; basis = a.limits j (omega arith) },
       taken_long (64 * j) (get_or c.args.sizes.now j 0) c.args.labels.now (omega (arith, (arrays_sizes _ _ a).small j (omega arith), c.requires.long)) ∙ sym (basis_long _ _ a j (omega arith)),
     )
@@ -31,14 +31,14 @@ pub returns-in_err-n : goal.returns-in_err-n
 returns-in_err-n c =
     let j = c.loop-j.j in
     let p = part_is _ (arrays_sizes _ _ c.requires.held.arrays) c.args.labels.now j ∙ sym (labels_at_lem _ _ j (omega arith)) in
-    let e = rw (c.exponents-exponents.ensures, c.basis-basis.ensures, p) at c.in_err-n.ensures.0 in
+    let e = rw (c.exponents.ensures, c.basis.ensures, p) at c.in_err-n.ensures.0 in
     growing_full _ _ _ _ _ _ _ c.loop-j.invariant _ _ _ e (extend_from (j + 1) (bases_in c.args.keys.now c.args.sizes.now) (labels_in c.args.sizes.now c.args.labels.now)) (missing_more _ _ j _ (omega arith)) (missing_extends _ _ (j + 1) _) _ c.from_residual.ensures.0
 
 pub loop-j-preserved : goal.loop-j-preserved
 loop-j-preserved c =
     let j = c.loop-j.j in
     let p = part_is _ (arrays_sizes _ _ c.requires.held.arrays) c.args.labels.now j ∙ sym (labels_at_lem _ _ j (omega arith)) in
-    let e = rw (c.exponents-exponents.ensures, c.basis-basis.ensures, p) at c.in_ok-n.ensures.0 in
+    let e = rw (c.exponents.ensures, c.basis.ensures, p) at c.in_ok-n.ensures.0 in
     growing_step _ _ _ _ _ _ _ c.loop-j.invariant _ _ _ _ e _ (missing_more _ _ j _ (omega arith)) c.in_ok-n.ensures.1 (extend_extends _ _ _ _)
 
 pub returns : goal.returns

@@ -1,7 +1,9 @@
 -- `join_row`: what is linked of i and the indices before k is joined.
-use Rattle.joining_blocks.specs.Standing.{standing}
+use Rattle.joining_blocks.specs.Tables.{standing_at, SameTables}
 use Rattle.joining_basis.proofs.InRows.{InRow}
 use Rattle.joining_basis.proofs.join_row.Given as goal
 
 abbrev pub invariant-loop-k : goal.invariant-loop-k
-invariant-loop-k l = InRow l.exponents l.basis (standing l.fn.labels l.fn.follow l.fn.pairs l.fn.table l.fn.index l.fn.start) l.i (standing l.labels l.follow l.pairs l.table l.index l.r) l.k
+invariant-loop-k l =
+    InRow l.basis.exponents.now l.basis.keys.now (standing_at l.fn.tables l.fn.start) l.i (standing_at l.tables l.r) l.k
+    × SameTables l.fn.tables l.tables

@@ -14,8 +14,8 @@ loop-i-init c = growing_start _ _ _ _ c.requires.0.support c.requires.0.index
 
 pub returns-in_err-n : goal.returns-in_err-n
 returns-in_err-n c =
-    let T = c.args.exponents.now in
-    let B = c.args.basis.now in
+    let T = c.args.basis.exponents.now in
+    let B = c.args.basis.keys.now in
     let L = c.args.labels.now in
     let i = c.loop-i.i in
     growing_full _ _ _ _ _ _ _ c.loop-i.invariant _ _ _ c.in_err-n.ensures.0 (from_to (i + 1) (length B) (add_row T B L))
@@ -25,7 +25,7 @@ pub loop-i-preserved : goal.loop-i-preserved
 loop-i-preserved c =
     let i = c.loop-i.i in
     growing_step _ _ _ _ _ _ _ c.loop-i.invariant _ _ _ _ c.in_ok-n.ensures.0 _ (from_to_more i _ _ _ (omega arith)) c.in_ok-n.ensures.1
-    (rest_of_row_extends c.args.exponents.now c.args.basis.now c.args.labels.now i i _)
+    (rest_of_row_extends c.args.basis.exponents.now c.args.basis.keys.now c.args.labels.now i i _)
 
 pub returns : goal.returns
 returns c =

@@ -8,5 +8,5 @@ use Rattle.joining_products.proofs.add_blocks.Given as goal
 
 abbrev pub invariant-loop-i : goal.invariant-loop-i
 invariant-loop-i l =
-    Growing l.fn.table l.len (extend l.exponents l.basis l.labels (keys_in l.len l.fn.table))
-    (from_to l.i (length l.basis) (add_row l.exponents l.basis l.labels)) l.n l.table l.index
+    Growing l.fn.table l.len (extend l.basis.exponents.now l.basis.keys.now l.labels (keys_in l.len l.fn.table))
+    (from_to l.i (length l.basis.keys.now) (add_row l.basis.exponents.now l.basis.keys.now l.labels)) l.n l.table l.index

@@ -19,8 +19,8 @@ pub returns-in_err-n : goal.returns-in_err-n
 returns-in_err-n c =
     let follow = c.args.follow.now in
     adding_full _ _ _ _ _ _ _ _ _ _ _ c.loop-k.invariant.1 _ _ _ _ c.in_err-n.ensures.0
-    (add_lists c.args.exponents.now c.args.basis.now (list_from follow c.args.m.a) (list_from follow (get_or follow c.loop-k.k 0)))
-    (cross_turn _ _ _ c.loop-k.invariant.0 c.loop-k-test.true _ _ _ _) (lists_extend c.args.exponents.now c.args.basis.now _ _ _) _ c.from_residual.ensures.0
+    (add_lists c.args.basis.exponents.now c.args.basis.keys.now (list_from follow c.args.m.a) (list_from follow (get_or follow c.loop-k.k 0)))
+    (cross_turn _ _ _ c.loop-k.invariant.0 c.loop-k-test.true _ _ _ _) (lists_extend c.args.basis.exponents.now c.args.basis.keys.now _ _ _) _ c.from_residual.ensures.0
 
 pub loop-k-smaller : goal.loop-k-smaller
 loop-k-smaller c = rest_less _ _ _ c.loop-k.invariant.0 c.loop-k-test.true
@@ -29,7 +29,7 @@ pub loop-k-preserved : goal.loop-k-preserved
 loop-k-preserved c = (
   rest_next _ _ _ c.loop-k.invariant.0 c.loop-k-test.true,
   adding_step _ _ _ _ _ _ _ _ _ _ _ c.loop-k.invariant.1 _ _ _ _ _ c.in_ok-n.ensures.0 _
-      (cross_turn _ _ _ c.loop-k.invariant.0 c.loop-k-test.true _ _ _ _) c.in_ok-n.ensures.1 c.add_row.auto.pairs (list_extends c.args.exponents.now c.args.basis.now _ _ _),
+      (cross_turn _ _ _ c.loop-k.invariant.0 c.loop-k-test.true _ _ _ _) c.in_ok-n.ensures.1 c.add_row.auto.pairs (list_extends c.args.basis.exponents.now c.args.basis.keys.now _ _ _),
 )
 
 pub returns : goal.returns

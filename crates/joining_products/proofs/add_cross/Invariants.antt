@@ -9,9 +9,9 @@ use Rattle.joining_products.proofs.add_cross.Given as goal
 
 abbrev pub invariant-loop-k : goal.invariant-loop-k
 invariant-loop-k l =
-    IndexList (length l.basis) l.follow l.k
-    × Adding l.exponents l.basis l.fn.table l.fn.pairs l.len (add_lists l.exponents l.basis (list_from l.follow l.m.a) (list_from l.follow l.m.b) (keys_in l.len l.fn.table))
-    (add_lists l.exponents l.basis (list_from l.follow l.m.a) (list_from l.follow l.k)) l.n l.table l.index l.pairs
+    IndexList (length l.basis.keys.now) l.follow l.k
+    × Adding l.basis.exponents.now l.basis.keys.now l.fn.table l.fn.pairs l.len (add_lists l.basis.exponents.now l.basis.keys.now (list_from l.follow l.m.a) (list_from l.follow l.m.b) (keys_in l.len l.fn.table))
+    (add_lists l.basis.exponents.now l.basis.keys.now (list_from l.follow l.m.a) (list_from l.follow l.k)) l.n l.table l.index l.pairs
 
 abbrev pub decreases-loop-k : goal.decreases-loop-k
 decreases-loop-k l = length (list_from l.follow l.k)

@@ -11,8 +11,8 @@ use Rattle.joining_products.proofs.add_own.Goals.{then-labels-i+in_ok-n, else-la
 
 pub returns-in_err-n : goal.returns-in_err-n
 returns-in_err-n c =
-    let T = c.args.exponents.now in
-    let B = c.args.basis.now in
+    let T = c.args.basis.exponents.now in
+    let B = c.args.basis.keys.now in
     let L = c.args.labels.now in
     let k = c.loop-k.k in
     let f = from_to (k + 1) (length B) (add_pair T B L c.args.i) in
@@ -22,8 +22,8 @@ returns-in_err-n c =
 
 pub loop-k-preserved : goal.loop-k-preserved
 loop-k-preserved c =
-    let T = c.args.exponents.now in
-    let B = c.args.basis.now in
+    let T = c.args.basis.exponents.now in
+    let B = c.args.basis.keys.now in
     let L = c.args.labels.now in
     let k = c.loop-k.k in
     let f = from_to (k + 1) (length B) (add_pair T B L c.args.i) in

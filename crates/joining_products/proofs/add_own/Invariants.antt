@@ -8,5 +8,5 @@ use Rattle.joining_products.proofs.add_own.Given as goal
 
 abbrev pub invariant-loop-k : goal.invariant-loop-k
 invariant-loop-k l =
-    Growing l.fn.table l.len (add_row l.exponents l.basis l.labels l.i (keys_in l.len l.fn.table))
-    (from_to l.k (length l.basis) (add_pair l.exponents l.basis l.labels l.i)) l.n l.table l.index
+    Growing l.fn.table l.len (add_row l.basis.exponents.now l.basis.keys.now l.labels l.i (keys_in l.len l.fn.table))
+    (from_to l.k (length l.basis.keys.now) (add_pair l.basis.exponents.now l.basis.keys.now l.labels l.i)) l.n l.table l.index

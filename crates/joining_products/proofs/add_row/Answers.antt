@@ -19,8 +19,8 @@ pub returns-in_err-n : goal.returns-in_err-n
 returns-in_err-n c =
     let follow = c.args.follow.now in
     adding_full _ _ _ _ _ _ _ _ _ _ _ c.loop-i.invariant.1 _ _ _ _ c.in_err-n.ensures.0
-    (add_list c.args.exponents.now c.args.basis.now c.args.k (list_from follow (get_or follow c.loop-i.i 0)))
-    (row_turn _ _ _ c.loop-i.invariant.0 c.loop-i-test.true _ _ _ _) (list_extends c.args.exponents.now c.args.basis.now _ _ _) _ c.from_residual.ensures.0
+    (add_list c.args.basis.exponents.now c.args.basis.keys.now c.args.k (list_from follow (get_or follow c.loop-i.i 0)))
+    (row_turn _ _ _ c.loop-i.invariant.0 c.loop-i-test.true _ _ _ _) (list_extends c.args.basis.exponents.now c.args.basis.keys.now _ _ _) _ c.from_residual.ensures.0
 
 pub loop-i-smaller : goal.loop-i-smaller
 loop-i-smaller c = rest_less _ _ _ c.loop-i.invariant.0 c.loop-i-test.true
@@ -29,7 +29,7 @@ pub loop-i-preserved : goal.loop-i-preserved
 loop-i-preserved c = (
   rest_next _ _ _ c.loop-i.invariant.0 c.loop-i-test.true,
   adding_step _ _ _ _ _ _ _ _ _ _ _ c.loop-i.invariant.1 _ _ _ _ _ c.in_ok-n.ensures.0 _
-      (row_turn _ _ _ c.loop-i.invariant.0 c.loop-i-test.true _ _ _ _) c.in_ok-n.ensures.1 c.add_pair.auto.pairs (add_extends c.args.exponents.now _ _),
+      (row_turn _ _ _ c.loop-i.invariant.0 c.loop-i-test.true _ _ _ _) c.in_ok-n.ensures.1 c.add_pair.auto.pairs (add_extends c.args.basis.exponents.now _ _),
 )
 
 pub returns : goal.returns

@@ -9,9 +9,9 @@ use Rattle.joining_products.proofs.add_row.Given as goal
 
 abbrev pub invariant-loop-i : goal.invariant-loop-i
 invariant-loop-i l =
-    IndexList (length l.basis) l.follow l.i
-    × Adding l.exponents l.basis l.fn.table l.fn.pairs l.len (add_list l.exponents l.basis l.k (list_from l.follow l.fn.a) (keys_in l.len l.fn.table))
-    (add_list l.exponents l.basis l.k (list_from l.follow l.i)) l.n l.table l.index l.pairs
+    IndexList (length l.basis.keys.now) l.follow l.i
+    × Adding l.basis.exponents.now l.basis.keys.now l.fn.table l.fn.pairs l.len (add_list l.basis.exponents.now l.basis.keys.now l.k (list_from l.follow l.fn.a) (keys_in l.len l.fn.table))
+    (add_list l.basis.exponents.now l.basis.keys.now l.k (list_from l.follow l.i)) l.n l.table l.index l.pairs
 
 abbrev pub decreases-loop-i : goal.decreases-loop-i
 decreases-loop-i l = length (list_from l.follow l.i)

@@ -15,15 +15,15 @@ loop-b-init c = growing_start _ _ _ _ c.requires.support c.requires.index
 
 pub returns-in_err-n : goal.returns-in_err-n
 returns-in_err-n c =
-    let B = c.args.basis.now in
+    let B = c.args.basis.keys.now in
     let b = c.loop-b.b-index in
-    growing_full _ _ _ _ _ _ _ c.loop-b.invariant _ _ _ c.in_err-n.ensures.0 (from_to (b + 1) (length B) (λ j. add_terms c.args.exponents.now (2 * get_or B j 0)))
-    (from_to_more b _ _ _ (omega arith)) (from_to_extends _ (λ j. add_extends c.args.exponents.now (2 * get_or B j 0)) (b + 1) _ _) _ c.from_residual.ensures.0
+    growing_full _ _ _ _ _ _ _ c.loop-b.invariant _ _ _ c.in_err-n.ensures.0 (from_to (b + 1) (length B) (λ j. add_terms c.args.basis.exponents.now (2 * get_or B j 0)))
+    (from_to_more b _ _ _ (omega arith)) (from_to_extends _ (λ j. add_extends c.args.basis.exponents.now (2 * get_or B j 0)) (b + 1) _ _) _ c.from_residual.ensures.0
 
 pub loop-b-preserved : goal.loop-b-preserved
 loop-b-preserved c =
     growing_step _ _ _ _ _ _ _ c.loop-b.invariant _ _ _ _ c.in_ok-n.ensures.0 _ (from_to_more c.loop-b.b-index _ _ _ (omega arith)) c.in_ok-n.ensures.1
-    (add_extends c.args.exponents.now (2 * get_or c.args.basis.now c.loop-b.b-index 0) _)
+    (add_extends c.args.basis.exponents.now (2 * get_or c.args.basis.keys.now c.loop-b.b-index 0) _)
 
 pub returns : goal.returns
 returns c =

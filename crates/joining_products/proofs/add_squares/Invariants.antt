@@ -10,5 +10,5 @@ use Rattle.joining_products.proofs.add_squares.Given as goal
 
 abbrev pub invariant-loop-b : goal.invariant-loop-b
 invariant-loop-b l =
-    Growing l.fn.table l.len (add_squares l.exponents l.basis (keys_in l.len l.fn.table))
-    (from_to l.b-index (length l.basis) (λ j. add_terms l.exponents (2 * get_or l.basis j 0))) l.n l.table l.index
+    Growing l.fn.table l.len (add_squares l.basis.exponents.now l.basis.keys.now (keys_in l.len l.fn.table))
+    (from_to l.b-index (length l.basis.keys.now) (λ j. add_terms l.basis.exponents.now (2 * get_or l.basis.keys.now j 0))) l.n l.table l.index

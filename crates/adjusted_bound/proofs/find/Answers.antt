@@ -1,13 +1,15 @@
--- `answer`: each return by what was read.
+-- `find`: by what was read.
 use Rattle.std.proofs.Common.{sym, ap, ◌∙◌}
 use Rattle.format.specs.Commands.{Outcome}
 use Rattle.format.specs.ProblemRules.{Problem}
-use Rattle.calls.specs.Adjusted.{adjusted_read}
 use Rattle.format.proofs.ProblemVariables.{second_byte}
-use Rattle.adjusted_bound.proofs.answer.Goals as goal
+use Rattle.calls.specs.Adjusted.{adjusted_read}
+use Rattle.adjusted_bound.proofs.find.Goals as goal
 
 pub bounds-problem-1 : goal.bounds-problem-1
-bounds-problem-1 c = let g = c.in_default.ensures.gives in (second_byte _ g.problem g.read).there
+bounds-problem-1 c =
+    let g = c.in_default.ensures.gives in
+    (second_byte _ g.problem g.read).there
 
 pub decide-requires : goal.decide-requires
 decide-requires c =
