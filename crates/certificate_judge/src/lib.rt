@@ -69,8 +69,8 @@ fn difference(
     ensures { AnsweredFor rows.entry header problem.entry keys.entry result
         high.old low.old high.new low.new }
 {
-    work_tables::clear_signed(high, keys.count);
-    work_tables::clear_signed(low, keys.count);
+    high[..keys.count].fill(0);
+    low[..keys.count].fill(0);
     identity_check::compare(rows, header, problem, keys, high, low)
 }
 

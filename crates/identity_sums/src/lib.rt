@@ -104,6 +104,7 @@ pub fn add_terms(keys: Compared, hi: &mut [i64], lo: &mut [i64], placed: &Placed
     let h = wide_sums::cut(x);
     let d = key_set::divisor(index);
     let slot = key_set::slot(index, key);
+    // By index: a term has its exponent, its coefficient and its place in the index at one place of three arrays.
     for t in 0..exponents.len() {
         let at = key_set::slot_of_sum(d, slot, placed.slots[t]);
         add_term(keys, hi, lo, key + exponents[t], at, h, coefficients[t]);

@@ -134,9 +134,6 @@ module _ (B : List ℕ) where
     seeks_none v c b q f g = omega (arith, past v q c f g)
 
   -- ---- a sum that is looked at for its products
-  pub marked_same : (s : ℕ) (pairs : List ℕ) → Marked B s pairs pairs
-  marked_same s pairs = record { long = refl; rest = λ q _. refl; index = λ a. a; done = λ q _ d. inl d; met = λ q _ m. m }
-
   pub marked_one : length B ≤ 64 → (s p : ℕ) → pair_at B p ≡ true → sum_at B p ≡ s → (pairs : List ℕ) → length pairs ≡ 6240 → Marked B s pairs (set pairs (told_at p) 1)
   marked_one few s p f e pairs long = record {
     long = length-set pairs (told_at p) 1;

@@ -3,7 +3,7 @@ use mathlib.Core.Path.{◌≡◌, refl, sym, ap, ◌∙◌}
 use mathlib.Core.Bool.{true, false}
 use mathlib.Core.List.{List, [], ◌∷◌, ◌++◌}
 use Prim.Native.Nat.{ℕ, zero, suc, ◌+◌, ◌-◌, ◌%◌, ◌≤◌, ◌<◌}
-use native.Mathlib.Nat.{add_comm, mod-lt, mod-eq_of_lt, mod-add-mod, add-mod_right}
+use native.Mathlib.Nat.{add_comm, mod-lt, mod-add-mod}
 use native.Mathlib.Omega.{arith}
 use borrow.Author.Tests.{eq-eqb, ne_eqb}
 use lib.Dec.{eqb}
@@ -51,15 +51,7 @@ seeks_none {t} {n} h d key v c b =
     let l = length-take-le n t (inside h) in
     absent key (take n t) (λ q u e. c.past q (omega arith) (omega arith) (sym (get_or-take n t q 0 (omega arith)) ∙ e))
 
--- ---- remainders
--- of a number below the divisor, and of one above it by r
-pub rest_small : (d s : ℕ) → s < d → s ≡ s % d
-rest_small d s b = sym (mod-eq_of_lt b)
-
-pub rest_above : (d s r : ℕ) → r + d ≡ s → r < d → r ≡ s % d
-rest_above d s r e b = sym (ap (λ (k : ℕ). k % d) (sym e) ∙ add-mod_right r d ∙ mod-eq_of_lt b)
-
--- the remainder of a sum
+-- ---- the remainder of a sum
 pub rest_sum : (d a b : ℕ) → (a % d + b % d) % d ≡ (a + b) % d
 rest_sum d a b =
     mod-add-mod a d (b % d) ∙ ap (λ (k : ℕ). k % d) (add_comm a (b % d)) ∙ mod-add-mod b d a

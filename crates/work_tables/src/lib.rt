@@ -1,19 +1,11 @@
 // The work tables that every call borrows: whether one is too short, and clearing. Also the clearing of lent bytes.
 #![tactic(auto)]
 
-ghost use Rattle.std.specs.Prelude.{◌≡◌, false, ◌||◌, ◌++◌, ◌≤◌, ltb, pos, length, drop, replicate};
+ghost use Rattle.std.specs.Prelude.{◌≡◌, false, ◌||◌, ◌++◌, ◌≤◌, ltb, length, drop, replicate};
 ghost use Rattle.calls.specs.Tables.{table_length, tables, TablesLeft};
 ghost use Rattle.work_tables.specs.Tables.{Long};
 
-// The same of the table of signed numbers.
-pub fn clear_signed(t: &mut [i64], n: usize)
-    requires { n ≤ length t.old }
-    ensures { t.new ≡ replicate n (pos 0) ++ drop n t.old }
-{
-    t[..n].fill(0);
-}
-
-// The same of bytes.
+// A lent array's first n bytes set to zero.
 pub fn clear_bytes(t: &mut [u8], n: usize)
     requires { n ≤ length t.old }
     ensures { t.new ≡ replicate n 0 ++ drop n t.old }
