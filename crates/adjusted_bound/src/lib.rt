@@ -200,9 +200,8 @@ fn find(problem: &[u8], v: CheckVerdict, changes: &[u8]) -> Result<Fraction, Ref
     let mut keys = [0u64; 1120];
     let mut coefficients = [0i32; 544];
     let mut sizes = [0usize; 31];
-    let r = problem_reader::read(problem, &mut keys, &mut coefficients, &mut sizes);
-    if r.number > 0 {
-        return Err(certificate_judge::problem_refusal(r.number, r.place));
+    if let Err(m) = problem_reader::read(problem, &mut keys, &mut coefficients, &mut sizes) {
+        return Err(certificate_judge::problem_refusal(u8::from(m.fault), m.place));
     }
     let n = problem[1] as usize;
     decide(&keys, &coefficients, &sizes, n, v, changes)

@@ -44,9 +44,8 @@ pub fn prepare(
     ensures { PreparedLeft problem.now result keys.new coefficients.new sizes.new
         labels.new table.old table.new index.new }
 {
-    let r = problem_reader::read(problem, keys, coefficients, sizes);
-    if r.number > 0 {
-        return Err(certificate_judge::problem_refusal(r.number, r.place));
+    if let Err(m) = problem_reader::read(problem, keys, coefficients, sizes) {
+        return Err(certificate_judge::problem_refusal(u8::from(m.fault), m.place));
     }
     match closure::join(keys, sizes, labels, table, index) {
         Ok(j) => Ok(j),

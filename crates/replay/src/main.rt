@@ -8,7 +8,7 @@
 #![tactic(auto)]
 
 ghost use Rattle.std.specs.Prelude.{◌≡◌, true, ◌++◌, ◌+◌, ◌*◌, ◌/◌, ◌≤◌, length, take};
-ghost use Rattle.format.specs.Operands.{number, signed};
+ghost use Rattle.format.specs.Operands.{number};
 ghost use Rattle.lines.specs.Lines.{arrival_word};
 ghost use Rattle.lines.specs.Texts.{text_of};
 ghost use Rattle.text.specs.Appending.{Appended};

@@ -121,7 +121,7 @@ fn answer(problem: &[u8], out: &mut [u8]) -> usize
     let mut keys = [0u64; 1120];
     let mut coefficients = [0i32; 544];
     let mut sizes = [0usize; 31];
-    problem_reader::read(problem, &mut keys, &mut coefficients, &mut sizes);
+    let _ = problem_reader::read(problem, &mut keys, &mut coefficients, &mut sizes);
     let n = problem[1] as usize;
     write(&keys, &sizes, n, out)
 }

@@ -2,22 +2,11 @@
 #![tactic(auto)]
 
 ghost use Rattle.std.specs.Prelude.{◌≡◌, ◌++◌, ◌+◌, ◌*◌, ◌≤◌, ◌<◌, length, take, drop, false};
-ghost use Rattle.format.specs.Operands.{signed};
 ghost use Rattle.calls.specs.Window.{push_verdict};
 ghost use Rattle.verdict_numbers.specs.Numbers.{with_fraction};
 ghost use Rattle.verdict_numbers.specs.States.{gap_in, window_in, state_length, state_left};
 
 use calls::{Fraction, GapWindow, WindowVerdict};
-
-// The signed number that 64 bits stand for, in two's complement.
-pub fn signed64(x: u64) -> i64
-    ensures { result ≡ signed 63 x }
-{
-    if x < 9223372036854775808 {
-        return x as i64;
-    }
-    -1 - ((18446744073709551615 - x) as i64)
-}
 
 // The gap of an age.
 #[tactic(auto, unfolding(verdict_numbers::specs::States::gap_in))]
@@ -25,7 +14,7 @@ fn gap_in(state: &[u64], age: usize) -> Fraction
     requires { 2 * age + 1 < length state.now }
     ensures { result ≡ gap_in state.now age }
 {
-    let num = signed64(state[2 * age]);
+    let num = operand_reader::signed64(state[2 * age]);
     let den = state[2 * age + 1];
     Fraction { num, den }
 }

@@ -1,24 +1,13 @@
 -- `Polynomial::one`: nothing but zeros, and a 1 in front of the exponent 0.
-use borrow.Author.Rules.{rules}
-use native.Mathlib.Omega.{arith}
-use mathlib.Core.Path.{refl}
-use Prim.Native.Nat.{◌*◌, ◌^◌}
-use lib.IntN.{pos}
+use Rattle.std.proofs.Common.{refl, arith, pos, ◌*◌, ◌^◌}
 use lib.ListN.{replicate}
 use Rattle.flat.specs.TermArrays.{terms_in}
 use Rattle.counting.specs.Counting.{listed}
 use Rattle.counting.proofs.Bounded.{bounded_zeros}
 use Rattle.flat.proofs.TermArrays.{small_zeros, small_set}
-use Rattle.problem_storing.proofs.Polynomial.one.Statement.{statement}
-use Rattle.problem_storing.proofs.Polynomial.one.Tie as tie
+use Rattle.problem_storing.proofs.Polynomial.one.Goals as goal
 
-empty-requires : tie.Need-empty-q-requires
-empty-requires c κs = search rules
-
-element-set-of-q : tie.Need-bounds-q-0
-element-set-of-q c = search rules
-
-returns : tie.Need-returns
+pub returns : goal.returns
 unfolding terms_in listed
 returns c =
     rw c.empty-q.ensures (
@@ -31,6 +20,3 @@ returns c =
       },
       refl,
     )
-
-pub one_spec : {M : Type 1} → statement M
-one_spec = tie.close (tie.spec empty-requires element-set-of-q returns)

@@ -7,8 +7,7 @@ use lib.Dec.{lit<}
 use lib.Pow.{pow-add}
 use borrow.Author.Tests.{eq-eqb}
 use Rattle.polynomial.specs.Monomial.{within}
-use Rattle.problem_commands.proofs.is_within.Statement.{statement}
-use Rattle.problem_commands.proofs.is_within.Tie as tie
+use Rattle.problem_commands.proofs.is_within.Goals as goal
 
 shift_is : (n : ℕ) → 2 ^ (8 * n) ≡ 256 ^ n
 shift_is zero = refl
@@ -22,13 +21,10 @@ beyond n k h l =
     let b : k / 256 ^ n < 1 = (div-lt_iff_lt-mul (pow-le-pow_right {n = 256} (lit< tt) {i = 0} {j = n} (omega arith))).1 (omega arith) in
     omega arith
 
-returns : tie.Need-returns-then-n-gt7
+pub returns-then-n-gt7 : goal.returns-then-n-gt7
 unfolding within
-returns c = let s = c in sym (eq-eqb _ 0 (beyond s.args.n s.args.key c.if-n-gt7.true s.ranges.key.fits))
+returns-then-n-gt7 c = sym (eq-eqb _ 0 (beyond c.args.n c.args.key c.if-n-gt7.true c.ranges.key.fits))
 
-returns-2 : tie.Need-returns
+pub returns : goal.returns
 unfolding within
-returns-2 c = rw (shift_is c.args.n)
-
-pub is_within_spec : {M : Type 1} → statement M
-is_within_spec = tie.close (tie.spec returns (λ c. omega arith) (λ c. omega arith) returns-2)
+returns c = rw (shift_is c.args.n)
