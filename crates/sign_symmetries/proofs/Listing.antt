@@ -16,10 +16,6 @@ in_place m rest xs n v h g e =
     let k : 256 - n ≡ suc (256 - (n + 1)) = omega arith in
     rw (e, k) (set_at m 0 (replicate (256 - (n + 1)) 0 ++ rest) v n h ∙ sym (append_assoc m (v ∷ []) (replicate (256 - (n + 1)) 0 ++ rest)))
 
--- what stands behind 256 zeros
-pub behind_zeros : (x rest : List ℕ) → x ≡ replicate 256 0 ++ rest → drop 256 x ≡ rest
-behind_zeros x rest e = ap (drop 256) e ∙ drop_at (replicate 256 0) rest 256 (length-replicate {A = ℕ} 256 0)
-
 -- the numbers below r that pass the test, zeros behind them up to 256, and then what stays
 pub record Written (test : ℕ → Bool) (r count : ℕ) (out rest : List ℕ) : Type 0 where
   pub counted : length (passing test r) ≡ count

@@ -101,10 +101,6 @@ module _ (s out₀ : List ℕ) (lent : Tables) (out : List ℕ) (now : Tables) (
       (put : ys ≡ record_bytes v ++ drop record_length (mid_of (record_length * i) (length out - record_length * i) out))
       (next-tables : Tables) (left : TablesLeft false now next-tables) (end : ℕ)
       (ends_at : end ≡ record_end s at) where
-    -- what is left gets shorter
-    pub ends_later : length s - end < length s - at
-    ends_later = omega (arith, ends_at, one_whole)
-
     runs_are : get_or a.records i no_runs ≡ runs_at s at
     runs_are = (drop_next a.records i (runs_at s at) no_runs one.rest one.list_is).0
 
