@@ -146,13 +146,11 @@ fn are_boxed(keys: &[u64], coefficients: &[i32], sizes: &[usize], n: usize) -> b
         → result ≡ boxed_to n p.conditions }
 {
     let mut square: u64 = 2;
-    let mut i = 1;
-    while i < n {
+    for i in 1..n {
         if !has_box(keys, coefficients, sizes, square) {
             return false;
         }
         square *= 256;
-        i += 1;
     }
     has_box(keys, coefficients, sizes, square)
 }
