@@ -1,5 +1,5 @@
 -- `Polynomial::put`: where no check failed, there is room for one more term.
-use Rattle.std.proofs.Common.{◌<◌, sym}
+use Rattle.std.proofs.Common.{sym}
 use Rattle.problem_commands.proofs.Checks.{space}
 use Rattle.problem_storing.proofs.Polynomial.put.Goals as goal
 
