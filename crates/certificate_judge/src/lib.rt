@@ -8,7 +8,8 @@ ghost use Rattle.calls.specs.Refusals.{problem_refusal, certificate_refusal};
 ghost use Rattle.key_set.specs.Table.{Holds, Indexed};
 ghost use Rattle.identity_rows.specs.Bundles.{ComparableIn};
 ghost use Rattle.identity_check.specs.Bundles.{AnsweredFor};
-ghost use Rattle.certificate_judge.specs.Steps.{JoinedProblem, Judgeable, LongSums, SumsRest};
+ghost use Rattle.certificate_judge.specs.Steps.{LongSums, SumsRest};
+ghost use Rattle.certificate_judge.specs.Bundles.{JoinedIn, JudgeableIn};
 ghost use Rattle.certificate_judge.specs.Steps.{judged_of, judged_from};
 
 use calls::Refusal;
@@ -74,31 +75,31 @@ fn difference(
     identity_check::compare(rows, header, problem, keys, high, low)
 }
 
+// A problem that was read and joined: it stands in its arrays, byte 64j + i of `labels` is the block number of index i in
+// basis j, and the compared keys are those that were counted.
+#[derive(Clone, Copy)]
+pub struct Prepared<'a> {
+    pub problem: Arrays<'a>,
+    pub labels: &'a [u8],
+    pub keys: Compared<'a>,
+}
+
 // What becomes of one certificate against a problem with its blocks: it by commands, 8 by rows, 9; or it is accepted,
-// and what its first command states. The compared keys are the first n
-// numbers of `table`, with `index`; the sums at them are kept in `high` and `low`, before place 2,048 only.
+// and what its first command states. The sums at the compared keys are kept in `high` and `low`, before place 2,048 only.
 pub fn judge(
     stream: u8,
     s: &[u8],
-    keys: &[u64],
-    coefficients: &[i32],
-    sizes: &[usize],
-    labels: &[u8],
-    table: &[u64],
-    n: usize,
-    index: &[u16; 6144],
+    prepared: Prepared,
     high: &mut [i64],
     low: &mut [i64],
 ) -> Result<Header, Refusal>
-    requires { Judgeable keys.now coefficients.now sizes.now labels.now table.now n index.now
-        × LongSums high.old low.old }
-    ensures judgement { (p : Problem)
-        → JoinedProblem p keys.now coefficients.now sizes.now labels.now
-        table.now n index.now → result ≡ judged_of stream (J.judge p s.now) }
+    requires { JudgeableIn prepared × LongSums high.old low.old }
+    ensures judgement { (p : Problem) → JoinedIn p prepared.entry → result ≡ judged_of stream (J.judge p s.now) }
     ensures rest { SumsRest high.old low.old high.new low.new }
 {
     let mut starts = [0usize; 129];
-    let r = match certificate_reader::validate(sizes, s, &mut starts) {
+    // A `match`, as what a closure of `map_err` ensures reads long at the `Err`.
+    let r = match certificate_reader::validate(prepared.problem.sizes, s, &mut starts) {
         Ok(r) => r,
         Err(m) => return Err(certificate_refusal(stream, u8::from(m.fault), m.place, 0)),
     };
@@ -107,19 +108,9 @@ pub fn judge(
         starts: &starts,
         count: r.rows,
     };
-    if let Some(place) = row_blocks::split_place(rows, labels) {
+    if let Some(place) = row_blocks::split_place(rows, prepared.labels) {
         return Err(certificate_refusal(stream, 8, place, 0));
     }
-    let problem = Arrays {
-        keys,
-        coefficients,
-        sizes,
-    };
-    let compared = Compared {
-        table,
-        count: n,
-        index,
-    };
-    let found = difference(rows, r.header, problem, compared, high, low);
+    let found = difference(rows, r.header, prepared.problem, prepared.keys, high, low);
     by_identity(stream, r.header, found)
 }

@@ -9,13 +9,16 @@ ghost use Rattle.calls.specs.Tables.{table_length, tables, tables_short, TablesL
 ghost use Rattle.flat.specs.Flat.{FlatZero};
 ghost use Rattle.key_set.specs.Table.{Indexed};
 ghost use Rattle.work_tables.specs.Tables.{Long, Rest};
-ghost use Rattle.certificate_judge.specs.Steps.{JoinedProblem, Judgeable, LongSums, SumsRest};
+ghost use Rattle.certificate_judge.specs.Steps.{LongSums, SumsRest};
+ghost use Rattle.certificate_judge.specs.Bundles.{JoinedIn, JudgeableIn};
 ghost use Rattle.problem_judge.specs.Chain.{PreparedLeft, both_refused, ends_with, two_of, two_judged};
 
 use calls::Refusal;
+use certificate_judge::Prepared;
 use closure::Joined;
-use flat::RULE;
+use flat::{Arrays, RULE};
 use format::certificate::Header;
+use identity_sums::Compared;
 
 // What became of two certificates for one problem, with its rounds and its rule. Where the problem is refused, so is
 // each certificate, and rounds and rule are 0.
@@ -73,64 +76,32 @@ fn ends_with(stream: u8, first: Result<Header, Refusal>) -> bool
     first.is_err() && stream == 2
 }
 
-// Two certificates against a problem with its blocks.
+// Two certificates against a problem with its blocks, which took so many rounds.
 fn judge_both(
     stream: u8,
     first: &[u8],
     second: &[u8],
-    keys: &[u64],
-    coefficients: &[i32],
-    sizes: &[usize],
-    labels: &[u8],
-    j: Joined,
-    table: &[u64],
-    index: &[u16; 6144],
+    prepared: Prepared,
+    rounds: usize,
     high: &mut [i64],
     low: &mut [i64],
 ) -> TwoJudged
-    requires { Judgeable keys.now coefficients.now sizes.now labels.now table.now j.len index.now
-        × LongSums high.old low.old }
-    ensures judged { (p : Problem)
-        → JoinedProblem p keys.now coefficients.now sizes.now labels.now
-        table.now j.len index.now → j.rounds ≡ (closing p).rounds
+    requires { JudgeableIn prepared × LongSums high.old low.old }
+    ensures judged { (p : Problem) → JoinedIn p prepared.entry → rounds ≡ (closing p).rounds
         → result ≡ two_of stream p first.now second.now }
     ensures rest { SumsRest high.old low.old high.new low.new }
 {
-    let rule = sizes[RULE];
-    let a = certificate_judge::judge(
-        1,
-        first,
-        keys,
-        coefficients,
-        sizes,
-        labels,
-        table,
-        j.len,
-        index,
-        high,
-        low,
-    );
+    let rule = prepared.problem.sizes[RULE];
+    let a = certificate_judge::judge(1, first, prepared, high, low);
     let b = if ends_with(stream, a) {
         a
     } else {
-        certificate_judge::judge(
-            stream,
-            second,
-            keys,
-            coefficients,
-            sizes,
-            labels,
-            table,
-            j.len,
-            index,
-            high,
-            low,
-        )
+        certificate_judge::judge(stream, second, prepared, high, low)
     };
     TwoJudged {
         first: a,
         second: b,
-        rounds: j.rounds,
+        rounds,
         rule,
     }
 }
@@ -166,20 +137,22 @@ fn judge_streams(
         &mut index,
     ) {
         Err(f) => both_refused(f),
-        Ok(j) => judge_both(
-            stream,
-            first,
-            second,
-            &keys,
-            &coefficients,
-            &sizes,
-            &labels,
-            j,
-            table,
-            &index,
-            high,
-            low,
-        ),
+        Ok(j) => {
+            let prepared = Prepared {
+                problem: Arrays {
+                    keys: &keys,
+                    coefficients: &coefficients,
+                    sizes: &sizes,
+                },
+                labels: &labels,
+                keys: Compared {
+                    table,
+                    count: j.len,
+                    index: &index,
+                },
+            };
+            judge_both(stream, first, second, prepared, j.rounds, high, low)
+        }
     }
 }
 
