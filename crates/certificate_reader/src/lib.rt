@@ -145,6 +145,7 @@ fn entry_run(sizes: &[usize], g: Progress, s: &[u8], from: usize) -> Run
 {
     let mut at = from;
     let mut progress = g;
+    // By steps: it ends at another command, or at an entry that a check refuses.
     while is_entry(s, at)
         && let Ok(entry) = verdict_of(Command::Entry, sizes, progress, s, at)
     {

@@ -26,11 +26,11 @@ enum Extent {
 }
 
 // What a program says of files: its name, the length of its buffer, and what follows from having no bytes.
-#[derive(Clone, Copy, Debug)]
+#[derive(Clone, Copy)]
 pub struct Wording<'a> {
-    pub program: &'a str,
-    pub limit: &'a str,
-    pub so: &'a str,
+    pub program: &'a [u8],
+    pub limit: &'a [u8],
+    pub so: &'a [u8],
 }
 
 // What a read answered: how many bytes it moved, at least 1, or none at the end. Only 0 is the end: a read may move less
@@ -73,6 +73,7 @@ fn read_on<F: std::io::Read>(file: &mut F, bytes: &mut [u8], from: usize) -> io:
     ensures { kept result ≤ length bytes.new }
 {
     let mut n = from;
+    // By what each read moves.
     while n < bytes.len() {
         let Some(more) = read_some(file, &mut bytes[n..])? else {
             return Ok(Extent::Whole(n));

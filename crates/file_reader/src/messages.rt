@@ -59,18 +59,31 @@ fn is_dashed(path: &[u8]) -> bool {
     path.first() == Some(&b'-')
 }
 
+// Puts bytes on standard error: the words of a program, which need be no text.
+fn say(err: &impl Print, bytes: &[u8]) {
+    let _ = err.write_all(bytes);
+}
+
+// A message begins with the program's name and the file's.
+fn speak_of(err: &impl Print, words: Wording<'_>, path: &[u8]) {
+    say(err, words.program);
+    let _ = print!(err; ": {}: ", Name(path));
+}
+
 // A file that is not there. Who mistyped an option is told that it is none: the answer is that for a missing file.
 fn missing(err: &impl Print, words: Wording<'_>, path: &[u8]) {
-    let program = words.program;
-    let so = words.so;
-    let name = Name(path);
-    let _ = if is_dashed(path) {
-        println!(err;
-            "{program}: {name}: no option here, and no file of this name, so {so}; options: {program} --help"
-        )
+    speak_of(err, words, path);
+    if is_dashed(path) {
+        say(err, b"no option here, and no file of this name, so ");
+        say(err, words.so);
+        say(err, b"; options: ");
+        say(err, words.program);
+        say(err, b" --help\n");
     } else {
-        println!(err; "{program}: {name}: missing, so {so}")
-    };
+        say(err, b"missing, so ");
+        say(err, words.so);
+        say(err, b"\n");
+    }
 }
 
 // A file that cannot be opened: it is missing, or there and not to be read.
@@ -84,21 +97,16 @@ pub(crate) fn not_opened(err: &impl Print, words: Wording<'_>, path: &[u8], e: &
 
 // A file that cannot be read, and the reason that the system gives.
 pub(crate) fn not_read(err: &impl Print, words: Wording<'_>, path: &[u8], e: &Error) {
-    let program = words.program;
-    let so = words.so;
-    let _ = println!(err;
-        "{program}: {}: cannot be read, so {so}: {}",
-        Name(path),
-        Reason(e)
-    );
+    speak_of(err, words, path);
+    say(err, b"cannot be read, so ");
+    say(err, words.so);
+    let _ = println!(err; ": {}", Reason(e));
 }
 
 // A file of which the start is read.
 pub(crate) fn longer(err: &impl Print, words: Wording<'_>, path: &[u8]) {
-    let program = words.program;
-    let limit = words.limit;
-    let _ = println!(err;
-        "{program}: {}: longer than {limit} bytes, of which the first are read",
-        Name(path)
-    );
+    speak_of(err, words, path);
+    say(err, b"longer than ");
+    say(err, words.limit);
+    say(err, b" bytes, of which the first are read\n");
 }

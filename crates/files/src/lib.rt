@@ -17,9 +17,9 @@ use std::rt::{Env, Files};
 
 // What messages say of a file.
 const WORDING: Wording<'static> = Wording {
-    program: "gapcheck",
-    limit: "65,536",
-    so: "its stream is empty",
+    program: b"gapcheck",
+    limit: b"65,536",
+    so: b"its stream is empty",
 };
 
 // An answer, and how many bytes of each buffer were its streams.

@@ -61,6 +61,7 @@ fn spread(
     let size = basis.len();
     let last = 64 * size;
     let mut x = 0;
+    // Not by one: `next_place` passes over what is below the diagonal.
     while x < last {
         let a = g[x];
         g[x] = 0;

@@ -2,8 +2,8 @@
 // pairs; a smaller one by its pairs, and needs no index. The arrays are those of joining_pairs, joining_products and
 // joining_blocks.
 //
-// The arrays stay parameters of their own: a struct with a `&mut` to each is no plainer, as each contract would have to
-// say that all still lead to the same arrays.
+// The five arrays that change go as one value, `Tables` of joining_blocks; `join` alone takes them one by one, as the round
+// lends them.
 #![tactic(auto)]
 
 ghost use Rattle.std.specs.Prelude.{◌≡◌, ℕ, ◌+◌, ◌*◌, ◌/◌, ◌%◌, ◌^◌, ◌<◌, ◌≤◌, false, cond, List, length, take, ◌==◌, slice_index, IfOk};

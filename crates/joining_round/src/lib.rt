@@ -13,7 +13,8 @@ use joining_blocks::Reach;
 use joining_products::Basis;
 use key_set::Full;
 
-// Basis j joins.
+// Basis j joins. The arrays stay parameters: each basis borrows its own part of three of them, and only the parts make
+// `Tables`.
 fn join_at(
     labels: &mut [u8],
     follow: &mut [u8],

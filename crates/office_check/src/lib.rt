@@ -75,6 +75,7 @@ fn next_note(s: &[u8], from: usize) -> usize
     ensures inside { (from ≤ result) × (result ≤ length s.now) }
 {
     let mut at = from;
+    // By steps: each command or note says how long it is.
     while let Some(n) = step_at(s, at) {
         if s[at] == 0x40 {
             return at;
@@ -118,6 +119,7 @@ fn walk(s: &[u8]) -> Findings
 {
     let mut notes = 0;
     let mut at = first_note(s);
+    // By steps: from note to note.
     while note_at(s, at) {
         notes += 1;
         at = next_note(s, at + 9);
@@ -146,6 +148,7 @@ fn remove(s: &[u8], end: usize, copy: &mut [u8]) -> usize
     let mut from = 0;
     let mut len = 0;
     let mut at = first_note(s);
+    // By steps: from note to note.
     while note_at(s, at) {
         len = append(s, from, at, copy, len);
         from = at + 9;
@@ -161,6 +164,7 @@ fn place_sent(s: &[u8], place: usize) -> usize
 {
     let mut x = place;
     let mut at = first_note(s);
+    // By steps: from note to note.
     while note_at(s, at) {
         if x < at {
             return x;
@@ -179,6 +183,7 @@ fn put_notes(s: &[u8], buffer: &mut [u8])
 {
     let mut len = 0;
     let mut at = first_note(s);
+    // By steps: from note to note.
     while note_at(s, at) {
         len = append(s, at + 1, at + 9, buffer, len);
         at = next_note(s, at + 9);

@@ -144,6 +144,7 @@ pub fn read(
         count: 0,
     };
     let mut at = 0;
+    // By steps: a command says how long it is.
     while at < s.len() {
         let (told, next) = match command_at(&draft, s, at) {
             Ok(command) => command,

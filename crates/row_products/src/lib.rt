@@ -29,6 +29,7 @@ fn read_row(
 {
     let mut n = 0;
     let mut x = from + 4;
+    // By offset: an entry's command says how far the next one is.
     while x < to {
         indices[n] = certificate_rows::index_at(s, x);
         factors[n] = certificate_rows::factor_at(s, x);

@@ -1,11 +1,11 @@
 -- Laws of masks that are listed at the front of zeros.
-use mathlib.Core.Path.{◌≡◌, refl, sym, ap, ◌∙◌}
+use mathlib.Core.Path.{◌≡◌, refl, sym, ◌∙◌}
 use mathlib.Core.Bool.{Bool, true, false}
 use mathlib.Core.List.{List, [], ◌∷◌, ◌++◌, append_assoc}
 use Prim.Native.Nat.{ℕ, suc, ◌+◌, ◌-◌, ◌<◌}
 use native.Mathlib.Omega.{arith}
-use lib.ListN.{length, drop, set, replicate, length-append, length-replicate}
-use lib.Seq.{set_at, drop_at}
+use lib.ListN.{length, drop, set, replicate, length-append}
+use lib.Seq.{set_at}
 use Rattle.calls.specs.Symmetries.{passing, mask_bytes}
 use Rattle.calls.proofs.Masks.{passing_taken, passing_left}
 

@@ -87,7 +87,7 @@ fn list(bytes: &[u8], limit: usize, out: &mut [u8]) -> usize
     ensures count { result ≡ length (passing (λ m. even_all m bytes.now) limit) }
     ensures bytes { out.new ≡ mask_bytes (passing (λ m. even_all m bytes.now) limit) out.old }
 {
-    work_tables::clear_bytes(out, 256);
+    out[..256].fill(0);
     let mut count = 0;
     for r in 0..limit {
         let mask = r as u8;

@@ -21,9 +21,9 @@ use std::rt::{Env, Files};
 
 // What messages say of a file.
 const WORDING: Wording<'static> = Wording {
-    program: "weekcheck",
-    limit: "7,340,032",
-    so: "there are no records",
+    program: b"weekcheck",
+    limit: b"7,340,032",
+    so: b"there are no records",
 };
 
 // How many bytes of the text's buffer are the answer, and how many of the other were the records.

@@ -150,6 +150,7 @@ fn answer_records(
     let mut t = refuse(0, 0);
     let mut at = 0;
     let mut i = 0;
+    // By steps: a record says where it ends.
     while let Some(end) = end_at(s, at) {
         let v = pair_at(s, at, keys, high, low);
         let position = 32 * i;

@@ -1,17 +1,9 @@
-// The work tables that every call borrows: whether one is too short, and clearing. Also the clearing of lent bytes.
+// The work tables that every call borrows: whether one is too short, and clearing.
 #![tactic(auto)]
 
-ghost use Rattle.std.specs.Prelude.{◌≡◌, false, ◌||◌, ◌++◌, ◌≤◌, ltb, length, drop, replicate};
+ghost use Rattle.std.specs.Prelude.{◌≡◌, false, ◌||◌, ltb};
 ghost use Rattle.calls.specs.Tables.{table_length, tables, TablesLeft};
 ghost use Rattle.work_tables.specs.Tables.{Long};
-
-// A lent array's first n bytes set to zero.
-pub fn clear_bytes(t: &mut [u8], n: usize)
-    requires { n ≤ length t.old }
-    ensures { t.new ≡ replicate n 0 ++ drop n t.old }
-{
-    t[..n].fill(0);
-}
 
 // As many places of each table as a call uses.
 const LENGTH: usize = 2048;

@@ -1,12 +1,18 @@
 -- `list`: by whether the mask at hand is listed.
-use Rattle.std.proofs.Common.{◌≡◌, ◌<◌, sym, ◌∙◌, arith, drop, length-set}
+use Rattle.std.proofs.Common.{◌≡◌, ◌<◌, ◌≤◌, ◌++◌, ℕ, List, ap, sym, ◌∙◌, arith, length, drop, replicate, length-set, length-append, length-drop}
+use Rattle.std.proofs.lemmas.List.{length-take-le, length-replicate}
 use Rattle.sign_symmetries.specs.Parities.{even_all}
 use Rattle.sign_symmetries.proofs.Listing.{Written, written_start, written_taken, written_left, written_done}
 use Rattle.sign_symmetries.proofs.list.Goals as goal
 use Rattle.sign_symmetries.proofs.list.Goals.{then-is_even_with_all, else-is_even_with_all}
 
 pub loop-r-init : goal.loop-r-init
-loop-r-init c = (omega arith, c.clear_bytes.auto.t, written_start _ _ (omega arith) _ _ c.clear_bytes.ensures)
+loop-r-init c =
+    let out = c.args.out.now in
+    let long : 256 ≤ length out = omega (arith, c.requires.1) in
+    let zeros : c.fill.new.self ≡ replicate 256 0 = c.fill.ensures.after (λ y e. e) ∙ ap (λ (n : ℕ). replicate n 0) (length-take-le 256 out long) in
+    let all : length (c.fill.new.self ++ drop 256 out) ≡ length out = rw zeros (omega (arith, length-append (replicate 256 0) (drop 256 out), length-replicate {A = ℕ} 256 0, length-drop 256 out)) in
+    (omega arith, all, written_start _ _ (omega arith) _ _ (ap (λ (l : List ℕ). l ++ drop 256 out) zeros))
 
 pub loop-r-preserved : goal.loop-r-preserved
 loop-r-preserved c =
