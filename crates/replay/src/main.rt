@@ -7,7 +7,7 @@
 // and `office_line` on a certificate with notes; all else moves bytes.
 #![tactic(auto)]
 
-ghost use Rattle.std.specs.Prelude.{◌≡◌, true, ◌++◌, ◌+◌, ◌*◌, ◌/◌, ◌≤◌, length, take};
+ghost use Rattle.std.specs.Prelude.{◌≡◌, ◌++◌, ◌+◌, ◌*◌, ◌/◌, ◌≤◌, length, take, OnOk};
 ghost use Rattle.format.specs.Operands.{number};
 ghost use Rattle.lines.specs.Lines.{arrival_word};
 ghost use Rattle.lines.specs.Texts.{text_of};
@@ -88,16 +88,25 @@ fn answer_adjusted(problem: &[u8], certificate: &[u8], changes: &[u8]) -> Text
 fn answer_record(kind: u8, problem: &[u8], first: &[u8], second: &[u8]) -> Text
     ensures { text_of result ≡ record_answer kind problem.now first.now second.now }
 {
-    match kind {
-        b'b' => answer_blocks(problem),
-        b'c' => answer_check(problem, first),
-        b'p' => answer_pair(problem, first, second),
-        b's' => answer_symmetries(problem),
-        b'a' => answer_adjusted(problem, first, second),
-        _ => Text {
-            bytes: [0u8; 1280],
-            len: 0,
-        },
+    // By ifs: `record_answer` decides in this order, and an arm of a `match` would tell each kind from all before it.
+    if kind == b'b' {
+        return answer_blocks(problem);
+    }
+    if kind == b'c' {
+        return answer_check(problem, first);
+    }
+    if kind == b'p' {
+        return answer_pair(problem, first, second);
+    }
+    if kind == b's' {
+        return answer_symmetries(problem);
+    }
+    if kind == b'a' {
+        return answer_adjusted(problem, first, second);
+    }
+    Text {
+        bytes: [0u8; 1280],
+        len: 0,
     }
 }
 
