@@ -16,14 +16,15 @@ ghost use Rattle.calls.specs.Zeros.{SumZeros};
 ghost use Rattle.calls.specs.RowOrder.{SumAnyOrder};
 
 use calls::{PairVerdict, Refusal, RulesUsed, SumVerdict};
+use certificate_judge::NO_REFUSAL;
 
 fn refuse(refusal: Refusal) -> SumVerdict
     ensures { result ≡ refused_sum refusal }
 {
     SumVerdict {
         refusal,
-        lower: fractions::no_fraction(),
-        upper: fractions::no_fraction(),
+        lower: fractions::NONE,
+        upper: fractions::NONE,
         rules: RulesUsed {
             first: 0,
             second: 0,
@@ -37,10 +38,8 @@ fn of_second(f: Refusal) -> Refusal
     ensures { result ≡ of_second f }
 {
     Refusal {
-        number: f.number,
         stream: f.stream + 3,
-        place: f.place,
-        key: f.key,
+        ..f
     }
 }
 
@@ -50,12 +49,7 @@ fn add(v: PairVerdict, w: PairVerdict) -> SumVerdict
     ensures { result ≡ accepted_sum v w }
 {
     SumVerdict {
-        refusal: Refusal {
-            number: 0,
-            stream: 0,
-            place: 0,
-            key: 0,
-        },
+        refusal: NO_REFUSAL,
         lower: fractions::sum(v.lower, w.lower),
         upper: fractions::sum(v.upper, w.upper),
         rules: RulesUsed {
@@ -87,17 +81,11 @@ fn sum_second(
         TablesLeft (tables_short lent) lent left }
 {
     let w = checker::pair(problem2, low2, high2, keys, high, low);
-    let f = w.refusal;
-    if 0 < f.number {
-        return refuse(of_second(f));
+    if w.refusal.number > 0 {
+        return refuse(of_second(w.refusal));
     }
     if !regions::is_same(problem1, problem2) {
-        return refuse(Refusal {
-            number: 15,
-            stream: 0,
-            place: 0,
-            key: 0,
-        });
+        return refuse(certificate_judge::problem_refusal(15, 0));
     }
     add(v, w)
 }

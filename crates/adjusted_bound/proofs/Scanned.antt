@@ -53,9 +53,6 @@ module _ (s : List ℕ) where
     pub rest : sum + absolute_sum (drop i (changes_of s)) ≡ absolute_sum (changes_of s)
     pub small : sum ≤ i * 2 ^ 31
 
-  pub summed_none : Summed 0 0
-  summed_none = record { rest = omega arith; small = omega arith }
-
   pub summed_more : (i sum d : ℕ) → i < change_count s → Summed i sum → d ≡ nat_abs (change_at s i).coefficient
       → d ≤ 2 ^ 31 → Summed (i + 1) (sum + d)
   unfolding absolute_sum

@@ -2,12 +2,12 @@
 // changes are looked at, then the boxes, in the problem read once more, and then the side.
 #![tactic(auto)]
 
-ghost use Rattle.std.specs.Prelude.{◌≡◌, ◌&&◌, List, ℕ, ◌^◌, ◌≤◌, ◌<◌, negsuc};
+ghost use Rattle.std.specs.Prelude.{◌≡◌, ◌&&◌, List, ℕ, ◌^◌, ◌≤◌, ◌<◌, negsuc, MatchResult};
 ghost use Rattle.polynomial.specs.Terms.{Term, term};
 ghost use Rattle.format.specs.ProblemRules.{Problem, read_problem};
 ghost use Rattle.flat.specs.Flat.{FlatLimits, FlatProblem};
 ghost use Rattle.fractions.specs.Ranges.{Bound};
-ghost use Rattle.calls.specs.Refusals.{problem_refusal};
+ghost use Rattle.calls.specs.Refusals.{no_refusal};
 ghost use Rattle.calls.specs.Tables.{tables, tables_short, TablesLeft};
 ghost use Rattle.calls.specs.Adjusted.{change_count, changes_of, most_changes, change_refusal, first_unfit, unfit_refusal};
 ghost use Rattle.calls.specs.Adjusted.{changes_refusal, square_key, unit, has_box, boxed_to, absolute_sum};
@@ -18,53 +18,46 @@ ghost use Rattle.calls.specs.Rules.{UnderOne, AtLarger};
 ghost use Rattle.calls.specs.Zeros.{AdjustedZeros};
 ghost use Rattle.calls.specs.RowOrder.{AdjustedAnyOrder};
 ghost use Rattle.adjusted_bound.specs.Boxes.{box_in};
+ghost use Rattle.adjusted_bound.specs.Found.{told_bound};
 
 use calls::{AdjustedVerdict, CheckVerdict, Fraction, Refusal};
+use certificate_judge::NO_REFUSAL;
 use flat::{CONDITIONS, TERMS};
 
 // A refusal of the changes, at the index of one.
 fn change_refusal(number: u8, index: usize) -> Refusal
     ensures { result ≡ change_refusal number index }
 {
-    Refusal {
-        number,
-        stream: 2,
-        place: index,
-        key: 0,
-    }
+    certificate_judge::certificate_refusal(2, number, index, 0)
 }
 
-// Refusal 4 of the first change that does not fit, or none.
-fn check_fit(n: usize, changes: &[u8]) -> Refusal
-    ensures { result ≡ unfit_refusal (first_unfit n 0 (changes_of changes.now)) }
+// Refusal 4 of the first change that does not fit.
+fn check_fit(n: usize, changes: &[u8]) -> Result<(), Refusal>
+    ensures { let told = unfit_refusal (first_unfit n 0 (changes_of changes.now)) in
+        MatchResult result (λ _. told ≡ no_refusal) (λ f. (f ≡ told) × (0 < f.number)) }
 {
-    let count = changes.len() / 12;
-    let mut i = 0;
-    while i < count {
+    // By index: it is the place of the refusal.
+    for i in 0..changes.len() / 12 {
         let key = operand_reader::number_at(changes, 12 * i, 8);
         if !problem_commands::is_fitting(n, 32, key) {
-            return change_refusal(4, i);
+            return Err(change_refusal(4, i));
         }
-        i += 1;
     }
-    Refusal {
-        number: 0,
-        stream: 0,
-        place: 0,
-        key: 0,
-    }
+    Ok(())
 }
 
-// The refusal of the changes, in n variables, or none.
-fn check_changes(n: usize, changes: &[u8]) -> Refusal
-    ensures { result ≡ changes_refusal n changes.now }
+// The refusal of the changes, in n variables.
+#[tactic(auto, unfolding(calls::specs::Adjusted::changes_refusal))]
+fn check_changes(n: usize, changes: &[u8]) -> Result<(), Refusal>
+    ensures { let told = changes_refusal n changes.now in
+        MatchResult result (λ _. told ≡ no_refusal) (λ f. (f ≡ told) × (0 < f.number)) }
 {
     let count = changes.len() / 12;
     if 0 < changes.len() % 12 {
-        return change_refusal(2, count);
+        return Err(change_refusal(2, count));
     }
     if 256 < count {
-        return change_refusal(6, 256);
+        return Err(change_refusal(6, 256));
     }
     check_fit(n, changes)
 }
@@ -74,16 +67,13 @@ fn absolute_sum(changes: &[u8]) -> u64
     requires { change_count changes.now ≤ most_changes }
     ensures { (result ≡ absolute_sum (changes_of changes.now)) × (result ≤ 2 ^ 39) }
 {
-    let count = changes.len() / 12;
-    let mut sum: i64 = 0;
-    let mut i = 0;
-    while i < count {
-        let d = operand_reader::signed32(operand_reader::number_at(changes, 12 * i + 8, 4)) as i64;
-        let size = fractions::magnitude(d) as i64;
+    let mut sum: u64 = 0;
+    for i in 0..changes.len() / 12 {
+        let d = operand_reader::signed32(operand_reader::number_at(changes, 12 * i + 8, 4));
+        let size = d.unsigned_abs() as u64;
         sum += size;
-        i += 1;
     }
-    sum as u64
+    sum
 }
 
 // The moved bound. q is below 2^16 and the sum at most 2^39, so their product is below 2^55.
@@ -140,13 +130,11 @@ fn has_box(keys: &[u64], coefficients: &[i32], sizes: &[usize], square: u64) -> 
     ensures { (p : Problem) → FlatProblem p keys.now coefficients.now sizes.now
         → (i : ℕ) → square ≡ square_key i → result ≡ has_box i p.conditions }
 {
-    let count = sizes[CONDITIONS];
-    let mut j = 0;
-    while j < count {
+    // By number: the conditions stand side by side in the arrays.
+    for j in 0..sizes[CONDITIONS] {
         if is_box(keys, coefficients, sizes, j + 1, square) {
             return true;
         }
-        j += 1;
     }
     false
 }
@@ -158,13 +146,11 @@ fn are_boxed(keys: &[u64], coefficients: &[i32], sizes: &[usize], n: usize) -> b
         → result ≡ boxed_to n p.conditions }
 {
     let mut square: u64 = 2;
-    let mut i = 1;
-    while i < n {
+    for i in 1..n {
         if !has_box(keys, coefficients, sizes, square) {
             return false;
         }
         square *= 256;
-        i += 1;
     }
     has_box(keys, coefficients, sizes, square)
 }
@@ -174,23 +160,12 @@ fn refuse(refusal: Refusal) -> AdjustedVerdict
 {
     AdjustedVerdict {
         refusal,
-        bound: fractions::no_fraction(),
+        bound: fractions::NONE,
     }
 }
 
-// A refusal with stream and place 0, or that of the problem at a place.
-fn refuse_problem(number: u8, place: usize) -> AdjustedVerdict
-    ensures { result ≡ refused_adjusted (problem_refusal number place) }
-{
-    refuse(Refusal {
-        number,
-        stream: 0,
-        place,
-        key: 0,
-    })
-}
-
-// The verdict for the problem in the arrays, in n variables, by what the check says of an accepted certificate.
+// The moved bound for the problem in the arrays, in n variables, by what the check says of an accepted certificate; or
+// the refusal of the first test that fails.
 fn decide(
     keys: &[u64],
     coefficients: &[i32],
@@ -198,50 +173,50 @@ fn decide(
     n: usize,
     v: CheckVerdict,
     changes: &[u8],
-) -> AdjustedVerdict
+) -> Result<Fraction, Refusal>
     requires { FlatLimits keys.now coefficients.now sizes.now × (1 ≤ n) × (n ≤ 8) × Bound v.bound }
     ensures { (p : Problem) → FlatProblem p keys.now coefficients.now sizes.now
-        → p.variables ≡ n → result ≡ adjusted_of p v changes.now }
+        → p.variables ≡ n → told_bound result ≡ adjusted_of p v changes.now }
 {
-    let f = check_changes(n, changes);
-    if f.number != 0 {
-        return refuse(f);
-    }
-    let upper = v.side != 0;
+    check_changes(n, changes)?;
     let boxed = are_boxed(keys, coefficients, sizes, n);
     if !boxed {
-        return refuse_problem(16, 0);
+        return Err(certificate_judge::problem_refusal(16, 0));
     }
-    if upper {
-        return refuse_problem(17, 0);
+    if v.side != 0 {
+        return Err(certificate_judge::problem_refusal(17, 0));
     }
-    AdjustedVerdict {
-        refusal: Refusal {
-            number: 0,
-            stream: 0,
-            place: 0,
-            key: 0,
-        },
-        bound: moved(v.bound, absolute_sum(changes)),
-    }
+    Ok(moved(v.bound, absolute_sum(changes)))
 }
 
 // The same for a problem stream. The problem is read into arrays of the call; the number of variables is the stream's
 // second byte.
-fn answer(problem: &[u8], v: CheckVerdict, changes: &[u8]) -> AdjustedVerdict
+fn find(problem: &[u8], v: CheckVerdict, changes: &[u8]) -> Result<Fraction, Refusal>
     requires { Bound v.bound }
-    ensures { result ≡ adjusted_read (read_problem problem.now) v changes.now }
+    ensures { told_bound result ≡ adjusted_read (read_problem problem.now) v changes.now }
 {
     let mut keys = [0u64; 1120];
     let mut coefficients = [0i32; 544];
     let mut sizes = [0usize; 31];
-    let r = problem_reader::read(problem, &mut keys, &mut coefficients, &mut sizes);
-    let number = r.number;
-    if 0 < number {
-        return refuse_problem(number, r.place);
+    if let Err(m) = problem_reader::read(problem, &mut keys, &mut coefficients, &mut sizes) {
+        return Err(certificate_judge::problem_refusal(u8::from(m.fault), m.place));
     }
     let n = problem[1] as usize;
     decide(&keys, &coefficients, &sizes, n, v, changes)
+}
+
+// The verdict on an accepted certificate and changes of the objective.
+fn answer(problem: &[u8], v: CheckVerdict, changes: &[u8]) -> AdjustedVerdict
+    requires { Bound v.bound }
+    ensures { result ≡ adjusted_read (read_problem problem.now) v changes.now }
+{
+    match find(problem, v, changes) {
+        Ok(bound) => AdjustedVerdict {
+            refusal: NO_REFUSAL,
+            bound,
+        },
+        Err(f) => refuse(f),
+    }
 }
 
 // The bound of a lower certificate, moved by changes of the objective. `keys`, `high` and `low` are the work tables.

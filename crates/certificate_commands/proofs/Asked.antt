@@ -8,21 +8,10 @@ use lib.Dec.{leb, ltb}
 use lib.ListN.{length, get_or}
 use borrow.Author.Tests.{le-leb, leb-true, leb-false, lt-ltb, le-ltb}
 use Rattle.format.specs.ProblemRules.{Problem}
-use Rattle.format.specs.ProblemLimits.{most_conditions}
-use Rattle.format.specs.ProblemBases.{basis_of, is_equality, kind_of}
+use Rattle.format.specs.ProblemBases.{basis_of}
 use Rattle.format.specs.CertificateRules.{Entry, Certificate, last_row, rises, index_repeated}
-use Rattle.flat.specs.Flat.{conditions_at, equality_in}
 use Rattle.certificate_commands.specs.declared.Progress.{Progress}
-use Rattle.certificate_commands.specs.Kept.{Sized, ProblemSizes, floor_of, progress_of}
-
--- ---- the conditions of a problem by its sizes
-module _ {sizes : List ℕ} (k : ProblemSizes sizes) where
-  pub conditions_few : get_or sizes conditions_at 0 ≤ most_conditions
-  conditions_few = let n = k.sized.conditions in let l = k.limits.conditions in omega arith
-
-  -- the kind that is looked up is that of the condition
-  pub kind_is : {p : Problem} {b v : Bool} → Sized p sizes → (j : ℕ) → j ≤ get_or sizes conditions_at 0 → b ≡ equality_in sizes j → b ≡ v → is_equality (kind_of p j) ≡ v
-  kind_is e j h is q = let n = conditions_few in sym (e.kinds j (omega arith)) ∙ sym is ∙ q
+use Rattle.certificate_commands.specs.Kept.{Sized, floor_of, progress_of}
 
 -- ---- "Indices rise within a row": an index rises exactly where it is at least the least that may follow
 rises_floor : (es : List Entry) (i : ℕ) → rises es i ≡ leb (floor_of es) i

@@ -14,13 +14,14 @@ use format::certificate::{Command, Header, Instruction};
 
 // What the checks of a command look at: how many rows have begun, the basis of the row begun last, and the least index
 // that its next entry may have.
-#[derive(Clone, Copy)]
+#[derive(Clone, Copy, Debug, Default, PartialEq, Eq)]
 pub struct Progress {
     pub rows: usize,
     pub basis: usize,
     pub floor: usize,
 }
 
+#[tactic(auto, unfolding(format::specs::CertificateLayout::certificate_command))]
 pub fn command_of(byte: u8) -> Command
     ensures { result ≡ certificate_command byte }
 {
@@ -36,6 +37,7 @@ pub fn command_of(byte: u8) -> Command
 }
 
 // The length of the command that a byte names, with its byte; 0 where it names none.
+#[tactic(auto, unfolding(format::specs::CertificateLayout::certificate_command))]
 pub fn length_of(byte: u8) -> usize
     ensures layout { result ≡ certificate_size (certificate_command byte) }
     ensures unknown { ZeroUnknown C.Unknown (certificate_command byte) result }
@@ -50,6 +52,7 @@ pub fn length_of(byte: u8) -> usize
 }
 
 // Whether an entry may stand at an offset, by either command.
+#[tactic(auto, using(crate::proofs::Asked::rows_are))]
 fn entry_placed(g: Progress, at: usize) -> bool
     ensures { (c : Certificate) → g ≡ progress_of c → result ≡ entry_placed c at }
 {
@@ -62,16 +65,14 @@ pub fn is_placed(g: Progress, at: usize, command: Command) -> bool
 {
     match command {
         Command::Header => at == 0,
-        Command::Row => 0 < at,
-        Command::Entry => entry_placed(g, at),
-        Command::End => 0 < at,
+        Command::Row | Command::EqualityRow | Command::End => 0 < at,
+        Command::Entry | Command::WideEntry => entry_placed(g, at),
         Command::Unknown => false,
-        Command::EqualityRow => 0 < at,
-        Command::WideEntry => entry_placed(g, at),
     }
 }
 
 // A command with its operands, which stand after its byte.
+#[tactic(auto, unfolding(format::specs::Operands::number))]
 pub fn decode_at(command: Command, s: &[u8], at: usize) -> Instruction
     requires { at + certificate_size command ≤ length s.now }
     ensures { result ≡ certificate_decoded command s.now at }
@@ -79,35 +80,31 @@ pub fn decode_at(command: Command, s: &[u8], at: usize) -> Instruction
     match command {
         Command::Header => {
             Instruction::Header(
-                operand_reader::number_at(s, at + 1, 1) as u8,
+                s[at + 1],
                 operand_reader::number_at(s, at + 2, 2) as u16,
                 operand_reader::signed32(operand_reader::number_at(s, at + 4, 4)),
                 operand_reader::number_at(s, at + 8, 2) as u16,
             )
         }
         Command::Row => {
-            Instruction::Row(
-                operand_reader::number_at(s, at + 1, 1) as u8,
-                operand_reader::number_at(s, at + 2, 2) as u16,
-            )
+            Instruction::Row(s[at + 1], operand_reader::number_at(s, at + 2, 2) as u16)
         }
         Command::Entry => {
             Instruction::Entry(
-                operand_reader::number_at(s, at + 1, 1) as u8,
+                s[at + 1],
                 operand_reader::signed16(operand_reader::number_at(s, at + 2, 2)),
             )
         }
-        Command::End => Instruction::End,
-        Command::Unknown => Instruction::End,
+        Command::End | Command::Unknown => Instruction::End,
         Command::EqualityRow => {
             Instruction::EqualityRow(
-                operand_reader::number_at(s, at + 1, 1) as u8,
+                s[at + 1],
                 operand_reader::signed16(operand_reader::number_at(s, at + 2, 2)),
             )
         }
         Command::WideEntry => {
             Instruction::WideEntry(
-                operand_reader::number_at(s, at + 1, 1) as u8,
+                s[at + 1],
                 operand_reader::signed32(operand_reader::number_at(s, at + 2, 4)),
             )
         }
@@ -115,39 +112,43 @@ pub fn decode_at(command: Command, s: &[u8], at: usize) -> Instruction
 }
 
 // Whether an entry's operands keep their rules, by either command.
+#[tactic(auto, using(crate::proofs::Asked::size_is))]
 fn entry_fits(sizes: &[usize], g: Progress, i: u8, l: i32) -> bool
     requires { ProgressWithin g × ProblemSizes sizes.now }
     ensures { (p : Problem) (c : Certificate) → Sized p sizes.now → g ≡ progress_of c
         → result ≡ entry_fits p c i l }
 {
-    let j = g.basis;
-    (i as usize) < sizes[j] && operand_reader::is_nonzero(l)
+    (i as usize) < sizes[g.basis] && operand_reader::is_nonzero(l)
 }
 
 // Whether a command's operands keep their rules.
+// An arm for each kind of entry: tried as one pattern of two, and Rattle's own part of the proof did not close at an i32
+// that both bind.
 pub fn is_allowed(sizes: &[usize], g: Progress, i: Instruction) -> bool
     requires { ProgressWithin g × ProblemSizes sizes.now }
     ensures { (p : Problem) (c : Certificate) → Sized p sizes.now → g ≡ progress_of c
         → result ≡ certificate_operands_fit p c i }
 {
     match i {
-        Instruction::Header(side, d, _, q) => side <= 1 && (1 <= d && 1 <= q),
+        Instruction::Header(side, d, _, q) => side <= 1 && 1 <= d && 1 <= q,
         Instruction::Row(j, w) => {
             let j = j as usize;
-            j <= sizes[flat::CONDITIONS] && (!flat::is_equality(sizes, j) && 1 <= w)
+            j <= sizes[flat::CONDITIONS] && !flat::is_equality(sizes, j) && 1 <= w
         }
         Instruction::Entry(k, l) => entry_fits(sizes, g, k, l),
         Instruction::End => true,
         Instruction::EqualityRow(j, w) => {
             let j = j as usize;
             j <= sizes[flat::CONDITIONS]
-                && (flat::is_equality(sizes, j) && operand_reader::is_nonzero(w))
+                && flat::is_equality(sizes, j)
+                && operand_reader::is_nonzero(w)
         }
         Instruction::WideEntry(k, l) => entry_fits(sizes, g, k, l),
     }
 }
 
 // Whether an index does not rise, whichever kind of entry was before it.
+#[tactic(auto, using(crate::proofs::Asked::below_floor))]
 fn index_repeated(g: Progress, i: u8) -> bool
     ensures { (c : Certificate) → g ≡ progress_of c → result ≡ index_repeated c i }
 {
@@ -159,16 +160,13 @@ pub fn is_repeated(g: Progress, i: Instruction) -> bool
     ensures { (c : Certificate) → g ≡ progress_of c → result ≡ certificate_repeated c i }
 {
     match i {
-        Instruction::Header(_, _, _, _) => false,
-        Instruction::Row(_, _) => false,
-        Instruction::Entry(k, _) => index_repeated(g, k),
-        Instruction::End => false,
-        Instruction::EqualityRow(_, _) => false,
-        Instruction::WideEntry(k, _) => index_repeated(g, k),
+        Instruction::Entry(k, _) | Instruction::WideEntry(k, _) => index_repeated(g, k),
+        _ => false,
     }
 }
 
 // Whether there are as many rows, of either kind, as there may be.
+#[tactic(auto, using(crate::proofs::Asked::rows_are))]
 fn rows_full(g: Progress) -> bool
     ensures { (c : Certificate) → g ≡ progress_of c → result ≡ rows_full c }
 {
@@ -180,11 +178,7 @@ pub fn is_full(g: Progress, i: Instruction) -> bool
     ensures { (c : Certificate) → g ≡ progress_of c → result ≡ certificate_full c i }
 {
     match i {
-        Instruction::Header(_, _, _, _) => false,
-        Instruction::Row(_, _) => rows_full(g),
-        Instruction::Entry(_, _) => false,
-        Instruction::End => false,
-        Instruction::EqualityRow(_, _) => rows_full(g),
-        Instruction::WideEntry(_, _) => false,
+        Instruction::Row(_, _) | Instruction::EqualityRow(_, _) => rows_full(g),
+        _ => false,
     }
 }

@@ -12,14 +12,12 @@ use Rattle.joining_rule.proofs.Bytes.{bytes_long}
 use Rattle.accepting.specs.Judgement.{judge, judge_read, by_identity, split_place, difference_key}
 use Rattle.calls.specs.Refusals.{certificate_refusal}
 use Rattle.row_blocks.specs.Places.{place_judged, SplitTold}
-use Rattle.row_blocks.specs.declared.Place.{Place}
-use Rattle.row_blocks.specs.declared.Place.TheVariants as Place
 use Rattle.certificate_reader.specs.Rows.{GivenRows}
 use Rattle.certificate_reader.proofs.Walk.{given_walkable}
 use Rattle.identity_rows.specs.Walk.{Comparable}
 use Rattle.identity_check.specs.Compare.{difference_of, Given}
-use Rattle.identity_check.specs.declared.Difference.{Difference}
-use Rattle.certificate_judge.specs.declared.Judged.TheVariants as Judged
+use Rattle.std.specs.Prelude.{Err, Some, None}
+use Rattle.std.specs.Prelude as Code
 use Rattle.certificate_judge.specs.Steps.{JoinedProblem, judged_of, judged_from}
 
 -- ---- a certificate that is read against a joined problem
@@ -36,21 +34,21 @@ module _ {p : Problem} {keys : List ℕ} {coefficients : _} {sizes labels table 
 
 -- ---- the judgement
 module _ (P : Problem) (s : List ℕ) where
-  pub judge_refused : (stream n at : ℕ) → read_certificate P s ≡ refused n at → Judged.Refused (certificate_refusal stream n at 0) ≡ judged_of stream (judge P s)
+  pub judge_refused : (stream n at : ℕ) → read_certificate P s ≡ refused n at → Err (certificate_refusal stream n at 0) ≡ judged_of stream (judge P s)
   unfolding judge
   judge_refused stream n at e = rw e refl
 
   module _ (c : Certificate) (e : read_certificate P s ≡ given c) (stream : ℕ) where
     -- by what the answer to refusal 8 tells
-    judged : (r : Place) → SplitTold r (split_place P c.rows) → judge P s ≡ place_judged r (by_identity c (difference_key P c))
+    judged : (r : Code.Option ℕ) → SplitTold r (split_place P c.rows) → judge P s ≡ place_judged r (by_identity c (difference_key P c))
     unfolding judge judge_read
     judged r f = rw e (sym (f.tells (by_identity c (difference_key P c))))
 
-    pub judge_split : (at : ℕ) → SplitTold (Place.At at) (split_place P c.rows) → Judged.Refused (certificate_refusal stream 8 at 0) ≡ judged_of stream (judge P s)
-    judge_split at f = rw (judged (Place.At at) f) refl
+    pub judge_split : (at : ℕ) → SplitTold (Some at) (split_place P c.rows) → Err (certificate_refusal stream 8 at 0) ≡ judged_of stream (judge P s)
+    judge_split at f = rw (judged (Some at) f) refl
 
-    pub judge_compared : (t : Header) (d : Difference) → SplitTold Place.Nowhere (split_place P c.rows) → t ≡ c.header → d ≡ difference_of (difference_key P c) → judged_from stream t d ≡ judged_of stream (judge P s)
-    judge_compared t d f g h = rw (judged Place.Nowhere f, g, h) (go (difference_key P c))
+    pub judge_compared : (t : Header) (d : Code.Option ℕ) → SplitTold None (split_place P c.rows) → t ≡ c.header → d ≡ difference_of (difference_key P c) → judged_from stream t d ≡ judged_of stream (judge P s)
+    judge_compared t d f g h = rw (judged None f, g, h) (go (difference_key P c))
       where
         go : (o : Option ℕ) → judged_from stream c.header (difference_of o) ≡ judged_of stream (by_identity c o)
         go (some k) = refl

@@ -1,5 +1,5 @@
 -- What the steps of a call hand on: a problem with its blocks, and what became of one certificate.
-use Rattle.std.specs.Prelude.{◌≡◌, List, ℕ, ◌≤◌, ℤ, length, drop}
+use Rattle.std.specs.Prelude.{◌≡◌, List, ℕ, ◌≤◌, ℤ, length, drop, Option, Some, None, Result, Ok, Err}
 use Rattle.format.specs.ProblemRules.{Problem}
 use Rattle.format.proofs.WithinLimits.{Limits}
 use Rattle.format.specs.declared.certificate.Header.{Header}
@@ -9,12 +9,9 @@ use Rattle.accepting.specs.Judgement.{Judgement, compared_keys}
 use Rattle.accepting.specs.Judgement as J
 use Rattle.calls.specs.Tables.{table_length}
 use Rattle.calls.specs.Refusals.{certificate_refusal}
+use Rattle.calls.specs.declared.Refusal.{Refusal}
 use Rattle.flat.specs.Flat.{FlatProblem}
 use Rattle.key_set.specs.Table.{keys_in, Holds, Indexed}
-use Rattle.identity_check.specs.declared.Difference.{Difference}
-use Rattle.identity_check.specs.declared.Difference.TheVariants as Difference
-use Rattle.certificate_judge.specs.declared.Judged.{Judged}
-use Rattle.certificate_judge.specs.declared.Judged.TheVariants as Judged
 
 -- a problem within its limits in its arrays; its blocks; and the compared keys, the first n numbers of a table in some
 -- order, with their index
@@ -43,12 +40,12 @@ pub record SumsRest (high low high' low' : List ℤ) : Type 0 where
   pub high_rest : drop table_length high' ≡ drop table_length high
   pub low_rest : drop table_length low' ≡ drop table_length low
 
--- what is kept of a judgement: a refusal of this stream, or the header
-abbrev pub judged_of : ℕ → Judgement → Judged
-judged_of stream (J.refused number place key) = Judged.Refused (certificate_refusal stream number place key)
-judged_of stream (J.accepted c) = Judged.Accepted c.header
+-- what is kept of a judgement: the header, or a refusal of this stream
+abbrev pub judged_of : ℕ → Judgement → Result Header Refusal
+judged_of stream (J.refused number place key) = Err (certificate_refusal stream number place key)
+judged_of stream (J.accepted c) = Ok c.header
 
 -- refusal 9 with its key, or the header
-abbrev pub judged_from : ℕ → Header → Difference → Judged
-judged_from stream t (Difference.Differs key) = Judged.Refused (certificate_refusal stream 9 0 key)
-judged_from stream t Difference.Same = Judged.Accepted t
+abbrev pub judged_from : ℕ → Header → Option ℕ → Result Header Refusal
+judged_from stream t (Some key) = Err (certificate_refusal stream 9 0 key)
+judged_from stream t None = Ok t

@@ -10,7 +10,11 @@ use lib.IntN.{ℤ}
 use lib.ListN.{length, get_or, set, length-append, length-set}
 use lib.Seq.{set-set}
 use borrow.Author.Tests.{leb-true, leb-false, ltb-true}
+use Rattle.std.specs.Prelude.{Ok, Err}
 use Rattle.counting.proofs.Cases.{and_left, and_right}
+use Rattle.faults.specs.declared.Fault.{Fault}
+use Rattle.faults.specs.declared.Fault.TheVariants.{Cut, Misplaced, Unfit, Repeated, Excess}
+use Rattle.faults.specs.Numbers.{fault_number}
 use Rattle.format.specs.Commands.{refused}
 use Rattle.format.proofs.Run.{Left, left_start, left_end, left_refused, left_extra, left_given, left_next}
 use Rattle.format.specs.ProblemRules.{Problem}
@@ -18,17 +22,16 @@ use Rattle.format.proofs.WithinLimits.{Limits}
 use Rattle.format.specs.declared.certificate.Command.{Command}
 use Rattle.format.specs.declared.certificate.Command.TheVariants as C
 use Rattle.format.specs.declared.certificate.Header.{Header}
-use Rattle.format.specs.CertificateLayout.{certificate_decoded}
+use Rattle.format.specs.CertificateLayout.{certificate_command, certificate_decoded}
+use Rattle.format.specs.declared.certificate.Instruction.{Instruction}
 use Rattle.format.specs.CertificateRules.{Certificate, no_header, no_certificate, last_row, most_rows, entry_placed, rows_full, with_row, entered, certificate_placed, certificate_applied, certificate_command_at, certificate_instruction_at, certificate_refusal_at, certificate_next, certificate_language, read_certificate}
 use Rattle.format.proofs.CertificateChecks.{last_append, last_set, Passed, passed, taken_size, taken_whole}
 use Rattle.certificate_commands.specs.declared.Progress.{Progress}
-use Rattle.certificate_reader.specs.declared.Reading.{Reading}
-use Rattle.certificate_commands.specs.Kept.{Sized, progress_of, no_progress, headed, begun, risen, advanced, ProgressWithin}
+use Rattle.certificate_commands.specs.Kept.{Sized, ProblemSizes, progress_of, no_progress, headed, begun, risen, advanced, ProgressWithin}
 use Rattle.certificate_rows.specs.Offsets.{size_at}
-use Rattle.certificate_reader.specs.Rows.{GivenRows, Validated}
-use Rattle.certificate_reader.specs.Verdicts.{EntryThere, EntriesRead, none, more}
+use Rattle.certificate_reader.specs.Rows.{GivenRows}
+use Rattle.certificate_reader.specs.Verdicts.{Told, EntryThere, EntriesRead, none, more}
 use Rattle.certificate_commands.proofs.Asked.{rows_are, floor_more}
-use Rattle.certificate_reader.proofs.Checks.{entry_command_lem}
 use Rattle.certificate_reader.proofs.Noted.{Noted, noted_start, noted_next}
 
 -- ---- the header and the progress of what has been read after a command
@@ -82,8 +85,8 @@ pub record Held (p : Problem) (s : List ℕ) (t : Header) (g : Progress) (starts
   pub left : Left (certificate_language p) s (read_certificate p s) read at
 
 -- the same for every problem with these sizes
-abbrev pub HeldFor : List ℕ → List ℕ → Header → Progress → List ℕ → ℕ → Type 0
-HeldFor sizes s t g starts at = (p : Problem) → Limits p → Sized p sizes → Held p s t g starts at
+pub record HeldFor (sizes s : List ℕ) (t : Header) (g : Progress) (starts : List ℕ) (at : ℕ) : Type 0 where
+  pub held : (p : Problem) → Limits p → Sized p sizes → Held p s t g starts at
 
 module _ (p : Problem) (s : List ℕ) where
   pub held_start : (starts : List ℕ) → length starts ≡ 129 → Held p s no_header no_progress starts 0
@@ -98,26 +101,22 @@ module _ (p : Problem) (s : List ℕ) where
     left = left_start (certificate_language p) s no_certificate;
   }
 
-  -- a refusal
-  pub said : (r : Reading) (starts : List ℕ) → 0 < r.number → refused r.number r.place ≡ read_certificate p s → Validated p s r starts
-  said r starts h e = record { gives = λ z. absurd (omega arith); refuses = λ _. sym e }
-
   module _ (t : Header) (g : Progress) (starts : List ℕ) (at : ℕ) (k : Held p s t g starts at) where
     -- the stream ends here
-    pub held_end : length s ≤ at → refused 2 at ≡ read_certificate p s
+    pub held_end : length s ≤ at → read_certificate p s ≡ refused 2 at
     held_end e =
         let i = k.inside in
         let z : at ≡ length s = omega arith in
-        rw z (left_end (certificate_language p) s _ k.read at k.left e)
+        rw z (sym (left_end (certificate_language p) s _ k.read at k.left e))
 
     module _ (e : at < length s) where
-      pub held_refused : (v : ℕ) → v ≡ certificate_refusal_at p k.read s at → 0 < v → refused v at ≡ read_certificate p s
-      held_refused v z o = rw z (left_refused (certificate_language p) s _ k.read at k.left e (rw z at o))
+      pub held_refused : (v : ℕ) → v ≡ certificate_refusal_at p k.read s at → 0 < v → read_certificate p s ≡ refused v at
+      held_refused v z o = rw z (sym (left_refused (certificate_language p) s _ k.read at k.left e (rw z at o)))
 
       module _ (v : certificate_refusal_at p k.read s at ≡ 0) where
         -- the end command
-        pub held_extra : get_or s at 0 ≡ 0x13 → at + 1 < length s → refused 2 (at + 1) ≡ read_certificate p s
-        held_extra b m = left_extra (certificate_language p) s _ k.read at k.left e v b m
+        pub held_extra : get_or s at 0 ≡ 0x13 → at + 1 < length s → read_certificate p s ≡ refused 2 (at + 1)
+        held_extra b m = sym (left_extra (certificate_language p) s _ k.read at k.left e v b m)
 
         pub held_given : get_or s at 0 ≡ 0x13 → length s ≤ at + 1 → GivenRows p s t starts g.rows
         held_given b m = record {
@@ -163,14 +162,15 @@ module _ (p : Problem) (s : List ℕ) where
           left = left_next (certificate_language p) s _ k.read at k.left e v b (taken_size p k.read s at v);
         }
 
--- the same by other names of the header, the progress and the offset
-pub held_as : (p : Problem) (s : List ℕ) {t t' : Header} {g g' : Progress} (starts : List ℕ) {x x' : ℕ} → t ≡ t' → g ≡ g' → x ≡ x' → Held p s t' g' (set starts g'.rows x') x' → Held p s t g (set starts g.rows x) x
-held_as p s starts e f h k = rw (e, f, h) k
-
 -- ---- a run of entries
 pub run_from : {sizes s : List ℕ} {g : Progress} {from : ℕ} {h : Progress} {at : ℕ} → EntriesRead sizes s g from h at → from ≤ at
 run_from none = omega arith
 run_from (more w e v) = omega (arith, run_from w)
+
+-- the command that its byte names
+pub entry_command_lem : (s : List ℕ) (at : ℕ) → get_or s at 0 ≡ 0x12 → certificate_command_at s at ≡ C.Entry
+unfolding certificate_command
+entry_command_lem s at e = rw e
 
 -- an entry leaves the progress within its limits
 pub entry_within : (s : List ℕ) (g : Progress) (at : ℕ) → EntryThere s at → ProgressWithin g → ProgressWithin (advanced g (certificate_instruction_at s at))
@@ -190,3 +190,53 @@ module _ (p : Problem) (s : List ℕ) (limits : Limits p) {sizes : List ℕ} (si
   pub held_run : (g : Progress) (starts : List ℕ) (from : ℕ) → Held p s t g (set starts g.rows from) from → {h : Progress} {at : ℕ} → EntriesRead sizes s g from h at → Held p s t h (set starts h.rows at) at
   held_run g starts from k none = k
   held_run g starts from k (more {h} {at} w e v) = held_entry h starts at (held_run g starts from k w) e v
+
+-- ---- one turn of the loop, by what the checks of the command tell
+pub fault_some : (f : Fault) → 0 < fault_number f
+fault_some Cut = omega arith
+fault_some Misplaced = omega arith
+fault_some Unfit = omega arith
+fault_some Repeated = omega arith
+fault_some Excess = omega arith
+
+module _ {sizes s : List ℕ} {t : Header} {g : Progress} {starts : List ℕ} {at : ℕ} (k : HeldFor sizes s t g starts at) (e : at < length s) where
+  -- it is refused
+  pub turn_refused : {f : Fault} → Told sizes g s at (Err f) → (p : Problem) → Limits p → Sized p sizes → read_certificate p s ≡ refused (fault_number f) at
+  turn_refused {f} o p l z = let h = k.held p l z in held_refused p s t g starts at h e _ (o.number p h.read z h.progress) (fault_some f)
+
+  module _ {i : Instruction} (o : Told sizes g s at (Ok i)) where
+    none_refused : (p : Problem) (l : Limits p) (z : Sized p sizes) → certificate_refusal_at p (k.held p l z).read s at ≡ 0
+    none_refused p l z = let h = k.held p l z in sym (o.number p h.read z h.progress)
+
+    -- it is the end command
+    end_size : get_or s at 0 ≡ 0x13 → size_at s at ≡ 1
+    unfolding certificate_command
+    end_size b = rw b
+
+    pub turn_extra : get_or s at 0 ≡ 0x13 → at + size_at s at < length s → (p : Problem) → Limits p → Sized p sizes → read_certificate p s ≡ refused 2 (at + size_at s at)
+    turn_extra b m p l z = let n = end_size b in rw n (held_extra p s t g starts at (k.held p l z) e (none_refused p l z) b (omega arith))
+
+    pub turn_given : get_or s at 0 ≡ 0x13 → length s ≤ at + size_at s at → (p : Problem) → Limits p → Sized p sizes → GivenRows p s t starts g.rows
+    turn_given b m p l z = let n = end_size b in held_given p s t g starts at (k.held p l z) e (none_refused p l z) b (omega arith)
+
+    -- the loop goes on behind it
+    pub turn_size : ProblemSizes sizes → 1 ≤ size_at s at
+    turn_size q = taken_size q.problem (k.held q.problem q.limits q.sized).read s at (none_refused q.problem q.limits q.sized)
+
+    module _ (b : get_or s at 0 ≡ 0x13 → ⊥) where
+      turn_next : (p : Problem) → Limits p → Sized p sizes → let h = advanced g i in let x = at + size_at s at in Held p s (headed t i) h (set starts h.rows x) x
+      turn_next p l z = rw o.instruction (held_next p s t g starts at (k.held p l z) e (none_refused p l z) l b)
+
+      pub turn_bounded : ProblemSizes sizes → ProgressWithin (advanced g i)
+      turn_bounded q = (turn_next q.problem q.limits q.sized).bounded
+
+      -- and behind the entries that follow it
+      module _ {h : Progress} {x : ℕ} (w : EntriesRead sizes s (advanced g i) (at + size_at s at) h x) where
+        pub turn_run : HeldFor sizes s (headed t i) h (set starts h.rows x) x
+        turn_run = record { held = λ p l z. held_run p s l z (headed t i) (advanced g i) starts _ (turn_next p l z) w }
+
+        pub turn_rows : ProblemSizes sizes → h.rows ≤ most_rows
+        turn_rows q = (turn_run.held q.problem q.limits q.sized).bounded.rows
+
+-- a turn at a command that is not refused
+pub ruleset turns = (turn_extra, turn_given, turn_size, turn_bounded, turn_run, turn_rows, run_from)

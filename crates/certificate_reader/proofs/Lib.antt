@@ -1,5 +1,4 @@
 pub mod Shapes
-pub mod Checks
 pub mod Noted
 pub mod Kept
 pub mod Walk

@@ -1,5 +1,7 @@
 -- What the reader says of a certificate stream that is read against the problem p.
-use Rattle.std.specs.Prelude.{◌≡◌, List, ℕ, ◌<◌}
+use Rattle.std.specs.Prelude.{◌≡◌, List, ℕ, Result, MatchResult}
+use Rattle.faults.specs.declared.Misread.{Misread}
+use Rattle.faults.specs.Numbers.{fault_number}
 use Rattle.format.specs.Commands.{refused, given}
 use Rattle.format.specs.declared.certificate.Header.{Header}
 use Rattle.format.specs.ProblemRules.{Problem}
@@ -15,7 +17,7 @@ pub record GivenRows (p : Problem) (s : List ℕ) (header : Header) (starts : Li
   pub rows_are : certificate.rows ≡ rows_by s starts rows
   pub stand : RowsStand s starts rows
 
--- number 0 says that it gives a certificate, another is that of the refusal at a place
-pub record Validated (p : Problem) (s : List ℕ) (r : Reading) (starts : List ℕ) : Type 0 where
-  pub gives : r.number ≡ 0 → GivenRows p s r.header starts r.rows
-  pub refuses : 0 < r.number → read_certificate p s ≡ refused r.number r.place
+-- it gives a certificate, or the refusal of a fault at a place
+abbrev pub Validated : Problem → List ℕ → Result Reading Misread → List ℕ → Type 0
+Validated p s r starts =
+    MatchResult r (λ t. GivenRows p s t.header starts t.rows) (λ m. read_certificate p s ≡ refused (fault_number m.fault) m.place)

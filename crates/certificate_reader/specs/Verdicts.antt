@@ -1,10 +1,12 @@
 -- What the checks of the command at an offset ask and say, and the entries that they pass one after another.
-use Rattle.std.specs.Prelude.{◌≡◌, List, ℕ, ◌+◌, ◌<◌, length, get_or}
+use Rattle.std.specs.Prelude.{◌≡◌, List, ℕ, ◌+◌, ◌<◌, length, get_or, Result, IfOk}
+use Rattle.faults.specs.declared.Fault.{Fault}
+use Rattle.faults.specs.Numbers.{number_in}
 use Rattle.format.specs.ProblemRules.{Problem}
+use Rattle.format.specs.declared.certificate.Instruction.{Instruction}
 use Rattle.format.specs.CertificateRules.{Certificate, certificate_instruction_at, certificate_refusal_at}
 use Rattle.certificate_commands.specs.declared.Progress.{Progress}
 use Rattle.certificate_commands.specs.Kept.{Sized, ProblemSizes, progress_of, ProgressWithin, advanced}
-use Rattle.certificate_reader.specs.declared.Checked.{Checked}
 
 -- a problem's sizes, a progress within its limits, and an offset in the stream
 pub record Asked (sizes : List ℕ) (g : Progress) (s : List ℕ) (at : ℕ) : Type 0 where
@@ -14,10 +16,10 @@ pub record Asked (sizes : List ℕ) (g : Progress) (s : List ℕ) (at : ℕ) : T
 
 -- the refusal of the command there, for every problem of the sizes and every certificate with the progress; and, where it
 -- is none, what the command says
-pub record Told (sizes : List ℕ) (g : Progress) (s : List ℕ) (at : ℕ) (r : Checked) : Type 0 where
+pub record Told (sizes : List ℕ) (g : Progress) (s : List ℕ) (at : ℕ) (r : Result Instruction Fault) : Type 0 where
   pub number : (p : Problem) (c : Certificate) → Sized p sizes → g ≡ progress_of c
-      → r.number ≡ certificate_refusal_at p c s at
-  pub instruction : r.number ≡ 0 → r.instruction ≡ certificate_instruction_at s at
+      → number_in r ≡ certificate_refusal_at p c s at
+  pub instruction : IfOk r (λ i. i ≡ certificate_instruction_at s at)
 
 -- an entry by command 12 stands there
 pub record EntryThere (s : List ℕ) (at : ℕ) : Type 0 where

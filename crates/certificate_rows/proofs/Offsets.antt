@@ -1,37 +1,20 @@
 -- Laws of the rows by their offsets: the commands of an entry, and the walk over the entries of a row.
 use mathlib.Core.Path.{◌≡◌, refl, ap}
 use mathlib.Core.List.{List, [], ◌∷◌, ◌++◌}
-use Prim.Native.Nat.{ℕ, zero, suc, ◌+◌, ◌-◌, ◌≤◌, ◌<◌}
+use Prim.Native.Nat.{ℕ, zero, suc, ◌+◌, ◌≤◌, ◌<◌}
 use native.Mathlib.Omega.{arith}
 use lib.ListN.{length, get_or}
-use borrow.Author.Tests.{lt-ltb, le-ltb, eqb-true}
-use Rattle.counting.proofs.Cases.{clash}
+use borrow.Author.Tests.{lt-ltb, le-ltb}
 use Rattle.counting.proofs.Listed.{listed_at, listed_length}
 use Rattle.format.specs.declared.certificate.Command.{Command}
-use Rattle.format.specs.declared.certificate.Command.TheVariants as C
-use Rattle.format.specs.Operands.{number}
-use Rattle.format.specs.CertificateLayout.{certificate_command, certificate_size, certificate_unsigned}
+use Rattle.format.specs.CertificateLayout.{certificate_size}
 use Rattle.format.specs.CertificateRules.{Entry, Row, certificate_command_at}
-use Rattle.format.proofs.Lengths.{certificate_byte}
 use Rattle.certificate_rows.specs.Offsets.{size_at, entry_at, entries_from, row_at, rows_by, GivesEntry, by_entry, by_wide, EntriesStand, done, more}
 
--- ---- a command of an entry: both have their index at the same place, and at least four bytes
+-- ---- a command of an entry: both have at least four bytes
 pub entry_long : {k : Command} → GivesEntry k → 4 ≤ certificate_size k
 entry_long by_entry = omega arith
 entry_long by_wide = omega arith
-
-pub entry_index : {k : Command} → GivesEntry k → (s : List ℕ) (at : ℕ) → certificate_unsigned k 0 s at ≡ number 1 s (at + 1)
-entry_index by_entry s at = refl
-entry_index by_wide s at = refl
-
--- which of the two it is, by its byte
-pub wide_byte : (b : ℕ) → b ≡ 0x15 → certificate_command b ≡ C.WideEntry
-unfolding certificate_command
-wide_byte b e = rw e
-
-pub other_byte : {k : Command} → GivesEntry k → (b : ℕ) → certificate_command b ≡ k → (b ≡ 0x15 → ⊥) → k ≡ C.Entry
-other_byte by_entry b e f = refl
-other_byte by_wide b e f = absurd (f (eqb-true b 0x15 (certificate_byte C.WideEntry b e (λ u. clash (cc)))))
 
 -- ---- the walk over the entries
 pub none_left : (s : List ℕ) (n to : ℕ) → entries_from n s to to ≡ []

@@ -6,11 +6,9 @@ ghost use Rattle.std.specs.Prelude.{◌≡◌, false, ◌≤◌, length, drop};
 ghost use Rattle.joining_rule.specs.Bytes.{block_byte_count};
 ghost use Rattle.calls.specs.Tables.{table_length, tables, tables_short, TablesLeft};
 ghost use Rattle.calls.specs.Refusals.{certificate_refusal};
-ghost use Rattle.calls.specs.Outcome.{told};
-ghost use Rattle.calls.specs.Fractions.{fraction};
 ghost use Rattle.calls.specs.Blocks.{blocks_short, refused_blocks, blocks_verdict, bytes_left};
 ghost use Rattle.calls.specs.Check.{refused_check, check_verdict};
-ghost use Rattle.calls.specs.Pair.{refused_pair, pair_sides, pair_verdict};
+ghost use Rattle.calls.specs.Pair.{refused_pair, pair_verdict};
 ghost use Rattle.calls.specs.Promises.{NumberedTo, BlocksClosed, BlocksLeast, BlocksLowest, BlocksCounted, BlocksAfter};
 ghost use Rattle.calls.specs.Promises.{RoundsTaken, FewRounds, SevenExactly, RuleUsed};
 ghost use Rattle.calls.specs.Promises.{AcceptedExactly, CheckSplits, CheckDiffers, HoldsBySide};
@@ -20,14 +18,13 @@ ghost use Rattle.calls.specs.Zeros.{BlocksZeros, CheckZeros, TwoZeros, PairZeros
 ghost use Rattle.calls.specs.Rules.{BlocksUnderOne, CheckUnderOne, PairUnderOne};
 ghost use Rattle.calls.specs.Rules.{BlocksAtLarger, CheckAtLarger, PairAtLarger};
 ghost use Rattle.calls.specs.RowOrder.{CheckAnyOrder, PairAnyOrder};
-ghost use Rattle.fractions.specs.Ranges.{Bound};
-ghost use Rattle.checker.specs.Verdicts.{check_from, pair_from};
+ghost use Rattle.checker.specs.Verdicts.{outcome_of, check_from, pair_both, pair_from};
 
-use calls::{BlocksVerdict, CheckVerdict, Fraction, PairVerdict, Refusal, TwoChecks};
-use certificate_judge::Judged;
+use calls::{BlocksVerdict, CheckVerdict, PairVerdict, Refusal, TwoChecks};
+use certificate_judge::NO_REFUSAL;
 use flat::RULE;
 use format::certificate::Header;
-use problem_judge::{Prepared, TwoJudged};
+use problem_judge::TwoJudged;
 
 // All other fields are 0.
 fn refuse_blocks(refusal: Refusal) -> BlocksVerdict
@@ -62,12 +59,11 @@ fn answer_blocks(problem: &[u8], out: &mut [u8], table: &mut [u64]) -> BlocksVer
         table,
         &mut index,
     ) {
-        Prepared::Refused(f) => refuse_blocks(f),
-        Prepared::Ready(j) => {
+        Err(f) => refuse_blocks(f),
+        Ok(j) => {
             out[..576].copy_from_slice(&labels);
-            let refusal = certificate_judge::problem_refusal(0, 0);
             BlocksVerdict {
-                refusal,
+                refusal: NO_REFUSAL,
                 blocks: j.blocks,
                 rounds: j.rounds,
                 rule: sizes[RULE],
@@ -124,41 +120,31 @@ pub fn blocks(
     v
 }
 
-// The bound p/q that a certificate states.
-fn bound(p: i32, q: u16) -> Fraction
-    ensures { (result ≡ fraction p q) × Bound result }
-{
-    Fraction {
-        num: p as i64,
-        den: q as u64,
-    }
-}
-
 fn refuse_check(refusal: Refusal) -> CheckVerdict
     ensures { result ≡ refused_check refusal }
 {
     CheckVerdict {
         refusal,
         side: 0,
-        bound: fractions::no_fraction(),
+        bound: fractions::NONE,
         rounds: 0,
         rule: 0,
     }
 }
 
 // The verdict on one certificate.
-fn check_one(judged: Judged, rounds: usize, rule: usize) -> CheckVerdict
+fn check_one(judged: Result<Header, Refusal>, rounds: usize, rule: usize) -> CheckVerdict
     ensures { result ≡ check_from judged rounds rule }
 {
     match judged {
-        Judged::Refused(f) => refuse_check(f),
-        Judged::Accepted(t) => CheckVerdict {
-            refusal: certificate_judge::problem_refusal(0, 0),
+        Ok(t) => CheckVerdict {
+            refusal: NO_REFUSAL,
             side: t.side,
-            bound: bound(t.p, t.q),
+            bound: fractions::bound(t.p, t.q),
             rounds,
             rule,
         },
+        Err(f) => refuse_check(f),
     }
 }
 
@@ -181,11 +167,9 @@ pub fn check_two(
     ensures zeros { TwoZeros result }
 {
     let two = problem_judge::judge_two(1, problem, first, second, keys, high, low);
-    let a = two.first;
-    let b = two.second;
     TwoChecks {
-        first: check_one(a, two.rounds, two.rule),
-        second: check_one(b, two.rounds, two.rule),
+        first: check_one(two.first, two.rounds, two.rule),
+        second: check_one(two.second, two.rounds, two.rule),
     }
 }
 
@@ -232,63 +216,53 @@ fn refuse_pair(refusal: Refusal) -> PairVerdict
 {
     PairVerdict {
         refusal,
-        lower: fractions::no_fraction(),
-        upper: fractions::no_fraction(),
-        gap: fractions::no_fraction(),
+        lower: fractions::NONE,
+        upper: fractions::NONE,
+        gap: fractions::NONE,
         empty: false,
         rounds: 0,
         rule: 0,
     }
 }
 
-fn refuse_side(stream: u8) -> PairVerdict
-    ensures { result ≡ refused_pair (certificate_refusal stream 10 0 0) }
+// Refusal 10 of a certificate of a pair that is not of its side.
+fn wrong_side(stream: u8) -> Refusal
+    ensures { result ≡ certificate_refusal stream 10 0 0 }
 {
-    refuse_pair(Refusal {
-        number: 10,
-        stream,
-        place: 0,
-        key: 0,
-    })
+    certificate_judge::certificate_refusal(stream, 10, 0, 0)
 }
 
-// The verdict on two certificates that are accepted.
-fn pair_sides(lower: Header, upper: Header, rounds: usize, rule: usize) -> PairVerdict
-    ensures { result ≡ told refused_pair (pair_sides lower upper rounds rule) }
+// The verdict on two certificates that are accepted, or the refusal of the first check that fails.
+fn pair_sides(two: TwoJudged) -> Result<PairVerdict, Refusal>
+    ensures { outcome_of result ≡ pair_both two.first two.second two.rounds two.rule }
 {
+    let lower = two.first?;
+    let upper = two.second?;
     if lower.side != 0 {
-        return refuse_side(1);
+        return Err(wrong_side(1));
     }
     if upper.side != 1 {
-        return refuse_side(2);
+        return Err(wrong_side(2));
     }
-    let a = bound(lower.p, lower.q);
-    let b = bound(upper.p, upper.q);
+    let a = fractions::bound(lower.p, lower.q);
+    let b = fractions::bound(upper.p, upper.q);
     let gap = fractions::gap(a, b);
-    PairVerdict {
-        refusal: certificate_judge::problem_refusal(0, 0),
+    Ok(PairVerdict {
+        refusal: NO_REFUSAL,
         lower: a,
         upper: b,
         gap: fractions::unless_negative(gap),
         empty: fractions::is_negative(gap),
-        rounds,
-        rule,
-    }
+        rounds: two.rounds,
+        rule: two.rule,
+    })
 }
 
 // The verdict on a pair, by what became of both certificates.
 fn pair_of(two: TwoJudged) -> PairVerdict
     ensures { result ≡ pair_from two }
 {
-    let a = two.first;
-    let b = two.second;
-    match a {
-        Judged::Refused(f) => refuse_pair(f),
-        Judged::Accepted(lower) => match b {
-            Judged::Refused(f) => refuse_pair(f),
-            Judged::Accepted(upper) => pair_sides(lower, upper, two.rounds, two.rule),
-        },
-    }
+    pair_sides(two).unwrap_or_else(refuse_pair)
 }
 
 // Whether two certificates hold for a problem: `first` of a lower bound and `second` of an upper one.

@@ -7,7 +7,7 @@ use native.Mathlib.Omega.{arith}
 use lib.Dec.{ltb}
 use lib.ListN.{length, drop}
 use borrow.Author.Tests.{lt-ltb, le-ltb}
-use Rattle.counting.proofs.Cases.{clash}
+use Rattle.std.proofs.Common.{Result, Ok, Err, IsErr, IfOk, subst}
 use Rattle.joining_rule.specs.Sets.{insert}
 use Rattle.key_set.specs.Table.{keys_in, Holds, Indexed, Grown, Stored}
 use Rattle.joining_rule.proofs.Elements.{insert_grows}
@@ -25,6 +25,7 @@ use Rattle.joining_rule.proofs.Rounds.{after_extends}
 use Rattle.joining_bases.specs.declared.Closed.{Closed}
 use Rattle.closure.specs.Tables.{ClosureLeft}
 use Rattle.closure.specs.declared.Joined.{Joined}
+use Rattle.key_set.specs.declared.Full.{Full}
 
 -- the test for refusal 7
 abbrev large : Bases → Closing → Bool
@@ -43,16 +44,17 @@ module _ (rule most : ℕ) (g : Bases) (S₀ t : List ℕ) (n : ℕ) (t₁ : Lis
   start_large h = sym (lt-ltb 2048 (length (counted_keys g (closing_of rule most g S₀).state)) (omega (arith, grown.count, start_few)))
 
 -- ---- the rounds, the products that may be missing, and the zero exponent, one growth after another
-module _ (g : Bases) (o : Closing) (n : ℕ) (t : List ℕ) (r : Closed) (t₁ idx₁ l₁ : List ℕ) (settled : Settled o n t r t₁ idx₁ l₁) where
-  pub close_large : 2048 < r.len → true ≡ large g o
-  close_large h = sym (lt-ltb 2048 (length (counted_keys g o.state)) (omega (arith, settled.stored.grown.count, (counted_extends g o.state).more)))
+pub close_large : (g : Bases) (o : Closing) (n : ℕ) (t : List ℕ) (f : Full) (t₁ idx₁ l₁ : List ℕ) → Settled o n t (Err f) t₁ idx₁ l₁ → true ≡ large g o
+close_large g o n t f t₁ idx₁ l₁ settled =
+    sym (lt-ltb 2048 (length (counted_keys g o.state)) (omega (arith, settled.stored.grown.count, (counted_extends g o.state).more)))
 
-  module _ (few : r.len ≤ 2048) (L : List (List ℕ)) (e : L ≡ o.state.labels) (m : ℕ) (t₂ idx₂ : List ℕ) (products : Stored r.len (extend_to 9 g L (keys_in r.len t₁)) t₁ m t₂ idx₂) where
+module _ (g : Bases) (o : Closing) (n : ℕ) (t : List ℕ) (c : Closed) (t₁ idx₁ l₁ : List ℕ) (settled : Settled o n t (Ok c) t₁ idx₁ l₁) where
+  module _ (L : List (List ℕ)) (e : L ≡ o.state.labels) (m : ℕ) (t₂ idx₂ : List ℕ) (products : Stored c.len (extend_to 9 g L (keys_in c.len t₁)) t₁ m t₂ idx₂) where
     abbrev all : List ℕ
     all = extend_to 9 g o.state.labels o.state.support
 
     grown : Grown all t₁ m t₂
-    grown = rw (e, settled.stored.grown.keys few) at products.grown
+    grown = rw (e, settled.stored.grown.keys settled.few) at products.grown
 
     pub products_large : 2048 < m → true ≡ large g o
     unfolding counted_keys
@@ -109,36 +111,23 @@ module _ (rule most : ℕ) (keys sizes : List ℕ) (a : Arrays keys sizes) (S₀
       full = rw (labels_held, k) (closing_full rule most g S₀ some);
     }
 
--- a test that holds does not fail
-never : {b : Bool} {P : Type 0} → b ≡ true → b ≡ false → P
-never p q = clash (cc)
-
 -- what is left of a table that is kept beyond its first 2,048 numbers
-module _ (g : Bases) (o : Closing) (t : List ℕ) (r : Joined) (t' idx' l' : List ℕ) where
+module _ (g : Bases) (o : Closing) (t t' idx' l' : List ℕ) where
   -- where S is too large
-  pub left_full : r.full ≡ true → true ≡ large g o → length t' ≡ length t → drop 2048 t' ≡ drop 2048 t → ClosureLeft g o t r t' idx' l'
-  left_full e f a b = record {
-    full = e ∙ f;
-    labels = λ h. never e h;
-    rounds = λ h. never e h;
-    blocks = λ h. never e h;
-    len = λ h. never e h;
-    keys = λ h. never e h;
-    index = λ h. never e h;
-    long = a;
-    rest = b;
-  }
+  pub left_full : true ≡ large g o → length t' ≡ length t → drop 2048 t' ≡ drop 2048 t → (r : Result Joined Full) → IsErr r → ClosureLeft g o t r t' idx' l'
+  left_full f a b (Ok j) e = cc
+  left_full f a b (Err x) e = record { full = f; labels = tt; rounds = tt; blocks = tt; len = tt; keys = tt; index = tt; long = a; rest = b }
 
   -- where the table came from another, and bases with the same counted keys
   pub left_from : (h : Bases) → counted_keys g o.state ≡ counted_keys h o.state → (t₀ : List ℕ) → length t ≡ length t₀ → drop 2048 t ≡ drop 2048 t₀
-      → ClosureLeft g o t r t' idx' l' → ClosureLeft h o t₀ r t' idx' l'
-  left_from h e t₀ a b w = record {
+      → (r : Result Joined Full) → ClosureLeft g o t r t' idx' l' → ClosureLeft h o t₀ r t' idx' l'
+  left_from h e t₀ a b r w = record {
     full = w.full ∙ ap (λ (K : List ℕ). ltb 2048 (length K)) e;
     labels = w.labels;
     rounds = w.rounds;
     blocks = w.blocks;
-    len = λ q. w.len q ∙ ap length e;
-    keys = λ q. w.keys q ∙ e;
+    len = subst (λ (K : List ℕ). IfOk r (λ j. j.len ≡ length K)) e w.len;
+    keys = subst (λ (K : List ℕ). IfOk r (λ j. keys_in j.len t' ≡ K)) e w.keys;
     index = w.index;
     long = w.long ∙ a;
     rest = w.rest ∙ b;

@@ -1,7 +1,8 @@
 -- What the functions that compute the joining rule ask of their arrays and leave in the lent ones.
-use Rattle.std.specs.Prelude.{◌≡◌, false, List, ℕ, ltb, ℤ, length, drop}
+use Rattle.std.specs.Prelude.{◌≡◌, List, ℕ, ltb, ℤ, length, drop, Result, IfOk, is_err}
 use Rattle.flat.specs.Flat.{objective_number, FlatLimits}
 use Rattle.key_set.specs.Table.{keys_in, Indexed}
+use Rattle.key_set.specs.declared.Full.{Full}
 use Rattle.joining_rule.specs.Rounds.{Bases, Closing, blocks_in, counted_keys}
 use Rattle.joining_rule.specs.Bytes.{block_bytes}
 use Rattle.joining_rule.specs.Joining.{start_from, most_keys}
@@ -20,13 +21,13 @@ start_in keys sizes = start_from (exponents_in keys sizes objective_number) (bas
 
 -- what is left where the rounds end in o: the table t' holds the closed S with all in-block products and the zero
 -- exponent, idx' is its index, and l' has the block numbers, unless it has more than 2,048 members
-pub record ClosureLeft (g : Bases) (o : Closing) (t : List ℕ) (r : Joined) (t' idx' l' : List ℕ) : Type 0 where
-  pub full : r.full ≡ ltb most_keys (length (counted_keys g o.state))
-  pub labels : r.full ≡ false → l' ≡ block_bytes o.state.labels
-  pub rounds : r.full ≡ false → r.rounds ≡ o.rounds
-  pub blocks : r.full ≡ false → r.blocks ≡ blocks_in o.state.labels
-  pub len : r.full ≡ false → r.len ≡ length (counted_keys g o.state)
-  pub keys : r.full ≡ false → keys_in r.len t' ≡ counted_keys g o.state
-  pub index : r.full ≡ false → Indexed idx' t' r.len
+pub record ClosureLeft (g : Bases) (o : Closing) (t : List ℕ) (r : Result Joined Full) (t' idx' l' : List ℕ) : Type 0 where
+  pub full : is_err r ≡ ltb most_keys (length (counted_keys g o.state))
+  pub labels : IfOk r (λ _. l' ≡ block_bytes o.state.labels)
+  pub rounds : IfOk r (λ j. j.rounds ≡ o.rounds)
+  pub blocks : IfOk r (λ j. j.blocks ≡ blocks_in o.state.labels)
+  pub len : IfOk r (λ j. j.len ≡ length (counted_keys g o.state))
+  pub keys : IfOk r (λ j. keys_in j.len t' ≡ counted_keys g o.state)
+  pub index : IfOk r (λ j. Indexed idx' t' j.len)
   pub long : length t' ≡ length t
   pub rest : drop 2048 t' ≡ drop 2048 t

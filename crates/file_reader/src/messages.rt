@@ -2,12 +2,14 @@
 // `tools/week_messages` compare it with what must be. A message that cannot be written is lost.
 ghost use Rattle.std.specs.Prelude.{◌≤◌};
 
-use crate::names;
+use crate::Wording;
+use crate::names::Name;
 use std::fmt;
 use std::fmt::Write;
 use std::io::{Error, ErrorKind, Print};
 
-// The system's words for an error. The longest of Linux has 49 characters.
+// The system's words for an error, of which the longest of Linux has 49 characters. In fixed memory: a `String` would ask
+// for a heap.
 #[derive(Drop)]
 struct Words {
     bytes: [u8; 128],
@@ -26,87 +28,85 @@ impl fmt::Write for Words {
     }
 }
 
-// Puts bytes on standard error.
-pub fn say(err: &impl Print, bytes: &[u8]) {
-    let _ = err.write_all(bytes);
-}
+// The reason that the system gives for an error, without its number, which std adds to it.
+#[derive(Clone, Copy)]
+struct Reason<'a>(&'a Error);
 
-// Says the system's words for an error, without its number, which std adds to them.
-fn say_reason(err: &impl Print, e: &Error) {
-    let mut words = Words {
-        bytes: [0u8; 128],
-        len: 0,
-    };
-    let _ = write!(words, "{e}");
-    let Ok(text) = str::from_utf8(text::cut(&words.bytes, words.len)) else {
-        return;
-    };
-    let reason = match text.split_once(" (os error ") {
-        Some((reason, _)) => reason,
-        None => text,
-    };
-    say(err, reason.as_bytes());
+impl fmt::Display for Reason<'_> {
+    fn fmt<W: fmt::Write>(&self, f: &mut fmt::Formatter<W>) -> fmt::Result {
+        let mut words = Words {
+            bytes: [0u8; 128],
+            len: 0,
+        };
+        write!(words, "{}", self.0)?;
+        let Ok(text) = str::from_utf8(text::cut(&words.bytes, words.len)) else {
+            return Ok(());
+        };
+        match text.split_once(" (os error ") {
+            Some((reason, _)) => f.write_str(reason),
+            None => f.write_str(text),
+        }
+    }
 }
 
 // Says what failed, as the caller names it, and the reason.
-pub fn fail(err: &impl Print, what: &[u8], e: &Error) {
-    say(err, what);
-    say(err, b": ");
-    say_reason(err, e);
-    say(err, b"\n");
-}
-
-// A message begins with the program's name and the file's.
-fn speak_of(err: &impl Print, program: &[u8], path: &[u8]) {
-    say(err, program);
-    say(err, b": ");
-    names::write(err, path);
+pub fn fail(err: &impl Print, what: impl fmt::Display + Drop, e: &Error) {
+    let _ = println!(err; "{what}: {}", Reason(e));
 }
 
 // Whether a name looks like an option, which the programs take only as their first and only argument.
 fn is_dashed(path: &[u8]) -> bool {
-    if path.len() == 0 {
-        return false;
-    }
-    path[0] == b'-'
+    path.first() == Some(&b'-')
+}
+
+// Puts bytes on standard error: the words of a program, which need be no text.
+fn say(err: &impl Print, bytes: &[u8]) {
+    let _ = err.write_all(bytes);
+}
+
+// A message begins with the program's name and the file's.
+fn speak_of(err: &impl Print, words: Wording<'_>, path: &[u8]) {
+    say(err, words.program);
+    let _ = print!(err; ": {}: ", Name(path));
 }
 
 // A file that is not there. Who mistyped an option is told that it is none: the answer is that for a missing file.
-fn missing(err: &impl Print, program: &[u8], path: &[u8], res: &[u8]) {
-    speak_of(err, program, path);
+fn missing(err: &impl Print, words: Wording<'_>, path: &[u8]) {
+    speak_of(err, words, path);
     if is_dashed(path) {
-        say(err, b": no option here, and no file of this name, so ");
-        say(err, res);
+        say(err, b"no option here, and no file of this name, so ");
+        say(err, words.so);
         say(err, b"; options: ");
-        say(err, program);
+        say(err, words.program);
         say(err, b" --help\n");
     } else {
-        say(err, b": missing, so ");
-        say(err, res);
+        say(err, b"missing, so ");
+        say(err, words.so);
         say(err, b"\n");
     }
 }
 
 // A file that cannot be opened: it is missing, or there and not to be read.
-pub(crate) fn not_opened(err: &impl Print, program: &[u8], path: &[u8], res: &[u8], e: &Error) {
+pub(crate) fn not_opened(err: &impl Print, words: Wording<'_>, path: &[u8], e: &Error) {
     if e.kind() == ErrorKind::NotFound {
-        missing(err, program, path, res);
+        missing(err, words, path);
     } else {
-        not_read(err, program, path, res, e);
+        not_read(err, words, path, e);
     }
 }
 
 // A file that cannot be read, and the reason that the system gives.
-pub(crate) fn not_read(err: &impl Print, program: &[u8], path: &[u8], res: &[u8], e: &Error) {
-    speak_of(err, program, path);
-    say(err, b": cannot be read, so ");
-    fail(err, res, e);
+pub(crate) fn not_read(err: &impl Print, words: Wording<'_>, path: &[u8], e: &Error) {
+    speak_of(err, words, path);
+    say(err, b"cannot be read, so ");
+    say(err, words.so);
+    let _ = println!(err; ": {}", Reason(e));
 }
 
 // A file of which the start is read.
-pub(crate) fn longer(err: &impl Print, program: &[u8], path: &[u8], limit: &[u8]) {
-    speak_of(err, program, path);
-    say(err, b": longer than ");
-    say(err, limit);
+pub(crate) fn longer(err: &impl Print, words: Wording<'_>, path: &[u8]) {
+    speak_of(err, words, path);
+    say(err, b"longer than ");
+    say(err, words.limit);
     say(err, b" bytes, of which the first are read\n");
 }

@@ -3,7 +3,7 @@
 ghost use Rattle.std.specs.Prelude.{◌≡◌, take};
 ghost use Rattle.file_reader.specs.Escapes.{is_shown, escaped};
 
-use std::io::Print;
+use std::fmt;
 
 // Whether a byte is a printable character of ASCII.
 fn is_shown(b: u8) -> bool
@@ -49,10 +49,18 @@ fn escape(b: u8) -> Shown
     }
 }
 
-// Writes a name to standard error.
-pub(crate) fn write(err: &impl Print, name: &[u8]) {
-    for b in name {
-        let shown = escape(*b);
-        let _ = err.write_all(text::cut(&shown.bytes, shown.len));
+// A name of bytes, as a message shows it: all characters of ASCII.
+#[derive(Clone, Copy)]
+pub(crate) struct Name<'a>(pub(crate) &'a [u8]);
+
+impl fmt::Display for Name<'_> {
+    fn fmt<W: fmt::Write>(&self, f: &mut fmt::Formatter<W>) -> fmt::Result {
+        for b in self.0 {
+            let shown = escape(*b);
+            for c in text::cut(&shown.bytes, shown.len) {
+                f.write_char(char::from(*c))?;
+            }
+        }
+        Ok(())
     }
 }

@@ -10,10 +10,17 @@ ghost use Rattle.std.specs.Prelude.{◌≡◌, ◌≤◌, length, take};
 ghost use Rattle.lines.specs.Texts.{text_of};
 ghost use Rattle.lines.specs.Answers.{answer_to};
 
-use file_reader::arguments;
+use file_reader::{Wording, arguments};
 use lines::Text;
 use std::io::Print;
 use std::rt::{Env, Files};
+
+// What messages say of a file.
+const WORDING: Wording<'static> = Wording {
+    program: b"gapcheck",
+    limit: b"65,536",
+    so: b"its stream is empty",
+};
 
 // An answer, and how many bytes of each buffer were its streams.
 #[derive(Drop)]
@@ -35,29 +42,14 @@ pub fn answer_to(problem: &[u8], low: &[u8], high: &[u8]) -> Text
     text::pair_lines(v)
 }
 
-// The bytes of a file, at the start of the buffer, and how many. A missing file is an empty stream, and so is one that
+// The bytes of the file that argument i names, or of another where there is no such argument, and how many. With no
+// argument at all the other is the usual one, and nothing is said. A missing file is an empty stream, and so is one that
 // cannot be read; standard error says which.
-fn read_file(rt: &impl Files, err: &impl Print, path: &[u8], bytes: &mut [u8]) -> usize
-    ensures { result ≤ length bytes.new }
-{
-    file_reader::read_file(
-        rt,
-        err,
-        b"gapcheck",
-        path,
-        b"65,536",
-        b"its stream is empty",
-        bytes,
-    )
-}
-
-// The bytes of the file that argument i names, or of another where there is no such argument. With no argument at all
-// the other is the usual one, and nothing is said.
 fn read_stream<R: Env + Files>(
     rt: &R,
     err: &impl Print,
     i: usize,
-    other: &[u8],
+    other: &str,
     bytes: &mut [u8],
 ) -> usize
     ensures { result ≤ length bytes.new }
@@ -66,11 +58,11 @@ fn read_stream<R: Env + Files>(
         if arguments::is_given(rt, 1) {
             messages::left_out(err, i, other);
         }
-        return read_file(rt, err, other, bytes);
+        return file_reader::read_file(rt, err, WORDING, other.as_bytes(), bytes);
     }
     let mut path = [0u8; 4096];
     match arguments::take(rt, i, &mut path) {
-        Ok(n) => read_file(rt, err, text::cut(&path, n), bytes),
+        Ok(n) => file_reader::read_file(rt, err, WORDING, text::cut(&path, n), bytes),
         Err(e) => {
             messages::no_path(err, i, &e);
             0
@@ -95,9 +87,9 @@ pub fn answer<R: Env + Files>(
     if arguments::is_given(rt, 4) {
         messages::more_arguments(err);
     }
-    let a = read_stream(rt, err, 1, b"problem.bin", problem);
-    let b = read_stream(rt, err, 2, b"low.bin", low);
-    let c = read_stream(rt, err, 3, b"high.bin", high);
+    let a = read_stream(rt, err, 1, "problem.bin", problem);
+    let b = read_stream(rt, err, 2, "low.bin", low);
+    let c = read_stream(rt, err, 3, "high.bin", high);
     let text = answer_to(text::cut(problem, a), text::cut(low, b), text::cut(high, c));
     Answered {
         text,

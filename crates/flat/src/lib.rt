@@ -23,6 +23,14 @@ pub const RULE: usize = 29;
 // The sparse order stands last: the most rounds, and 0 where the problem names no order.
 pub const ORDER: usize = 30;
 
+// The three arrays of a problem, as they are lent.
+#[derive(Clone, Copy)]
+pub struct Arrays<'a> {
+    pub keys: &'a [u64],
+    pub coefficients: &'a [i32],
+    pub sizes: &'a [usize],
+}
+
 // The n numbers from a place on.
 pub fn part(l: &[u64], from: usize, n: usize) -> &[u64]
     requires { from + n ≤ length l.now }

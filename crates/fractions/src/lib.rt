@@ -27,26 +27,24 @@ pub fn bound(p: i32, q: u16) -> Fraction
     ensures { (result ≡ fraction p q) × Bound result }
 {
     Fraction {
-        num: p as i64,
-        den: q as u64,
+        num: i64::from(p),
+        den: u64::from(q),
     }
 }
 
-// The absolute value. The least number has no opposite in 64 bits, so what is turned is the number and 1.
+// The absolute value. The least number has no opposite in 64 bits.
 pub fn magnitude(n: i64) -> u64
     ensures { result ≡ nat_abs n }
 {
-    if n < 0 {
-        return (-1 - n) as u64 + 1;
-    }
-    n as u64
+    n.unsigned_abs()
 }
 
-// Half a word: numbers are multiplied by their halves, so that no sum leaves a word.
+// Half a word: numbers are multiplied by their halves, so that no sum leaves a word. Not in 128 bits, nor by a method of std
+// that is: for those the WebAssembly module of tools/wasm would have to import `__multi3`, and it imports nothing.
 const HALF: u64 = 1 << 32;
 
-// A product in two words: high * 2^64 + low.
-#[derive(Drop)]
+// A product in two words: high * 2^64 + low. The order that is derived compares the high words first.
+#[derive(Clone, Copy, Debug, PartialEq, Eq, PartialOrd, Ord)]
 struct Words {
     high: u64,
     low: u64,
@@ -73,34 +71,23 @@ fn product(n: u64, d: u64) -> Words
 fn less_products(n: u64, d: u64, m: u64, e: u64) -> bool
     ensures { result ≡ ltb (n * d) (m * e) }
 {
-    let a = product(n, d);
-    let b = product(m, e);
-    if a.high == b.high {
-        return a.low < b.low;
-    }
-    a.high < b.high
+    product(n, d) < product(m, e)
 }
 
 // Whether the first is less than the other, by cross products: for bounds, gaps and any other fractions. A product's
-// sign is that of its numerator, or it is 0.
+// sign is that of its numerator, or it is 0. A function and no `PartialOrd`: 0/0 is neither less nor greater than any, so this
+// is no order.
 pub fn less(first: Fraction, other: Fraction) -> bool
     ensures { result ≡ is_less first other }
 {
-    let n = magnitude(first.num);
-    let m = magnitude(other.num);
-    if first.num < 0 {
-        if other.num < 0 {
-            return less_products(m, first.den, n, other.den);
-        }
-        if 0 < other.den {
-            return true;
-        }
-        return less_products(0, 0, m, first.den);
+    let n = first.num.unsigned_abs();
+    let m = other.num.unsigned_abs();
+    match (first.num < 0, other.num < 0) {
+        (true, true) => less_products(m, first.den, n, other.den),
+        (true, false) => 0 < other.den || less_products(0, 0, m, first.den),
+        (false, true) => false,
+        (false, false) => less_products(n, other.den, m, first.den),
     }
-    if other.num < 0 {
-        return false;
-    }
-    less_products(n, other.den, m, first.den)
 }
 
 // The gap from a lower bound to an upper bound: (P × q − p × Q)/(Q × q), not reduced.
@@ -141,10 +128,7 @@ pub fn is_negative(f: Fraction) -> bool
 pub fn unless_negative(f: Fraction) -> Fraction
     ensures { result ≡ unless_negative f }
 {
-    if is_negative(f) {
-        return NONE;
-    }
-    f
+    if is_negative(f) { NONE } else { f }
 }
 
 // What a refusal returns in the place of a fraction.

@@ -27,41 +27,16 @@ pub fn empty() -> GapWindow
 fn is_refused(arrival: Fraction) -> bool
     ensures { result ≡ is_refused arrival }
 {
-    if arrival.num < 0 {
-        return true;
-    }
-    if 281474976710656 <= arrival.num {
-        return true;
-    }
-    if arrival.den == 0 {
-        return true;
-    }
-    4294967296 <= arrival.den
-}
-
-// One more, up to 32.
-fn one_more(n: usize) -> usize
-    ensures { result ≡ min 32 (n + 1) }
-{
-    if n < HELD {
-        return n + 1;
-    }
-    HELD
+    arrival.num < 0 || 1 << 48 <= arrival.num || arrival.den == 0 || 1 << 32 <= arrival.den
 }
 
 // Each gap becomes one older, and the oldest of 32 is pushed out.
 fn with_newest(window: GapWindow, newest: Fraction) -> GapWindow
     ensures { result ≡ with_newest window newest }
 {
-    let old = window.gaps;
-    let count = one_more(window.count);
     let mut gaps = [newest; 32];
-    let mut i = 1;
-    while i < HELD {
-        let gap = old[i - 1];
-        gaps[i] = gap;
-        i += 1;
-    }
+    gaps[1..].copy_from_slice(&window.gaps[..31]);
+    let count = window.count.min(HELD - 1) + 1;
     GapWindow { gaps, count }
 }
 
@@ -70,21 +45,19 @@ fn widest(window: GapWindow) -> AgedGap
     requires { window.count ≤ 32 }
     ensures { result ≡ widest_of (held window) }
 {
-    let gaps = window.gaps;
-    let mut i = window.count;
-    let mut gap = fractions::NONE;
-    let mut age = 0;
-    while 0 < i {
-        i -= 1;
-        let newer = gaps[i];
-        if fractions::less(newer, gap) {
-            age += 1;
+    let mut widest = AgedGap {
+        gap: fractions::NONE,
+        age: 0,
+    };
+    for newer in window.gaps[..window.count].iter().rev() {
+        if fractions::less(*newer, widest.gap) {
+            widest.age += 1;
         } else {
-            gap = newer;
-            age = 0;
+            widest.gap = *newer;
+            widest.age = 0;
         }
     }
-    AgedGap { gap, age }
+    widest
 }
 
 // A new gap: refusal 14, or the widest of the last 32 accepted so far, with its age; and the state after it.
@@ -112,8 +85,6 @@ pub fn push(window: GapWindow, arrival: Fraction) -> Pushed
     }
     let next = with_newest(window, arrival);
     let found = widest(next);
-    let gap = found.gap;
-    let age = found.age;
     Pushed {
         window: next,
         verdict: WindowVerdict {
@@ -123,8 +94,8 @@ pub fn push(window: GapWindow, arrival: Fraction) -> Pushed
                 place: 0,
                 key: 0,
             },
-            widest: gap,
-            age,
+            widest: found.gap,
+            age: found.age,
         },
     }
 }

@@ -1,10 +1,12 @@
 -- Sums that are divided by 2^16 between the parts that are added to them: a sum that is no multiple of 2^16 differs, and
 -- any other is 0 in the end if and only if the whole difference is.
+use Rattle.std.proofs.Common.{Option, None, Some, IfSome}
+use Rattle.std.proofs.lemmas.Option.{IfSome_then}
 use mathlib.Core.Path.{◌≡◌, refl, sym, ap, ◌∙◌}
 use mathlib.Core.Bool.{Bool, true, false}
 use mathlib.Core.Logic.{◌⊎◌, inl, inr, ⊎_elim}
 use mathlib.Core.List.{List}
-use Prim.Native.Nat.{ℕ, ◌+◌, ◌*◌, ◌^◌, ◌≤◌, ◌<◌}
+use Prim.Native.Nat.{ℕ, ◌+◌, ◌*◌, ◌^◌, ◌<◌}
 use native.Mathlib.Nat.{eq-or-lt_of_le, mul-pos, eq_of_mul-eq-mul_left}
 use native.Mathlib.Omega.{arith}
 use borrow.Author.Tests.{eqb-true, eqb-false}
@@ -19,17 +21,17 @@ use Rattle.counting.proofs.Cases.{clash}
 use Rattle.wide_sums.specs.Sums.{step, carried, value_at, Room, HasRoom, Uneven, Floor, Divided}
 use Rattle.wide_sums.proofs.Floors.{floor_uneven, floor_exact}
 use Rattle.wide_sums.proofs.Tables.{shrunk_none, shrunk_more}
-use Rattle.identity_check.specs.Compare.{Nonzero, Smaller, Smallest, DividedSums, Reached}
-use Rattle.identity_check.proofs.Least.{smallest_start, smallest_not, smallest_more}
+use Rattle.identity_check.specs.Compare.{smaller_of, AtMost, Nonzero, Smallest, DividedSums, Reached}
+use Rattle.identity_check.proofs.Least.{at_most_found, smallest_start, smallest_not, smallest_more}
 
 -- ---- the divisions, one place after another
-module _ {table : List ℕ} {n found : ℕ} {hi₀ lo₀ : List ℤ} where
-  pub dividing_start : DividedSums table n 0 found hi₀ lo₀ hi₀ lo₀ found
+module _ {table : List ℕ} {found : Option ℕ} {hi₀ lo₀ : List ℤ} where
+  pub dividing_start : DividedSums table 0 found hi₀ lo₀ hi₀ lo₀ found
   dividing_start = record { floors = λ q b. absurd (omega arith); smallest = smallest_start; high = shrunk_none; low = shrunk_none }
 
-  module _ {m r : ℕ} {hi₁ lo₁ : List ℤ} (h : DividedSums table n m found hi₀ lo₀ hi₁ lo₁ r) where
+  module _ {m : ℕ} {r : Option ℕ} {hi₁ lo₁ : List ℤ} (h : DividedSums table m found hi₀ lo₀ hi₁ lo₁ r) where
     -- a place that comes later is as it was
-    pub dividing_room : HasRoom n (2 ^ 36) hi₀ → m < n → Room hi₁ m carried
+    pub dividing_room : {n : ℕ} → HasRoom n (2 ^ 36) hi₀ → m < n → Room hi₁ m carried
     dividing_room r b =
         record {
           inside = omega (arith, r.long, h.high.long);
@@ -45,7 +47,7 @@ module _ {table : List ℕ} {n found : ℕ} {hi₀ lo₀ : List ℤ} where
             is = rw (← h.high.rest m (omega arith), ← h.low.rest m (omega arith)) d.floor.is;
           }
 
-      more : {r' : ℕ} → Smallest (λ q. Uneven (value_at hi₀ lo₀ q)) table n (m + 1) found r' → DividedSums table n (m + 1) found hi₀ lo₀ hi₂ lo₂ r'
+      more : {r' : Option ℕ} → Smallest (λ q. Uneven (value_at hi₀ lo₀ q)) table (m + 1) found r' → DividedSums table (m + 1) found hi₀ lo₀ hi₂ lo₂ r'
       more s =
           record {
             floors = λ q l.
@@ -58,11 +60,11 @@ module _ {table : List ℕ} {n found : ℕ} {hi₀ lo₀ : List ℤ} where
             low = shrunk_more h.low d.low;
           }
 
-      pub dividing_exact : b ≡ true → DividedSums table n (m + 1) found hi₀ lo₀ hi₂ lo₂ r
+      pub dividing_exact : b ≡ true → DividedSums table (m + 1) found hi₀ lo₀ hi₂ lo₂ r
       dividing_exact e = more (smallest_not h.smallest (λ f. f (value_at hi₂ lo₂ m) (floor_exact floor (d.yes e))))
 
-      pub dividing_uneven : b ≡ false → m < n → {r' : ℕ} → Smaller table n r m r' → DividedSums table n (m + 1) found hi₀ lo₀ hi₂ lo₂ r'
-      dividing_uneven e l w = more (smallest_more h.smallest l (floor_uneven floor (d.no e)) w)
+      pub dividing_uneven : b ≡ false → DividedSums table (m + 1) found hi₀ lo₀ hi₂ lo₂ (Some (smaller_of r (get_or table m 0)))
+      dividing_uneven e = more (smallest_more h.smallest (floor_uneven floor (d.no e)))
 
 -- ---- whole numbers
 zero_factor : (f : ℕ) (v : ℤ) → 0 < f → pos f *ℤ v ≡ pos 0 → v ≡ pos 0
@@ -82,14 +84,14 @@ other_side x e h =
 
 -- ---- the differences, from the first part to the last
 module _ {D : ℕ → ℤ} {table : List ℕ} {n : ℕ} where
-  pub reached_start : {W : ℕ → ℤ} → ((q : ℕ) → q < n → D q ≡ W q) → Reached D W table n n
+  pub reached_start : {W : ℕ → ℤ} → ((q : ℕ) → q < n → D q ≡ W q) → Reached D W table n None
   reached_start {W} h =
-      record { factor = 1; positive = omega arith; there = λ b. absurd (omega arith); each = λ q b. inr (h q b ∙ once (W q)) }
+      record { factor = 1; positive = omega arith; there = tt; each = λ q b. inr (h q b ∙ once (W q)) }
     where
       once : (v : ℤ) → v ≡ pos 1 *ℤ v
       once v = rw (view v).eq (simp diffs (⊖-eq _ _ _ _ (omega arith)))
 
-  pub reached_same : {W W' : ℕ → ℤ} {r : ℕ} → Reached D W table n r → ((q : ℕ) → q < n → W q ≡ W' q) → Reached D W' table n r
+  pub reached_same : {W W' : ℕ → ℤ} {r : Option ℕ} → Reached D W table n r → ((q : ℕ) → q < n → W q ≡ W' q) → Reached D W' table n r
   reached_same h e =
       record {
         factor = h.factor;
@@ -98,52 +100,51 @@ module _ {D : ℕ → ℤ} {table : List ℕ} {n : ℕ} where
         each = λ q b. ⊎_elim (λ w. inl w) (λ m. inr (m ∙ ap (λ (v : ℤ). pos h.factor *ℤ v) (e q b))) (h.each q b);
       }
 
-  pub reached_of : {D' W : ℕ → ℤ} {r : ℕ} → Reached D' W table n r → ((q : ℕ) → q < n → D q ≡ D' q) → Reached D W table n r
-  reached_of h e =
+  pub reached_of : {D' W : ℕ → ℤ} {r : Option ℕ} → Reached D' W table n r → ((q : ℕ) → q < n → D q ≡ D' q) → Reached D W table n r
+  reached_of {r = r} h e =
       record {
         factor = h.factor;
         positive = h.positive;
-        there = λ b z. h.there b (sym (e _ b) ∙ z);
-        each = λ q b. ⊎_elim (λ w. inl (λ z. w.0 (sym (e q b) ∙ z), w.1, w.2)) (λ m. inr (e q b ∙ m)) (h.each q b);
+        there = IfSome_then r h.there (λ k w. (w.0, w.1, λ z. w.2 (sym (e w.0 w.1) ∙ z), w.3));
+        each = λ q b. ⊎_elim (λ w. inl (λ z. w.0 (sym (e q b) ∙ z), w.1)) (λ m. inr (e q b ∙ m)) (h.each q b);
       }
 
   -- a division before what is added 2^16 times
-  module _ {hi₀ lo₀ hi₁ lo₁ : List ℤ} {found r : ℕ} (d : DividedSums table n n found hi₀ lo₀ hi₁ lo₁ r) (E : ℕ → ℤ)
+  module _ {hi₀ lo₀ hi₁ lo₁ : List ℤ} {found r : Option ℕ} (d : DividedSums table n found hi₀ lo₀ hi₁ lo₁ r) (E : ℕ → ℤ)
       (h : Reached D (λ q. value_at hi₀ lo₀ q +ℤ pos step *ℤ E q) table n found) where
     uneven_differs : (q : ℕ) → D q ≡ pos h.factor *ℤ (value_at hi₀ lo₀ q +ℤ pos step *ℤ E q) → Uneven (value_at hi₀ lo₀ q) → D q ≡ pos 0 → ⊥
     uneven_differs q m u z = u (neg_ℤ (E q)) (other_side (value_at hi₀ lo₀ q) (E q) (zero_factor h.factor _ h.positive (sym m ∙ z)))
 
     abbrev Known : ℕ → Type 0
-    Known q = (D q ≡ pos 0 → ⊥) × (r < n) × (get_or table r 0 ≤ get_or table q 0)
+    Known q = (D q ≡ pos 0 → ⊥) × AtMost (get_or table q 0) r
 
-    kept : (q : ℕ) → (D q ≡ pos 0 → ⊥) × (found < n) × (get_or table found 0 ≤ get_or table q 0) → Known q
-    kept q w = let f = d.smallest.first w.1 in (w.0, f.0, omega (arith, f.1, w.2))
+    kept : (q : ℕ) → (D q ≡ pos 0 → ⊥) × AtMost (get_or table q 0) found → Known q
+    kept q w = (w.0, at_most_found _ found r d.smallest.first w.1)
 
     step_each : (q : ℕ) (b : q < n) → D q ≡ pos h.factor *ℤ (value_at hi₀ lo₀ q +ℤ pos step *ℤ E q) → (t : Bool) → eqb (d.floors q b).rest 0 ≡ t
         → Known q ⊎ (D q ≡ pos (h.factor * step) *ℤ (value_at hi₁ lo₁ q +ℤ E q))
     step_each q b m true e = inr (m ∙ divided_part h.factor (value_at hi₀ lo₀ q) (value_at hi₁ lo₁ q) (E q) (floor_exact (d.floors q b) (eqb-true _ 0 e)))
     step_each q b m false e =
         let u = floor_uneven (d.floors q b) (eqb-false _ 0 e) in
-        let s = d.smallest.each q b u in
-        inl (uneven_differs q m u, s.0, s.1)
+        inl (uneven_differs q m u, d.smallest.each q b u)
 
     pub reached_divided : Reached D (λ q. value_at hi₁ lo₁ q +ℤ E q) table n r
     reached_divided =
         record {
           factor = h.factor * step;
           positive = mul-pos h.positive (omega arith);
-          there = λ b. ⊎_elim (λ (e : r ≡ found). rw e (h.there (omega arith))) (λ w. ⊎_elim (λ k. k.0) (λ m. uneven_differs r m w.1) (h.each r b)) d.smallest.one;
+          there = ⊎_elim (λ (e : r ≡ found). rw e h.there) (λ w. rw w.3 (w.0, w.1, ⊎_elim (λ k. k.0) (λ m. uneven_differs w.0 m w.2) (h.each w.0 w.1), refl)) d.smallest.one;
           each = λ q b. ⊎_elim (λ w. inl (kept q w)) (λ m. step_each q b m (eqb (d.floors q b).rest 0) refl) (h.each q b);
         }
 
--- ---- the smallest place that differs
-pub record Least (D : ℕ → ℤ) (table : List ℕ) (n r : ℕ) : Type 0 where
-  pub none : n ≤ r → (q : ℕ) → q < n → D q ≡ pos 0
-  pub there : r < n → D r ≡ pos 0 → ⊥
-  pub least : r < n → (q : ℕ) → q < n → (D q ≡ pos 0 → ⊥) → get_or table r 0 ≤ get_or table q 0
+-- ---- the smallest key that differs
+pub record Least (D : ℕ → ℤ) (table : List ℕ) (n : ℕ) (r : Option ℕ) : Type 0 where
+  pub none : r ≡ None → (q : ℕ) → q < n → D q ≡ pos 0
+  pub there : IfSome r (λ k. (q : ℕ) × (q < n) × (D q ≡ pos 0 → ⊥) × (get_or table q 0 ≡ k))
+  pub least : (q : ℕ) → q < n → (D q ≡ pos 0 → ⊥) → AtMost (get_or table q 0) r
 
-module _ {D : ℕ → ℤ} {table : List ℕ} {n : ℕ} (hi lo : List ℤ) {found r : ℕ} (h : Reached D (value_at hi lo) table n found)
-    (s : Smallest (Nonzero hi lo) table n n found r) where
+module _ {D : ℕ → ℤ} {table : List ℕ} {n : ℕ} (hi lo : List ℤ) {found r : Option ℕ} (h : Reached D (value_at hi lo) table n found)
+    (s : Smallest (Nonzero hi lo) table n found r) where
   zero_or_not : (q : ℕ) (t : Bool) → same_number (value_at hi lo q) (pos 0) ≡ t → (value_at hi lo q ≡ pos 0) ⊎ Nonzero hi lo q
   zero_or_not q true e = inl (same_equal _ _ e)
   zero_or_not q false e = inr (λ z. let t : same_number (value_at hi lo q) (pos 0) ≡ true = rw z (same_self (pos 0)) in clash (cc))
@@ -154,22 +155,18 @@ module _ {D : ℕ → ℤ} {table : List ℕ} {n : ℕ} (hi lo : List ℤ) {foun
   zero_there : (q : ℕ) → D q ≡ pos h.factor *ℤ value_at hi lo q → value_at hi lo q ≡ pos 0 → D q ≡ pos 0
   zero_there q m z = m ∙ zero_times h.factor (value_at hi lo q) z
 
+  -- a place that differs has a key, and one whose sum is 0 does not differ
+  zero_or_known : (q : ℕ) → q < n → (D q ≡ pos 0) ⊎ AtMost (get_or table q 0) r
+  zero_or_known q b =
+      ⊎_elim (λ w. inr (at_most_found _ found r s.first w.1)) (λ m. ⊎_elim (λ z. inl (zero_there q m z)) (λ u. inr (s.each q b u)) (tested q)) (h.each q b)
+
   pub reached_end : Least D table n r
   reached_end =
       record {
-        none = λ l q b.
-            ⊎_elim
-            (λ w. absurd (let f = s.first w.1 in omega (arith, f.0)))
-            (λ m. ⊎_elim (zero_there q m) (λ u. absurd (let f = s.each q b u in omega (arith, f.0))) (tested q))
-            (h.each q b);
-        there = λ b.
-            ⊎_elim
-            (λ (e : r ≡ found). rw e (h.there (omega arith)))
-            (λ w. ⊎_elim (λ k. k.0) (λ m z. w.1 (zero_factor h.factor _ h.positive (sym m ∙ z))) (h.each r b))
+        none = λ e q b. ⊎_elim (λ z. z) (λ k. absurd (rw e at k)) (zero_or_known q b);
+        there = ⊎_elim
+            (λ (e : r ≡ found). rw e h.there)
+            (λ w. rw w.3 (w.0, w.1, ⊎_elim (λ k. k.0) (λ m z. w.2 (zero_factor h.factor _ h.positive (sym m ∙ z))) (h.each w.0 w.1), refl))
             s.one;
-        least = λ l q b f.
-            ⊎_elim
-            (λ w. let a = s.first w.1 in omega (arith, a.1, w.2))
-            (λ m. ⊎_elim (λ z. absurd (f (zero_there q m z))) (λ u. (s.each q b u).1) (tested q))
-            (h.each q b);
+        least = λ q b f. ⊎_elim (λ z. absurd (f z)) (λ k. k) (zero_or_known q b);
       }

@@ -1,4 +1,5 @@
 -- The smallest key whose sum is not 0 is the first at which the claim and the squares differ.
+use Rattle.std.proofs.Common.{Option, None, Some}
 use mathlib.Core.Path.{◌≡◌, refl, sym, ap, ap₂, ◌∙◌}
 use mathlib.Core.Logic.{⊎_elim}
 use mathlib.Core.Bool.{Bool, true, false, cond}
@@ -28,7 +29,6 @@ use Rattle.key_set.specs.Table.{keys_in, Holds, Indexed}
 use Rattle.key_set.proofs.Keys.{keys_rising, keys_at, at_keys}
 use Rattle.wide_sums.specs.Sums.{value_at}
 use Rattle.certificate_rows.specs.Offsets.{rows_by}
-use Rattle.identity_check.specs.declared.Difference.TheVariants.{Same, Differs}
 use Rattle.identity_sums.specs.Tables.{unit, Ready, SumsGrown}
 use Rattle.identity_check.specs.Compare.{difference_of, Nonzero, Zeroed, Smallest, Carried, Given}
 use Rattle.identity_sums.proofs.Growth.{grown_same}
@@ -73,21 +73,22 @@ equal_zero a b e = rw (e, (view b).eq) (simp diffs (⊖-eq _ _ _ _ (omega arith)
 
 -- the places of a table and the elements of its set
 module _ (P Q : List Term) {table : List ℕ} {n : ℕ} (h : Holds table n) (D : ℕ → ℤ)
-    (v : (q : ℕ) → q < n → D q ≡ neg_ℤ (coefficient (get_or table q 0) P) +ℤ coefficient (get_or table q 0) Q) (r : ℕ) (f : Least D table n r) where
+    (v : (q : ℕ) → q < n → D q ≡ neg_ℤ (coefficient (get_or table q 0) P) +ℤ coefficient (get_or table q 0) Q) (r : Option ℕ) (f : Least D table n r) where
   equal : (q : ℕ) → q < n → D q ≡ pos 0 → Equal P Q (get_or table q 0)
   equal q b e = zero_equal _ _ (sym (v q b) ∙ e)
 
   unequal : (q : ℕ) → q < n → (Equal P Q (get_or table q 0) → ⊥) → D q ≡ pos 0 → ⊥
   unequal q b g e = g (equal q b e)
 
-  pub tables_same : n ≤ r → first_difference P Q (keys_in n table) ≡ none
+  pub tables_same : r ≡ None → first_difference P Q (keys_in n table) ≡ none
   tables_same l = difference_none P Q (keys_in n table) (λ k m. keys_at h k m (λ q b e. rw (← e) (equal q b (f.none l q b))))
 
-  pub tables_differ : r < n → first_difference P Q (keys_in n table) ≡ some (get_or table r 0)
-  tables_differ l =
-      difference_at P Q (keys_in n table) (keys_rising n table) (get_or table r 0) (at_keys h r l)
-      (λ e. f.there l (v r l ∙ equal_zero _ _ e))
-      (λ k m g. keys_at h k m (λ q b e. rw (← e) (f.least l q b (unequal q b (λ w. g (rw (← e) w))))))
+  pub tables_differ : (x : ℕ) → r ≡ Some x → first_difference P Q (keys_in n table) ≡ some x
+  tables_differ x l =
+      let w = rw l at f.there in
+      difference_at P Q (keys_in n table) (keys_rising n table) x (rw w.3 at (at_keys h w.0 w.1))
+      (λ e. w.2 (v w.0 w.1 ∙ equal_zero _ _ (rw (← w.3) at e)))
+      (λ k m g. keys_at h k m (λ q b e. rw (← e) (rw l at (f.least q b (unequal q b (λ u. g (rw (← e) u)))))))
 
 -- ---- the tables at the start and at the end
 pub zeroed_ready : {table idx : List ℕ} {n : ℕ} {hi lo : List ℤ} → Zeroed table n hi lo → Indexed idx table n → (c : ℕ) → c < 2 ^ 63 → Ready table idx n hi lo c
@@ -112,8 +113,8 @@ module _ {p : Problem} {c : Certificate} {s starts : List ℕ} {rows : ℕ} {hea
     (given : Given p c s starts rows header keys coefficients sizes table n)
     -- the objective's exponents and coefficients, as they are lent
     {E : List ℕ} {C : List ℤ} (lent : E ≡ take (get_or sizes 18 0) (drop 864 keys)) (with : C ≡ take (get_or sizes 18 0) (drop 288 coefficients)) where
-  module _ {hi₀ hi₁ hi₂ lo₀ lo₁ lo₂ : List ℤ} {a known r : ℕ} (z : Zeroed table n hi₀ lo₀) (g : SumsGrown table n hi₀ lo₀ (λ k. neg_ℤ (coefficient k (claim_of (terms_in (length E) E C) header))) a hi₁ lo₁)
-      (m : Carried (λ p k. coefficient k (squares p (rows_by s starts rows))) keys coefficients sizes table n hi₁ lo₁ hi₂ lo₂ known) (f : Smallest (Nonzero hi₂ lo₂) table n n known r) where
+  module _ {hi₀ hi₁ hi₂ lo₀ lo₁ lo₂ : List ℤ} {a : ℕ} {known r : Option ℕ} (z : Zeroed table n hi₀ lo₀) (g : SumsGrown table n hi₀ lo₀ (λ k. neg_ℤ (coefficient k (claim_of (terms_in (length E) E C) header))) a hi₁ lo₁)
+      (m : Carried (λ p k. coefficient k (squares p (rows_by s starts rows))) keys coefficients sizes table n hi₁ lo₁ hi₂ lo₂ known) (f : Smallest (Nonzero hi₂ lo₂) table n known r) where
     -- the whole sum at a place
     abbrev total : ℕ → ℤ
     total q = value_at hi₁ lo₁ q +ℤ coefficient (get_or table q 0) (squares p (rows_by s starts rows))
@@ -136,8 +137,15 @@ module _ {p : Problem} {c : Certificate} {s starts : List ℕ} {rows : ℕ} {hea
     unfolding difference_key
     key_is = rw given.compared
 
-    pub found_same : n ≤ r → Same ≡ difference_of (difference_key p c)
-    found_same h = ap difference_of (sym (tables_same _ _ z.support total total_is r least h) ∙ key_is)
+    pub found_same : r ≡ None → None ≡ difference_of (difference_key p c)
+    found_same e = ap difference_of (sym (tables_same _ _ z.support total total_is r least e) ∙ key_is)
 
-    pub found_differs : r < n → Differs (get_or table r 0) ≡ difference_of (difference_key p c)
-    found_differs h = ap difference_of (sym (tables_differ _ _ z.support total total_is r least h) ∙ key_is)
+    pub found_differs : (x : ℕ) → r ≡ Some x → Some x ≡ difference_of (difference_key p c)
+    found_differs x e = ap difference_of (sym (tables_differ _ _ z.support total total_is r least x e) ∙ key_is)
+
+    found_by : (o : Option ℕ) → r ≡ o → o ≡ difference_of (difference_key p c)
+    found_by None e = found_same e
+    found_by (Some x) e = found_differs x e
+
+    pub found_is : r ≡ difference_of (difference_key p c)
+    found_is = found_by r refl

@@ -1,7 +1,8 @@
 -- All parts of the squares, one after another: what is known of the whole sums.
+use Rattle.std.proofs.Common.{Option, None}
 use mathlib.Core.Path.{◌≡◌, refl, sym, ap, ◌∙◌}
 use mathlib.Core.List.{List}
-use Prim.Native.Nat.{ℕ, ◌+◌, ◌*◌, ◌^◌, ◌≤◌, ◌<◌}
+use Prim.Native.Nat.{ℕ, ◌+◌, ◌^◌, ◌≤◌, ◌<◌}
 use native.Mathlib.Omega.{arith}
 use lib.IntN.{ℤ, pos, ◌+ℤ◌, ◌*ℤ◌, +ℤ_assoc}
 use lib.ListN.{get_or}
@@ -16,17 +17,15 @@ use Rattle.wide_sums.specs.Sums.{step, value_at}
 use Rattle.wide_sums.proofs.Tables.{shrunk_room}
 use Rattle.row_digits.specs.declared.Part.TheVariants.{Low, Cross, High}
 use Rattle.identity_sums.specs.Tables.{Ready}
-use Rattle.identity_rows.specs.Spread.{table_unit}
 use Rattle.identity_rows.specs.Walk.{Comparable, on_bases, bases_in, beyond, Alone, Summed}
 use Rattle.identity_check.specs.Compare.{DividedSums, Reached, Carried}
-use Rattle.identity_sums.proofs.Growth.{ready_after}
 use Rattle.identity_rows.proofs.Walks.{squares_are}
 use Rattle.identity_check.proofs.Carries.{reached_start, reached_same, reached_of, reached_divided}
 use Rattle.identity_check.proofs.Untouched.{near_untouched, shrunk_untouched, untouched_then}
 
 -- after a division there is room again
-pub divided_ready : {table idx : List ℕ} {n c found r : ℕ} {hi₀ lo₀ hi₁ lo₁ : List ℤ} → Ready table idx n hi₀ lo₀ c
-    → DividedSums table n n found hi₀ lo₀ hi₁ lo₁ r → (d : ℕ) → d ≤ 2 ^ 62 + 2 ^ 61 → Ready table idx n hi₁ lo₁ d
+pub divided_ready : {table idx : List ℕ} {n c : ℕ} {found r : Option ℕ} {hi₀ lo₀ hi₁ lo₁ : List ℤ} → Ready table idx n hi₀ lo₀ c
+    → DividedSums table n found hi₀ lo₀ hi₁ lo₁ r → (d : ℕ) → d ≤ 2 ^ 62 + 2 ^ 61 → Ready table idx n hi₁ lo₁ d
 divided_ready r h d l =
     record {
       support = r.support;
@@ -35,11 +34,6 @@ divided_ready r h d l =
       low = shrunk_room h.low r.low.long (omega arith);
     }
 
--- and after the part that is added then, room for a carry
-pub summed_ready : {f : Problem → ℕ → ℤ} {keys : List ℕ} {coefficients : List ℤ} {sizes table idx : List ℕ} {n c found r : ℕ} {hi₀ lo₀ hi₁ lo₁ hi₂ lo₂ : List ℤ}
-    → Ready table idx n hi₀ lo₀ c → DividedSums table n n found hi₀ lo₀ hi₁ lo₁ r → Summed f keys coefficients sizes table n 9 hi₁ lo₁ hi₂ lo₂ → Ready table idx n hi₂ lo₂ (2 ^ 36)
-summed_ready r h m = ready_after (divided_ready r h (9 * table_unit + 2 ^ 36) (omega arith)) m.grown (omega arith)
-
 module _ {keys : List ℕ} {coefficients : List ℤ} {sizes table : List ℕ} {n : ℕ} where
   -- the sum at a place, for the problem that the arrays hold
   summed_there : {f : Problem → ℕ → ℤ} {c : ℕ} {hi₀ lo₀ hi₁ lo₁ : List ℤ} → Summed f keys coefficients sizes table n c hi₀ lo₀ hi₁ lo₁
@@ -47,9 +41,9 @@ module _ {keys : List ℕ} {coefficients : List ℤ} {sizes table : List ℕ} {n
   summed_there {hi₀ = hi₀} {lo₀ = lo₀} m p t q b = m.grown.there q b ∙ ap (λ (z : ℤ). value_at hi₀ lo₀ q +ℤ z) (m.are p t (get_or table q 0))
 
   -- ---- the parts that only wide factors have
-  module _ (rs : List Row) {hi₀ lo₀ hi₁ lo₁ hi₂ lo₂ hi₃ lo₃ hi₄ lo₄ : List ℤ} {first second : ℕ} (few : n ≤ 2048)
-      (d : DividedSums table n n n hi₀ lo₀ hi₁ lo₁ first) (c : Summed (on_bases rs (bases_in sizes) Cross) keys coefficients sizes table n 9 hi₁ lo₁ hi₂ lo₂)
-      (e : DividedSums table n n first hi₂ lo₂ hi₃ lo₃ second) (h : Summed (on_bases rs (bases_in sizes) High) keys coefficients sizes table n 9 hi₃ lo₃ hi₄ lo₄) where
+  module _ (rs : List Row) {hi₀ lo₀ hi₁ lo₁ hi₂ lo₂ hi₃ lo₃ hi₄ lo₄ : List ℤ} {first second : Option ℕ} (few : n ≤ 2048)
+      (d : DividedSums table n None hi₀ lo₀ hi₁ lo₁ first) (c : Summed (on_bases rs (bases_in sizes) Cross) keys coefficients sizes table n 9 hi₁ lo₁ hi₂ lo₂)
+      (e : DividedSums table n first hi₂ lo₂ hi₃ lo₃ second) (h : Summed (on_bases rs (bases_in sizes) High) keys coefficients sizes table n 9 hi₃ lo₃ hi₄ lo₄) where
     module _ (p : Problem) (t : FlatProblem p keys coefficients sizes) where
       abbrev high_part : ℕ → ℤ
       high_part q = on_bases rs (bases_in sizes) High p (get_or table q 0)
@@ -93,7 +87,7 @@ module _ {keys : List ℕ} {coefficients : List ℤ} {sizes table : List ℕ} {n
         ∙ sym (+ℤ_assoc (value_at hi₀ lo₀ q) (on_bases rs m Low p k) (pos step *ℤ beyond rs m p k))
         ∙ ap (λ (z : ℤ). z +ℤ pos step *ℤ beyond rs m p k) (sym (summed_there l p t q b))
 
-    pub narrow_carried : Alone (on_bases rs (bases_in sizes)) → Carried (λ p k. coefficient k (squares p rs)) keys coefficients sizes table n hi₀ lo₀ hi₁ lo₁ n
+    pub narrow_carried : Alone (on_bases rs (bases_in sizes)) → Carried (λ p k. coefficient k (squares p rs)) keys coefficients sizes table n hi₀ lo₀ hi₁ lo₁ None
     narrow_carried a =
         record {
           reached = λ p t. reached_start (λ q b. whole p t q b ∙ rw (a.cross p (get_or table q 0), a.high p (get_or table q 0)) (nothing (value_at hi₁ lo₁ q)));
@@ -104,7 +98,7 @@ module _ {keys : List ℕ} {coefficients : List ℤ} {sizes table : List ℕ} {n
         nothing : (v : ℤ) → v +ℤ pos step *ℤ (pos 0 +ℤ pos step *ℤ pos 0) ≡ v
         nothing v = rw (view v).eq (simp diffs (⊖-eq _ _ _ _ (omega arith)))
 
-    pub parts_carried : {hi₂ lo₂ : List ℤ} {r : ℕ} → Carried (λ p k. pos step *ℤ beyond rs (bases_in sizes) p k) keys coefficients sizes table n hi₁ lo₁ hi₂ lo₂ r
+    pub parts_carried : {hi₂ lo₂ : List ℤ} {r : Option ℕ} → Carried (λ p k. pos step *ℤ beyond rs (bases_in sizes) p k) keys coefficients sizes table n hi₁ lo₁ hi₂ lo₂ r
         → Carried (λ p k. coefficient k (squares p rs)) keys coefficients sizes table n hi₀ lo₀ hi₂ lo₂ r
     parts_carried c =
         record {

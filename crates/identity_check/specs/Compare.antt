@@ -1,6 +1,6 @@
 -- Refusal 9 by the tables: what the comparison asks for, and its answer's cases.
-use Rattle.std.specs.Prelude.{◌≡◌, ◌⊎◌, List, ℕ, ◌^◌, ◌≤◌, ◌<◌, ℤ, pos, ◌+ℤ◌, ◌*ℤ◌, length, get_or, drop}
-use Rattle.std.proofs.Math.Option.{Option, none, some}
+use Rattle.std.specs.Prelude.{◌≡◌, ◌⊎◌, Option, Some, None, IfSome, IsSomeAnd, List, ℕ, min, ◌^◌, ◌≤◌, ◌<◌, ℤ, pos, ◌+ℤ◌, ◌*ℤ◌, length, get_or, drop}
+use Rattle.std.proofs.Math.Option as Math
 use Rattle.format.specs.ProblemRules.{Problem}
 use Rattle.format.specs.CertificateRules.{Certificate}
 use Rattle.format.specs.declared.certificate.Header.{Header}
@@ -9,13 +9,11 @@ use Rattle.key_set.specs.Table.{keys_in, Holds}
 use Rattle.wide_sums.specs.Sums.{base, value_at, Shrunk, Uneven, Floor}
 use Rattle.flat.specs.Flat.{FlatProblem}
 use Rattle.certificate_rows.specs.Offsets.{rows_by}
-use Rattle.identity_check.specs.declared.Difference.{Difference}
-use Rattle.identity_check.specs.declared.Difference.TheVariants.{Same, Differs}
 
 -- the answer's cases: the key of refusal 9, or none
-abbrev pub difference_of : Option ℕ → Difference
-difference_of (some k) = Differs k
-difference_of none = Same
+abbrev pub difference_of : Math.Option ℕ → Option ℕ
+difference_of (Math.some k) = Some k
+difference_of Math.none = None
 
 -- the first n numbers of the table differ, and the sums at their places are 0
 pub record Zeroed (table : List ℕ) (n : ℕ) (hi lo : List ℤ) : Type 0 where
@@ -25,40 +23,42 @@ pub record Zeroed (table : List ℕ) (n : ℕ) (hi lo : List ℤ) : Type 0 where
   pub hi_zero : (q : ℕ) → q < n → get_or hi q (pos 0) ≡ pos 0
   pub lo_zero : (q : ℕ) → q < n → get_or lo q (pos 0) ≡ pos 0
 
--- r is the one of the places a and b with the smaller key, where a may be no place below n
-pub record Smaller (table : List ℕ) (n a b r : ℕ) : Type 0 where
-  pub one : ((r ≡ a) × (a < n)) ⊎ (r ≡ b)
-  pub first : a < n → get_or table r 0 ≤ get_or table a 0
-  pub second : get_or table r 0 ≤ get_or table b 0
+-- the smaller of a key that may be known and another
+abbrev pub smaller_of : Option ℕ → ℕ → ℕ
+smaller_of None key = key
+smaller_of (Some k) key = min k key
 
--- r is the place with the smallest key of those among the first m that P holds of and of `found`, which may be no place
--- below n
-pub record Smallest (P : ℕ → Type 0) (table : List ℕ) (n m found r : ℕ) : Type 0 where
-  pub one : (r ≡ found) ⊎ ((r < n) × P r)
-  pub first : found < n → (r < n) × (get_or table r 0 ≤ get_or table found 0)
-  pub each : (q : ℕ) → q < m → P q → (r < n) × (get_or table r 0 ≤ get_or table q 0)
+-- there is a key, and it is not above this one
+abbrev pub AtMost : ℕ → Option ℕ → Type 0
+AtMost key r = IsSomeAnd r (λ k. k ≤ key)
+
+-- r is the smallest of the keys at those of the first m places that P holds of, and of `found`, if there is any
+pub record Smallest (P : ℕ → Type 0) (table : List ℕ) (m : ℕ) (found r : Option ℕ) : Type 0 where
+  pub one : (r ≡ found) ⊎ ((q : ℕ) × (q < m) × P q × (r ≡ Some (get_or table q 0)))
+  pub first : IfSome found (λ k. AtMost k r)
+  pub each : (q : ℕ) → q < m → P q → AtMost (get_or table q 0) r
 
 -- the sum at a place is not 0
 abbrev pub Nonzero : List ℤ → List ℤ → ℕ → Type 0
 Nonzero hi lo q = value_at hi lo q ≡ pos 0 → ⊥
 
--- the sums at the first m places are divided by 2^16, rounded down, and nothing else has changed; r is the place with
--- the smallest key of those whose sum was no multiple of 2^16 and of `found`
-pub record DividedSums (table : List ℕ) (n m found : ℕ) (hi₀ lo₀ hi₁ lo₁ : List ℤ) (r : ℕ) : Type 0 where
+-- the sums at the first m places are divided by 2^16, rounded down, and nothing else has changed; r is the smallest key
+-- of those whose sum was no multiple of 2^16, and of `found`
+pub record DividedSums (table : List ℕ) (m : ℕ) (found : Option ℕ) (hi₀ lo₀ hi₁ lo₁ : List ℤ) (r : Option ℕ) :
+    Type 0 where
   pub floors : (q : ℕ) → q < m → Floor (value_at hi₀ lo₀ q) (value_at hi₁ lo₁ q)
-  pub smallest : Smallest (λ q. Uneven (value_at hi₀ lo₀ q)) table n m found r
+  pub smallest : Smallest (λ q. Uneven (value_at hi₀ lo₀ q)) table m found r
   pub high : Shrunk m (2 ^ 48) hi₀ hi₁
   pub low : Shrunk m base lo₀ lo₁
 
--- what is known of the differences D at the first n places when the numbers W are left to be tested for 0: r is a place
--- that differs, or no place below n; and each place either differs and has no smaller key than r, or its difference is
--- W's number there times a factor, so that one is 0 where the other is
-pub record Reached (D W : ℕ → ℤ) (table : List ℕ) (n r : ℕ) : Type 0 where
+-- what is known of the differences D at the first n places when the numbers W are left to be tested for 0: r is the key
+-- at a place that differs, if there is one; and each place either differs and has no smaller key than r, or its
+-- difference is W's number there times a factor, so that one is 0 where the other is
+pub record Reached (D W : ℕ → ℤ) (table : List ℕ) (n : ℕ) (r : Option ℕ) : Type 0 where
   pub factor : ℕ
   pub positive : 0 < factor
-  pub there : r < n → D r ≡ pos 0 → ⊥
-  pub each : (q : ℕ) → q < n
-      → ((D q ≡ pos 0 → ⊥) × (r < n) × (get_or table r 0 ≤ get_or table q 0)) ⊎ (D q ≡ pos factor *ℤ W q)
+  pub there : IfSome r (λ k. (q : ℕ) × (q < n) × (D q ≡ pos 0 → ⊥) × (get_or table q 0 ≡ k))
+  pub each : (q : ℕ) → q < n → ((D q ≡ pos 0 → ⊥) × AtMost (get_or table q 0) r) ⊎ (D q ≡ pos factor *ℤ W q)
 
 -- the arrays stand for the problem p, and the stream by its offsets for the certificate c; the table holds the keys
 -- that are compared
@@ -77,7 +77,7 @@ pub record Untouched (t₀ t₁ : List ℤ) : Type 0 where
 -- the sums grew by f of the problem that the arrays hold, part after part, and were divided between the parts: what is
 -- known of the whole sums then
 pub record Carried (f : Problem → ℕ → ℤ) (keys : List ℕ) (coefficients : List ℤ) (sizes table : List ℕ) (n : ℕ)
-    (hi₀ lo₀ hi₁ lo₁ : List ℤ) (r : ℕ) : Type 0 where
+    (hi₀ lo₀ hi₁ lo₁ : List ℤ) (r : Option ℕ) : Type 0 where
   pub reached : (p : Problem) → FlatProblem p keys coefficients sizes
       → Reached (λ q. value_at hi₀ lo₀ q +ℤ f p (get_or table q 0)) (value_at hi₁ lo₁) table n r
   pub high : Untouched hi₀ hi₁
@@ -85,7 +85,7 @@ pub record Carried (f : Problem → ℕ → ℤ) (keys : List ℕ) (coefficients
 
 -- the answer for the problem and the certificate, and what is left of the sums
 pub record Answered (s starts : List ℕ) (rows : ℕ) (header : Header) (keys : List ℕ) (coefficients : List ℤ)
-    (sizes table : List ℕ) (n : ℕ) (r : Difference) (hi₀ lo₀ hi₁ lo₁ : List ℤ) : Type 0 where
+    (sizes table : List ℕ) (n : ℕ) (r : Option ℕ) (hi₀ lo₀ hi₁ lo₁ : List ℤ) : Type 0 where
   pub difference : (p : Problem) (c : Certificate) → Given p c s starts rows header keys coefficients sizes table n
       → r ≡ difference_of (difference_key p c)
   pub high : Untouched hi₀ hi₁

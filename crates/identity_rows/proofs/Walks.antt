@@ -1,6 +1,7 @@
 -- One basis after another: the sums hold one part of the squares of the rows on the bases so far.
+use Rattle.std.proofs.Common.{Option, None, Some}
 use mathlib.Core.Path.{◌≡◌, refl, sym, ap, ap₂, ◌∙◌}
-use mathlib.Core.Bool.{false}
+use mathlib.Core.Bool.{Bool, false}
 use mathlib.Core.List.{List}
 use Prim.Native.Nat.{ℕ, zero, suc, ◌+◌, ◌*◌, ◌^◌, ◌≤◌, ◌<◌}
 use native.Mathlib.Numerals.{add-one}
@@ -23,11 +24,11 @@ use Rattle.certificate_rows.specs.Offsets.{rows_by}
 use Rattle.wide_sums.specs.Sums.{step}
 use Rattle.row_digits.specs.declared.Part.{Part}
 use Rattle.row_digits.specs.declared.Part.TheVariants.{Low, Cross, High}
-use Rattle.row_products.specs.declared.Found.{Found}
 use Rattle.row_outer.specs.Gram.{rows_on, by_basis}
 use Rattle.row_outer.specs.Frame.{spread_at, Framed}
 use Rattle.row_outer.specs.Outer.{gathered_most}
 use Rattle.row_folding.specs.Fold.{FoldedTable}
+use Rattle.row_digits.specs.Digits.{NarrowRow}
 use Rattle.row_products.specs.Gather.{RowsFor, Gathered}
 use Rattle.row_outer.proofs.Frames.{zeros_empty}
 use Rattle.row_outer.proofs.Gram.{squares_bases}
@@ -77,21 +78,9 @@ module _ {s starts : List ℕ} {rows : ℕ} {keys : List ℕ} {coefficients : Li
   abbrev pub rows_for : {g : List ℤ} → RoomFor sizes g → RowsFor s starts rows j (length g)
   rows_for r = record { problem = w.problem; rows_sound = w.rows_sound; fits = omega (arith, size_is, r.long j h) }
 
-  module _ {part : Part} {g₀ g₁ : List ℤ} {found : Found} (r : RoomFor sizes g₀) (k : Gathered part (rows_by s starts rows) j g₀ g₁ found) where
+  module _ {part : Part} {g₀ g₁ : List ℤ} {found : Option Bool} (r : RoomFor sizes g₀) (k : Gathered part (rows_by s starts rows) j g₀ g₁ found) where
     pub part_framed : Framed (length (basis_in keys sizes j)) gathered_most g₁
     part_framed = rw (w.flat.bases j h) (gathered_framed (rows_for r) k)
-
-    -- without a wide factor the first part is all
-    pub basis_alone : found.wide ≡ false → Alone (on_basis (rows_by s starts rows) j)
-    basis_alone e = record { cross = λ p m. narrow_cross_spread k e p m; high = λ p m. narrow_high_spread k e p m }
-
-    -- without a row there is nothing to add, and the table is as it was
-    module _ (e : found.any ≡ false) where
-      pub none_room : RoomFor sizes g₁
-      none_room = record { empty = gathered_none k e; long = λ i b. omega (arith, r.long i b, k.long) }
-
-      pub none_summed : {table : List ℕ} {n : ℕ} {hi lo : List ℤ} → Summed (on_basis (rows_by s starts rows) j part) keys coefficients sizes table n 1 hi lo hi lo
-      none_summed = record { sums = λ _. pos 0; grown = grown_none (λ q b. refl); are = λ p t m. sym (none_spread k p m e) }
 
     -- what was folded and spread
     module _ {g₂ g₃ : List ℤ} (f : FoldedTable (basis_in keys sizes j) g₁ g₂) {table : List ℕ} {n : ℕ} {hi₀ lo₀ hi₁ lo₁ : List ℤ}
@@ -106,6 +95,29 @@ module _ {s starts : List ℕ} {rows : ℕ} {keys : List ℕ} {coefficients : Li
             grown = grown_same d.grown (λ m. refl) (omega arith);
             are = λ p t m. f.same _ m ∙ rw (t.bases j h, terms_part t j h) (gathered_spread k p m);
           }
+
+  -- without a wide factor the first part is all
+  abbrev on : List Row
+  on = rows_on j (rows_by s starts rows)
+
+  narrow_alone : All NarrowRow on → Alone (on_basis (rows_by s starts rows) j)
+  narrow_alone k = record { cross = λ p m. narrow_cross_spread (rows_by s starts rows) j k p m; high = λ p m. narrow_high_spread (rows_by s starts rows) j k p m }
+
+  pub basis_alone : {part : Part} {g₀ g₁ : List ℤ} {wide : Bool} → Gathered part (rows_by s starts rows) j g₀ g₁ (Some wide) → wide ≡ false
+      → Alone (on_basis (rows_by s starts rows) j)
+  basis_alone k e = narrow_alone (k.wide e)
+
+  -- without a row there is nothing to add, and the table is as it was
+  module _ {part : Part} {g₀ g₁ : List ℤ} (r : RoomFor sizes g₀) (k : Gathered part (rows_by s starts rows) j g₀ g₁ None) where
+    pub none_room : RoomFor sizes g₁
+    none_room = record { empty = gathered_none k; long = λ i b. omega (arith, r.long i b, k.long) }
+
+    pub none_alone : Alone (on_basis (rows_by s starts rows) j)
+    unfolding All
+    none_alone = narrow_alone (rw k.wide tt)
+
+    pub none_summed : {table : List ℕ} {n : ℕ} {hi lo : List ℤ} → Summed (on_basis (rows_by s starts rows) j part) keys coefficients sizes table n 1 hi lo hi lo
+    none_summed = record { sums = λ _. pos 0; grown = grown_none (λ q b. refl); are = λ p t m. sym (none_spread k p m) }
 
 -- ---- all bases
 module _ (rs : List Row) where

@@ -1,110 +1,71 @@
 // The weighted squares of all rows added at the compared keys, one part of their products at a time: the table of sums by
 // indices of each basis, times its multiplier.
 //
-// Three bundles go through these functions, always in this order: the certificate (its bytes, the offsets of its rows
-// and their number), the problem (keys, coefficients and sizes, as in the crate flat) and the compared keys (a table,
-// how many they are, and their index); then the two tables of sums. A struct cannot hold the slices, so the functions
-// that need all three have more than eight parameters.
+// What goes through these functions stands always in this order: the table of sums by indices, the rows of the
+// certificate, the problem, the compared keys, and the two tables of sums at them.
 #![tactic(auto)]
 
 ghost use Rattle.std.specs.Prelude.{◌≡◌, false, ◌*◌, ◌^◌, ◌≤◌, ◌<◌, ◌*ℤ◌, length};
 ghost use Rattle.format.specs.ProblemLimits.{most_bases};
-ghost use Rattle.key_set.specs.Table.{divisor_in};
-ghost use Rattle.flat.specs.TermArrays.{terms_in};
-ghost use Rattle.certificate_rows.specs.Offsets.{rows_by};
 ghost use Rattle.row_outer.specs.Frame.{share, spread_at, Framed, Entered};
 ghost use Rattle.row_outer.specs.Outer.{gathered_most};
 ghost use Rattle.row_folding.specs.Fold.{folded_most, FoldedTable};
 ghost use Rattle.counting.specs.Counting.{Bounded};
-ghost use Rattle.identity_sums.specs.Tables.{Ready, SumsGrown};
-ghost use Rattle.identity_sums.specs.Tables.{Slots};
-ghost use Rattle.identity_rows.specs.Spread.{entry_unit, table_unit, Spreadable, Spread};
-ghost use Rattle.identity_rows.specs.Walk.{Comparable, RoomFor, on_basis, on_bases, bases_in};
-ghost use Rattle.identity_rows.specs.Walk.{Alone, Summed};
+ghost use Rattle.identity_sums.specs.Bundles.{ReadyFor, Grown, held, PlacedBy};
+ghost use Rattle.identity_rows.specs.Spread.{entry_unit, table_unit};
+ghost use Rattle.identity_rows.specs.Walk.{RoomFor, on_basis, on_bases, bases_in, Alone};
+ghost use Rattle.identity_rows.specs.Bundles.{SpreadableTerms, SpreadOver, rows_in, ComparableIn, SummedAt};
+
+use certificate_rows::Rows;
+use flat::Arrays;
+use identity_sums::{Compared, Placed, Terms};
+use row_digits::Part;
 
 // Adds one entry of the table of sums: a times b * b' for the indices of its place, times the multiplier.
 fn add_entry(
     basis: &[u64],
-    exponents: &[u64],
-    slots: &[usize; 32],
-    coefficients: &[i32],
-    table: &[u64],
-    n: usize,
-    index: &[u16; 6144],
+    multiplier: &Placed,
+    keys: Compared,
     hi: &mut [i64],
     lo: &mut [i64],
     x: usize,
     a: i64,
 )
-    requires ready { Ready table.now index.now n hi.old lo.old entry_unit
-        × Slots (divisor_in index.now) exponents.now slots.now }
-    requires spreadable { Spreadable basis.now exponents.now coefficients.now × Entered folded_most basis.now x a }
-    ensures { SumsGrown table.now n hi.old lo.old
-        (λ k. a *ℤ share basis.now
-        (terms_in (length exponents.now) exponents.now coefficients.now) k x)
-        entry_unit hi.new lo.new }
+    requires ready { ReadyFor keys hi.old lo.old entry_unit × PlacedBy keys multiplier.now }
+    requires spreadable { SpreadableTerms basis.now multiplier.now.terms × Entered folded_most basis.now x a }
+    ensures { Grown keys.entry hi.old lo.old
+        (λ k. a *ℤ share basis.now (held multiplier.now.terms) k x) entry_unit hi.new lo.new }
 {
     if a == 0 {
         return;
     }
-    let i = x / 64;
-    let k = x % 64;
-    let key = basis[i] + basis[k];
-    identity_sums::add_terms(
-        table,
-        n,
-        index,
-        hi,
-        lo,
-        exponents,
-        slots,
-        coefficients,
-        key,
-        a,
-    );
+    let key = basis[x / 64] + basis[x % 64];
+    identity_sums::add_terms(keys, hi, lo, multiplier, key, a);
 }
 
 // Adds the whole table of sums, and clears it. It holds nothing below the diagonal, nor past the basis's last index.
 fn spread(
     g: &mut [i64],
     basis: &[u64],
-    exponents: &[u64],
-    coefficients: &[i32],
-    table: &[u64],
-    n: usize,
-    index: &[u16; 6144],
+    multiplier: Terms,
+    keys: Compared,
     hi: &mut [i64],
     lo: &mut [i64],
 )
-    requires ready { Ready table.now index.now n hi.old lo.old table_unit }
-    requires spreadable { Spreadable basis.now exponents.now coefficients.now × Framed (length basis.now) folded_most g.old }
-    ensures { Spread table.now n
-        (spread_at basis.now
-        (terms_in (length exponents.now) exponents.now coefficients.now)
-        g.old) g.old hi.old lo.old g.new hi.new
-        lo.new }
+    requires ready { ReadyFor keys hi.old lo.old table_unit }
+    requires spreadable { SpreadableTerms basis.now multiplier × Framed (length basis.now) folded_most g.old }
+    ensures { SpreadOver keys.entry (spread_at basis.now (held multiplier.entry) g.old)
+        g.old hi.old lo.old g.new hi.new lo.new }
 {
-    let mut slots = [0usize; 32];
-    identity_sums::note_slots(&mut slots, exponents, index);
+    let placed = identity_sums::place(keys, multiplier);
     let size = basis.len();
     let last = 64 * size;
     let mut x = 0;
+    // Not by one: `next_place` passes over what is below the diagonal.
     while x < last {
         let a = g[x];
         g[x] = 0;
-        add_entry(
-            basis,
-            exponents,
-            &slots,
-            coefficients,
-            table,
-            n,
-            index,
-            hi,
-            lo,
-            x,
-            a,
-        );
+        add_entry(basis, &placed, keys, hi, lo, x, a);
         x = row_folding::next_place(x, size);
     }
 }
@@ -127,38 +88,28 @@ fn fold_large(g: &mut [i64], basis: &[u64])
 // and after. Whether a row has a wide factor.
 fn add_basis(
     g: &mut [i64],
-    s: &[u8],
-    starts: &[usize; 129],
-    rows: usize,
+    rows: Rows,
     j: usize,
-    part: row_digits::Part,
-    keys: &[u64],
-    coefficients: &[i32],
-    sizes: &[usize],
-    table: &[u64],
-    n: usize,
-    index: &[u16; 6144],
+    part: Part,
+    problem: Arrays,
+    keys: Compared,
     hi: &mut [i64],
     lo: &mut [i64],
 ) -> bool
-    requires ready { Ready table.now index.now n hi.old lo.old table_unit × RoomFor sizes.now g.old }
-    requires comparable { Comparable s.now starts.now rows keys.now coefficients.now sizes.now × (j < most_bases) }
-    ensures { Summed (on_basis (rows_by s.now starts.now rows) j part) keys.now
-        coefficients.now sizes.now table.now n 1 hi.old
-        lo.old hi.new lo.new
-        × RoomFor sizes.now g.new
-        × (result ≡ false → Alone (on_basis (rows_by s.now starts.now rows) j)) }
+    requires ready { ReadyFor keys hi.old lo.old table_unit × RoomFor problem.sizes.now g.old }
+    requires comparable { ComparableIn rows problem × (j < most_bases) }
+    ensures { SummedAt (on_basis (rows_in rows.entry) j part) problem.entry keys.entry 1
+        hi.old lo.old hi.new lo.new
+        × RoomFor problem.entry.sizes.now g.new
+        × (result ≡ false → Alone (on_basis (rows_in rows.entry) j)) }
 {
-    let found = row_products::add_basis_rows(g, s, starts, rows, j, part);
-    let wide = found.wide;
-    if !found.any {
-        return wide;
-    }
-    let basis = flat::basis(keys, sizes, j);
-    let es = flat::exponents(keys, sizes, j);
-    let cs = flat::coefficients(coefficients, sizes, j);
+    let Some(wide) = row_products::add_basis_rows(g, rows, j, part) else {
+        return false;
+    };
+    let basis = flat::basis(problem.keys, problem.sizes, j);
+    let multiplier = identity_sums::polynomial(problem, j);
     fold_large(g, basis);
-    spread(g, basis, es, cs, table, n, index, hi, lo);
+    spread(g, basis, multiplier, keys, hi, lo);
     wide
 }
 
@@ -166,51 +117,23 @@ fn add_basis(
 // factor.
 pub fn sum_rows(
     g: &mut [i64],
-    s: &[u8],
-    starts: &[usize; 129],
-    rows: usize,
-    part: row_digits::Part,
-    keys: &[u64],
-    coefficients: &[i32],
-    sizes: &[usize],
-    table: &[u64],
-    n: usize,
-    index: &[u16; 6144],
+    rows: Rows,
+    part: Part,
+    problem: Arrays,
+    keys: Compared,
     hi: &mut [i64],
     lo: &mut [i64],
 ) -> bool
-    requires ready { Ready table.now index.now n hi.old lo.old (9 * table_unit) }
-    requires comparable { Comparable s.now starts.now rows keys.now coefficients.now sizes.now × RoomFor sizes.now g.old }
-    ensures { Summed (on_bases (rows_by s.now starts.now rows) (bases_in sizes.now) part)
-        keys.now coefficients.now sizes.now table.now n 9
-        hi.old lo.old hi.new lo.new
-        × RoomFor sizes.now g.new
-        × (result ≡ false
-        → Alone (on_bases (rows_by s.now starts.now rows) (bases_in sizes.now))) }
+    requires ready { ReadyFor keys hi.old lo.old (9 * table_unit) }
+    requires comparable { ComparableIn rows problem × RoomFor problem.sizes.now g.old }
+    ensures { SummedAt (on_bases (rows_in rows.entry) (bases_in problem.entry.sizes.now) part)
+        problem.entry keys.entry 9 hi.old lo.old hi.new lo.new
+        × RoomFor problem.entry.sizes.now g.new
+        × (result ≡ false → Alone (on_bases (rows_in rows.entry) (bases_in problem.entry.sizes.now))) }
 {
-    let last = sizes[flat::CONDITIONS];
     let mut wide = false;
-    let mut j: usize = 0;
-    while j <= last {
-        if add_basis(
-            g,
-            s,
-            starts,
-            rows,
-            j,
-            part,
-            keys,
-            coefficients,
-            sizes,
-            table,
-            n,
-            index,
-            hi,
-            lo,
-        ) {
-            wide = true;
-        }
-        j += 1;
+    for j in 0..=problem.sizes[flat::CONDITIONS] {
+        wide |= add_basis(g, rows, j, part, problem, keys, hi, lo);
     }
     wide
 }

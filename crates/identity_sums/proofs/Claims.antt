@@ -1,10 +1,9 @@
--- The claim, taken away: its factors, and its coefficient at a key.
-use mathlib.Core.Path.{◌≡◌, refl, sym}
+-- The claim, taken away: its coefficient at a key, from the factors.
+use mathlib.Core.Path.{◌≡◌, sym}
 use mathlib.Core.List.{List, [], ◌∷◌, ◌++◌}
-use Prim.Native.Nat.{ℕ, zero, suc}
-use native.Mathlib.Omega.{arith}
-use lib.IntN.{ℤ, pos, neg_ℤ, ◌+ℤ◌, ◌-ℤ◌, ◌*ℤ◌, +ℤ_idl, +ℤ_idr, neg_ℤ-+ℤ}
-use Rattle.integers.proofs.Ring.{view, diffs, ⊖-eq, negℤ-*ℤ, *ℤ_assoc, *ℤ-+ℤ}
+use Prim.Native.Nat.{ℕ}
+use lib.IntN.{ℤ, pos, neg_ℤ, ◌+ℤ◌, ◌*ℤ◌, +ℤ_idr, neg_ℤ-+ℤ}
+use Rattle.integers.proofs.Ring.{negℤ-*ℤ, *ℤ_assoc, *ℤ-+ℤ}
 use Rattle.polynomial.specs.Terms.{Term, term}
 use Rattle.polynomial.specs.Algebra.{sum, match, coefficient, scale}
 use Rattle.polynomial.proofs.Sums.{sum_append, sum_scale}
@@ -13,21 +12,6 @@ use Rattle.accepting.specs.Identity.{turned, claim_of}
 use Rattle.identity_sums.specs.declared.Negated.{Negated}
 use Rattle.identity_sums.specs.Tables.{Negates}
 
--- ---- the signs of a side
-pub minus : (a : ℤ) → pos 0 -ℤ a ≡ neg_ℤ a
-minus a = +ℤ_idl (neg_ℤ a)
-
-pub back : (a b : ℤ) → a *ℤ b ≡ neg_ℤ (a *ℤ neg_ℤ b)
-back a b = rw ((view a).eq, (view b).eq) (simp diffs (⊖-eq _ _ _ _ (omega arith)))
-
-pub back_twice : (a b : ℤ) → neg_ℤ (a *ℤ b) ≡ neg_ℤ (a *ℤ neg_ℤ (neg_ℤ b))
-back_twice a b = rw ((view a).eq, (view b).eq) (simp diffs (⊖-eq _ _ _ _ (omega arith)))
-
-pub turned_other : (s : ℕ) (x : ℤ) → (s ≡ 0 → ⊥) → turned s x ≡ neg_ℤ x
-turned_other zero x f = absurd (f refl)
-turned_other (suc s) x f = refl
-
--- ---- the coefficient
 ring : (d a b s m : ℤ) → neg_ℤ (d *ℤ a) *ℤ s +ℤ neg_ℤ (d *ℤ b) *ℤ m ≡ neg_ℤ (d *ℤ (a *ℤ s +ℤ (b *ℤ m +ℤ pos 0)))
 ring d a b s m =
     rw (negℤ-*ℤ (d *ℤ a) s, *ℤ_assoc d a s, negℤ-*ℤ (d *ℤ b) m, *ℤ_assoc d b m, +ℤ_idr (b *ℤ m), *ℤ-+ℤ d (a *ℤ s) (b *ℤ m)) (sym (neg_ℤ-+ℤ (d *ℤ (a *ℤ s)) (d *ℤ (b *ℤ m))))

@@ -15,14 +15,13 @@ use Rattle.counting.proofs.Cases.{clash}
 use Rattle.polynomial.specs.Algebra.{match}
 use Rattle.key_set.specs.Table.{Holds, Finds}
 use Rattle.joining_rule.specs.Sets.{member}
-use Rattle.key_set.specs.declared.Found.{Found}
-use Rattle.key_set.specs.declared.Found.TheVariants.{At, Nowhere}
+use Rattle.std.specs.Prelude.{Result, Ok, Err}
 use Rattle.joining_rule.proofs.Elements.{member_at}
 use Rattle.key_set.proofs.Keys.{inside, keys_apart}
 use Rattle.key_set.proofs.Index.{rest_sum}
 use Rattle.wide_sums.specs.Sums.{value_of, value_at, Room, added_at}
 use Rattle.wide_sums.specs.declared.Halves.{Halves}
-use Rattle.wide_sums.proofs.Tables.{added_at_lem, added_near, room_at, room_less, room_after, near_none, near_more, near_then}
+use Rattle.wide_sums.proofs.Tables.{added_at_lem, added_near, room_at, room_after, near_none, near_more, near_then}
 use Rattle.identity_sums.specs.Tables.{unit, Sought, Ready, SumsGrown, Scaled}
 
 module _ {keys : List ℕ} {n : ℕ} {hi₀ hi₁ lo₀ lo₁ : List ℤ} where
@@ -52,9 +51,6 @@ module _ {keys : List ℕ} {n : ℕ} {hi₀ hi₁ lo₀ lo₁ : List ℤ} where
         low = near_then x.low y.low l;
       }
 
-pub ready_less : {keys idx : List ℕ} {n : ℕ} {hi lo : List ℤ} {c d : ℕ} → Ready keys idx n hi lo c → d ≤ c → Ready keys idx n hi lo d
-ready_less r l = record { support = r.support; index = r.index; high = room_less r.high l; low = room_less r.low l }
-
 pub grown_none : {keys : List ℕ} {n : ℕ} {hi lo : List ℤ} {f : ℕ → ℤ} {c : ℕ} → ((q : ℕ) → q < n → f (get_or keys q 0) ≡ pos 0) → SumsGrown keys n hi lo f c hi lo
 grown_none {hi = hi} {lo = lo} e =
     record {
@@ -73,20 +69,20 @@ matched : (x : ℤ) (k j : ℕ) → (k ≡ j → ⊥) → x *ℤ match k j ≡ p
 matched x k j f = rw (ne_eqb j k (λ e. f (sym e)), *ℤ-zero)
 
 -- what a search tells
-module _ {keys : List ℕ} {n : ℕ} (support : Holds keys n) (key : ℕ) (r : Found) (f : Finds key (take n keys) r) where
+module _ {keys : List ℕ} {n : ℕ} (support : Holds keys n) (key : ℕ) (r : Result ℕ ℕ) (f : Finds key (take n keys) r) where
   long : length (take n keys) ≡ n
   long = length-take-le n keys (inside support)
 
-  pub sought_at : (p : ℕ) → r ≡ At p → Sought keys n key p
+  pub sought_at : (p : ℕ) → r ≡ Ok p → Sought keys n key p
   sought_at p e =
       let g = rw e at f in
       let b : p < n = omega (arith, g.0, long) in
       record { there = λ _. sym (get_or-take n keys p 0 b) ∙ g.1; none = λ l. absurd (omega arith) }
 
-  pub found_inside : (p : ℕ) → r ≡ At p → p < n
+  pub found_inside : (p : ℕ) → r ≡ Ok p → p < n
   found_inside p e = let g = rw e at f in omega (arith, g.0, long)
 
-  pub sought_nowhere : (steps : ℕ) → r ≡ Nowhere steps → Sought keys n key n
+  pub sought_nowhere : (steps : ℕ) → r ≡ Err steps → Sought keys n key n
   sought_nowhere steps e =
       record {
         there = λ l. absurd (omega arith);

@@ -46,6 +46,7 @@ pub record Scaled (x : Halves) (c : ℤ) : Type 0 where
 -- the places of exponents in an index of keys whose divisor is d
 pub record Slots (d : ℕ) (exponents slots : List ℕ) : Type 0 where
   pub few : length exponents ≤ 32
+  pub long : length slots ≡ 32
   pub each : (t : ℕ) → t < length exponents → get_or slots t 0 ≡ get_or exponents t 0 % d
 
 -- a polynomial in two arrays, with coefficients of 16 bits, to be added x times and moved by a key

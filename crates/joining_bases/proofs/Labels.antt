@@ -2,12 +2,14 @@
 use mathlib.Core.Path.{◌≡◌, refl, sym, ap, ◌∙◌}
 use mathlib.Core.Logic.{inl, inr, ⊎_elim}
 use mathlib.Core.List.{List, [], ◌++◌}
-use Prim.Native.Nat.{ℕ, ◌+◌, ◌-◌, ◌*◌, ◌/◌, ◌%◌, ◌≤◌, ◌<◌}
+use Prim.Native.Nat.{ℕ, zero, suc, ◌+◌, ◌-◌, ◌*◌, ◌/◌, ◌%◌, ◌≤◌, ◌<◌}
 use native.Mathlib.Nat.{add-sub_cancel_left}
 use native.Mathlib.Numerals.{add-one}
 use native.Mathlib.Omega.{arith}
 use lib.ListN.{length, get_or, take, drop, set, replicate, length-replicate, get_or-replicate, length-drop, get_or-eq_default}
 use lib.Seq.{length-take-le, get_or-take, get_or-drop, ext_get_or}
+use Rattle.std.specs.List.{sum}
+use Rattle.std.proofs.lemmas.List.Sums.{sum_by_more}
 use Rattle.counting.specs.Counting.{listed, sum_to}
 use Rattle.counting.proofs.Cases.{lt_or_le}
 use Rattle.counting.proofs.Listed.{same_or_not, listed_length, listed_same, listed_at, listed_all, listed_set}
@@ -15,7 +17,7 @@ use Rattle.joining_rule.specs.Bytes.{block_bytes}
 use Rattle.joining_rule.specs.Rounds.{Bases}
 use Rattle.joining_rule.proofs.Bytes.{bytes_long, bytes_at, bytes_from}
 use Rattle.joining_rule.proofs.Rounds.{Shaped}
-use Rattle.joining_bases.specs.Parts.{labels_at, labels_in, Sizes, LabelsOnly, Others255, SingleBlocks}
+use Rattle.joining_bases.specs.Parts.{labels_at, labels_in, Sizes, LabelsOnly, Others255}
 use Rattle.joining_bases.proofs.Pieces.{taken_long, replaced_long, replaced_before, replaced_after, new_part, new_other}
 
 -- ---- nine lists read off the bytes
@@ -139,10 +141,13 @@ module _ (sizes : List ℕ) (i : ℕ) (l : List ℕ) (n : NumberedTo sizes i l) 
             (same_or_not j i);
       }
 
-  pub numbering_end : i ≡ 9 → SingleBlocks sizes l
-  numbering_end q = record { bytes = n.bytes; labels = λ j b. n.labels j (omega arith) b }
-
--- ---- the loop over bases
-pub sum_more : (f : ℕ → ℕ) (n : ℕ) → sum_to (n + 1) f ≡ sum_to n f + f n
+-- ---- the sum of an array's first numbers
+pub sum_taken : (l : List ℕ) (n : ℕ) → n ≤ length l → sum (take n l) ≡ sum_to n (λ j. get_or l j 0)
 unfolding sum_to
-sum_more f n = rw (add-one n)
+sum_taken l zero h = refl
+sum_taken l (suc n) h = rw (← add-one n) (sum_by_more (λ (x : ℕ). x) l n 0 (omega arith) ∙ ap (λ (m : ℕ). m + get_or l n 0) (sum_taken l n (omega arith)))
+
+pub sum_small : (f : ℕ → ℕ) (m n : ℕ) → ((j : ℕ) → j < n → f j ≤ m) → sum_to n f ≤ m * n
+unfolding sum_to
+sum_small f m zero h = omega arith
+sum_small f m (suc n) h = omega (arith, sum_small f m n (λ j b. h j (omega arith)), h n (omega arith))

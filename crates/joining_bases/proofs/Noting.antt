@@ -23,7 +23,6 @@ use Rattle.flat.specs.Flat.{basis_in}
 use Rattle.joining_pairs.specs.Pairs.{NoPairs, PairsMade}
 use Rattle.joining_products.specs.Adding.{plain}
 use Rattle.joining_bases.specs.Parts.{piece, exponents_in}
-use Rattle.joining_bases.specs.Nine.{AllNoted}
 use Rattle.joining_bases.proofs.Pieces.{taken_long, piece_put, piece_only}
 
 -- ---- the pairs of the bases before j are noted, and none of the others
@@ -82,9 +81,6 @@ module _ (keys sizes state₀ : List ℕ) where
                 (same_or_not i j);
             none = λ i c nine. rw (o.others i nine (λ q. omega arith)) (n.none i (omega arith) nine);
           }
-
-    pub noting_end : 9 ≤ j → AllNoted keys sizes pairs state
-    noting_end h = record { room = record { at = λ _ _ _. n.long }; at = λ i c. n.made i (omega arith) c }
 
 -- ---- the products of the bases from n on
 unfoldable pub extend_from : ℕ → Bases → List (List ℕ) → List ℕ → List ℕ

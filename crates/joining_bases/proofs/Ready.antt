@@ -5,18 +5,21 @@ use mathlib.Core.List.{List}
 use Prim.Native.Nat.{ℕ, ◌≤◌, ◌<◌}
 use native.Mathlib.Omega.{arith}
 use lib.ListN.{length, get_or}
+use Rattle.std.proofs.Common.{Result, IsErr, IfOk}
+use Rattle.std.proofs.lemmas.Result.{IfOk-from_err}
 use Rattle.counting.proofs.Listed.{same_or_not}
 use Rattle.joining_rule.specs.Sets.{In}
 use Rattle.joining_rule.proofs.Full.{full_any}
 use Rattle.joining_rule.proofs.Only.{rising_shorter}
-use Rattle.key_set.specs.Table.{keys_in, Holds, Indexed, Stored}
+use Rattle.key_set.specs.Table.{keys_in, count_in, Holds, Indexed, Stored}
+use Rattle.key_set.specs.declared.Full.{Full}
 use Rattle.key_set.proofs.Keys.{keys_rising}
 use Rattle.round_laws.specs.Added.{Between}
 use Rattle.round_laws.proofs.Sums.{done_grows}
 use Rattle.joining_products.specs.Adding.{plain}
 use Rattle.joining_blocks.specs.Standing.{Standing, standing, support, Ready, Grew}
 use Rattle.joining_blocks.specs.declared.Reach.{Reach}
-use Rattle.joining_products.proofs.Growing.{grown_length}
+use Rattle.joining_products.proofs.Growing.{grown_length, count_full}
 
 -- a set that is too large stays so
 pub stored_over : (n : ℕ) (S t : List ℕ) (r : ℕ) (t' idx' : List ℕ) → Stored n S t r t' idx' → 2048 < r → (S' : List ℕ) → length S ≤ length S' → Stored n S' t r t' idx'
@@ -25,6 +28,10 @@ stored_over n S t r t' idx' g b S' x = record {
   index = λ q. absurd (omega arith);
   first = λ q. absurd (omega arith);
 }
+
+-- the answer that hands it on
+pub stored_full : (n : ℕ) (S t t' idx' : List ℕ) → Stored n S t 2049 t' idx' → (S' : List ℕ) → length S ≤ length S' → (r : Result ℕ Full) → IsErr r → Stored n S' t (count_in r) t' idx' × IfOk r (λ k. k ≤ 2048)
+stored_full n S t t' idx' g S' x r w = (rw (count_full r w) (stored_over n S t 2049 t' idx' g (omega arith) S' x), IfOk-from_err r _ w)
 
 module _ (T B : List ℕ) where
   -- another basis has added to the support, or how far the round is was told anew

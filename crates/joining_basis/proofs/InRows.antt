@@ -7,7 +7,7 @@ use Rattle.round_laws.proofs.Rows.{linked_through, not_through, rows_none, rows_
 use Rattle.joining_pairs.specs.Pairs.{sum_at}
 use Rattle.joining_blocks.specs.Standing.{Standing, looked_at, Ready, Grew}
 use Rattle.joining_blocks.proofs.Grew.{grew_more, grew_as, grew_last}
-use Rattle.joining_basis.proofs.Going.{SameSizes, Going, going_start, going_on, going_then, going_looked}
+use Rattle.joining_basis.proofs.Going.{Going, going_start, going_on, going_then, going_looked}
 use Rattle.joining_blocks.proofs.Merged.{two_same}
 
 -- what the look at a pair tells
@@ -95,11 +95,11 @@ module _ (T B : List ℕ) (a : Standing) where
             joined : Grew T B (Two i k) a' a''
             joined = rw (at_i, at_k) at g
 
-            pub row_hit : SameSizes a' a'' → a''.reach.len ≤ 2048 → InRow i a'' (k + 1)
-            row_hit z c = record {
+            pub row_hit : a''.reach.len ≤ 2048 → InRow i a'' (k + 1)
+            row_hit c = record {
               after = omega (arith, w.after);
               upto = omega arith;
-              going = rw next (going_then T B (Rows (64 * i) p) a a' w.going (Two i k) (Rows (64 * i) (p + 1)) a'' r joined z c (rows_hit T B S (64 * i) few i k w.after hk (omega arith) (through e)));
+              going = rw next (going_then T B (Rows (64 * i) p) a a' w.going (Two i k) (Rows (64 * i) (p + 1)) a'' r joined c (rows_hit T B S (64 * i) few i k w.after hk (omega arith) (through e)));
             }
 
             -- given up
@@ -125,10 +125,10 @@ module _ (T B : List ℕ) (a : Standing) where
         row : Grew T B (Rows (64 * i) (64 * (i + 1))) a' a''
         row = rw (going_looked T B _ a a' w.going r) at g
 
-        pub all_turn : SameSizes a' a'' → a''.reach.len ≤ 2048 → ToRow a'' (i + 1)
-        all_turn z c = record {
+        pub all_turn : a''.reach.len ≤ 2048 → ToRow a'' (i + 1)
+        all_turn c = record {
           upto = omega arith;
-          going = going_then T B (Rows 0 (64 * i)) a a' w.going (Rows (64 * i) (64 * (i + 1))) (Rows 0 (64 * (i + 1))) a'' r row z c (rows_then T B S 0 (64 * i) (64 * (i + 1)) (omega arith) (omega arith));
+          going = going_then T B (Rows 0 (64 * i)) a a' w.going (Rows (64 * i) (64 * (i + 1))) (Rows 0 (64 * (i + 1))) a'' r row c (rows_then T B S 0 (64 * i) (64 * (i + 1)) (omega arith) (omega arith));
         }
 
         -- ended early

@@ -5,8 +5,8 @@ use Rattle.round_laws.specs.Fits.{Fitting}
 use Rattle.round_laws.proofs.Fresh.{some_start, some_turn, some_before, through_some, some_through}
 use Rattle.round_laws.proofs.Fits.{sums_through, through_sums}
 use Rattle.joining_blocks.specs.Standing.{Standing, looked_at, latest, Ready, Grew}
-use Rattle.joining_blocks.proofs.Grew.{grew_more, grew_as, grew_over, grew_then}
-use Rattle.joining_basis.proofs.Going.{SameSizes, Going, going_start, going_then}
+use Rattle.joining_blocks.proofs.Grew.{grew_more, grew_as}
+use Rattle.joining_basis.proofs.Going.{Going, going_start, going_then, going_over}
 
 module _ (T B : List ℕ) (a : Standing) where
   abbrev since : ℕ
@@ -70,20 +70,20 @@ module _ (T B : List ℕ) (a : Standing) where
               rw member
               (grew_more T B (SomeOf (WithSum B) sums) (By (get_or a'.table m 0)) a' a'' g (sums_through T B _ sums f) (λ _ j. through_sums T B _ sums f a''.labels j))
 
-          pub members_turn : SameSizes a' a'' → a''.reach.len ≤ 2048 → ToMember a'' (m + 1)
-          members_turn z c =
+          pub members_turn : a''.reach.len ≤ 2048 → ToMember a'' (m + 1)
+          members_turn c =
               let e : m + 1 - since ≡ i + 1 = omega (arith, w.from) in
               record {
                 from = omega (arith, w.from);
                 upto = omega arith;
-                going = rw e (going_then T B (SomeOf By (take i F)) a a' w.going (By (get_or F i 0)) (SomeOf By (take (i + 1) F)) a'' r turn z c (some_turn By (length B) F i inside));
+                going = rw e (going_then T B (SomeOf By (take i F)) a a' w.going (By (get_or F i 0)) (SomeOf By (take (i + 1) F)) a'' r turn c (some_turn By (length B) F i inside));
               }
 
           -- ended early
           pub members_over : (a''.reach.blocks ≡ 1) ⊎ (2048 < a''.reach.len) → Grew T B (Through T B F) a a''
           members_over o =
-              grew_over T B (SomeOf By (take (i + 1) F)) (Through T B F) a a''
-              (grew_then T B (SomeOf By (take i F)) (By (get_or F i 0)) (SomeOf By (take (i + 1) F)) a a' a'' r w.going.fits w.going.grew turn (some_turn By (length B) F i inside))
+              going_over T B (SomeOf By (take i F)) a a' w.going (By (get_or F i 0)) (SomeOf By (take (i + 1) F)) (Through T B F) a'' r turn
+              (some_turn By (length B) F i inside)
               (λ x y hx hy p. some_through (length B) T B F x y hx hy (some_before By (length B) F (i + 1) x y hx hy p))
               o
 

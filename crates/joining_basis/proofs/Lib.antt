@@ -3,3 +3,4 @@ pub mod Walking
 pub mod Latest
 pub mod InRows
 pub mod Known
+pub mod Fits

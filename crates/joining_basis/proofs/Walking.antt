@@ -1,14 +1,14 @@
 -- The loop that joins the pairs with one sum, from the last to the first: its turns.
-use Rattle.std.proofs.Common.{◌≡◌, ℕ, ◌+◌, ◌-◌, ◌*◌, ◌/◌, ◌%◌, ◌<◌, ◌≤◌, true, List, length, get_or, ◌∙◌, inr, arith}
+use Rattle.std.proofs.Common.{◌≡◌, ℕ, ◌+◌, ◌-◌, ◌*◌, ◌/◌, ◌%◌, ◌<◌, ◌≤◌, true, None, List, length, get_or, ◌∙◌, inr, arith}
 use Rattle.hash_chain.proofs.Chain.{Search, search_less, search_only, search_step}
 use Rattle.round_laws.specs.Joins.{Two, WithSum, SumFrom}
 use Rattle.round_laws.proofs.Walk.{sums_has, walk_start, walk_more, walk_hit, walk_miss, walk_end}
-use Rattle.joining_pairs.specs.Pairs.{pair_at, sum_at, sum_divisor, meets, AllPairs, FindsSum}
+use Rattle.joining_pairs.specs.Pairs.{pair_at, sum_at, sum_divisor, meets, AllPairs, LastPair, FindsSum}
 use Rattle.joining_products.specs.Adding.{plain}
 use Rattle.joining_blocks.specs.Standing.{Standing, Ready, Grew}
 use Rattle.joining_blocks.proofs.Grew.{grew_same, grew_more, grew_last}
 use Rattle.joining_pairs.proofs.Places.{pair_order, meets_pair, pair_meets, place_pair, place_sum}
-use Rattle.joining_basis.proofs.Going.{SameSizes, Going, going_start, going_ready, going_on, going_then}
+use Rattle.joining_basis.proofs.Going.{Going, going_start, going_ready, going_on, going_then}
 
 module _ (T B : List ℕ) (s : ℕ) where
   abbrev Has_rest : ℕ → Type 0
@@ -20,26 +20,26 @@ module _ (T B : List ℕ) (s : ℕ) where
     pub here : Search (meets B (s % sum_divisor)) (λ _. ⊥) (64 * length B) v
 
   -- no pair has the sum
-  pub sum_none : (a : Standing) (p : ℕ) → Ready T B a → 4095 < p → FindsSum B s p → Grew T B (WithSum B s) a a
-  sum_none a p r b f =
+  pub sum_none : (a : Standing) → Ready T B a → FindsSum B s None → Grew T B (WithSum B s) a a
+  sum_none a r f =
       grew_same T B (WithSum B s) a r
       (sums_has B s a.labels
       (λ x y o h e.
       let few = r.blocks.few in
-      absurd (omega (arith, (f.last (64 * x + y) (place_pair B few x y o h) (place_sum B few x y o h ∙ e)).1))))
+      absurd (f (64 * x + y) (place_pair B few x y o h) (place_sum B few x y o h ∙ e))))
 
   module _ (a : Standing) (r : Ready T B a) (large : plain < length B) where
     few : length B ≤ 64
     few = r.blocks.few
 
-    pub walking_start : (p : ℕ) → p < 4096 → FindsSum B s p → Walking a a (p + 1)
-    walking_start p b f = record {
+    pub walking_start : (p : ℕ) → LastPair B s p → Walking a a (p + 1)
+    walking_start p f = record {
       going = going_start T B (SumFrom B s (p + 1)) a r
           (walk_start B s (p + 1) a.labels
-          (λ x y o h e. omega (arith, (f.last (64 * x + y) (place_pair B few x y o h) (place_sum B few x y o h ∙ e)).0)));
+          (λ x y o h e. omega (arith, f.last (64 * x + y) (place_pair B few x y o h) (place_sum B few x y o h ∙ e))));
       here = record {
-        upto = let o = pair_order B p (f.pair b) in omega (arith, o.0, o.1);
-        hit = λ q e. let w : p ≡ q = omega arith in rw (← w) (pair_meets B s p (f.pair b) (f.sum b));
+        upto = let o = pair_order B p f.pair in omega (arith, o.0, o.1);
+        hit = λ q e. let w : p ≡ q = omega arith in rw (← w) (pair_meets B s p f.pair f.sum);
         past = λ q _ _ w. w;
       };
     }
@@ -80,11 +80,11 @@ module _ (T B : List ℕ) (s : ℕ) where
       }
 
       module _ (e : sum_at B (v - 1) ≡ s) (a'' : Standing) (g : Grew T B (Two ((v - 1) / 64) ((v - 1) % 64)) a' a'') where
-        pub walking_hit : SameSizes a' a'' → a''.reach.len ≤ 2048 → Walking a a'' (get_or a''.pairs (2048 + (v - 1)) 0)
-        walking_hit z c =
+        pub walking_hit : a''.reach.len ≤ 2048 → Walking a a'' (get_or a''.pairs (2048 + (v - 1)) 0)
+        walking_hit c =
             let i = (g.fits c).ready.index.all large in
             record {
-              going = going_then T B _ a a' w.going _ _ a'' r g z c
+              going = going_then T B _ a a' w.going _ _ a'' r g c
                   (walk_hit B s few v _ (walking_less a''.pairs i) (only a''.pairs i) walking_order.0 e);
               here = step a''.pairs i;
             }
@@ -103,5 +103,5 @@ module _ (T B : List ℕ) (s : ℕ) where
 pub sum_as : (T B : List ℕ) (s u : ℕ) (a a' : Standing) → s ≡ u → Grew T B (WithSum B s) a a' → Grew T B (WithSum B u) a a'
 sum_as T B s u a a' e g = rw e at g
 
-pub finds_as : (B : List ℕ) (s u p : ℕ) → s ≡ u → FindsSum B s p → FindsSum B u p
-finds_as B s u p e f = rw e at f
+pub last_as : (B : List ℕ) (s u p : ℕ) → s ≡ u → LastPair B s p → LastPair B u p
+last_as B s u p e f = rw e at f

@@ -6,14 +6,22 @@ use mathlib.Core.List.{List}
 use Prim.Native.Nat.{ℕ, ◌≤◌, ◌<◌}
 use native.Mathlib.Omega.{arith}
 use lib.ListN.{length}
+use Rattle.std.proofs.Common.{Result, Ok, Err, IsErr, IfOk}
+use Rattle.std.proofs.lemmas.Result.{IfOk-from_err}
 use Rattle.joining_rule.proofs.Only.{rising_shorter}
 use Rattle.joining_rule.proofs.Lowest.{some_block}
+use Rattle.key_set.specs.declared.Full.{Full}
 use Rattle.key_set.proofs.Keys.{keys_rising, stored_none}
 use Rattle.round_laws.specs.Joins.{Together, Has, Among, Parts}
 use Rattle.round_laws.proofs.Joins.{joins_same, joins_then}
 use Rattle.round_laws.proofs.Ending.{one_has}
-use Rattle.joining_blocks.specs.Standing.{Standing, support, Ready, Grew}
+use Rattle.joining_blocks.specs.declared.Reach.{Reach}
+use Rattle.joining_blocks.specs.Standing.{Standing, standing, reached, support, Ready, Grew}
 use Rattle.joining_products.proofs.Growing.{grown_length, stored_then}
+
+reached_full : (r : Reach) (a : Result Reach Full) → IsErr a → reached r a ≡ record r { len = 2049 }
+reached_full r (Ok q) e = cc
+reached_full r (Err f) e = refl
 
 module _ (T B : List ℕ) where
   abbrev n : ℕ
@@ -36,6 +44,21 @@ module _ (T B : List ℕ) where
     same = record { since = refl; until = refl; bits = refl; adds = refl };
     fits = λ _. record { joins = joins_same n P s.labels r.blocks.numbered h; ready = r };
   }
+
+  -- a joining that had no room for a key, and the answer that hands it on: the blocks say nothing then
+  pub grew_full : (P : ℕ → ℕ → Type 0) (s : Standing) (L follow pairs t idx : List ℕ) (x : Reach) → Grew T B P s (standing L follow pairs t idx x) → x.len ≡ 2049
+      → (a : Result Reach Full) → IsErr a → Grew T B P s (standing L follow pairs t idx (reached s.reach a)) × IfOk a (λ q. q.len ≤ 2048)
+  grew_full P s L follow pairs t idx x g e a w = (
+    rw (reached_full s.reach a w)
+        (record {
+          set = g.set;
+          stored = rw e at g.stored;
+          within = g.within;
+          same = record { since = refl; until = refl; bits = refl; adds = refl };
+          fits = λ b. absurd (omega arith);
+        }),
+    IfOk-from_err a _ w,
+  )
 
   module _ (P R : ℕ → ℕ → Type 0) (s s' : Standing) (g : Grew T B P s s') where
     -- blocks that have L and R have P, and those that are left have R

@@ -20,7 +20,7 @@ use Rattle.round_laws.proofs.Merging.{blocks_crossed}
 use Rattle.round_laws.proofs.Between.{has_then, between_none, between_within, merge_between}
 use Rattle.round_laws.proofs.Sums.{full_between}
 use Rattle.joining_pairs.specs.Pairs.{pair_at, told_at}
-use Rattle.joining_products.specs.Adding.{plain, DoneTold, WithIndex, AddingAsks, AddedAll, IndexList}
+use Rattle.joining_products.specs.Adding.{plain, DoneTold, WithIndex, AddedAll}
 use Rattle.joining_blocks.specs.Standing.{Standing, standing, support, Ready, Grew}
 use Rattle.joining_products.proofs.Growing.{grown_length}
 use Rattle.joining_blocks.proofs.Grew.{grew_to}
@@ -48,10 +48,6 @@ module _ (T B : List ℕ) (s : Standing) (r : Ready T B s) where
   pub some_left : 0 < length B → 1 ≤ s.reach.blocks
   some_left h = omega (arith, r.count, some_block L r.blocks.numbered (omega (arith, size)))
 
-  -- the list of a block
-  list_of : (a : ℕ) → a < length L → get_or L a 0 ≡ a → IndexList (length B) follow a
-  list_of a h e = let l = r.blocks.lists.at a h e in record { ends = l.ends; low = λ x m. omega (arith, size, (l.inside x m).0) }
-
   module _ (a b : ℕ) (t : TwoBlocks a b L follow) where
     apart : a ≡ b → ⊥
     apart e = omega (arith, t.below)
@@ -59,16 +55,7 @@ module _ (T B : List ℕ) (s : Standing) (r : Ready T B s) where
     first_in : a < length L
     first_in = omega (arith, t.below, t.inside)
 
-    pub list_a : IndexList (length B) follow a
-    list_a = list_of a first_in t.own
-
-    pub list_b : IndexList (length B) follow b
-    list_b = list_of b t.inside t.other
-
     -- a basis that adds
-    pub adding_asks : s.reach.adds ≡ true → AddingAsks T B s.pairs s.table s.index s.reach.len
-    adding_asks e = record { basis = r.basis; index = r.index; done = r.done e }
-
     pub merge_adds : s.reach.adds ≡ true → (n : ℕ) (t' idx' pairs' : List ℕ)
         → AddedAll T B (add_lists T B (list_from follow a) (list_from follow b) (support s)) s.reach.len s.table s.pairs n t' idx' pairs'
         → Grows T B s (merged a b L) n t' idx' pairs'
@@ -100,6 +87,16 @@ module _ (T B : List ℕ) (s : Standing) (r : Ready T B s) where
 
     fewer : different (merged a b L) + 1 ≡ different L
     fewer = merge_fewer L a b r.blocks.numbered first_in t.inside t.own t.other apart
+
+    -- where there is no room, the blocks stay two
+    pub merge_full : (t' idx' pairs' : List ℕ) → Grows T B s (merged a b L) 2049 t' idx' pairs' → Grew T B (Two a b) s (standing L follow pairs' t' idx' (record s.reach { len = 2049 }))
+    merge_full t' idx' pairs' g = record {
+      set = g.set;
+      stored = g.stored;
+      within = between_within T B s.reach.adds (Two a b) L (merged a b L) (support s) g.set joins g.between;
+      same = record { since = refl; until = refl; bits = refl; adds = refl };
+      fits = λ c. absurd (omega arith);
+    }
 
     module _ (L' follow' : List ℕ) (n : ℕ) (t' idx' pairs' : List ℕ) (g : Grows T B s (merged a b L) n t' idx' pairs') (same : length L' ≡ length L) (long : length follow' ≡ 64)
         (labels : L' ≡ merged a b L) (lists : Lists follow' L') where
@@ -154,17 +151,6 @@ module _ (T B : List ℕ) (s : Standing) (r : Ready T B s) (i k : ℕ) (hi : i <
   -- in one block
   pub two_same : number_of i ≡ number_of k → Has (Two i k) (length B) s.labels
   two_same e = record { at = λ x y _ _ w. rw (w.first, w.second) (record { same = e }) }
-
-  -- in two
-  pub two_blocks : number_of i < number_of k → TwoBlocks (number_of i) (number_of k) s.labels s.follow
-  two_blocks h = record {
-    long = r.blocks.long;
-    lists = r.blocks.lists;
-    below = h;
-    inside = block_low k hk;
-    own = block_own i hi;
-    other = block_own k hk;
-  }
 
   low : (x : ℕ) → x < length B → number_of x < length B
   low x h = omega (arith, r.blocks.size, block_low x h)

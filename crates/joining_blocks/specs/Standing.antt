@@ -1,9 +1,10 @@
 -- How things stand with one basis while it joins, and what a joining by some pairs of indices leaves. T, B and L are as
 -- in Join.antt of joining_rule.
-use Rattle.std.specs.Prelude.{◌≡◌, true, List, ℕ, ◌-◌, ◌*◌, ◌≤◌, ◌<◌, length, get_or, take, drop}
+use Rattle.std.specs.Prelude.{◌≡◌, true, List, ℕ, ◌-◌, ◌*◌, ◌≤◌, ◌<◌, length, get_or, take, drop, Result, Ok, Err}
 use Rattle.joining_rule.specs.Sets.{different}
 use Rattle.joining_rule.proofs.Numbered.{Numbered}
 use Rattle.joining_rule.proofs.FullSets.{Full}
+use Rattle.key_set.specs.declared.Full.{Full as TooMany}
 use Rattle.key_set.specs.Table.{keys_in, Stored}
 use Rattle.round_laws.specs.Joins.{Has, Joins, WithSum, Recent}
 use Rattle.round_laws.specs.Added.{Within}
@@ -26,6 +27,11 @@ pub record Standing : Type 0 where
 abbrev pub standing : List ℕ → List ℕ → List ℕ → List ℕ → List ℕ → Reach → Standing
 standing labels follow pairs table index reach =
     record { labels = labels; follow = follow; pairs = pairs; table = table; index = index; reach = reach }
+
+-- how far a joining came from r on; one that had no room for a key would have 2,049
+abbrev pub reached : Reach → Result Reach TooMany → Reach
+reached r (Ok r') = r'
+reached r (Err f) = record r { len = 2049 }
 
 -- the support: all of it, and what the joining looks at
 abbrev pub support : Standing → List ℕ

@@ -4,18 +4,20 @@
 // of every pair in one block.
 #![tactic(auto)]
 
-ghost use Rattle.std.specs.Prelude.{◌≡◌, ◌⊎◌, true, false, ◌/◌, ◌%◌, ◌≤◌, ◌<◌, length};
+ghost use Rattle.std.specs.Prelude.{◌≡◌, ◌/◌, ◌%◌, ◌≤◌, ◌<◌, length, IfOk};
 ghost use Rattle.joining_rule.specs.Join.{merged};
 ghost use Rattle.round_laws.specs.Joins.{Two};
 ghost use Rattle.round_laws.specs.Lists.{Lists, TwoBlocks};
-ghost use Rattle.joining_blocks.specs.Standing.{standing, Ready, Grew};
+ghost use Rattle.joining_blocks.specs.Standing.{reached, Ready, Grew};
+ghost use Rattle.joining_blocks.specs.Tables.{standing_at, SameTables};
 
-use joining_products::Cross;
+use joining_products::{Basis, Cross};
+use key_set::Full;
 
 // How far a joining is: it looks at the members of the support from `since` on, before `until`; the support has `len`
-// keys, 2,049 where they are too many, and the basis `blocks` blocks. No sum of a pair has other bits than `bits`,
-// where the basis is not small. `adds` says whether its products are added.
-#[derive(Clone, Copy)]
+// keys, and the basis `blocks` blocks. No sum of a pair has other bits than `bits`, where the basis is not small. `adds`
+// says whether its products are added.
+#[derive(Clone, Copy, Debug, PartialEq, Eq)]
 pub struct Reach {
     pub since: usize,
     pub until: usize,
@@ -23,6 +25,16 @@ pub struct Reach {
     pub blocks: u64,
     pub bits: u64,
     pub adds: bool,
+}
+
+// What a joining of one basis changes: its blocks, the index of its pairs, and the support with its index.
+#[derive(Drop)]
+pub struct Tables<'a> {
+    pub labels: &'a mut [u8],
+    pub follow: &'a mut [u8],
+    pub pairs: &'a mut [u16],
+    pub table: &'a mut [u64],
+    pub index: &'a mut [u16],
 }
 
 // The block b put behind the first index of the block a.
@@ -34,6 +46,7 @@ fn splice(labels: &mut [u8], follow: &mut [u8], m: Cross)
     let a = m.a as usize;
     let mut last = m.b as usize;
     let mut k = last;
+    // A walk along a list, each of whose places tells the next.
     while k < labels.len() {
         labels[k] = m.a;
         last = k;
@@ -43,74 +56,52 @@ fn splice(labels: &mut [u8], follow: &mut [u8], m: Cross)
     follow[a] = m.b;
 }
 
-// Two blocks made one, with their products put in where the basis adds.
-fn merge(
-    labels: &mut [u8],
-    follow: &mut [u8],
-    basis: &[u64],
-    exponents: &[u64],
-    pairs: &mut [u16],
-    table: &mut [u64],
-    index: &mut [u16],
-    r: Reach,
-    m: Cross,
-) -> Reach
-    requires { Ready exponents.now basis.now (standing labels.old follow.old pairs.old table.old index.old r)
-        × TwoBlocks m.a m.b labels.old follow.old }
-    ensures { Grew exponents.now basis.now (Two m.a m.b)
-        (standing labels.old follow.old pairs.old table.old index.old r)
-        (standing labels.new follow.new pairs.new table.new index.new result) }
-{
-    let mut n = r.len;
-    if r.adds {
-        n = joining_products::add_cross(follow, basis, exponents, pairs, table, index, n, m);
+impl Tables<'_> {
+    // Two blocks made one, with their products put in where the basis adds.
+    fn merge(&mut self, basis: Basis<'_>, r: Reach, m: Cross) -> Result<Reach, Full>
+        requires { Ready basis.exponents.now basis.keys.now (standing_at self.old r)
+            × TwoBlocks m.a m.b self.old.labels.now self.old.follow.now }
+        ensures grew { Grew basis.entry.exponents.now basis.entry.keys.now (Two m.a m.b)
+            (standing_at self.old r) (standing_at self.new (reached r result)) }
+        ensures room { IfOk result (λ q. q.len ≤ 2048) }
+        ensures same { SameTables self.old self.new }
+    {
+        let follow = &mut *self.follow;
+        let len = if r.adds {
+            joining_products::add_cross(
+                follow, basis, self.pairs, self.table, self.index, r.len, m,
+            )?
+        } else {
+            r.len
+        };
+        splice(self.labels, follow, m);
+        Ok(Reach {
+            len,
+            blocks: r.blocks - 1,
+            ..r
+        })
     }
-    splice(labels, follow, m);
-    Reach {
-        since: r.since,
-        until: r.until,
-        len: n,
-        blocks: r.blocks - 1,
-        bits: r.bits,
-        adds: r.adds,
-    }
-}
 
-// The blocks of two indices made one.
-pub fn join_two(
-    labels: &mut [u8],
-    follow: &mut [u8],
-    basis: &[u64],
-    exponents: &[u64],
-    pairs: &mut [u16],
-    table: &mut [u64],
-    index: &mut [u16],
-    r: Reach,
-    p: usize,
-) -> Reach
-    requires { Ready exponents.now basis.now (standing labels.old follow.old pairs.old table.old index.old r)
-        × (p / 64 < length basis.now)
-        × (p % 64 < length basis.now) }
-    ensures { Grew exponents.now basis.now (Two (p / 64) (p % 64))
-        (standing labels.old follow.old pairs.old table.old index.old r)
-        (standing labels.new follow.new pairs.new table.new index.new result) }
-{
-    let a = labels[p / 64];
-    let b = labels[p % 64];
-    if a == b {
-        return r;
+    // The blocks of two indices made one.
+    pub fn join_two(&mut self, basis: Basis<'_>, r: Reach, p: usize) -> Result<Reach, Full>
+        requires { Ready basis.exponents.now basis.keys.now (standing_at self.old r)
+            × (p / 64 < length basis.keys.now)
+            × (p % 64 < length basis.keys.now) }
+        ensures grew { Grew basis.entry.exponents.now basis.entry.keys.now (Two (p / 64) (p % 64))
+            (standing_at self.old r) (standing_at self.new (reached r result)) }
+        ensures room { IfOk result (λ q. q.len ≤ 2048) }
+        ensures same { SameTables self.old self.new }
+    {
+        let a = self.labels[p / 64];
+        let b = self.labels[p % 64];
+        if a == b {
+            return Ok(r);
+        }
+        let m = if a < b {
+            Cross { a, b }
+        } else {
+            Cross { a: b, b: a }
+        };
+        self.merge(basis, r, m)
     }
-    let m = if a < b {
-        Cross { a, b }
-    } else {
-        Cross { a: b, b: a }
-    };
-    merge(labels, follow, basis, exponents, pairs, table, index, r, m)
-}
-
-// Whether nothing is left to join, or the support has too many keys.
-pub fn is_over(r: Reach) -> bool
-    ensures { (result ≡ true → (r.blocks ≡ 1) ⊎ (2048 < r.len)) × (result ≡ false → r.len ≤ 2048) }
-{
-    r.blocks == 1 || 2048 < r.len
 }

@@ -11,7 +11,7 @@ use borrow.Author.Tests.{ne_eqb}
 use Rattle.counting.proofs.Cases.{lt_or_le}
 use Rattle.counting.proofs.Listed.{same_or_not}
 use Rattle.hash_chain.proofs.Chain.{Search, chain_start, chain_skip, chain_next, search_start, search_less, search_step}
-use Rattle.joining_pairs.specs.Pairs.{pair_at, sum_at, sum_divisor, meets, told_at, Remainders, PairIndex, AllPairs, Beside, FindsSum, Marked}
+use Rattle.joining_pairs.specs.Pairs.{pair_at, sum_at, sum_divisor, meets, told_at, Remainders, PairIndex, AllPairs, Beside, LastPair, Marked}
 use Rattle.joining_pairs.proofs.Places.{pair_order, meets_pair, pair_meets, place_pair, place_sum}
 use Rattle.joining_pairs.proofs.Told.{told_low, told_rest, told_other, told_index}
 
@@ -123,26 +123,17 @@ module _ (B : List ℕ) where
     pub seeks_pair : (v : ℕ) → Seeks s v → 0 < v → pair_at B (v - 1) ≡ true
     seeks_pair v c b = meets_pair B (s % sum_divisor) (v - 1) (c.hit (v - 1) (omega arith))
 
-    pub seeks_found : length B ≤ 64 → (v : ℕ) → Seeks s v → 0 < v → sum_at B (v - 1) ≡ s → FindsSum B s (v - 1)
-    seeks_found few v c b e = record {
-      few = omega (arith, c.upto);
-      pair = λ _. seeks_pair v c b;
-      sum = λ _. e;
-      last = λ q f g. (omega (arith, past v q c f g), omega (arith, c.upto));
+    pub seeks_found : (v : ℕ) → Seeks s v → 0 < v → sum_at B (v - 1) ≡ s → LastPair B s (v - 1)
+    seeks_found v c b e = record {
+      pair = seeks_pair v c b;
+      sum = e;
+      last = λ q f g. omega (arith, past v q c f g);
     }
 
-    pub seeks_none : (v : ℕ) → Seeks s v → v ≤ 0 → FindsSum B s 4096
-    seeks_none v c b = record {
-      few = omega arith;
-      pair = λ l. absurd (omega arith);
-      sum = λ l. absurd (omega arith);
-      last = λ q f g. absurd (omega (arith, past v q c f g));
-    }
+    pub seeks_none : (v : ℕ) → Seeks s v → v ≤ 0 → (q : ℕ) → pair_at B q ≡ true → sum_at B q ≡ s → ⊥
+    seeks_none v c b q f g = omega (arith, past v q c f g)
 
   -- ---- a sum that is looked at for its products
-  pub marked_same : (s : ℕ) (pairs : List ℕ) → Marked B s pairs pairs
-  marked_same s pairs = record { long = refl; rest = λ q _. refl; index = λ a. a; done = λ q _ d. inl d; met = λ q _ m. m }
-
   pub marked_one : length B ≤ 64 → (s p : ℕ) → pair_at B p ≡ true → sum_at B p ≡ s → (pairs : List ℕ) → length pairs ≡ 6240 → Marked B s pairs (set pairs (told_at p) 1)
   marked_one few s p f e pairs long = record {
     long = length-set pairs (told_at p) 1;

@@ -1,6 +1,6 @@
 -- The index of a basis's pairs by their sums, in one array. Place p = 64i + k belongs to the pair of the indices i < k,
 -- and its sum is that of their keys.
-use Rattle.std.specs.Prelude.{◌≡◌, ◌⊎◌, Bool, true, false, cond, List, ℕ, ◌+◌, ◌*◌, ◌/◌, ◌%◌, ◌≤◌, ◌<◌, ltb, eqb, length, get_or}
+use Rattle.std.specs.Prelude.{◌≡◌, ◌⊎◌, Bool, true, false, cond, List, ℕ, ◌+◌, ◌*◌, ◌/◌, ◌%◌, ◌≤◌, ◌<◌, ltb, eqb, length, get_or, Option, Some, None}
 use Rattle.round_laws.specs.Fits.{SumBits}
 use Rattle.key_set.specs.Table.{first}
 use Rattle.hash_chain.specs.Chain.{Chain}
@@ -61,12 +61,16 @@ pub record PairsMade (T B : List ℕ) (bits : ℕ) (pairs : List ℕ) : Type 0 w
   pub sums : SumBits B (64 * length B) bits
 
 -- ---- what is found in it
--- the place of the last pair with the sum s, or 4,096 where there is none
-pub record FindsSum (B : List ℕ) (s r : ℕ) : Type 0 where
-  pub few : r ≤ 4096
-  pub pair : r < 4096 → pair_at B r ≡ true
-  pub sum : r < 4096 → sum_at B r ≡ s
-  pub last : (q : ℕ) → pair_at B q ≡ true → sum_at B q ≡ s → (q ≤ r) × (r < 4096)
+-- p is the place of the last pair with the sum s
+pub record LastPair (B : List ℕ) (s p : ℕ) : Type 0 where
+  pub pair : pair_at B p ≡ true
+  pub sum : sum_at B p ≡ s
+  pub last : (q : ℕ) → pair_at B q ≡ true → sum_at B q ≡ s → q ≤ p
+
+-- that place, or none where no pair has the sum
+abbrev pub FindsSum : List ℕ → ℕ → Option ℕ → Type 0
+FindsSum B s (Some p) = LastPair B s p
+FindsSum B s None = (q : ℕ) → pair_at B q ≡ true → sum_at B q ≡ s → ⊥
 
 -- some pair with the sum s has v or more at the place where it is told
 pub record ToldSum (B : List ℕ) (s v : ℕ) (pairs : List ℕ) : Type 0 where

@@ -46,20 +46,21 @@ pub fn sum_at(basis: &[u64], p: usize) -> u64
     basis[p / 64] + basis[p % 64]
 }
 
-// The place of the last pair with the sum s, whose remainder is h; 4,096 where there is none.
-pub fn find_sum(basis: &[u64], pairs: &[u16], s: u64, h: usize) -> usize
+// The place of the last pair with the sum s, whose remainder is h.
+pub fn find_sum(basis: &[u64], pairs: &[u16], s: u64, h: usize) -> Option<usize>
     requires { SmallBasis basis.now × AllPairs basis.now pairs.now × (h ≡ s % sum_divisor) }
     ensures { FindsSum basis.now s result }
 {
     let mut v = pairs[h] as usize;
+    // No `for`: it goes from link to link.
     while 0 < v {
         let p = v - 1;
         if sum_at(basis, p) == s {
-            return p;
+            return Some(p);
         }
         v = pairs[LINKS + p] as usize;
     }
-    4096
+    None
 }
 
 // Where it is told what was done with the sum of the pair at a place.
@@ -79,10 +80,9 @@ pub fn is_done(pairs: &mut [u16], basis: &[u64], i: usize, k: usize) -> bool
     ensures { DoneBefore basis.now (get_or basis.now i 0 + get_or basis.now k 0)
         pairs.old result pairs.new }
 {
-    let p = find_sum(basis, pairs, basis[i] + basis[k], remainder_of(pairs, i, k));
-    if 4095 < p {
+    let Some(p) = find_sum(basis, pairs, basis[i] + basis[k], remainder_of(pairs, i, k)) else {
         return false;
-    }
+    };
     let at = told_at(p);
     if 0 < pairs[at] {
         return true;
@@ -120,10 +120,8 @@ fn note_row(pairs: &mut [u16], basis: &[u64], i: usize, given: u64) -> u64
         × Beside basis.now pairs.old pairs.new }
 {
     let mut bits = given;
-    let mut k = i + 1;
-    while k < basis.len() {
-        bits = bits | note_pair(pairs, basis, i, k);
-        k += 1;
+    for k in i + 1..basis.len() {
+        bits |= note_pair(pairs, basis, i, k);
     }
     bits
 }
@@ -135,11 +133,9 @@ fn note_pairs(pairs: &mut [u16], basis: &[u64]) -> u64
         × SumBits basis.now (64 * length basis.now) result
         × Beside basis.now pairs.old pairs.new }
 {
-    let mut bits = 0u64;
-    let mut i = 0;
-    while i < basis.len() {
+    let mut bits = 0;
+    for i in 0..basis.len() {
         bits = note_row(pairs, basis, i, bits);
-        i += 1;
     }
     bits
 }
@@ -150,10 +146,8 @@ fn note_slots(pairs: &mut [u16], exponents: &[u64])
     ensures { Slots exponents.now pairs.new
         × ((q : ℕ) → q < 6144 → get_or pairs.new q 0 ≡ 0) }
 {
-    let mut i = 0;
-    while i < exponents.len() {
-        pairs[SLOTS + i] = key_set::first_slot(exponents[i]) as u16;
-        i += 1;
+    for (i, &exponent) in exponents.iter().enumerate() {
+        pairs[SLOTS + i] = key_set::first_slot(exponent) as u16;
     }
 }
 
@@ -163,10 +157,8 @@ fn note_remainders(pairs: &mut [u16], basis: &[u64])
     ensures { Remainders basis.now pairs.new
         × ((q : ℕ) → q < 6176 → get_or pairs.new q 0 ≡ get_or pairs.old q 0) }
 {
-    let mut i = 0;
-    while i < basis.len() {
-        pairs[REMAINDERS + i] = remainder(basis[i]) as u16;
-        i += 1;
+    for (i, &key) in basis.iter().enumerate() {
+        pairs[REMAINDERS + i] = remainder(key) as u16;
     }
 }
 

@@ -7,11 +7,13 @@ use mathlib.Core.List.{List}
 use Prim.Native.Nat.{ℕ, ◌+◌, ◌≤◌, ◌<◌}
 use native.Mathlib.Omega.{arith}
 use lib.ListN.{length, get_or}
+use Rattle.std.proofs.Common.{Result, IsErr, IfOk}
 use Rattle.joining_rule.specs.Sets.{In}
 use Rattle.joining_rule.specs.Extend.{add_terms}
 use Rattle.joining_rule.proofs.Elements.{in_here, in_there}
 use Rattle.joining_rule.proofs.Extending.{Extends, add_extends}
-use Rattle.key_set.specs.Table.{keys_in, Indexed, Stored}
+use Rattle.key_set.specs.declared.Full.{Full}
+use Rattle.key_set.specs.Table.{keys_in, count_in, Indexed, Stored}
 use Rattle.key_set.proofs.Keys.{keys_rising, stored_none}
 use Rattle.round_laws.specs.Added.{add_list, add_lists}
 use Rattle.round_laws.specs.Lists.{list_from}
@@ -20,7 +22,7 @@ use Rattle.round_laws.proofs.Walks.{list_next, next_ends, list_less}
 use Rattle.round_laws.proofs.Merging.{list_turn, lists_turn}
 use Rattle.joining_pairs.specs.Pairs.{pair_at, sum_at, told_at, Slots, ToldSum, Marked}
 use Rattle.joining_products.specs.Adding.{plain, DoneTold, WithIndex, AddingAsks, AddedAll, IndexList}
-use Rattle.joining_products.proofs.Growing.{Growing, growing_start, growing_step, growing_stop, growing_anew, growing_end}
+use Rattle.joining_products.proofs.Growing.{Growing, growing_start, growing_step, growing_full, growing_anew, growing_end}
 
 module _ (T B : List ℕ) where
   told_grows : (S S' pairs : List ℕ) → ((x : ℕ) → In x S → In x S') → DoneTold T B S pairs → DoneTold T B S' pairs
@@ -30,10 +32,6 @@ module _ (T B : List ℕ) where
   module _ (s n : ℕ) (t idx pairs : List ℕ) (a : AddingAsks T B pairs t idx n) where
     abbrev after : List ℕ
     after = add_terms T s (keys_in n t)
-
-    -- a small basis has no index
-    pub added_plain : length B ≤ plain → (r : ℕ) (t' idx' : List ℕ) → Stored n after t r t' idx' → AddedAll T B after n t pairs r t' idx' pairs
-    added_plain h r t' idx' g = record { stored = g; index = a.index; done = λ b. absurd (omega arith); met = λ p q w. w }
 
     -- products of which it is told are there
     pub added_told : plain < length B → (pairs' : List ℕ) → ToldSum B s 1 pairs → pairs' ≡ pairs → AddedAll T B after n t pairs n t idx pairs'
@@ -113,15 +111,20 @@ module _ (T B : List ℕ) where
               met = λ p q w. h.met p q (g.met p q w);
             }
 
-        pub adding_stop : 2048 < n' → Extends S' (f' S') → AddedAll T B goal n₀ t₀ pairs₀ n' t' idx' pairs'
-        adding_stop b x =
-            let v : goal ≡ f' S' = sym h.growing.todo ∙ e in
+      -- a turn for which there is no room, and the answer that hands it on
+      pub adding_full : (S' t' idx' pairs' : List ℕ) → AddedAll T B S' n t pairs 2049 t' idx' pairs' → (f' : List ℕ → List ℕ) → f (keys_in n t) ≡ f' S' → Extends S' (f' S')
+          → (r : Result ℕ Full) → IsErr r → AddedAll T B goal n₀ t₀ pairs₀ (count_in r) t' idx' pairs' × IfOk r (λ k. k ≤ 2048)
+      adding_full S' t' idx' pairs' g f' e x r w =
+          let v : goal ≡ f' S' = sym h.growing.todo ∙ e in
+          let z = growing_full t₀ n₀ goal f n t idx h.growing S' t' idx' g.stored f' e x r w in (
             record {
-              stored = growing_stop t₀ n₀ goal f n t idx h.growing S' n' t' idx' g.stored f' e b x;
+              stored = z.0;
               index = g.index;
-              done = λ w. rw v (told_grows S' (f' S') pairs' x.keeps (g.done w));
-              met = λ p q w. h.met p q (g.met p q w);
-            }
+              done = λ b. rw v (told_grows S' (f' S') pairs' x.keeps (g.done b));
+              met = λ p q b. h.met p q (g.met p q b);
+            },
+            z.1,
+          )
 
 -- ---- the list of a block, from the index i on
 module _ (n : ℕ) (follow : List ℕ) (i : ℕ) (r : IndexList n follow i) (h : i < 64) where

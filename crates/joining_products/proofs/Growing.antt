@@ -1,21 +1,29 @@
 -- Laws of the support's growth in its table: two growths one after the other, and a loop that grows it.
 use mathlib.Core.Path.{◌≡◌, refl, sym, ap, ◌∙◌}
 use mathlib.Core.List.{List}
-use Prim.Native.Nat.{ℕ, ◌+◌, ◌%◌, ◌≤◌, ◌<◌}
+use Prim.Native.Nat.{ℕ, ◌+◌, ◌≤◌, ◌<◌}
 use native.Mathlib.Omega.{arith}
 use native.Mathlib.Numerals.{add-one}
 use lib.ListN.{length, get_or, take, drop, drop_of_length-le}
 use lib.Seq.{drop-cons, take-take}
 use borrow.Author.Tests.{eq-eqb, ne_eqb}
+use Rattle.std.proofs.Common.{Result, Ok, Err, IsErr, IfOk}
+use Rattle.std.proofs.lemmas.Result.{IfOk-from_err}
 use Rattle.joining_rule.specs.Sets.{insert}
 use Rattle.joining_rule.specs.Extend.{add_terms, add_pair}
 use Rattle.joining_rule.proofs.Extending.{Extends}
-use Rattle.key_set.specs.Table.{keys_in, Holds, Indexed, Grown, Stored}
+use Rattle.key_set.specs.declared.Full.{Full}
+use Rattle.key_set.specs.Table.{keys_in, count_in, Holds, Indexed, Grown, Stored}
 use Rattle.key_set.proofs.Keys.{grown_holds}
 
 module _ (S t : List ℕ) (n : ℕ) (t' : List ℕ) (g : Grown S t n t') where
   pub grown_length : n ≤ 2048 → length S ≡ n
   grown_length b = omega (arith, g.count)
+
+-- the answer of a `?` that hands a full support on
+pub count_full : (r : Result ℕ Full) → IsErr r → count_in r ≡ 2049
+count_full (Ok n) e = cc
+count_full (Err f) e = refl
 
 -- ---- a growth after another
 pub stored_then : (n : ℕ) (S t : List ℕ) (n' : ℕ) (t' idx' : List ℕ) → n ≤ n' → n' ≤ 2048 → Stored n S t n' t' idx'
@@ -81,9 +89,10 @@ module _ (t₀ : List ℕ) where
             first = λ z. absurd (omega arith);
           }
 
--- a remainder, where the divisor is known
-pub by_divisor : (r k d e : ℕ) → d ≡ e → r ≡ k % e → r ≡ k % d
-by_divisor r k d e u v = v ∙ ap (λ (n : ℕ). k % n) (sym u)
+    -- a turn for which there is no room, and the answer that hands it on
+    pub growing_full : (S' t' idx' : List ℕ) → Stored n S' t 2049 t' idx' → (f' : List ℕ → List ℕ) → f (keys_in n t) ≡ f' S' → Extends S' (f' S')
+        → (r : Result ℕ Full) → IsErr r → Stored n₀ goal t₀ (count_in r) t' idx' × IfOk r (λ k. k ≤ 2048)
+    growing_full S' t' idx' g f' e x r w = (rw (count_full r w) (growing_stop S' 2049 t' idx' g f' e (omega arith) x), IfOk-from_err r _ w)
 
 -- ---- the loops' parts
 module _ (T : List ℕ) (s : ℕ) (S : List ℕ) where

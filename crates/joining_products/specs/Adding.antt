@@ -1,6 +1,6 @@
 -- Products put into the support where the index of pairs tells of some sums that theirs are in. S is the support, T, B
 -- and L are as in Join.antt of joining_rule.
-use Rattle.std.specs.Prelude.{◌≡◌, true, List, ℕ, ◌+◌, ◌*◌, ◌≤◌, ◌<◌, length, get_or}
+use Rattle.std.specs.Prelude.{◌≡◌, true, List, ℕ, ◌*◌, ◌≤◌, ◌<◌, length, get_or}
 use Rattle.counting.specs.Counting.{from_to}
 use Rattle.joining_rule.specs.Sets.{In}
 use Rattle.joining_rule.specs.Extend.{add_terms}

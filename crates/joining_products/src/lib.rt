@@ -4,48 +4,52 @@
 // that put many products in end with `key_set::shorten`, so that no search in the support is long.
 #![tactic(auto)]
 
-ghost use Rattle.std.specs.Prelude.{◌≡◌, ◌+◌, ◌≤◌, ◌<◌, length, get_or};
+ghost use Rattle.std.specs.Prelude.{◌≡◌, ◌+◌, ◌≤◌, ◌<◌, length, get_or, IfOk};
 ghost use Rattle.joining_rule.specs.Extend.{add_terms, add_row, extend};
-ghost use Rattle.key_set.specs.Table.{keys_in, Stored};
+ghost use Rattle.key_set.specs.Table.{keys_in, count_in, Stored};
 ghost use Rattle.round_laws.specs.Added.{add_list, add_lists};
 ghost use Rattle.round_laws.specs.Lists.{list_from};
 ghost use Rattle.joining_pairs.specs.Limits.{ForSums, ForBasis};
 ghost use Rattle.joining_pairs.specs.Pairs.{Slots};
 ghost use Rattle.joining_products.specs.Adding.{AddingAsks, AddedAll, add_squares, IndexList};
 
+use key_set::Full;
+
 // Up to so many monomials a basis joins by its pairs: that is faster than making their index.
 pub const PLAIN: usize = 16;
 
-// Two blocks, by their numbers, the lower one first; or a block and an index.
+// One basis: the keys of its monomials, and the exponents of its multiplier.
 #[derive(Clone, Copy)]
+pub struct Basis<'a> {
+    pub keys: &'a [u64],
+    pub exponents: &'a [u64],
+}
+
+// Two blocks, by their numbers, the lower one first.
+#[derive(Clone, Copy, Debug, PartialEq, Eq)]
 pub struct Cross {
     pub a: u8,
     pub b: u8,
 }
 
-// The support with t + s put in for each exponent t of the multiplier, and the number of its keys: 2,049 where it would
-// have more than 2,048.
+// The support with t + s put in for each exponent t of the multiplier, and the number of its keys.
 pub fn add_terms(
     table: &mut [u64],
     index: &mut [u16],
     len: usize,
     exponents: &[u64],
     s: u64,
-) -> usize
+) -> Result<usize, Full>
     requires { ForSums table.old index.old len exponents.now s }
-    ensures { Stored len (add_terms exponents.now s (keys_in len table.old)) table.old result
-        table.new index.new }
+    ensures { Stored len (add_terms exponents.now s (keys_in len table.old)) table.old
+        (count_in result) table.new index.new
+        × IfOk result (λ n. n ≤ 2048) }
 {
     let mut n = len;
-    let mut i = 0;
-    while i < exponents.len() {
-        n = key_set::put(table, index, n, exponents[i] + s);
-        if 2048 < n {
-            return n;
-        }
-        i += 1;
+    for &t in exponents {
+        n = key_set::put(table, index, n, t + s)?;
     }
-    n
+    Ok(n)
 }
 
 // The same for the sum of two indices, where the slots of the exponents are known: by the divisor that the index has as
@@ -57,28 +61,24 @@ fn add_slotted(
     exponents: &[u64],
     pairs: &[u16],
     s: u64,
-) -> usize
+) -> Result<usize, Full>
     requires { ForSums table.old index.old len exponents.now s
         × (length exponents.now ≤ 32)
         × Slots exponents.now pairs.now }
-    ensures { Stored len (add_terms exponents.now s (keys_in len table.old)) table.old result
-        table.new index.new }
+    ensures { Stored len (add_terms exponents.now s (keys_in len table.old)) table.old
+        (count_in result) table.new index.new
+        × IfOk result (λ n. n ≤ 2048) }
 {
     if key_set::divisor(index) < key_set::FIRST {
         return add_terms(table, index, len, exponents, s);
     }
     let h = key_set::first_slot(s);
     let mut n = len;
-    let mut i = 0;
-    while i < exponents.len() {
+    for (i, &t) in exponents.iter().enumerate() {
         let at = key_set::slot_of_sum(key_set::FIRST, h, pairs[joining_pairs::SLOTS + i] as usize);
-        n = key_set::put_at(table, index, n, exponents[i] + s, at);
-        if 2048 < n {
-            return n;
-        }
-        i += 1;
+        n = key_set::put_at(table, index, n, t + s, at)?;
     }
-    n
+    Ok(n)
 }
 
 // The products of the indices i and k put in.
@@ -86,95 +86,90 @@ fn add_pair(
     table: &mut [u64],
     index: &mut [u16],
     len: usize,
-    exponents: &[u64],
-    basis: &[u64],
+    basis: Basis<'_>,
     pairs: &mut [u16],
     i: usize,
     k: usize,
-) -> usize
-    requires { AddingAsks exponents.now basis.now pairs.old table.old index.old len
-        × (i < length basis.now)
-        × (k < length basis.now) }
-    ensures { AddedAll exponents.now basis.now
-        (add_terms exponents.now (get_or basis.now i 0 + get_or basis.now k 0)
+) -> Result<usize, Full>
+    requires { AddingAsks basis.exponents.now basis.keys.now pairs.old table.old index.old len
+        × (i < length basis.keys.now)
+        × (k < length basis.keys.now) }
+    ensures { AddedAll basis.entry.exponents.now basis.entry.keys.now
+        (add_terms basis.entry.exponents.now (get_or basis.entry.keys.now i 0 + get_or basis.entry.keys.now k 0)
         (keys_in len table.old))
-        len table.old pairs.old result table.new index.new pairs.new }
+        len table.old pairs.old (count_in result) table.new index.new pairs.new
+        × IfOk result (λ n. n ≤ 2048) }
 {
-    let s = basis[i] + basis[k];
-    if basis.len() <= PLAIN {
-        return add_terms(table, index, len, exponents, s);
+    let s = basis.keys[i] + basis.keys[k];
+    if basis.keys.len() <= PLAIN {
+        return add_terms(table, index, len, basis.exponents, s);
     }
-    if joining_pairs::is_done(pairs, basis, i, k) {
-        return len;
+    if joining_pairs::is_done(pairs, basis.keys, i, k) {
+        return Ok(len);
     }
-    add_slotted(table, index, len, exponents, pairs, s)
+    add_slotted(table, index, len, basis.exponents, pairs, s)
 }
 
-// Those of an index with each index of a block.
+// The products of index k with each index of the block a put in.
 fn add_row(
     follow: &[u8],
-    basis: &[u64],
-    exponents: &[u64],
+    basis: Basis<'_>,
     pairs: &mut [u16],
     table: &mut [u64],
     index: &mut [u16],
     len: usize,
-    c: Cross,
-) -> usize
-    requires { AddingAsks exponents.now basis.now pairs.old table.old index.old len
+    a: u8,
+    k: usize,
+) -> Result<usize, Full>
+    requires { AddingAsks basis.exponents.now basis.keys.now pairs.old table.old index.old len
         × (length follow.now ≡ 64)
-        × IndexList (length basis.now) follow.now c.a
-        × (c.b < length basis.now) }
-    ensures { AddedAll exponents.now basis.now
-        (add_list exponents.now basis.now c.b (list_from follow.now c.a)
+        × IndexList (length basis.keys.now) follow.now a
+        × (k < length basis.keys.now) }
+    ensures { AddedAll basis.entry.exponents.now basis.entry.keys.now
+        (add_list basis.entry.exponents.now basis.entry.keys.now k (list_from follow.now a)
         (keys_in len table.old))
-        len table.old pairs.old result table.new index.new pairs.new }
+        len table.old pairs.old (count_in result) table.new index.new pairs.new
+        × IfOk result (λ n. n ≤ 2048) }
 {
-    let k = c.b as usize;
     let mut n = len;
-    let mut i = c.a as usize;
+    let mut i = a as usize;
+    // A walk along a list, each of whose places tells the next.
     while i < 64 {
-        n = add_pair(table, index, n, exponents, basis, pairs, i, k);
-        if 2048 < n {
-            return n;
-        }
+        n = add_pair(table, index, n, basis, pairs, i, k)?;
         i = follow[i] as usize;
     }
     key_set::shorten(table, index, n);
-    n
+    Ok(n)
 }
 
 // Those of each index of the block b with each index of the block a.
 pub fn add_cross(
     follow: &[u8],
-    basis: &[u64],
-    exponents: &[u64],
+    basis: Basis<'_>,
     pairs: &mut [u16],
     table: &mut [u64],
     index: &mut [u16],
     len: usize,
     m: Cross,
-) -> usize
-    requires { AddingAsks exponents.now basis.now pairs.old table.old index.old len
+) -> Result<usize, Full>
+    requires { AddingAsks basis.exponents.now basis.keys.now pairs.old table.old index.old len
         × (length follow.now ≡ 64)
-        × IndexList (length basis.now) follow.now m.a
-        × IndexList (length basis.now) follow.now m.b }
-    ensures { AddedAll exponents.now basis.now
-        (add_lists exponents.now basis.now (list_from follow.now m.a)
+        × IndexList (length basis.keys.now) follow.now m.a
+        × IndexList (length basis.keys.now) follow.now m.b }
+    ensures { AddedAll basis.entry.exponents.now basis.entry.keys.now
+        (add_lists basis.entry.exponents.now basis.entry.keys.now (list_from follow.now m.a)
         (list_from follow.now m.b) (keys_in len table.old))
-        len table.old pairs.old result table.new index.new pairs.new }
+        len table.old pairs.old (count_in result) table.new index.new pairs.new
+        × IfOk result (λ n. n ≤ 2048) }
 {
     let mut n = len;
-    let mut k = m.b;
+    let mut k = m.b as usize;
+    // Such a walk, too.
     while k < 64 {
-        let c = Cross { a: m.a, b: k };
-        n = add_row(follow, basis, exponents, pairs, table, index, n, c);
-        if 2048 < n {
-            return n;
-        }
-        k = follow[k as usize];
+        n = add_row(follow, basis, pairs, table, index, n, m.a, k)?;
+        k = follow[k] as usize;
     }
-    n
+    Ok(n)
 }
 
 // The products of each index with itself put in.
@@ -182,81 +177,72 @@ pub fn add_squares(
     table: &mut [u64],
     index: &mut [u16],
     len: usize,
-    basis: &[u64],
-    exponents: &[u64],
-) -> usize
-    requires { ForBasis table.old index.old len exponents.now basis.now }
-    ensures { Stored len (add_squares exponents.now basis.now (keys_in len table.old))
-        table.old result table.new index.new }
+    basis: Basis<'_>,
+) -> Result<usize, Full>
+    requires { ForBasis table.old index.old len basis.exponents.now basis.keys.now }
+    ensures { Stored len (add_squares basis.entry.exponents.now basis.entry.keys.now (keys_in len table.old))
+        table.old (count_in result) table.new index.new
+        × IfOk result (λ n. n ≤ 2048) }
 {
     let mut n = len;
-    let mut i = 0;
-    while i < basis.len() {
-        n = add_terms(table, index, n, exponents, 2 * basis[i]);
-        if 2048 < n {
-            return n;
-        }
-        i += 1;
+    for &b in basis.keys {
+        n = add_terms(table, index, n, basis.exponents, 2 * b)?;
     }
     key_set::shorten(table, index, n);
-    n
+    Ok(n)
 }
 
 // The products of index i with itself and each index after it in its block put in.
 fn add_own(
     labels: &[u8],
-    basis: &[u64],
-    exponents: &[u64],
+    basis: Basis<'_>,
     table: &mut [u64],
     index: &mut [u16],
     len: usize,
     i: usize,
-) -> usize
-    requires { ForBasis table.old index.old len exponents.now basis.now
-        × (length labels.now ≡ length basis.now)
-        × (i < length basis.now) }
+) -> Result<usize, Full>
+    requires { ForBasis table.old index.old len basis.exponents.now basis.keys.now
+        × (length labels.now ≡ length basis.keys.now)
+        × (i < length basis.keys.now) }
     ensures { Stored len
-        (add_row exponents.now basis.now labels.now i
-        (keys_in len table.old)) table.old result table.new index.new }
+        (add_row basis.entry.exponents.now basis.entry.keys.now labels.now i
+        (keys_in len table.old)) table.old (count_in result) table.new index.new
+        × IfOk result (λ n. n ≤ 2048) }
 {
     let mut n = len;
-    let mut k = i;
-    while k < basis.len() {
+    for k in i..basis.keys.len() {
         if labels[i] == labels[k] {
-            n = add_terms(table, index, n, exponents, basis[i] + basis[k]);
-            if 2048 < n {
-                return n;
-            }
+            n = add_terms(
+                table,
+                index,
+                n,
+                basis.exponents,
+                basis.keys[i] + basis.keys[k],
+            )?;
         }
-        k += 1;
     }
     key_set::shorten(table, index, n);
-    n
+    Ok(n)
 }
 
 // The products of every pair in one block put in.
 pub fn add_blocks(
     labels: &[u8],
-    basis: &[u64],
-    exponents: &[u64],
+    basis: Basis<'_>,
     table: &mut [u64],
     index: &mut [u16],
     len: usize,
-) -> usize
-    requires { ForBasis table.old index.old len exponents.now basis.now
-        × (length labels.now ≡ length basis.now) }
+) -> Result<usize, Full>
+    requires { ForBasis table.old index.old len basis.exponents.now basis.keys.now
+        × (length labels.now ≡ length basis.keys.now) }
     ensures { Stored len
-        (extend exponents.now basis.now labels.now (keys_in len table.old))
-        table.old result table.new index.new }
+        (extend basis.entry.exponents.now basis.entry.keys.now labels.now (keys_in len table.old))
+        table.old (count_in result) table.new index.new
+        × IfOk result (λ n. n ≤ 2048) }
 {
     let mut n = len;
-    let mut i = 0;
-    while i < basis.len() {
-        n = add_own(labels, basis, exponents, table, index, n, i);
-        if 2048 < n {
-            return n;
-        }
-        i += 1;
+    for i in 0..basis.keys.len() {
+        n = add_own(labels, basis, table, index, n, i)?;
     }
-    n
+    Ok(n)
 }

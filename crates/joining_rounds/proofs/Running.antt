@@ -7,6 +7,7 @@ use Prim.Native.Nat.{ℕ, zero, suc, ◌+◌, ◌-◌, ◌≤◌, ◌<◌}
 use native.Mathlib.Omega.{arith}
 use lib.ListN.{length, get_or, take}
 use lib.Seq.{take-add, take-take}
+use Rattle.std.proofs.Common.{Result, Ok, Err, IsErr}
 use Rattle.counting.specs.Counting.{sum_to}
 use Rattle.counting.proofs.Sums.{sum_to_same}
 use Rattle.joining_rule.specs.Sets.{In, different}
@@ -23,6 +24,7 @@ use Rattle.joining_rule.proofs.Only.{rising_shorter}
 use Rattle.joining_rule.proofs.Rounds.{Shaped, AllNumbered, adding_most, round_labels, round_joined, round_extends, round_full}
 use Rattle.joining_rule.proofs.Same.{close_next, state_same, state_differs}
 use Rattle.key_set.specs.Table.{keys_in, Stored}
+use Rattle.key_set.specs.declared.Full.{Full}
 use Rattle.key_set.proofs.Keys.{keys_rising, keys_first, keys_in_lem, keys_from}
 use Rattle.flat.specs.Flat.{basis_in}
 use Rattle.round_laws.specs.Joins.{Recent}
@@ -35,6 +37,7 @@ use Rattle.joining_products.proofs.Growing.{grown_length, stored_then}
 use Rattle.joining_bases.specs.Parts.{exponents_in, bases_in, labels_at, labels_in, Arrays}
 use Rattle.joining_bases.specs.Nine.{Nine, nine, stage, reach_at, begun, AllReady, RoundAsks, Rounded}
 use Rattle.joining_bases.specs.Settled.{Settled}
+use Rattle.joining_bases.specs.declared.Closed.{Closed}
 use Rattle.joining_bases.proofs.Labels.{bytes_held}
 use Rattle.joining_bases.proofs.Ready.{stored_over, ready_grows}
 use Rattle.joining_bases.proofs.Turns.{arrays_sizes, held_at, held_long, held_numbered}
@@ -122,6 +125,17 @@ module _ (keys sizes : List ℕ) (a : Arrays keys sizes) (s : Nine) (d : AllRead
   unfolding blocks_in
   counts_all = sum_to_same 9 _ _ (λ j h. (d.at j h).count ∙ ap different (sym (held_at keys sizes a s j h)))
 
+-- ---- the support would have too many keys
+pub settled_full : (o : Closing) (n : ℕ) (t t' idx' S : List ℕ) → Stored n S t 2049 t' idx' → length S ≤ length o.state.support → (r : Result Closed Full) → IsErr r → (l : List ℕ) → Settled o n t r t' idx' l
+settled_full o n t t' idx' S k h (Ok c) w l = cc
+settled_full o n t t' idx' S k h (Err f) w l = record {
+  stored = stored_over n S t 2049 t' idx' k (omega arith) o.state.support h;
+  few = tt;
+  rounds = tt;
+  blocks = tt;
+  labels = tt;
+}
+
 -- ---- the loop: after c rounds, those that are left of `most` lead to the outcome o. The table was t₀ and had n₀ keys
 pub record Running (rule most : ℕ) (o : Closing) (n₀ : ℕ) (t₀ keys sizes : List ℕ) (s : Nine) (c left : ℕ) : Type 0 where
   pub upto : c ≤ most
@@ -151,7 +165,7 @@ module _ (rule most : ℕ) (o : Closing) (n₀ : ℕ) (t₀ keys sizes : List �
   rising = keys_rising s.stage.until s.table
 
   -- all rounds are made
-  pub running_out : most ≤ c → 0 < most → Settled o n₀ t₀ (record { len = s.stage.len; rounds = c; blocks = left }) s.table s.index s.labels
+  pub running_out : c ≡ most → 0 < most → Settled o n₀ t₀ (Ok (record { len = s.stage.len; rounds = most; blocks = left })) s.table s.index s.labels
   unfolding close_from
   running_out h b =
       let z : most - c ≡ 0 = omega arith in
@@ -159,9 +173,10 @@ module _ (rule most : ℕ) (o : Closing) (n₀ : ℕ) (t₀ keys sizes : List �
       let q : keys_in s.stage.len s.table ≡ o.state.support = ap (λ (n : ℕ). keys_in n s.table) (sym (r.whole (omega arith))) ∙ ap (λ (v : Closing). v.state.support) e in
       record {
         stored = rw q at r.stored;
-        rounds = λ _. ap (λ (v : Closing). v.rounds) e;
-        blocks = λ _. r.blocks ∙ ap (λ (v : Closing). blocks_in v.state.labels) e;
-        labels = λ _. bytes_held sizes (arrays_sizes keys sizes r.asks.arrays) s.labels r.asks.ready.bytes ∙ ap (λ (v : Closing). block_bytes v.state.labels) e;
+        few = held.support.few;
+        rounds = sym h ∙ ap (λ (v : Closing). v.rounds) e;
+        blocks = r.blocks ∙ ap (λ (v : Closing). blocks_in v.state.labels) e;
+        labels = bytes_held sizes (arrays_sizes keys sizes r.asks.arrays) s.labels r.asks.ready.bytes ∙ ap (λ (v : Closing). block_bytes v.state.labels) e;
       }
 
   module _ (h : c < most) (labels follow pairs t idx state : List ℕ) (n : ℕ)
@@ -173,13 +188,8 @@ module _ (rule most : ℕ) (o : Closing) (n₀ : ℕ) (t₀ keys sizes : List �
     grown = stored_then n₀ (keys_in s.stage.len s.table) t₀ s.stage.len s.table s.index r.more held.support.few r.stored (round rule g old).support n t idx k.stored
 
     -- there are too many keys
-    pub running_over : 2048 < n → (l : List ℕ) → Settled o n₀ t₀ (record { len = n; rounds = c + 1; blocks = left }) t idx l
-    running_over b l = record {
-      stored = stored_over n₀ (round rule g old).support t₀ n t idx grown b o.state.support (rw r.leads at (close_first rule g (most - c) old c (omega arith)));
-      rounds = λ q. absurd (omega arith);
-      blocks = λ q. absurd (omega arith);
-      labels = λ q. absurd (omega arith);
-    }
+    pub running_over : n ≡ 2049 → (x : Result Closed Full) → IsErr x → (l : List ℕ) → Settled o n₀ t₀ x t idx l
+    running_over b x w l = settled_full o n₀ t₀ t idx (round rule g old).support (rw b at grown) (rw r.leads at (close_first rule g (most - c) old c (omega arith))) x w l
 
     module _ (b : n ≤ 2048) (total : ℕ) (e : total ≡ sum_to 9 (λ j. get_or state j 0)) where
       counted : total ≡ blocks_in (labels_in sizes labels)
@@ -192,7 +202,7 @@ module _ (rule most : ℕ) (o : Closing) (n₀ : ℕ) (t₀ keys sizes : List �
       size = grown_length (round rule g old).support s.table n t k.stored.grown b
 
       -- this round has changed nothing
-      pub running_last : n ≡ s.stage.until → total ≡ left → Settled o n₀ t₀ (record { len = n; rounds = c + 1; blocks = left }) t idx labels
+      pub running_last : n ≡ s.stage.until → total ≡ left → Settled o n₀ t₀ (Ok (record { len = n; rounds = c + 1; blocks = left })) t idx labels
       running_last q f =
           let w : left ≡ blocks_in (round rule g old).labels = sym f ∙ counted ∙ ap blocks_in (k.labels b) in
           let u : round rule g old ≡ old = last_round rule g old numbered (size ∙ q ∙ sym r.apart) (sym w ∙ r.blocks) in
@@ -200,9 +210,10 @@ module _ (rule most : ℕ) (o : Closing) (n₀ : ℕ) (t₀ keys sizes : List �
           let v : record { state = round rule g old; rounds = c + 1 } ≡ o = rw y at (sym step ∙ r.leads) in
           record {
             stored = rw (ap (λ (x : Closing). x.state.support) v) at grown;
-            rounds = λ _. ap (λ (x : Closing). x.rounds) v;
-            blocks = λ _. w ∙ ap (λ (x : Closing). blocks_in x.state.labels) v;
-            labels = λ _. bytes_held sizes (arrays_sizes keys sizes r.asks.arrays) labels (k.ready b).bytes ∙ ap block_bytes (k.labels b ∙ ap (λ (x : Closing). x.state.labels) v);
+            few = b;
+            rounds = ap (λ (x : Closing). x.rounds) v;
+            blocks = w ∙ ap (λ (x : Closing). blocks_in x.state.labels) v;
+            labels = bytes_held sizes (arrays_sizes keys sizes r.asks.arrays) labels (k.ready b).bytes ∙ ap block_bytes (k.labels b ∙ ap (λ (x : Closing). x.state.labels) v);
           }
 
       -- it has changed something

@@ -7,6 +7,7 @@ use native.Mathlib.Omega.{arith}
 use lib.ListN.{length, get_or, drop}
 use lib.Seq.{get_or-take, get_or-drop}
 use borrow.Author.Tests.{ltb-true}
+use Rattle.std.proofs.Common.{Result, IsErr}
 use Rattle.counting.specs.Counting.{listed, sum_to}
 use Rattle.counting.proofs.Listed.{listed_length, listed_same}
 use Rattle.joining_rule.specs.Rounds.{Bases, State, Closing, singles, start, adding_bases, round, close_from, closing_of}
@@ -15,6 +16,7 @@ use Rattle.joining_rule.proofs.Lowest.{singles_numbered, singles_count}
 use Rattle.joining_rule.proofs.Only.{rising_shorter}
 use Rattle.joining_rule.proofs.Rounds.{Shaped, adding_most}
 use Rattle.key_set.specs.Table.{keys_in, Stored}
+use Rattle.key_set.specs.declared.Full.{Full}
 use Rattle.key_set.proofs.Keys.{keys_rising, keys_first, stored_none, grown_holds}
 use Rattle.flat.specs.Flat.{basis_in}
 use Rattle.flat.proofs.Flat.{part_length}
@@ -28,14 +30,13 @@ use Rattle.joining_blocks.specs.Standing.{latest, Ready}
 use Rattle.joining_products.proofs.Growing.{grown_length, stored_then}
 use Rattle.joining_bases.specs.Parts.{piece, exponents_in, bases_in, labels_at, labels_in, squares_to}
 use Rattle.joining_bases.specs.Nine.{Nine, nine, stage, standing_at, RoundAsks, AllNoted, AllSingle}
-use Rattle.joining_bases.specs.Settled.{Starting, Settled}
+use Rattle.joining_bases.specs.Settled.{Starting, len_in, Settled}
 use Rattle.joining_bases.specs.declared.Support.{Support}
 use Rattle.joining_bases.specs.declared.Closed.{Closed}
 use Rattle.joining_bases.proofs.Labels.{labels_nine, labels_at_lem}
-use Rattle.joining_bases.proofs.Ready.{stored_over}
 use Rattle.joining_bases.proofs.Squares.{squares_products}
 use Rattle.joining_bases.proofs.Turns.{basis_long, held_at}
-use Rattle.joining_rounds.proofs.Running.{Running, close_first, round_more, latest_in, latest_or, counts_all}
+use Rattle.joining_rounds.proofs.Running.{Running, close_first, round_more, latest_in, latest_or, counts_all, settled_full}
 
 -- ---- at the start every member is one of those that came last
 recent_start : (t : List ℕ) (n : ℕ) (T B L : List ℕ) → Recent (keys_in n t) T B L (latest t 0 n)
@@ -89,15 +90,10 @@ module _ (keys sizes t₀ idx₀ : List ℕ) (p : Support) (z : Starting t₀ id
   leads = ap (λ (M : List (List ℕ)). close_from p.rule g p.most (record { labels = M; support = S₀ }) 0) all_alone
 
   -- there are too many of them
-  pub starting_over : 2048 < n → (c left : ℕ) (l : List ℕ) → Settled o p.len t₀ (record { len = n; rounds = c; blocks = left }) t idx l
-  starting_over b c left l =
+  pub starting_over : n ≡ 2049 → (x : Result Closed Full) → IsErr x → (l : List ℕ) → Settled o p.len t₀ x t idx l
+  starting_over b x w l =
       let q : length (squares_to adding g S₀) ≤ length (round p.rule g first).support = rw e (round_more p.rule g first shaped (keys_rising p.len t₀) (squares_to (adding_bases p.rule) g S₀) (rw e at products)) in
-      record {
-        stored = stored_over p.len (squares_to adding g S₀) t₀ n t idx k b o.state.support (omega (arith, q, rw leads at (close_first p.rule g p.most first 0 z.some)));
-        rounds = λ q. absurd (omega arith);
-        blocks = λ q. absurd (omega arith);
-        labels = λ q. absurd (omega arith);
-      }
+      settled_full o p.len t₀ t idx (squares_to adding g S₀) (rw b at k) (omega (arith, q, rw leads at (close_first p.rule g p.most first 0 z.some))) x w l
 
   module _ (b : n ≤ 2048) where
     new : keys_in n t ≡ squares_to adding g S₀
@@ -116,11 +112,12 @@ module _ (keys sizes t₀ idx₀ : List ℕ) (p : Support) (z : Starting t₀ id
         )
 
     -- what the rounds lead to from here
-    pub starting_then : (c : Closed) (t' idx' l : List ℕ) → Settled (closing_of p.rule p.most g (keys_in p.len t)) n t c t' idx' l → Settled o p.len t₀ c t' idx' l
+    pub starting_then : (c : Result Closed Full) (t' idx' l : List ℕ) → Settled (closing_of p.rule p.most g (keys_in p.len t)) n t c t' idx' l → Settled o p.len t₀ c t' idx' l
     starting_then c t' idx' l w =
         let u : Settled o n t c t' idx' l = rw same_first at w in
         record {
-          stored = stored_then p.len (squares_to adding g S₀) t₀ n t idx longer b k o.state.support c.len t' idx' u.stored;
+          stored = stored_then p.len (squares_to adding g S₀) t₀ n t idx longer b k o.state.support (len_in c) t' idx' u.stored;
+          few = u.few;
           rounds = u.rounds;
           blocks = u.blocks;
           labels = u.labels;

@@ -8,6 +8,7 @@ ghost use Rattle.joining_bases.specs.Nine.{AllNoted, AllSingle};
 ghost use Rattle.joining_bases.specs.Settled.{Starting, Settled};
 
 use joining_bases::{Closed, Stage, Support};
+use key_set::Full;
 
 // Rounds until one changes neither a block nor the support, or the support has too many keys, or the most were made.
 fn run(
@@ -20,7 +21,7 @@ fn run(
     index: &mut [u16],
     state: &mut [u64; 18],
     support: Support,
-) -> Closed
+) -> Result<Closed, Full>
     requires { Starting table.old index.old support keys.now sizes.now
         × AllSingle sizes.now labels.old follow.old state.old
         × AllNoted keys.now sizes.now pairs.old state.old }
@@ -33,48 +34,32 @@ fn run(
     let mut left = joining_bases::total(state);
     let mut since = 0;
     let mut until = support.len;
-    let mut len = joining_bases::add_squares(table, index, until, keys, sizes, adding);
-    let mut rounds = 0;
-    if 2048 < len {
-        return Closed {
-            len,
-            rounds,
-            blocks: left,
-        };
-    }
-    while rounds < support.most {
+    let mut len = joining_bases::add_squares(table, index, until, keys, sizes, adding)?;
+    for rounds in 0..support.most {
         let s = Stage {
             since,
             until,
             len,
             adding,
         };
-        len = joining_round::round(labels, follow, keys, sizes, pairs, table, index, state, s);
-        rounds += 1;
-        if 2048 < len {
-            return Closed {
-                len,
-                rounds,
-                blocks: left,
-            };
-        }
+        len = joining_round::round(labels, follow, keys, sizes, pairs, table, index, state, s)?;
         let now = joining_bases::total(state);
         if len == until && now == left {
-            return Closed {
+            return Ok(Closed {
                 len,
-                rounds,
+                rounds: rounds + 1,
                 blocks: left,
-            };
+            });
         }
         left = now;
         since = until;
         until = len;
     }
-    Closed {
+    Ok(Closed {
         len,
-        rounds,
+        rounds: support.most,
         blocks: left,
-    }
+    })
 }
 
 // The rounds, with the index of the pairs.
@@ -87,7 +72,7 @@ fn run_indexed(
     index: &mut [u16],
     state: &mut [u64; 18],
     support: Support,
-) -> Closed
+) -> Result<Closed, Full>
     requires { Starting table.old index.old support keys.now sizes.now
         × AllSingle sizes.now labels.old follow.old state.old }
     ensures { Settled
@@ -110,7 +95,7 @@ pub fn close(
     table: &mut [u64],
     index: &mut [u16],
     support: Support,
-) -> Closed
+) -> Result<Closed, Full>
     requires { Starting table.old index.old support keys.now sizes.now }
     ensures { Settled
         (closing_of support.rule support.most (bases_in keys.now sizes.now)
@@ -121,18 +106,6 @@ pub fn close(
     let mut follow = [255u8; 576];
     joining_bases::start_blocks(labels, sizes);
     let mut state = joining_bases::start_state(sizes);
-    if joining_products::PLAIN < sizes[0] {
-        return run_indexed(
-            labels,
-            &mut follow,
-            keys,
-            sizes,
-            table,
-            index,
-            &mut state,
-            support,
-        );
-    }
     if joining_bases::are_small(sizes) {
         let mut none = [0u16; 1];
         return run(

@@ -1,16 +1,16 @@
 -- Laws of the index: what it tells of a key, and how it grows by one more.
 use mathlib.Core.Path.{◌≡◌, refl, sym, ap, ◌∙◌}
-use mathlib.Core.Bool.{Bool, true, false}
-use mathlib.Core.List.{List, [], ◌∷◌}
+use mathlib.Core.Bool.{true, false}
+use mathlib.Core.List.{List, [], ◌∷◌, ◌++◌}
 use Prim.Native.Nat.{ℕ, zero, suc, ◌+◌, ◌-◌, ◌%◌, ◌≤◌, ◌<◌}
-use native.Mathlib.Nat.{add_comm, mod-lt, mod-eq_of_lt, mod-add-mod, add-mod_right}
+use native.Mathlib.Nat.{add_comm, mod-lt, mod-add-mod}
 use native.Mathlib.Omega.{arith}
-use borrow.Author.Tests.{eqb-true, eq-eqb, ne_eqb}
+use borrow.Author.Tests.{eq-eqb, ne_eqb}
 use lib.Dec.{eqb}
-use lib.ListN.{length, get_or, take, set, replicate, length-set, length-replicate, get_or-replicate}
+use lib.ListN.{length, get_or, take, drop, set, replicate, length-set, length-append, length-drop, length-replicate, get_or-append, get_or-replicate}
 use lib.Seq.{get_or-set_same, get_or-set_other, get_or-take, length-take-le}
 use Rattle.hash_chain.specs.Chain.{Chain}
-use Rattle.hash_chain.proofs.Chain.{last_le, Search, chain_start, chain_as, chain_next, search_start, search_here, search_less, search_step}
+use Rattle.hash_chain.proofs.Chain.{last_le, Search, chain_start, chain_as, chain_next, search_start, search_less, search_step}
 use Rattle.joining_rule.specs.Sets.{member, insert}
 use Rattle.key_set.specs.Table.{first, divisor_in, keys_in, Holds, has_rest, Indexed, Linked, noted, BesideMark, Stored}
 use Rattle.key_set.proofs.Keys.{inside, stored_new}
@@ -51,15 +51,7 @@ seeks_none {t} {n} h d key v c b =
     let l = length-take-le n t (inside h) in
     absent key (take n t) (λ q u e. c.past q (omega arith) (omega arith) (sym (get_or-take n t q 0 (omega arith)) ∙ e))
 
--- ---- remainders
--- of a number below the divisor, and of one above it by r
-pub rest_small : (d s : ℕ) → s < d → s ≡ s % d
-rest_small d s b = sym (mod-eq_of_lt b)
-
-pub rest_above : (d s r : ℕ) → r + d ≡ s → r < d → r ≡ s % d
-rest_above d s r e b = sym (ap (λ (k : ℕ). k % d) (sym e) ∙ add-mod_right r d ∙ mod-eq_of_lt b)
-
--- the remainder of a sum
+-- ---- the remainder of a sum
 pub rest_sum : (d a b : ℕ) → (a % d + b % d) % d ≡ (a + b) % d
 rest_sum d a b =
     mod-add-mod a d (b % d) ∙ ap (λ (k : ℕ). k % d) (add_comm a (b % d)) ∙ mod-add-mod b d a
@@ -105,6 +97,20 @@ indexed_none idx t l b z = record {
   some = b;
   chain = chain_start 4096 (divisor_in idx) (has_rest (divisor_in idx) t) (omega arith) idx (λ h u. z h (omega arith));
 }
+
+-- an index whose first n places are cleared, and a divisor
+pub indexed_cleared : (n : ℕ) (idx z t : List ℕ) (below : ℕ) → z ≡ replicate (length (take n idx)) 0 → length idx ≡ 6144 → first ≤ n → n ≤ 6144 → below < first → Indexed (set (z ++ drop n idx) 4095 below) t 0
+indexed_cleared n idx z t below e l f m b =
+    let k : z ≡ replicate n 0 = e ∙ ap (λ (j : ℕ). replicate j 0) (length-take-le n idx (omega arith)) in
+    let some : length z ≡ n = ap length k ∙ length-replicate {A = ℕ} n 0 in
+    let whole = z ++ drop n idx in
+    let long : length whole ≡ 6144 = omega (arith, length-append z (drop n idx), length-drop n idx) in
+    indexed_none (set whole 4095 below) t (length-set whole 4095 below ∙ long) (rw (get_or-set_same whole 4095 below 0 (omega arith)) b)
+    (λ q u.
+    get_or-set_other whole 4095 q below 0 (λ w. omega arith)
+    ∙ get_or-append z (drop n idx) 0 q (omega arith)
+    ∙ ap (λ (y : List ℕ). get_or y q 0) k
+    ∙ get_or-replicate {A = ℕ} n q 0 0 (omega arith))
 
 pub indexed_start : (t : List ℕ) → Indexed (replicate 6144 0) t 0
 indexed_start t =

@@ -14,8 +14,7 @@ use Rattle.counting.proofs.Cases.{clash, lt_or_le}
 use Rattle.joining_rule.specs.Sets.{In, member, insert, insert_all}
 use Rattle.joining_rule.proofs.Rising.{Rising}
 use Rattle.key_set.specs.Table.{keys_in, Holds, Finds, Indexed, Grown, Stored}
-use Rattle.key_set.specs.declared.Found.{Found}
-use Rattle.key_set.specs.declared.Found.TheVariants.{At, Nowhere}
+use Rattle.std.specs.Prelude.{Result, Ok, Err, is_ok}
 use Rattle.joining_rule.proofs.Elements.{not_nil, in_cons, member_at, insert_member, length_insert_new, insert_small}
 use Rattle.joining_rule.proofs.Insertions.{insert_all_more, insert_all_rising, insert_all_in, insert_all_from}
 
@@ -97,15 +96,15 @@ module _ {t : List ℕ} {n : ℕ} (h : Holds t n) where
       keys_in_lem n t (get_or t q 0) (member_at (get_or t q 0) (take n t) q (omega arith) (get_or-take n t q 0 b))
 
 -- ---- what the place of a key tells
-module _ (k n : ℕ) (t : List ℕ) (r : Found) (f : Finds k (take n t) r) where
-  pub found_at : (p : ℕ) → r ≡ At p → true ≡ member k (keys_in n t)
-  found_at p e = let g = rw e at f in sym (keys_member n t k ∙ member_at k (take n t) p g.0 g.1)
+pub found_there : (k n : ℕ) (t : List ℕ) (p : ℕ) → Finds k (take n t) (Ok p) → member k (keys_in n t) ≡ true
+found_there k n t p f = keys_member n t k ∙ member_at k (take n t) p f.0 f.1
 
-  pub found_nowhere : (steps : ℕ) → r ≡ Nowhere steps → false ≡ member k (keys_in n t)
-  found_nowhere steps e = let g = rw e at f in sym (keys_member n t k ∙ g.0)
+pub found_nowhere : (k n : ℕ) (t : List ℕ) (steps : ℕ) → Finds k (take n t) (Err steps) → member k (keys_in n t) ≡ false
+found_nowhere k n t steps f = keys_member n t k ∙ f.0
 
-  pub found_few : Holds t n → (steps : ℕ) → r ≡ Nowhere steps → steps ≤ 2048
-  found_few h steps e = let g = rw e at f in omega (arith, g.1, h.few, length-take-le n t (inside h))
+pub found_is : (k n : ℕ) (t : List ℕ) (r : Result ℕ ℕ) → Finds k (take n t) r → is_ok r ≡ member k (keys_in n t)
+found_is k n t (Ok p) f = sym (found_there k n t p f)
+found_is k n t (Err steps) f = sym (found_nowhere k n t steps f)
 
 -- ---- and what it tells of the first keys: a key has one place
 module _ {t : List ℕ} {n : ℕ} (h : Holds t n) (m : ℕ) (b : m ≤ n) (k : ℕ) where
@@ -118,7 +117,7 @@ module _ {t : List ℕ} {n : ℕ} (h : Holds t n) (m : ℕ) (b : m ≤ n) (k : �
           in_place k (take m t) (λ q c g. absurd (f q (omega arith) (sym (get_or-take m t q 0 (omega arith)) ∙ g))) (keys_from m t k e)
       go false e = refl
 
-  pub before_at : (p : ℕ) → Finds k (take n t) (At p) → ltb p m ≡ member k (keys_in m t)
+  pub before_at : (p : ℕ) → Finds k (take n t) (Ok p) → ltb p m ≡ member k (keys_in m t)
   before_at p f =
       let i = inside h in
       let l = length-take-le n t i in
@@ -128,7 +127,7 @@ module _ {t : List ℕ} {n : ℕ} (h : Holds t n) (m : ℕ) (b : m ≤ n) (k : �
       (λ u. le-ltb p m u ∙ not_first (λ q c g. keys_apart h q p (omega arith) (omega (arith, f.0)) (g ∙ sym e)))
       (lt_or_le p m)
 
-  pub before_nowhere : (steps : ℕ) → Finds k (take n t) (Nowhere steps) → false ≡ member k (keys_in m t)
+  pub before_nowhere : (steps : ℕ) → Finds k (take n t) (Err steps) → false ≡ member k (keys_in m t)
   before_nowhere steps f =
       let l = length-take-le n t (inside h) in
       not_first (λ q c g. let w = member_at k (take n t) q (omega arith) (get_or-take n t q 0 (omega arith) ∙ g) in let z = f.0 in clash (cc))

@@ -1,10 +1,9 @@
 -- The support in a lent table: its keys are the table's first numbers, each once, in the order in which they came. An
 -- index of 6,144 numbers finds them.
-use Rattle.std.specs.Prelude.{◌≡◌, Bool, false, List, [], ℕ, ◌+◌, ◌-◌, ◌%◌, ◌≤◌, ◌<◌, min, eqb, length, get_or, take, drop, set}
+use Rattle.std.specs.Prelude.{◌≡◌, Bool, false, List, [], ℕ, ◌+◌, ◌-◌, ◌%◌, ◌≤◌, ◌<◌, min, eqb, length, get_or, take, drop, set, Result, Ok, Err}
 use Rattle.hash_chain.specs.Chain.{Chain}
 use Rattle.joining_rule.specs.Sets.{member, insert_all}
-use Rattle.key_set.specs.declared.Found.{Found}
-use Rattle.key_set.specs.declared.Found.TheVariants.{At, Nowhere}
+use Rattle.key_set.specs.declared.Full.{Full}
 
 -- the set of the table's first n numbers
 unfoldable pub keys_in : ℕ → List ℕ → List ℕ
@@ -17,9 +16,9 @@ pub record Holds (t : List ℕ) (n : ℕ) : Type 0 where
   pub apart : length (keys_in n t) ≡ n
 
 -- where a key stands in a list, if it does
-abbrev pub Finds : ℕ → List ℕ → Found → Type 0
-Finds k l (At p) = (p < length l) × (get_or l p 0 ≡ k)
-Finds k l (Nowhere steps) = (member k l ≡ false) × (steps ≤ length l)
+abbrev pub Finds : ℕ → List ℕ → Result ℕ ℕ → Type 0
+Finds k l (Ok p) = (p < length l) × (get_or l p 0 ≡ k)
+Finds k l (Err steps) = (member k l ≡ false) × (steps ≤ length l)
 
 -- ---- the index
 -- the divisor that an index has as a rule. Any number up to 4,094 would do; with this one few keys share a place
@@ -63,6 +62,11 @@ pub record BesideMark (idx idx' : List ℕ) : Type 0 where
   pub same : (q : ℕ) → (q ≡ 4094 → ⊥) → get_or idx' q 0 ≡ get_or idx q 0
 
 -- ---- growth
+-- the number of the keys that are answered: 2,049 where there would be more than 2,048
+abbrev pub count_in : Result ℕ Full → ℕ
+count_in (Ok n) = n
+count_in (Err f) = 2049
+
 -- the table t, grown to hold the set S: r is the number of its keys, which t' holds, or 2,049 where S has more than
 -- 2,048
 pub record Grown (S t : List ℕ) (r : ℕ) (t' : List ℕ) : Type 0 where

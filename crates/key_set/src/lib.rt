@@ -9,9 +9,9 @@
 // Place BELOW of the index has how far its divisor is below FIRST, and place MARK the mark; a remainder is below both.
 #![tactic(auto)]
 
-ghost use Rattle.std.specs.Prelude.{◌≡◌, ℕ, ◌+◌, ◌%◌, ◌≤◌, ◌<◌, length, get_or, take};
+ghost use Rattle.std.specs.Prelude.{◌≡◌, ℕ, ◌+◌, ◌%◌, ◌≤◌, ◌<◌, length, get_or, take, IfOk};
 ghost use Rattle.joining_rule.specs.Sets.{member, insert};
-ghost use Rattle.key_set.specs.Table.{first, divisor_in, keys_in, Holds, Divided, Indexed, Linked, noted, Finds, Stored, BesideMark};
+ghost use Rattle.key_set.specs.Table.{first, divisor_in, keys_in, Holds, Divided, Indexed, Linked, noted, Finds, count_in, Stored, BesideMark};
 
 // A divisor with which few keys share a place. Any number up to 4,094 would do.
 pub const FIRST: usize = 3821;
@@ -75,32 +75,34 @@ pub fn slot_of_sum(d: usize, a: usize, b: usize) -> usize
     sum - d
 }
 
-// Where a key stands; or how many keys have its remainder, where it stands nowhere.
-#[derive(Drop)]
-pub enum Found {
-    At(usize),
-    Nowhere(usize),
-}
-
-// Looks a key up whose place in the index is known.
-pub fn find_at(table: &[u64], index: &[u16], len: usize, key: u64, at: usize) -> Found
+// Looks a key up whose place in the index is known: Ok with where it stands, or Err with how many keys have its
+// remainder, where it stands nowhere.
+pub fn find_at(
+    table: &[u64],
+    index: &[u16],
+    len: usize,
+    key: u64,
+    at: usize,
+) -> Result<usize, usize>
     requires { (Holds table.now len × Indexed index.now table.now len) × (at ≡ key % divisor_in index.now) }
     ensures { Finds key (take len table.now) result }
 {
     let mut v = index[at] as usize;
     let mut steps = 0;
+    // No `for`: it goes from link to link.
     while 0 < v {
         let p = v - 1;
         if table[p] == key {
-            return Found::At(p);
+            return Ok(p);
         }
         v = index[4096 + p] as usize;
         steps += 1;
     }
-    Found::Nowhere(steps)
+    Err(steps)
 }
 
-pub fn find(table: &[u64], index: &[u16], len: usize, key: u64) -> Found
+// Looks any key up, in the same way.
+pub fn find(table: &[u64], index: &[u16], len: usize, key: u64) -> Result<usize, usize>
     requires { Holds table.now len × Indexed index.now table.now len }
     ensures { Finds key (take len table.now) result }
 {
@@ -112,10 +114,7 @@ pub fn contains(table: &[u64], index: &[u16], len: usize, key: u64) -> bool
     requires { Holds table.now len × Indexed index.now table.now len }
     ensures { result ≡ member key (keys_in len table.now) }
 {
-    match find(table, index, len, key) {
-        Found::At(_) => true,
-        Found::Nowhere(_) => false,
-    }
+    find(table, index, len, key).is_ok()
 }
 
 // Whether a key is among the first `until` of the set.
@@ -124,12 +123,13 @@ pub fn is_before(table: &[u64], index: &[u16], until: usize, len: usize, key: u6
     ensures { result ≡ member key (keys_in until table.now) }
 {
     match find(table, index, len, key) {
-        Found::At(p) => p < until,
-        Found::Nowhere(_) => false,
+        Ok(p) => p < until,
+        Err(_) => false,
     }
 }
 
 // The index of `len` keys, with one more, whose place in the index is known.
+#[tactic(auto, unfolding(crate::specs::Table::noted))]
 fn note(index: &mut [u16], len: usize, at: usize)
     requires { (length index.old ≡ 6144) × (len < 2048) × (at < first) }
     ensures { index.new ≡ noted index.old len at }
@@ -149,47 +149,44 @@ fn mark(index: &mut [u16], steps: usize)
     }
 }
 
-// The set with a key put in whose place in the index is known, and the number of its keys: 2,049 where it would have
-// more than 2,048.
-pub fn put_at(table: &mut [u64], index: &mut [u16], len: usize, key: u64, at: usize) -> usize
+// The support would have more than 2,048 keys.
+#[derive(Clone, Copy, Debug, PartialEq, Eq)]
+pub struct Full;
+
+// The set with a key put in whose place in the index is known, and the number of its keys.
+pub fn put_at(
+    table: &mut [u64],
+    index: &mut [u16],
+    len: usize,
+    key: u64,
+    at: usize,
+) -> Result<usize, Full>
     requires { (Holds table.old len × Indexed index.old table.old len) × (at ≡ key % divisor_in index.old) }
-    ensures { Stored len (insert key (keys_in len table.old)) table.old result table.new
+    ensures { Stored len (insert key (keys_in len table.old)) table.old (count_in result) table.new
         index.new
+        × IfOk result (λ n. n ≤ 2048)
         × (divisor_in index.new ≡ divisor_in index.old) }
 {
     match find_at(table, index, len, key, at) {
-        Found::At(_) => len,
-        Found::Nowhere(steps) => {
-            if 2047 < len {
-                return 2049;
-            }
+        Ok(_) => Ok(len),
+        Err(_) if 2047 < len => Err(Full),
+        Err(steps) => {
             table[len] = key;
             note(index, len, at);
             mark(index, steps);
-            len + 1
+            Ok(len + 1)
         }
     }
 }
 
 // The same for any key.
-pub fn put(table: &mut [u64], index: &mut [u16], len: usize, key: u64) -> usize
+pub fn put(table: &mut [u64], index: &mut [u16], len: usize, key: u64) -> Result<usize, Full>
     requires { Holds table.old len × Indexed index.old table.old len }
-    ensures { Stored len (insert key (keys_in len table.old)) table.old result table.new
-        index.new }
+    ensures { Stored len (insert key (keys_in len table.old)) table.old (count_in result) table.new
+        index.new
+        × IfOk result (λ n. n ≤ 2048) }
 {
     put_at(table, index, len, key, slot(index, key))
-}
-
-// No place of the index has a key.
-fn clear(index: &mut [u16])
-    requires { length index.old ≡ 6144 }
-    ensures { (length index.new ≡ 6144) × ((q : ℕ) → q < 4096 → get_or index.new q 0 ≡ 0) }
-{
-    let mut i = 0;
-    while i < 4096 {
-        index[i] = 0;
-        i += 1;
-    }
 }
 
 // The keys put into an index that has none, with the divisor that stands in it.
@@ -197,11 +194,9 @@ fn note_all(table: &[u64], index: &mut [u16], len: usize)
     requires { Holds table.now len × Indexed index.old table.now 0 }
     ensures { Indexed index.new table.now len }
 {
-    let mut p = 0;
-    while p < len {
-        let at = slot(index, table[p]);
+    for (p, &key) in table[..len].iter().enumerate() {
+        let at = slot(index, key);
         note(index, p, at);
-        p += 1;
     }
 }
 
@@ -210,7 +205,7 @@ fn renew(table: &[u64], index: &mut [u16], len: usize, below: u16)
     requires { Holds table.now len × (length index.old ≡ 6144) × (below < first) }
     ensures { Indexed index.new table.now len }
 {
-    clear(index);
+    index[..4096].fill(0);
     index[BELOW] = below;
     note_all(table, index, len);
 }
@@ -222,10 +217,8 @@ pub fn shorten(table: &[u64], index: &mut [u16], len: usize)
     ensures { Indexed index.new table.now len }
 {
     let below = index[BELOW];
-    if below < LAST {
-        if LONG + below as usize / 2 < index[MARK] as usize {
-            renew(table, index, len, below + STEP);
-        }
+    if below < LAST && LONG + below as usize / 2 < index[MARK] as usize {
+        renew(table, index, len, below + STEP);
     }
 }
 
@@ -235,16 +228,13 @@ fn depth(index: &[u16], p: usize, most: usize) -> usize
     ensures { result ≤ most }
 {
     let mut v = index[4096 + p] as usize;
-    let mut n = 0;
-    while n < most {
+    for n in 0..most {
         if v == 0 {
             return n;
         }
-        let q = v - 1;
-        v = index[4096 + q] as usize;
-        n += 1;
+        v = index[4096 + (v - 1)] as usize;
     }
-    n
+    most
 }
 
 // Whether few keys share a remainder: at most two stand before a key, on average.
@@ -252,14 +242,12 @@ fn is_spread(index: &[u16], len: usize) -> bool
     requires { Linked index.now len }
 {
     let mut left = 2 * len;
-    let mut p = 0;
-    while p < len {
+    for p in 0..len {
         let n = depth(index, p, left + 1);
         if left < n {
             return false;
         }
         left -= n;
-        p += 1;
     }
     true
 }
@@ -269,33 +257,27 @@ fn spread(table: &[u64], index: &mut [u16], len: usize)
     requires { Holds table.now len × (length index.old ≡ 6144) }
     ensures { Indexed index.new table.now len }
 {
-    let mut below = 0;
     renew(table, index, len, 0);
-    while below < LAST {
+    for k in 1..=LAST / STEP {
         if is_spread(index, len) {
             return;
         }
-        below += STEP;
-        renew(table, index, len, below);
+        renew(table, index, len, k * STEP);
     }
 }
 
 // The set with its last key put in, as by `put`. From then on it is only looked at, so the keys are spread anew where
 // many of them shared a remainder with any of the divisors so far.
-pub fn put_last(table: &mut [u64], index: &mut [u16], len: usize, key: u64) -> usize
+pub fn put_last(table: &mut [u64], index: &mut [u16], len: usize, key: u64) -> Result<usize, Full>
     requires { Holds table.old len × Indexed index.old table.old len }
-    ensures { Stored len (insert key (keys_in len table.old)) table.old result table.new
-        index.new }
+    ensures { Stored len (insert key (keys_in len table.old)) table.old (count_in result) table.new
+        index.new
+        × IfOk result (λ n. n ≤ 2048) }
 {
-    let n = put(table, index, len, key);
-    if 2048 < n {
-        return n;
-    }
-    if index[BELOW] == 0 {
-        if index[MARK] == 0 {
-            return n;
-        }
+    let n = put(table, index, len, key)?;
+    if index[BELOW] == 0 && index[MARK] == 0 {
+        return Ok(n);
     }
     spread(table, index, n);
-    n
+    Ok(n)
 }

@@ -3,7 +3,7 @@ use mathlib.Core.Path.{◌≡◌, refl, sym, ◌∙◌}
 use mathlib.Core.Bool.{Bool, true, false, cond, ◌&&◌, ◌||◌}
 use mathlib.Core.List.{List}
 use mathlib.Core.Logic.{⊎_elim}
-use Prim.Native.Nat.{ℕ, zero, suc, ◌+◌, ◌≤◌, ◌<◌}
+use Prim.Native.Nat.{ℕ, ◌+◌, ◌≤◌, ◌<◌}
 use native.Mathlib.Omega.{arith}
 use lib.Dec.{eqb, leb}
 use lib.ListN.{length, get_or, get_or-eq_default}
@@ -33,10 +33,6 @@ module _ (s : List ℕ) where
   start_headed h e = rw (eq-eqb (get_or s 0 0) 0x10 e, le-leb 10 (length s) h)
 
 -- ---- one step
-positive : (n : ℕ) → (n ≡ 0 → ⊥) → 0 < n
-positive zero h = absurd (h refl)
-positive (suc n) h = omega arith
-
 module _ (s : List ℕ) (at : ℕ) where
   pub step_past : length s ≤ at → step_at s at ≡ 0
   step_past h =
@@ -95,9 +91,9 @@ module _ (s : List ℕ) (at : ℕ) where
     }
 
 -- ---- one step of n bytes
-module _ (s : List ℕ) (at n : ℕ) (is : n ≡ step_at s at) (some : n ≡ 0 → ⊥) where
+module _ (s : List ℕ) (at n : ℕ) (is : n ≡ step_at s at) (some : 0 < n) where
   pub step_some : 0 < step_at s at
-  step_some = rw (← is) (positive n some)
+  step_some = rw (← is) some
 
   pub step_inside : at + n ≤ length s
   step_inside = rw is (stepped s at step_some).inside

@@ -1,5 +1,5 @@
 -- What the functions behind the office's call find and leave.
-use Rattle.std.specs.Prelude.{◌≡◌, Bool, true, false, cond, ◌&&◌, List, ◌++◌, ◌⊎◌, ℕ, ◌+◌, ◌-◌, ◌*◌, ◌≤◌, leb, length, get_or, take, drop}
+use Rattle.std.specs.Prelude.{◌≡◌, Bool, true, false, cond, ◌&&◌, List, ◌++◌, ℕ, ◌+◌, ◌-◌, ◌*◌, ◌≤◌, leb, length, get_or, take, drop}
 use Rattle.format.specs.Notes.{note_text, note_length, is_note, note_offsets, place_sent, note_texts}
 use Rattle.format.proofs.Walk.{NoteMet, WalkEnded}
 use Rattle.calls.specs.declared.CheckVerdict.{CheckVerdict}
@@ -15,12 +15,6 @@ note_here s at = leb (at + note_length) (length s) && is_note (get_or s at 0)
 pub record Reached (s l : List ℕ) (e r : ℕ) : Type 0 where
   pub note : note_here s r ≡ true → NoteMet s r l e
   pub none : note_here s r ≡ false → WalkEnded r l e
-
--- the smaller of two numbers
-pub record Least (a b r : ℕ) : Type 0 where
-  pub first : r ≤ a
-  pub second : r ≤ b
-  pub one : (r ≡ a) ⊎ (r ≡ b)
 
 -- a part put behind the first `len` elements of a list, as far as that has room; it then has r of them
 pub record Filled (before : List ℕ) (len : ℕ) (part after : List ℕ) (r : ℕ) : Type 0 where

@@ -3,7 +3,7 @@
 // a copy without them, of as many bytes as a certificate is read by.
 #![tactic(auto)]
 
-ghost use Rattle.std.specs.Prelude.{◌≡◌, List, ◌++◌, ℕ, ◌*◌, ◌≤◌, length, take, drop};
+ghost use Rattle.std.specs.Prelude.{◌≡◌, List, ◌++◌, ℕ, ◌*◌, ◌<◌, ◌≤◌, length, take, drop, MatchOption};
 ghost use Rattle.std.proofs.Math.Seq.{slice};
 ghost use Rattle.format.specs.Notes.{note_text, office_size, walk_start, step_at, note_offsets, walk_end, body_end};
 ghost use Rattle.format.specs.Notes.{without_notes, place_sent, note_texts};
@@ -17,18 +17,19 @@ ghost use Rattle.calls.specs.Office.{verdict_sent, note_count, refused_notes, of
 ghost use Rattle.calls.specs.Office.{OfficeNumbered, StrictBeside, SameForOthers, CutNote, ThirteenExactly, Untouched};
 ghost use Rattle.calls.specs.Office.{NotesPassed, PlacesSent, NotesCopied, OfficeExactly, OfficeSplits, OfficeKept};
 ghost use Rattle.calls.specs.RowOrder.{OfficeAnyOrder};
-ghost use Rattle.office_check.specs.Steps.{note_here, Reached, Least, Filled, Sendable, buffer_told};
+ghost use Rattle.office_check.specs.Steps.{note_here, Reached, Filled, Sendable, buffer_told};
 
-use calls::{CheckVerdict, Fraction, OfficeVerdict, Refusal};
+use calls::{CheckVerdict, OfficeVerdict, Refusal};
 
 // The length of the note or of the command that a byte begins, with its byte; 0 where it is neither.
 fn length_of(byte: u8) -> usize
     ensures { result ≡ office_size byte }
 {
     if byte == 0x40 {
-        return 9;
+        9
+    } else {
+        certificate_commands::length_of(byte)
     }
-    certificate_commands::length_of(byte)
 }
 
 // Where the walk begins: behind the 10, or at the end of a stream that does not begin with a whole one.
@@ -42,22 +43,18 @@ fn walk_start(s: &[u8]) -> usize
     if first == 0x10 { 10 } else { s.len() }
 }
 
-// How far the walk goes at an offset; 0 where it ends.
-fn step_at(s: &[u8], at: usize) -> usize
-    ensures { result ≡ step_at s.now at }
+// How far the walk goes at an offset, unless it ends there.
+fn step_at(s: &[u8], at: usize) -> Option<usize>
+    ensures { MatchOption result (step_at s.now at ≡ 0) (λ n. (n ≡ step_at s.now at) × (0 < n)) }
 {
-    if s.len() <= at {
-        return 0;
+    if at >= s.len() || s[at] == 0x13 {
+        return None;
     }
-    let byte = s[at];
-    if byte == 0x13 {
-        return 0;
+    let n = length_of(s[at]);
+    if n == 0 || s.len() - at < n {
+        return None;
     }
-    let n = length_of(byte);
-    if s.len() - at < n {
-        return 0;
-    }
-    n
+    Some(n)
 }
 
 // Whether a whole note stands at an offset of the walk.
@@ -78,16 +75,14 @@ fn next_note(s: &[u8], from: usize) -> usize
     ensures inside { (from ≤ result) × (result ≤ length s.now) }
 {
     let mut at = from;
-    loop {
-        let n = step_at(s, at);
-        if n == 0 {
-            return at;
-        }
+    // By steps: each command or note says how long it is.
+    while let Some(n) = step_at(s, at) {
         if s[at] == 0x40 {
             return at;
         }
         at += n;
     }
+    at
 }
 
 // The first note, or the end of the walk.
@@ -110,13 +105,12 @@ fn at_end(s: &[u8], at: usize, notes: usize) -> Findings
     requires { at ≡ walk_end s.now }
     ensures { (result.notes ≡ notes) × (result.end ≡ body_end s.now) }
 {
-    let len = s.len();
-    if at < len {
-        if s[at] == 0x40 {
-            return Findings { notes, end: at };
-        }
-    }
-    Findings { notes, end: len }
+    let end = if at < s.len() && s[at] == 0x40 {
+        at
+    } else {
+        s.len()
+    };
+    Findings { notes, end }
 }
 
 // The walk over a certificate stream.
@@ -125,18 +119,12 @@ fn walk(s: &[u8]) -> Findings
 {
     let mut notes = 0;
     let mut at = first_note(s);
+    // By steps: from note to note.
     while note_at(s, at) {
         notes += 1;
         at = next_note(s, at + 9);
     }
     at_end(s, at, notes)
-}
-
-// The smaller of two numbers.
-fn least(a: usize, b: usize) -> usize
-    ensures { Least a b result }
-{
-    if a < b { a } else { b }
 }
 
 // Puts the bytes between two offsets of a stream behind the first `len` bytes of a copy, as many of them as it holds;
@@ -145,7 +133,7 @@ fn append(s: &[u8], from: usize, to: usize, copy: &mut [u8], len: usize) -> usiz
     requires { (from ≤ to) × (to ≤ length s.now) × (len ≤ length copy.old) }
     ensures { Filled copy.old len (slice from to s.now) copy.new result }
 {
-    let n = least(to - from, copy.len() - len);
+    let n = (to - from).min(copy.len() - len);
     let end = from + n;
     copy[len..len + n].copy_from_slice(&s[from..end]);
     len + n
@@ -160,6 +148,7 @@ fn remove(s: &[u8], end: usize, copy: &mut [u8]) -> usize
     let mut from = 0;
     let mut len = 0;
     let mut at = first_note(s);
+    // By steps: from note to note.
     while note_at(s, at) {
         len = append(s, from, at, copy, len);
         from = at + 9;
@@ -175,6 +164,7 @@ fn place_sent(s: &[u8], place: usize) -> usize
 {
     let mut x = place;
     let mut at = first_note(s);
+    // By steps: from note to note.
     while note_at(s, at) {
         if x < at {
             return x;
@@ -193,6 +183,7 @@ fn put_notes(s: &[u8], buffer: &mut [u8])
 {
     let mut len = 0;
     let mut at = first_note(s);
+    // By steps: from note to note.
     while note_at(s, at) {
         len = append(s, at + 1, at + 9, buffer, len);
         at = next_note(s, at + 9);
@@ -225,23 +216,13 @@ fn verdict_sent(certificate: &[u8], v: CheckVerdict) -> CheckVerdict
     requires { Sendable certificate.now v }
     ensures { result ≡ verdict_sent certificate.now v }
 {
-    let f = v.refusal;
-    if f.stream != 1 {
+    if v.refusal.stream != 1 {
         return v;
     }
-    let place = place_sent(certificate, f.place);
-    let bound = v.bound;
+    let place = place_sent(certificate, v.refusal.place);
     CheckVerdict {
-        refusal: Refusal {
-            number: f.number,
-            stream: f.stream,
-            place,
-            key: f.key,
-        },
-        side: v.side,
-        bound,
-        rounds: v.rounds,
-        rule: v.rule,
+        refusal: Refusal { place, ..v.refusal },
+        ..v
     }
 }
 
@@ -251,14 +232,9 @@ fn refuse_notes() -> OfficeVerdict
 {
     OfficeVerdict {
         check: CheckVerdict {
-            refusal: Refusal {
-                number: 13,
-                stream: 1,
-                place: 0,
-                key: 0,
-            },
+            refusal: certificate_judge::certificate_refusal(1, 13, 0, 0),
             side: 0,
-            bound: Fraction { num: 0, den: 0 },
+            bound: fractions::NONE,
             rounds: 0,
             rule: 0,
         },
@@ -273,8 +249,7 @@ fn answer(certificate: &[u8], notes: usize, v: CheckVerdict, buffer: &mut [u8]) 
     ensures buffer { buffer.new ≡ buffer_told certificate.now result.check buffer.old }
 {
     let check = verdict_sent(certificate, v);
-    let f = check.refusal;
-    if 0 < f.number {
+    if check.refusal.number > 0 {
         return OfficeVerdict { check, notes: 0 };
     }
     if buffer.len() < 8 * notes {

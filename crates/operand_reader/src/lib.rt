@@ -5,18 +5,14 @@ ghost use Rattle.std.specs.Prelude.{◌≡◌, ◌+◌, ◌^◌, ◌≤◌, ◌<
 ghost use Rattle.format.specs.Operands.{number, signed};
 ghost use Rattle.format.specs.ProblemRules.{nonzero};
 
-// The number that `width` bytes at an offset give. It starts from the last byte, the highest.
+// The number that `width` bytes at an offset give: the highest byte comes last.
 pub fn number_at(s: &[u8], at: usize, width: usize) -> u64
     requires { (width ≤ 8) × (at + width ≤ length s.now) }
     ensures { (result ≡ number width s.now at) × (result < 256 ^ width) }
 {
-    let mut x: u64 = 0;
-    let mut i = width;
-    while 0 < i {
-        i -= 1;
-        x = x * 256 + (s[at + i] as u64);
-    }
-    x
+    let mut bytes = [0; 8];
+    bytes[..width].copy_from_slice(&s[at..at + width]);
+    u64::from_le_bytes(bytes)
 }
 
 // The signed number of 16 bits.
@@ -24,11 +20,7 @@ pub fn signed16(x: u64) -> i32
     requires { x < 256 ^ 2 }
     ensures { result ≡ signed 15 x }
 {
-    if x < 32768 {
-        x as i32
-    } else {
-        ((x as i64) - 65536) as i32
-    }
+    i32::from((x as u16).cast_signed())
 }
 
 // The signed number of 32 bits.
@@ -36,11 +28,14 @@ pub fn signed32(x: u64) -> i32
     requires { x < 256 ^ 4 }
     ensures { result ≡ signed 31 x }
 {
-    if x < 2147483648 {
-        x as i32
-    } else {
-        ((x as i64) - 4294967296) as i32
-    }
+    (x as u32).cast_signed()
+}
+
+// The signed number of 64 bits.
+pub fn signed64(x: u64) -> i64
+    ensures { result ≡ signed 63 x }
+{
+    x.cast_signed()
 }
 
 pub fn is_nonzero(c: i32) -> bool

@@ -3,6 +3,7 @@
 #![tactic(auto)]
 
 ghost use Rattle.std.specs.Prelude.{◌≡◌, ◌+◌, ◌≤◌, ◌<◌, length};
+ghost use Rattle.faults.specs.Numbers.{number_in};
 ghost use Rattle.format.specs.Layouts.{ZeroUnknown};
 ghost use Rattle.format.specs.declared.problem.Command.TheVariants as C;
 ghost use Rattle.format.specs.ProblemLayout.{problem_command, problem_size, problem_decoded};
@@ -10,21 +11,17 @@ ghost use Rattle.format.specs.ProblemRules.{Problem, order_place, problem_placed
 ghost use Rattle.problem_commands.specs.Checks.{early};
 ghost use Rattle.polynomial.specs.Monomial.{degree, within};
 
+use faults::Fault;
 use format::problem::{Command, Instruction};
 
-// The total degree, digit by digit.
+// The total degree: the sum of the exponents, which are the bytes of the key.
 pub fn degree_of(key: u64) -> u64
     ensures { result ≡ degree key }
 {
-    let mut sum: u64 = 0;
-    let mut rest = key;
-    let mut i: usize = 0;
-    while i < 8 {
-        sum += rest % 256;
-        rest /= 256;
-        i += 1;
-    }
-    sum
+    key.to_le_bytes()
+        .iter()
+        .map(|exponent| u64::from(*exponent))
+        .sum()
 }
 
 // Whether the exponents of the variables above n are 0.
@@ -37,6 +34,7 @@ pub fn is_within(n: usize, key: u64) -> bool
     key >> (8 * n) == 0
 }
 
+#[tactic(auto, unfolding(format::specs::ProblemLayout::problem_command))]
 pub fn command_of(byte: u8) -> Command
     ensures { result ≡ problem_command byte }
 {
@@ -55,6 +53,7 @@ pub fn command_of(byte: u8) -> Command
 }
 
 // The length of the command that a byte names, with its byte; 0 where it names none.
+#[tactic(auto, unfolding(format::specs::ProblemLayout::problem_command))]
 pub fn length_of(byte: u8) -> usize
     ensures layout { result ≡ problem_size (problem_command byte) }
     ensures unknown { ZeroUnknown C.Unknown (problem_command byte) result }
@@ -70,10 +69,14 @@ pub fn length_of(byte: u8) -> usize
 }
 
 // The offset at which a 09 may stand. A byte that the stream does not have is no 08.
+#[tactic(auto, unfolding(format::specs::ProblemRules::order_place))]
 fn order_place(s: &[u8]) -> usize
     ensures { result ≡ order_place s.now }
 {
-    if 2 < s.len() && s[2] == 8 { 4 } else { 2 }
+    match s {
+        [_, _, 8, ..] => 4,
+        _ => 2,
+    }
 }
 
 // Whether a command may stand at an offset of a stream, after `count` conditions.
@@ -130,6 +133,7 @@ pub fn decode_at(command: Command, s: &[u8], at: usize) -> Instruction
 }
 
 // Whether a monomial is one in n variables, of total degree at most a limit.
+#[tactic(auto, unfolding(format::specs::ProblemRules::fitting))]
 pub fn is_fitting(n: usize, limit: u64, key: u64) -> bool
     ensures { result ≡ fitting n limit key }
 {
@@ -141,28 +145,34 @@ pub fn is_allowed(n: usize, count: usize, i: Instruction) -> bool
     ensures { (p : Problem) → p.variables ≡ n → length p.conditions ≡ count → result ≡ problem_operands_fit p i }
 {
     match i {
-        Instruction::Variables(m) => 1 <= m && m <= 8,
+        Instruction::Variables(m) => (1..=8).contains(&m),
         Instruction::Objective(key, c) => is_fitting(n, 32, key) && operand_reader::is_nonzero(c),
         Instruction::Inequality => true,
         Instruction::Term(key, c) => is_fitting(n, 16, key) && operand_reader::is_nonzero(c),
         Instruction::Member(j, key) => j <= count && is_fitting(n, 8, key),
         Instruction::End => true,
         Instruction::Equality => true,
-        Instruction::Rule(r) => 1 <= r && r <= 2,
-        Instruction::Order(k) => 1 <= k && k <= 255,
+        Instruction::Rule(r) => (1..=2).contains(&r),
+        Instruction::Order(k) => (1..=255).contains(&k),
     }
 }
 
 // The checks 3 and 2 of the command at an offset: they need one number of what was read before it.
-pub fn check_at(count: usize, command: Command, len: usize, s: &[u8], at: usize) -> u8
+pub fn check_at(
+    count: usize,
+    command: Command,
+    len: usize,
+    s: &[u8],
+    at: usize,
+) -> Result<(), Fault>
     requires { (at < length s.now) × (command ≡ problem_command_at s.now at) × (len ≡ problem_size command) }
-    ensures { (p : Problem) → length p.conditions ≡ count → result ≡ early p s.now at }
+    ensures { (p : Problem) → length p.conditions ≡ count → number_in result ≡ early p s.now at }
 {
     if !is_placed(count, s, at, command) {
-        return 3;
+        return Err(Fault::Misplaced);
     }
     if s.len() - at < len {
-        return 2;
+        return Err(Fault::Cut);
     }
-    0
+    Ok(())
 }

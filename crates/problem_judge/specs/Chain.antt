@@ -1,8 +1,9 @@
 -- What the chain hands on: a problem that was read and joined, and what became of two certificates for it.
-use Rattle.std.specs.Prelude.{◌≡◌, Bool, false, cond, List, ℕ, eqb, ℤ, drop}
+use Rattle.std.specs.Prelude.{◌≡◌, Bool, false, cond, List, ℕ, eqb, ℤ, drop, Result, Ok, Err}
 use Rattle.format.specs.ProblemRules.{Problem}
 use Rattle.joining_rule.specs.Joining.{closing, block_total}
 use Rattle.accepting.specs.Judgement.{judge}
+use Rattle.format.specs.declared.certificate.Header.{Header}
 use Rattle.calls.specs.Tables.{table_length}
 use Rattle.calls.specs.Outcome.{Outcome, refused, given}
 use Rattle.calls.specs.Checks.{problem_of}
@@ -10,10 +11,6 @@ use Rattle.calls.specs.declared.Refusal.{Refusal}
 use Rattle.flat.specs.Flat.{FlatLimits}
 use Rattle.closure.specs.declared.Joined.{Joined}
 use Rattle.certificate_judge.specs.Steps.{JoinedProblem, judged_of}
-use Rattle.certificate_judge.specs.declared.Judged.{Judged}
-use Rattle.certificate_judge.specs.declared.Judged.TheVariants as Judged
-use Rattle.problem_judge.specs.declared.Prepared.{Prepared}
-use Rattle.problem_judge.specs.declared.Prepared.TheVariants as Prepared
 use Rattle.problem_judge.specs.declared.TwoJudged.{TwoJudged}
 
 -- ---- the problem
@@ -27,24 +24,24 @@ pub record Prepares (s : List ℕ) (j : Joined) (keys : List ℕ) (coefficients 
   pub blocks : j.blocks ≡ block_total problem
 
 -- what a stream leaves, in a table t that becomes t': its refusal, or such a problem
-pub record PreparedLeft (s : List ℕ) (r : Prepared) (keys : List ℕ) (coefficients : List ℤ)
+pub record PreparedLeft (s : List ℕ) (r : Result Joined Refusal) (keys : List ℕ) (coefficients : List ℤ)
     (sizes labels t t' idx : List ℕ) : Type 0 where
   pub limits : FlatLimits keys coefficients sizes
-  pub refuses : (f : Refusal) → r ≡ Prepared.Refused f → problem_of false s ≡ refused f
-  pub ready : (j : Joined) → r ≡ Prepared.Ready j → Prepares s j keys coefficients sizes labels t' idx
+  pub refuses : (f : Refusal) → r ≡ Err f → problem_of false s ≡ refused f
+  pub ready : (j : Joined) → r ≡ Ok j → Prepares s j keys coefficients sizes labels t' idx
   pub rest : drop table_length t' ≡ drop table_length t
 
 -- ---- the certificates
 abbrev pub both_refused : Refusal → TwoJudged
-both_refused f = record { first = Judged.Refused f; second = Judged.Refused f; rounds = 0; rule = 0 }
+both_refused f = record { first = Err f; second = Err f; rounds = 0; rule = 0 }
 
 -- the second of a pair, stream 2, is looked at only where the first was accepted
-abbrev pub ends_with : ℕ → Judged → Bool
-ends_with stream (Judged.Refused f) = eqb stream 2
-ends_with stream (Judged.Accepted t) = false
+abbrev pub ends_with : ℕ → Result Header Refusal → Bool
+ends_with stream (Err f) = eqb stream 2
+ends_with stream (Ok t) = false
 
 -- a is what became of the first, and b of the second where it is looked at
-abbrev pub both_judged : ℕ → ℕ → Bool → Judged → Judged → TwoJudged
+abbrev pub both_judged : ℕ → ℕ → Bool → Result Header Refusal → Result Header Refusal → TwoJudged
 both_judged rounds rule ends a b = record { first = a; second = cond ends a b; rounds = rounds; rule = rule }
 
 unfoldable pub two_of : ℕ → Problem → List ℕ → List ℕ → TwoJudged

@@ -9,27 +9,23 @@ ghost use Rattle.calls.specs.Tables.{table_length, tables, tables_short, TablesL
 ghost use Rattle.flat.specs.Flat.{FlatZero};
 ghost use Rattle.key_set.specs.Table.{Indexed};
 ghost use Rattle.work_tables.specs.Tables.{Long, Rest};
-ghost use Rattle.certificate_judge.specs.Steps.{JoinedProblem, Judgeable, LongSums, SumsRest};
+ghost use Rattle.certificate_judge.specs.Steps.{LongSums, SumsRest};
+ghost use Rattle.certificate_judge.specs.Bundles.{JoinedIn, JudgeableIn};
 ghost use Rattle.problem_judge.specs.Chain.{PreparedLeft, both_refused, ends_with, two_of, two_judged};
 
 use calls::Refusal;
-use certificate_judge::Judged;
+use certificate_judge::Prepared;
 use closure::Joined;
-use flat::RULE;
-
-// A problem that was read and joined, or its refusal.
-#[derive(Clone, Copy)]
-pub enum Prepared {
-    Refused(Refusal),
-    Ready(Joined),
-}
+use flat::{Arrays, RULE};
+use format::certificate::Header;
+use identity_sums::Compared;
 
 // What became of two certificates for one problem, with its rounds and its rule. Where the problem is refused, so is
 // each certificate, and rounds and rule are 0.
 #[derive(Clone, Copy)]
 pub struct TwoJudged {
-    pub first: Judged,
-    pub second: Judged,
+    pub first: Result<Header, Refusal>,
+    pub second: Result<Header, Refusal>,
     pub rounds: usize,
     pub rule: usize,
 }
@@ -44,23 +40,20 @@ pub fn prepare(
     labels: &mut [u8; 576],
     table: &mut [u64],
     index: &mut [u16; 6144],
-) -> Prepared
+) -> Result<Joined, Refusal>
     requires { FlatZero keys.old coefficients.old sizes.old
         × (table_length ≤ length table.old)
         × Indexed index.old table.old 0 }
     ensures { PreparedLeft problem.now result keys.new coefficients.new sizes.new
         labels.new table.old table.new index.new }
 {
-    let r = problem_reader::read(problem, keys, coefficients, sizes);
-    let number = r.number;
-    if 0 < number {
-        return Prepared::Refused(certificate_judge::problem_refusal(number, r.place));
+    if let Err(m) = problem_reader::read(problem, keys, coefficients, sizes) {
+        return Err(certificate_judge::problem_refusal(u8::from(m.fault), m.place));
     }
-    let j = closure::join(keys, sizes, labels, table, index);
-    if j.full {
-        return Prepared::Refused(certificate_judge::problem_refusal(7, 0));
+    match closure::join(keys, sizes, labels, table, index) {
+        Ok(j) => Ok(j),
+        Err(_) => Err(certificate_judge::problem_refusal(7, 0)),
     }
-    Prepared::Ready(j)
 }
 
 // A refusal before a certificate is looked at is that of both.
@@ -68,8 +61,8 @@ fn both_refused(refusal: Refusal) -> TwoJudged
     ensures { result ≡ both_refused refusal }
 {
     TwoJudged {
-        first: Judged::Refused(refusal),
-        second: Judged::Refused(refusal),
+        first: Err(refusal),
+        second: Err(refusal),
         rounds: 0,
         rule: 0,
     }
@@ -77,78 +70,38 @@ fn both_refused(refusal: Refusal) -> TwoJudged
 
 // Whether the first certificate ends the call. The second of a pair, stream 2, is looked at only where the first was
 // accepted; one that stands by itself, stream 1, always is.
-fn ends_with(stream: u8, first: Judged) -> bool
+fn ends_with(stream: u8, first: Result<Header, Refusal>) -> bool
     ensures { result ≡ ends_with stream first }
 {
-    match first {
-        Judged::Refused(_) => stream == 2,
-        Judged::Accepted(_) => false,
-    }
+    first.is_err() && stream == 2
 }
 
-// Two certificates against a problem with its blocks.
+// Two certificates against a problem with its blocks, which took so many rounds.
 fn judge_both(
     stream: u8,
     first: &[u8],
     second: &[u8],
-    keys: &[u64],
-    coefficients: &[i32],
-    sizes: &[usize],
-    labels: &[u8],
-    j: Joined,
-    table: &[u64],
-    index: &[u16; 6144],
+    prepared: Prepared,
+    rounds: usize,
     high: &mut [i64],
     low: &mut [i64],
 ) -> TwoJudged
-    requires { Judgeable keys.now coefficients.now sizes.now labels.now table.now j.len index.now
-        × LongSums high.old low.old }
-    ensures judged { (p : Problem)
-        → JoinedProblem p keys.now coefficients.now sizes.now labels.now
-        table.now j.len index.now → j.rounds ≡ (closing p).rounds
+    requires { JudgeableIn prepared × LongSums high.old low.old }
+    ensures judged { (p : Problem) → JoinedIn p prepared.entry → rounds ≡ (closing p).rounds
         → result ≡ two_of stream p first.now second.now }
     ensures rest { SumsRest high.old low.old high.new low.new }
 {
-    let n = j.len;
-    let rule = sizes[RULE];
-    let a = certificate_judge::judge(
-        1,
-        first,
-        keys,
-        coefficients,
-        sizes,
-        labels,
-        table,
-        n,
-        index,
-        high,
-        low,
-    );
-    if ends_with(stream, a) {
-        return TwoJudged {
-            first: a,
-            second: a,
-            rounds: j.rounds,
-            rule,
-        };
-    }
-    let b = certificate_judge::judge(
-        stream,
-        second,
-        keys,
-        coefficients,
-        sizes,
-        labels,
-        table,
-        n,
-        index,
-        high,
-        low,
-    );
+    let rule = prepared.problem.sizes[RULE];
+    let a = certificate_judge::judge(1, first, prepared, high, low);
+    let b = if ends_with(stream, a) {
+        a
+    } else {
+        certificate_judge::judge(stream, second, prepared, high, low)
+    };
     TwoJudged {
         first: a,
         second: b,
-        rounds: j.rounds,
+        rounds,
         rule,
     }
 }
@@ -183,21 +136,23 @@ fn judge_streams(
         table,
         &mut index,
     ) {
-        Prepared::Refused(f) => both_refused(f),
-        Prepared::Ready(j) => judge_both(
-            stream,
-            first,
-            second,
-            &keys,
-            &coefficients,
-            &sizes,
-            &labels,
-            j,
-            table,
-            &index,
-            high,
-            low,
-        ),
+        Err(f) => both_refused(f),
+        Ok(j) => {
+            let prepared = Prepared {
+                problem: Arrays {
+                    keys: &keys,
+                    coefficients: &coefficients,
+                    sizes: &sizes,
+                },
+                labels: &labels,
+                keys: Compared {
+                    table,
+                    count: j.len,
+                    index: &index,
+                },
+            };
+            judge_both(stream, first, second, prepared, j.rounds, high, low)
+        }
     }
 }
 

@@ -7,7 +7,7 @@ use native.Mathlib.Nat.{eq-or-lt_of_le}
 use native.Mathlib.Numerals.{add-one}
 use native.Mathlib.Omega.{arith}
 use lib.IntN.{ℤ, pos, nat_abs}
-use lib.ListN.{length, drop, set, get_or, replicate, length-set, length-append, length-drop, length-replicate}
+use lib.ListN.{drop, set, get_or, replicate, length-set, length-append, length-drop, length-replicate}
 use lib.Seq.{paste, length-paste, take-suc-set, drop-set-add, get_or-set_same, get_or-set_other}
 use Rattle.counting.specs.Counting.{listed}
 use Rattle.counting.proofs.Bounded.{bounded_zeros}
@@ -26,28 +26,9 @@ use Rattle.flat.proofs.TermArrays.{set_all, terms_same, terms_more, small_zeros,
 use Rattle.flat.proofs.Flat.{basis_most, multiplier_most, basis_degree, multiplier_degree, objective_degree, multiplier_largest, objective_largest, kind_most}
 use Rattle.problem_storing.specs.Stores.{no_terms, terms}
 use Rattle.problem_storing.specs.declared.Polynomial.{Polynomial}
+use Rattle.problem_reader.specs.Steps.{Held, condition_of}
 use Rattle.problem_reader.proofs.Arrays.{basis_list, polynomial_place, Apart, apart_set, apart_paste, paste_all, paste_here, Others, coefficients_apart, others, limits_more, number_others, number_limits}
-use Rattle.problem_reader.proofs.Problems.{condition_of, multiplier_is, kind_is, same_terms_lem, same_kind, appended_length, condition_same, condition_none, nothing_kind, member_here, member_other, begun_other, begun_here, term_other, term_here}
-
--- the problem p as it was read so far: keys, coefficients and sizes are the arrays, v is the number of variables, last the
--- condition begun last (g_0 before the first), which is not laid out yet, and n the number of conditions
-pub record Held (p : Problem) (keys : List ℕ) (coefficients : List ℤ) (sizes : List ℕ) (v : ℕ) (last : Polynomial) (n : ℕ) : Type 0 where
-  pub limits : FlatLimits keys coefficients sizes
-  pub variables : p.variables ≡ v
-  pub variables_low : v ≤ 8
-  pub count : length p.conditions ≡ n
-  pub count_low : n ≤ 8
-  pub nine : length p.bases ≡ 9
-  pub bases : (j : ℕ) → j < 9 → basis_in keys sizes j ≡ basis_of p j
-  pub objective : polynomial_in keys coefficients sizes 9 ≡ p.objective
-  -- the multipliers before the last are laid out, and behind it none is
-  pub laid : (j : ℕ) → j < n → polynomial_in keys coefficients sizes j ≡ (condition_of p j).terms
-  pub latest : terms last ≡ (condition_of p n).terms
-  pub filled : FilledTerms 16 32 (2 ^ 15) last.keys last.coefficients last.count
-  pub empty : (j : ℕ) → n ≤ j → j < 9 → get_or sizes (9 + j) 0 ≡ 0
-  pub kinds : (j : ℕ) → j < 9 → get_or sizes (20 + j) 0 ≡ kind_number (condition_of p j).kind
-  pub rule : get_or sizes 29 0 ≡ p.rule
-  pub order : get_or sizes 30 0 ≡ p.order
+use Rattle.problem_reader.proofs.Problems.{multiplier_is, kind_is, same_terms_lem, same_kind, appended_length, condition_same, condition_none, nothing_kind, member_here, member_other, begun_other, begun_here, term_other, term_here}
 
 module _ {p : Problem} {keys : List ℕ} {coefficients : List ℤ} {sizes : List ℕ} {v : ℕ} {last : Polynomial} {n : ℕ} (held : Held p keys coefficients sizes v last n) where
   abbrev limits : FlatLimits keys coefficients sizes

@@ -6,7 +6,7 @@ use mathlib.Core.Logic.{◌⊎◌, ⊎_elim, ◌≢◌}
 use Prim.Native.Nat.{ℕ, zero, suc, ◌+◌, ◌-◌, ◌<◌}
 use native.Mathlib.Numerals.{add-one}
 use native.Mathlib.Omega.{arith}
-use lib.IntN.{ℤ, pos}
+use lib.IntN.{ℤ}
 use lib.ListN.{length, get_or, length-set, get_or-eq_default}
 use lib.Seq.{get_or-set_same, get_or-set_other, get_or_at}
 use Rattle.counting.proofs.Cases.{clash}
@@ -21,6 +21,7 @@ use Rattle.format.specs.ProblemBases.{basis_of, multiplier, kind_of}
 use Rattle.flat.specs.Flat.{kind_number}
 use Rattle.problem_commands.specs.Checks.{late}
 use Rattle.problem_storing.specs.Stores.{beginning}
+use Rattle.problem_reader.specs.Steps.{condition_of}
 
 -- one more at the end of list j
 module _ {A : Type 0} (ls : List (List A)) (j : ℕ) (a : A) where
@@ -44,10 +45,6 @@ more_other (x ∷ l) a d zero h = refl
 more_other (x ∷ l) a d (suc j) h = more_other l a d j (λ e. h (ap suc e))
 
 -- ---- g_j with its kind
-unfoldable pub condition_of : Problem → ℕ → Condition
-condition_of p zero = record { kind = K.Inequality; terms = term 0 (pos 1) ∷ [] }
-condition_of p (suc j) = get_or p.conditions j no_condition
-
 pub multiplier_is : (p : Problem) (j : ℕ) → multiplier p j ≡ (condition_of p j).terms
 unfolding multiplier condition_of
 multiplier_is p zero = refl

@@ -29,85 +29,80 @@ use Rattle.flat.specs.Flat.{exponents_at, coefficients_at, kind_at, kind_number,
 use Rattle.flat.proofs.TermArrays.{terms_length, terms_keys}
 use Rattle.flat.proofs.Flat.{basis_long}
 use Rattle.problem_commands.specs.Checks.{late, late_in}
-use Rattle.problem_storing.specs.Stores.{terms, no_terms, beginning, stored_if}
+use Rattle.problem_storing.specs.Stores.{terms, no_terms, beginning, stored_if, term_stored_if}
+use Rattle.problem_reader.specs.Steps.{Held, Stepped}
 use Rattle.problem_reader.specs.Storing.{ReadFlat}
 use Rattle.problem_storing.specs.declared.Polynomial.{Polynomial}
-use Rattle.problem_reader.specs.declared.Reading.{Reading}
+use Rattle.std.proofs.Common.{Ok, Err}
+use Rattle.faults.specs.Numbers.{fault_number}
+use Rattle.faults.specs.declared.Misread.{Misread}
+use Rattle.faults.specs.declared.Fault.{Fault}
+use Rattle.faults.specs.declared.Fault.TheVariants as F
 use Rattle.problem_commands.proofs.Checks.{Passes, passes_size, passes_end, passes_on, space}
 use Rattle.problem_reader.proofs.Problems.{condition_last, same_terms_lem, begins_on, begins_applied, begins_late}
 use Rattle.problem_reader.proofs.Coefficients.{passed_small}
-use Rattle.problem_reader.proofs.Held.{Held, held_variables, held_rule, held_order, held_member, held_objective, held_term, held_condition, held_end, held_start}
+use Rattle.problem_reader.proofs.Held.{held_variables, held_rule, held_order, held_member, held_objective, held_term, held_condition, held_end, held_start}
 
-abbrev pub reading : ℕ → ℕ → Reading
-reading n at = record { number = n; place = at }
+abbrev pub misread : Fault → ℕ → Misread
+misread f at = record { fault = f; place = at }
+
+-- no fault has the number 0
+pub numbered : (f : Fault) → 0 < fault_number f
+numbered F.Cut = omega arith
+numbered F.Misplaced = omega arith
+numbered F.Unfit = omega arith
+numbered F.Repeated = omega arith
+numbered F.Excess = omega arith
 
 -- what the loop of `read` keeps. s is the stream; keys, coefficients, sizes, v, last and n hold what was read of the
--- commands before the one at hand (Held.antt); number is the refusal that the reading has if the loop ends here, and at
--- the offset of the command at hand
-pub record Going (s keys : List ℕ) (coefficients : List ℤ) (sizes : List ℕ) (v : ℕ) (last : Polynomial) (n number at : ℕ) : Type 0 where
+-- commands before the one at hand (Held.antt), and at is the offset of the command at hand
+pub record Going (s keys : List ℕ) (coefficients : List ℤ) (sizes : List ℕ) (v : ℕ) (last : Polynomial) (n at : ℕ) : Type 0 where
   pub problem : Problem
   pub held : Held problem keys coefficients sizes v last n
-  -- nothing is decided: a stream that ends here has no end command
-  pub undecided : number ≡ 2
   pub reached : at ≤ length s
   -- from the command at hand on the definition gives what it gives for the whole stream
   pub left : Left problem_language s (read_problem s) problem at
 
--- what the arm of a command leaves: number is the refusal of the last two checks, or 0 and what was read is stored
-pub record Stepped (p : Problem) (i : Instruction) (keys : List ℕ) (coefficients : List ℤ) (sizes : List ℕ) (v : ℕ) (last : Polynomial) (n number : ℕ) : Type 0 where
-  pub decided : number ≡ late p i
-  pub limits : FlatLimits keys coefficients sizes
-  pub held : number ≡ 0 → Held (problem_applied p i) keys coefficients sizes v last n
-  pub on : I.End ≡ i → ⊥
-
-pub stepped_as : {p : Problem} {i i' : Instruction} {keys keys' : List ℕ} {coefficients coefficients' : List ℤ} {sizes sizes' : List ℕ} {v v' : ℕ} {last last' : Polynomial} {n n' m m' : ℕ}
-    → i ≡ i' → keys ≡ keys' → coefficients ≡ coefficients' → sizes ≡ sizes' → v ≡ v' → last ≡ last' → n ≡ n' → m ≡ m' → Stepped p i' keys' coefficients' sizes' v' last' n' m'
-    → Stepped p i keys coefficients sizes v last n m
-stepped_as e k c s v l n m q = rw (e, k, c, s, v, l, n, m) q
-
 -- a refusal
-refusal : (s keys : List ℕ) (coefficients : List ℤ) (sizes : List ℕ) (n at : ℕ) → FlatLimits keys coefficients sizes → 0 < n → read_problem s ≡ refused n at
-    → ReadFlat s (reading n at) keys coefficients sizes
-refusal s keys coefficients sizes n at f h e = record { limits = f; gives = λ z. absurd (omega arith); refuses = λ _. e }
+refusal : (s keys : List ℕ) (coefficients : List ℤ) (sizes : List ℕ) (f : Fault) (at : ℕ) → FlatLimits keys coefficients sizes → read_problem s ≡ refused (fault_number f) at
+    → ReadFlat s (Err (misread f at)) keys coefficients sizes
+refusal s keys coefficients sizes f at l e = record { limits = l; gives = tt; refuses = e }
 
-module _ {s keys : List ℕ} {coefficients : List ℤ} {sizes : List ℕ} {v : ℕ} {last : Polynomial} {n number at : ℕ} (g : Going s keys coefficients sizes v last n number at) where
+module _ {s keys : List ℕ} {coefficients : List ℤ} {sizes : List ℕ} {v : ℕ} {last : Polynomial} {n at : ℕ} (g : Going s keys coefficients sizes v last n at) where
   abbrev here : Problem
   here = g.problem
 
   -- the stream has no end command
-  pub ended : length s ≤ at → ReadFlat s (reading number at) keys coefficients sizes
+  pub ended : length s ≤ at → ReadFlat s (Err (misread F.Cut at)) keys coefficients sizes
   ended h =
       let r = g.reached in
       let e : at ≡ length s = omega arith in
-      let u = g.undecided in
-      refusal s keys coefficients sizes number at g.held.limits (omega arith) (rw (u, e) (sym (left_end problem_language s _ _ at g.left h)))
+      refusal s keys coefficients sizes F.Cut at g.held.limits (rw e (sym (left_end problem_language s _ _ at g.left h)))
 
   module _ (h : at < length s) where
-    refusing : (keys' : List ℕ) (coefficients' : List ℤ) (sizes' : List ℕ) → FlatLimits keys' coefficients' sizes' → (m : ℕ) → 0 < m → problem_refusal_at here s at ≡ m
-        → ReadFlat s (reading m at) keys' coefficients' sizes'
-    refusing keys' coefficients' sizes' f m l e =
-        refusal s keys' coefficients' sizes' m at f l (rw e at (sym (left_refused problem_language s _ _ at g.left h (omega arith))))
+    refusing : (keys' : List ℕ) (coefficients' : List ℤ) (sizes' : List ℕ) → FlatLimits keys' coefficients' sizes' → (f : Fault) → problem_refusal_at here s at ≡ fault_number f
+        → ReadFlat s (Err (misread f at)) keys' coefficients' sizes'
+    refusing keys' coefficients' sizes' l f e =
+        refusal s keys' coefficients' sizes' f at l (rw e at (sym (left_refused problem_language s _ _ at g.left h (rw e (numbered f)))))
 
-    pub first_refusing : (m : ℕ) → 0 < m → problem_refusal_at here s at ≡ m → ReadFlat s (reading m at) keys coefficients sizes
+    pub first_refusing : (f : Fault) → problem_refusal_at here s at ≡ fault_number f → ReadFlat s (Err (misread f at)) keys coefficients sizes
     first_refusing = refusing keys coefficients sizes g.held.limits
 
     -- past the arm of a command
-    module _ {i : Instruction} {after : ℕ} (t : Passes here s at i after) {keys' : List ℕ} {coefficients' : List ℤ} {sizes' : List ℕ} {v' : ℕ} {last' : Polynomial} {n' m : ℕ}
-        (q : Stepped here i keys' coefficients' sizes' v' last' n' m) where
-      pub late_refusing : 0 < m → ReadFlat s (reading m at) keys' coefficients' sizes'
-      late_refusing l = refusing keys' coefficients' sizes' q.limits m l (t.decides ∙ sym q.decided)
+    module _ {i : Instruction} {after : ℕ} (t : Passes here s at i after) {keys' : List ℕ} {coefficients' : List ℤ} {sizes' : List ℕ} {v' : ℕ} {last' : Polynomial} {n' : ℕ} where
+      pub late_refusing : (f : Fault) → Stepped here i keys' coefficients' sizes' v' last' n' (fault_number f) → ReadFlat s (Err (misread f at)) keys' coefficients' sizes'
+      late_refusing f q = refusing keys' coefficients' sizes' q.limits f (t.decides ∙ sym q.decided)
 
-      pub going_on : m ≡ 0 → Going s keys' coefficients' sizes' v' last' n' 2 after
+      pub going_on : Stepped here i keys' coefficients' sizes' v' last' n' 0 → Going s keys' coefficients' sizes' v' last' n' after
       unfolding problem_next
-      going_on z =
+      going_on q =
           record {
             problem = problem_applied here i;
-            held = q.held z;
-            undecided = refl;
+            held = q.held refl;
             reached = t.whole;
             left =
                 rw (t.step, ← t.instruction)
-                (left_next problem_language s _ _ at g.left h (t.decides ∙ sym q.decided ∙ z) (λ b. q.on (passes_on _ s at i after t b)) (passes_size _ s at i after t));
+                (left_next problem_language s _ _ at g.left h (t.decides ∙ sym q.decided) (λ b. q.on (passes_on _ s at i after t b)) (passes_size _ s at i after t));
           }
 
     -- the end command
@@ -120,28 +115,28 @@ module _ {s keys : List ℕ} {coefficients : List ℤ} {sizes : List ℕ} {v : �
       unfolding first_refusal
       none = t.decides
 
-      pub extra : after < length s → ReadFlat s (reading 2 after) keys coefficients sizes
+      pub extra : after < length s → ReadFlat s (Err (misread F.Cut after)) keys coefficients sizes
       extra m =
-          refusal s keys coefficients sizes 2 after g.held.limits (omega arith)
+          refusal s keys coefficients sizes F.Cut after g.held.limits
           (rw last_byte (sym (left_extra problem_language s _ _ at g.left h none (passes_end _ s at I.End after t refl) (rw last_byte at m))))
 
-      pub complete : length s ≤ after → (r : ℕ) → r ≡ 0 → (keys' : List ℕ) (coefficients' : List ℤ) → keys' ≡ paste keys (exponents_at n) last.keys last.count → coefficients' ≡ paste coefficients (coefficients_at n) last.coefficients last.count
-          → ReadFlat s (reading r at) keys' coefficients' (set (set sizes (9 + n) last.count) 19 n)
-      complete m r z keys' coefficients' x y =
+      pub complete : length s ≤ after → (keys' : List ℕ) (coefficients' : List ℤ) (sizes' : List ℕ) → keys' ≡ paste keys (exponents_at n) last.keys last.count → coefficients' ≡ paste coefficients (coefficients_at n) last.coefficients last.count
+          → sizes' ≡ set sizes (9 + n) last.count → ReadFlat s (Ok tt) keys' coefficients' (set sizes' 19 n)
+      complete m keys' coefficients' sizes' x y z =
           let f = held_end g.held in
-          rw (x, y)
+          rw (x, y, z)
           (record {
             limits = f.limits;
-            gives = λ _. record { problem = here; read = sym (left_given problem_language s _ _ at g.left h none (passes_end _ s at I.End after t refl) (rw last_byte at m)); flat = f };
-            refuses = λ l. absurd (omega arith);
+            gives = record { problem = here; read = sym (left_given problem_language s _ _ at g.left h none (passes_end _ s at I.End after t refl) (rw last_byte at m)); flat = f };
+            refuses = tt;
           })
 
 -- before the first command
 pub starting : (s keys : List ℕ) (coefficients : List ℤ) (sizes : List ℕ) (one : Polynomial) → FlatZero keys coefficients sizes
-    → FilledTerms 16 32 (2 ^ 15) one.keys one.coefficients one.count → terms one ≡ term 0 (pos 1) ∷ [] → Going s keys coefficients (set sizes 29 1) 0 one 0 2 0
+    → FilledTerms 16 32 (2 ^ 15) one.keys one.coefficients one.count → terms one ≡ term 0 (pos 1) ∷ [] → Going s keys coefficients (set sizes 29 1) 0 one 0 0
 unfolding read_problem
 starting s keys coefficients sizes one z f e =
-    record { problem = no_problem; held = held_start keys coefficients sizes one z f e; undecided = refl; reached = zero-le; left = left_start problem_language s no_problem }
+    record { problem = no_problem; held = held_start keys coefficients sizes one z f e; reached = zero-le; left = left_start problem_language s no_problem }
 
 -- ---- what the arm of each command leaves
 -- a 04 stands after a 03 or a 07
@@ -236,15 +231,17 @@ module _ {p : Problem} {keys : List ℕ} {coefficients : List ℤ} {sizes : List
       term_room : late_in last.keys 0 last.count k 32 ≡ late p (I.Term k c)
       term_room = let f = held.filled in terms_room last.count 32 k last.keys last.coefficients (last_condition p.conditions).terms (omega arith) latest
 
-      pub stepped_refused : (r : ℕ) → (r ≡ 0 → ⊥) → r ≡ late_in last.keys 0 last.count k 32 → Stepped p (I.Term k c) keys coefficients sizes v last n r
-      stepped_refused r d e = record { decided = e ∙ term_room; limits = held.limits; held = λ z. absurd (d z); on = λ e. clash (cc) }
-
-      pub stepped_term : Bounded 255 s → (r : ℕ) → r ≡ 0 → r ≡ late_in last.keys 0 last.count k 32
-          → Stepped p (I.Term k c) keys coefficients sizes v (record { keys = set last.keys last.count k; coefficients = set last.coefficients last.count c; count = last.count + 1 }) n r
-      stepped_term bytes r z e =
-          let f = space last.keys 0 last.count k 32 (sym e ∙ z) in
-          let m = held_term held k c begun f (low 16 k (and_left (fitting p.variables 16 k) (nonzero c) t.operands)) (passed_small s bytes t) in
-          record { decided = e ∙ term_room; limits = held.limits; held = λ _. m; on = λ e. clash (cc) }
+      pub stepped_term : Bounded 255 s → (r : ℕ) (last' : Polynomial) → r ≡ late_in last.keys 0 last.count k 32 → last' ≡ term_stored_if r last k c
+          → Stepped p (I.Term k c) keys coefficients sizes v last' n r
+      stepped_term bytes r last' e = go (eqb r 0) refl
+        where
+          go : (b : Bool) → eqb r 0 ≡ b → last' ≡ cond b (record { keys = set last.keys last.count k; coefficients = set last.coefficients last.count c; count = last.count + 1 }) last
+              → Stepped p (I.Term k c) keys coefficients sizes v last' n r
+          go true q x =
+              let f = space last.keys 0 last.count k 32 (sym e ∙ eqb-true r 0 q) in
+              let m = held_term held k c begun f (low 16 k (and_left (fitting p.variables 16 k) (nonzero c) t.operands)) (passed_small s bytes t) in
+              rw x (record { decided = e ∙ term_room; limits = held.limits; held = λ _. m; on = λ e. clash (cc) })
+          go false q x = rw x (record { decided = e ∙ term_room; limits = held.limits; held = λ z. absurd (eqb-false r 0 q z); on = λ e. clash (cc) })
 
     module _ {j k : ℕ} (t : Passes p s at (I.Member j k) after) where
       pub named : j < 9

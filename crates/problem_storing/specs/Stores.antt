@@ -1,5 +1,5 @@
 -- What one command leaves: of the condition begun last, and of a list in the arrays.
-use Rattle.std.specs.Prelude.{cond, List, ℕ, eqb, pos, set, replicate}
+use Rattle.std.specs.Prelude.{cond, List, ℕ, ◌+◌, eqb, ℤ, pos, set, replicate}
 use Rattle.polynomial.specs.Terms.{Term}
 use Rattle.format.specs.declared.problem.Instruction.{Instruction}
 use Rattle.format.specs.declared.problem.Instruction.TheVariants as I
@@ -24,3 +24,9 @@ beginning K.Equality = I.Equality
 -- a list with one element stored where no check failed
 abbrev pub stored_if {ℓ} : {A : Type ℓ} → ℕ → List A → ℕ → A → List A
 stored_if found l i a = cond (eqb found 0) (set l i a) l
+
+-- a polynomial with one term more where no check failed
+abbrev pub term_stored_if : ℕ → Polynomial → ℕ → ℤ → Polynomial
+term_stored_if found q k c =
+    cond (eqb found 0)
+    (record { keys = set q.keys q.count k; coefficients = set q.coefficients q.count c; count = q.count + 1 }) q

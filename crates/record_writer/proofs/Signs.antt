@@ -1,12 +1,9 @@
--- A number below 0 has a size.
-use borrow.Author.Tests.{ltb-true}
-use native.Mathlib.Omega.{arith}
-use mathlib.Core.Path.{◌≡◌}
-use mathlib.Core.Bool.{true}
-use Prim.Native.Nat.{◌<◌}
-use lib.IntN.{ℤ, pos, negsuc, nat_abs}
-use lib.Signed.{lt_z}
+-- The bits of a signed number are those of the document.
+use Rattle.std.proofs.Common.{◌≡◌, refl, ℤ, pos, negsuc, w64, of_z, arith}
+use Rattle.std.proofs.lemmas.Bool.{le-ltb}
+use Rattle.calls.specs.Report.{unsigned}
 
-pub below_size : (n : ℤ) → lt_z n (pos 0) ≡ true → 0 < nat_abs n
-below_size (pos a) t = absurd (omega (arith, ltb-true a 0 t))
-below_size (negsuc k) t = omega arith
+pub unsigned_is : (n : ℤ) → of_z w64 n ≡ unsigned 63 n
+unfolding unsigned
+unsigned_is (pos a) = rw (le-ltb a 0 (omega arith)) refl
+unsigned_is (negsuc k) = refl

@@ -6,7 +6,7 @@ use native.Mathlib.Numerals.{add-one}
 use mathlib.Core.Path.{◌≡◌, refl, sym, ◌∙◌, ap}
 use mathlib.Core.List.{List, [], ◌∷◌, ◌++◌, append-nil, append_assoc, flat_map}
 use Prim.Native.Nat.{ℕ, zero, suc, ◌+◌, ◌-◌, ◌*◌, ◌<◌, ◌≤◌}
-use lib.ListN.{length, take, drop, get_or, set, length-append, length-drop}
+use lib.ListN.{length, take, drop, get_or, length-append, length-drop}
 use lib.Seq.{take_at, drop_at, take-length, drop-length, drop-drop, length-take-le}
 use borrow.Rule.Slice.PartMut.{mid_of, put_mid}
 use Rattle.calls.proofs.Pieces.{pieces_length}
@@ -47,12 +47,3 @@ module _ {A : Type 0} (f : A → List ℕ) where
         → put_mid (m * i) (length xs - m * i) xs ys ≡ flat_map f (take (i + 1) l) ++ drop (m * (i + 1)) out
     next d ys h e g =
         rw (g, e, grown (flat_map f (take i l)) out (m * i) (written_length (omega arith)) (f (get_or l i d)) m, add-one, mul-suc, more l i d h) refl
-
--- four stores at the start of a part
-pub four : (l : List ℕ) (a b c d : ℕ) → 4 ≤ length l
-    → set (set (set (set l 0 a) 1 b) 2 c) 3 d ≡ (a ∷ b ∷ c ∷ d ∷ []) ++ drop 4 l
-four [] a b c d h = absurd (omega arith)
-four (x ∷ []) a b c d h = absurd (omega arith)
-four (x ∷ y ∷ []) a b c d h = absurd (omega arith)
-four (x ∷ y ∷ z ∷ []) a b c d h = absurd (omega arith)
-four (x ∷ y ∷ z ∷ w ∷ l) a b c d h = refl

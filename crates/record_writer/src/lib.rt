@@ -11,10 +11,7 @@ use calls::PairVerdict;
 pub fn bits(n: i64) -> u64
     ensures { result ≡ unsigned 63 n }
 {
-    if n < 0 {
-        return 18446744073709551615 - (fractions::magnitude(n) - 1);
-    }
-    fractions::magnitude(n)
+    n.cast_unsigned()
 }
 
 // The eight fields of a record.
@@ -28,7 +25,7 @@ fn fields_of(v: PairVerdict) -> [u64; 8]
     let p = bits(lower.num);
     let q = bits(upper.num);
     [
-        refusal.number as u64,
+        u64::from(refusal.number),
         p,
         lower.den,
         q,
@@ -44,10 +41,7 @@ fn put_field(part: &mut [u8], x: u64)
     requires { 4 ≤ length part.old }
     ensures { part.new ≡ little_endian 4 x ++ drop 4 part.old }
 {
-    part[0] = (x % 256) as u8;
-    part[1] = (x / 256 % 256) as u8;
-    part[2] = (x / 256 / 256 % 256) as u8;
-    part[3] = (x / 256 / 256 / 256 % 256) as u8;
+    part[..4].copy_from_slice(&x.to_le_bytes()[..4]);
 }
 
 // The record at the start of the part that is lent; what is past it stays.
@@ -56,10 +50,7 @@ pub fn put_record(part: &mut [u8], v: PairVerdict)
     ensures { part.new ≡ record_bytes v ++ drop record_length part.old }
 {
     let fields = fields_of(v);
-    let mut k = 0;
-    while k < 8 {
-        let at = 4 * k;
-        put_field(&mut part[at..], fields[k]);
-        k += 1;
+    for k in 0..8 {
+        put_field(&mut part[4 * k..], fields[k]);
     }
 }

@@ -17,9 +17,9 @@ use Rattle.format.specs.declared.problem.Kind.TheVariants as K
 use Rattle.format.specs.ProblemRules.{Problem, no_condition}
 use Rattle.format.specs.ProblemBases.{multiplier, kind_of}
 use Rattle.flat.specs.TermArrays.{terms_in}
-use Rattle.flat.specs.Flat.{exponents_at, coefficients_at, count_at, kind_at, kind_number, FlatLimits, FlatProblem}
+use Rattle.flat.specs.Flat.{exponents_at, coefficients_at, count_at, kind_at, kind_number, FlatProblem}
 use Rattle.flat.proofs.TermArrays.{terms_length}
-use Rattle.flat.proofs.Flat.{exponents_long, coefficients_long, terms_part}
+use Rattle.flat.proofs.Flat.{terms_part}
 use Rattle.regions.specs.Compared.{Tells, SameCondition}
 
 -- ---- tests
@@ -65,18 +65,25 @@ module _ (m n : ℕ) (long : m ≡ n) (k : List ℕ) (c : List ℤ) (l : List �
     coefficients = λ i h. ap (λ (t : Term). t.coefficient) (at e i h);
   }
 
--- one term more
-pub one_more : (i : ℕ) (k : List ℕ) (c : List ℤ) (l : List ℕ) (d : List ℤ) → SameTo i k c l d
-    → get_or k i 0 ≡ get_or l i 0 → get_or c i (pos 0) ≡ get_or d i (pos 0) → SameTo (i + 1) k c l d
-one_more i k c l d s e f = record {
-  keys = λ m h. ⊎_elim (λ z. rw z e) (s.keys m) (eq-or-lt_of_le {n = m} {m = i} (omega arith));
-  coefficients = λ m h. ⊎_elim (λ z. rw z f) (s.coefficients m) (eq-or-lt_of_le {n = m} {m = i} (omega arith));
-}
-
 -- lists of different lengths differ
 pub terms_counted : (m n : ℕ) (k : List ℕ) (c : List ℤ) (l : List ℕ) (d : List ℤ)
     → terms_in m k c ≡ terms_in n l d → m ≡ n
 terms_counted m n k c l d e = sym (terms_length m k c) ∙ ap length e ∙ terms_length n l d
+
+-- of as many coefficients as keys: the lists are equal
+module _ (k : List ℕ) (c : List ℤ) (l : List ℕ) (d : List ℤ) (u : length k ≡ length c) (v : length l ≡ length d) where
+  same_lists : terms_in (length k) k c ≡ terms_in (length l) l d → (k ≡ l) × (c ≡ d)
+  same_lists e =
+      let m = terms_counted (length k) (length l) k c l d e in
+      let s = terms_same (length k) (length l) m k c l d e in
+      (ext_get_or 0 k l m s.keys, ext_get_or (pos 0) c d (omega arith) (λ i h. s.coefficients i (omega arith)))
+
+  -- the keys differ, or are the same and the coefficients tell
+  pub keys_differ : (k ≡ l → ⊥) → Tells false (terms_in (length k) k c ≡ terms_in (length l) l d)
+  keys_differ n = tells_false (λ e. n (same_lists e).0)
+
+  pub coefficients_tell : (r : Bool) → k ≡ l → (r ≡ true → c ≡ d) → (c ≡ d → r ≡ true) → Tells r (terms_in (length k) k c ≡ terms_in (length l) l d)
+  coefficients_tell r e f g = record { only = λ z. rw (e, f z); always = λ t. g (same_lists t).1 }
 
 -- ---- conditions
 -- a kind by its number
@@ -85,12 +92,6 @@ kind_numbered K.Inequality K.Inequality e = refl
 kind_numbered K.Inequality K.Equality e = absurd (omega arith)
 kind_numbered K.Equality K.Inequality e = absurd (omega arith)
 kind_numbered K.Equality K.Equality e = refl
-
--- a condition's terms have as many coefficients as keys
-pub slices_long : {keys sizes : List ℕ} {coefficients : List ℤ} → FlatLimits keys coefficients sizes → (j : ℕ) → j ≤ 9
-    → {k : List ℕ} {c : List ℤ} → k ≡ take (get_or sizes (count_at j) 0) (drop (exponents_at j) keys)
-    → c ≡ take (get_or sizes (count_at j) 0) (drop (coefficients_at j) coefficients) → length k ≤ length c
-slices_long f j h a b = omega (arith, ap length a, ap length b, exponents_long f j h, coefficients_long f j h)
 
 -- condition j by the arrays that hold two problems: k, c and l, d are the slices of its terms
 module _ {p q : Problem} {keys keys' sizes sizes' : List ℕ} {coefficients coefficients' : List ℤ}

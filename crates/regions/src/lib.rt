@@ -9,92 +9,54 @@ ghost use Rattle.flat.specs.Flat.{FlatLimits, FlatProblem};
 ghost use Rattle.calls.specs.AddedBounds.{same_region_read};
 ghost use Rattle.regions.specs.Compared.{Tells, SameCondition};
 
-use flat::{CONDITIONS, KINDS};
+use flat::{Arrays, CONDITIONS, KINDS};
 
 // Whether two lists of terms, each by its keys and its coefficients, are the same, term by term.
 fn same_terms(k: &[u64], c: &[i32], l: &[u64], d: &[i32]) -> bool
-    requires { (length k.now ≤ length c.now) × (length l.now ≤ length d.now) }
+    requires { (length k.now ≡ length c.now) × (length l.now ≡ length d.now) }
     ensures { let one = terms_in (length k.now) k.now c.now in
         let other = terms_in (length l.now) l.now d.now in
         Tells result (one ≡ other) }
 {
-    if k.len() != l.len() {
-        return false;
-    }
-    let mut i = 0;
-    while i < k.len() {
-        if k[i] != l[i] {
-            return false;
-        }
-        if c[i] != d[i] {
-            return false;
-        }
-        i += 1;
-    }
-    true
+    k == l && c == d
 }
 
 // Whether condition j of two problems in their arrays is the same: its kind and its terms.
-fn same_condition(
-    keys1: &[u64],
-    coefficients1: &[i32],
-    sizes1: &[usize],
-    keys2: &[u64],
-    coefficients2: &[i32],
-    sizes2: &[usize],
-    j: usize,
-) -> bool
-    requires { FlatLimits keys1.now coefficients1.now sizes1.now
-        × FlatLimits keys2.now coefficients2.now sizes2.now
+fn same_condition(one: Arrays, other: Arrays, j: usize) -> bool
+    requires { FlatLimits one.keys.now one.coefficients.now one.sizes.now
+        × FlatLimits other.keys.now other.coefficients.now other.sizes.now
         × (j < 9) }
-    ensures { (p q : Problem) → FlatProblem p keys1.now coefficients1.now sizes1.now
-        → FlatProblem q keys2.now coefficients2.now sizes2.now
+    ensures { (p q : Problem) → FlatProblem p one.entry.keys.now one.entry.coefficients.now one.entry.sizes.now
+        → FlatProblem q other.entry.keys.now other.entry.coefficients.now other.entry.sizes.now
         → Tells result (SameCondition p q j) }
 {
-    if sizes1[KINDS + j] != sizes2[KINDS + j] {
+    if one.sizes[KINDS + j] != other.sizes[KINDS + j] {
         return false;
     }
     same_terms(
-        flat::exponents(keys1, sizes1, j),
-        flat::coefficients(coefficients1, sizes1, j),
-        flat::exponents(keys2, sizes2, j),
-        flat::coefficients(coefficients2, sizes2, j),
+        flat::exponents(one.keys, one.sizes, j),
+        flat::coefficients(one.coefficients, one.sizes, j),
+        flat::exponents(other.keys, other.sizes, j),
+        flat::coefficients(other.coefficients, other.sizes, j),
     )
 }
 
 // Whether two problems in their arrays have the same conditions, number by number.
-fn same_conditions(
-    keys1: &[u64],
-    coefficients1: &[i32],
-    sizes1: &[usize],
-    keys2: &[u64],
-    coefficients2: &[i32],
-    sizes2: &[usize],
-) -> bool
-    requires { FlatLimits keys1.now coefficients1.now sizes1.now
-        × FlatLimits keys2.now coefficients2.now sizes2.now }
-    ensures { (p q : Problem) → FlatProblem p keys1.now coefficients1.now sizes1.now
-        → FlatProblem q keys2.now coefficients2.now sizes2.now
+fn same_conditions(one: Arrays, other: Arrays) -> bool
+    requires { FlatLimits one.keys.now one.coefficients.now one.sizes.now
+        × FlatLimits other.keys.now other.coefficients.now other.sizes.now }
+    ensures { (p q : Problem) → FlatProblem p one.entry.keys.now one.entry.coefficients.now one.entry.sizes.now
+        → FlatProblem q other.entry.keys.now other.entry.coefficients.now other.entry.sizes.now
         → Tells result (p.conditions ≡ q.conditions) }
 {
-    let n = sizes1[CONDITIONS];
-    if n != sizes2[CONDITIONS] {
+    let n = one.sizes[CONDITIONS];
+    if n != other.sizes[CONDITIONS] {
         return false;
     }
-    let mut j = 1;
-    while j <= n {
-        if !same_condition(
-            keys1,
-            coefficients1,
-            sizes1,
-            keys2,
-            coefficients2,
-            sizes2,
-            j,
-        ) {
+    for j in 1..=n {
+        if !same_condition(one, other, j) {
             return false;
         }
-        j += 1;
     }
     true
 }
@@ -107,26 +69,27 @@ pub fn is_same(problem1: &[u8], problem2: &[u8]) -> bool
     let mut keys1 = [0u64; 1120];
     let mut coefficients1 = [0i32; 544];
     let mut sizes1 = [0usize; 31];
-    let first = problem_reader::read(problem1, &mut keys1, &mut coefficients1, &mut sizes1);
-    if 0 < first.number {
+    let Ok(()) = problem_reader::read(problem1, &mut keys1, &mut coefficients1, &mut sizes1) else {
         return false;
-    }
+    };
     let mut keys2 = [0u64; 1120];
     let mut coefficients2 = [0i32; 544];
     let mut sizes2 = [0usize; 31];
-    let second = problem_reader::read(problem2, &mut keys2, &mut coefficients2, &mut sizes2);
-    if 0 < second.number {
+    let Ok(()) = problem_reader::read(problem2, &mut keys2, &mut coefficients2, &mut sizes2) else {
         return false;
-    }
+    };
     if problem1[1] != problem2[1] {
         return false;
     }
-    same_conditions(
-        &keys1,
-        &coefficients1,
-        &sizes1,
-        &keys2,
-        &coefficients2,
-        &sizes2,
-    )
+    let one = Arrays {
+        keys: &keys1,
+        coefficients: &coefficients1,
+        sizes: &sizes1,
+    };
+    let other = Arrays {
+        keys: &keys2,
+        coefficients: &coefficients2,
+        sizes: &sizes2,
+    };
+    same_conditions(one, other)
 }

@@ -7,8 +7,8 @@
 // and `office_line` on a certificate with notes; all else moves bytes.
 #![tactic(auto)]
 
-ghost use Rattle.std.specs.Prelude.{◌≡◌, true, ◌++◌, ◌+◌, ◌*◌, ◌/◌, ◌≤◌, length, take};
-ghost use Rattle.format.specs.Operands.{number, signed};
+ghost use Rattle.std.specs.Prelude.{◌≡◌, ◌++◌, ◌+◌, ◌*◌, ◌/◌, ◌≤◌, length, take, OnOk};
+ghost use Rattle.format.specs.Operands.{number};
 ghost use Rattle.lines.specs.Lines.{arrival_word};
 ghost use Rattle.lines.specs.Texts.{text_of};
 ghost use Rattle.text.specs.Appending.{Appended};
@@ -22,7 +22,8 @@ ghost use Rattle.replay.specs.Sums.{sum_answer};
 
 use calls::{Fraction, WindowVerdict};
 use lines::Text;
-use std::io::{Print, Read};
+use std::io;
+use std::io::{ErrorKind, Print, Read};
 
 fn answer_blocks(problem: &[u8]) -> Text
     ensures { text_of result ≡ blocks_answer problem.now }
@@ -87,6 +88,7 @@ fn answer_adjusted(problem: &[u8], certificate: &[u8], changes: &[u8]) -> Text
 fn answer_record(kind: u8, problem: &[u8], first: &[u8], second: &[u8]) -> Text
     ensures { text_of result ≡ record_answer kind problem.now first.now second.now }
 {
+    // By ifs: `record_answer` decides in this order, and an arm of a `match` would tell each kind from all before it.
     if kind == b'b' {
         return answer_blocks(problem);
     }
@@ -108,23 +110,13 @@ fn answer_record(kind: u8, problem: &[u8], first: &[u8], second: &[u8]) -> Text
     }
 }
 
-// The signed number of 64 bits, in two's complement.
-fn signed64(x: u64) -> i64
-    ensures { result ≡ signed 63 x }
-{
-    if x < 9223372036854775808 {
-        return x as i64;
-    }
-    -1 - ((18446744073709551615 - x) as i64)
-}
-
 // Arrival i of a run.
 fn arrival_at(run: &[u8], i: usize) -> Fraction
     requires { 16 * i + 16 ≤ length run.now }
     ensures { result ≡ arrival_at run.now i }
 {
     let at = 16 * i;
-    let num = signed64(operand_reader::number_at(run, at, 8));
+    let num = operand_reader::signed64(operand_reader::number_at(run, at, 8));
     let den = operand_reader::number_at(run, at + 8, 8);
     Fraction { num, den }
 }
@@ -148,23 +140,19 @@ fn window_line(run: &[u8], out: &mut [u8]) -> usize
     let count = run.len() / 16;
     let mut window = gap_window::empty();
     let mut at = text::append(out, 0, b"window");
-    let mut i = 0;
-    while i < count {
+    for i in 0..count {
         let pushed = gap_window::push(window, arrival_at(run, i));
-        let next = pushed.window;
-        let verdict = pushed.verdict;
-        at = append_outcome(out, at, i, verdict);
-        window = next;
-        i += 1;
+        at = append_outcome(out, at, i, pushed.verdict);
+        window = pushed.window;
     }
     text::append(out, at, b"\n")
 }
 
-// Answers a record of arrivals, of which there are at most 4,096; whether its line was written.
-fn answer_window(out: &impl Print, run: &[u8; 65536], n: usize) -> bool {
+// Answers a record of arrivals, of which there are at most 4,096.
+fn answer_window(out: &impl Print, run: &[u8; 65536], n: usize) -> io::Result<()> {
     let mut line = [0u8; 270336];
     let len = window_line(text::cut(run, n), &mut line);
-    out.write_all(text::cut(&line, len)).is_ok()
+    out.write_all(text::cut(&line, len))
 }
 
 // The line for two certificates of a problem: what came back of them, or the refusal.
@@ -194,7 +182,7 @@ fn tighter_line<'a>(problem: &[u8], first: &'a [u8], second: &'a [u8], out: &mut
     text::tighter_line(out, number, stream, place, key, part)
 }
 
-// Answers a record of two certificates; whether its line was written.
+// Answers a record of two certificates.
 fn answer_tighter<'a>(
     out: &impl Print,
     problem: &[u8; 65536],
@@ -203,7 +191,7 @@ fn answer_tighter<'a>(
     b: usize,
     second: &'a [u8; 65536],
     c: usize,
-) -> bool {
+) -> io::Result<()> {
     let mut line = [0u8; 135168];
     let len = tighter_line(
         text::cut(problem, a),
@@ -211,7 +199,7 @@ fn answer_tighter<'a>(
         text::cut(second, c),
         &mut line,
     );
-    out.write_all(text::cut(&line, len)).is_ok()
+    out.write_all(text::cut(&line, len))
 }
 
 // The line for a report, with the output as it was lent.
@@ -226,17 +214,14 @@ fn report_line(records: &[u8], output: &mut [u8], line: &mut [u8]) -> usize
     text::reports::report_line(line, v, output)
 }
 
-// Answers a record of a report, whose output is the first n bytes; whether its line was written.
-fn answer_report(out: &impl Print, records: &[u8], output: &mut [u8], n: usize) -> bool {
-    if output.len() < n {
-        return false;
-    }
-    if 65536 < n {
-        return false;
+// Answers a record of a report, whose output is the first n bytes.
+fn answer_report(out: &impl Print, records: &[u8], output: &mut [u8], n: usize) -> io::Result<()> {
+    if output.len() < n || 65536 < n {
+        return Err(io::Error::from(ErrorKind::InvalidData));
     }
     let mut line = [0u8; 131200];
     let len = report_line(records, &mut output[..n], &mut line);
-    out.write_all(text::cut(&line, len)).is_ok()
+    out.write_all(text::cut(&line, len))
 }
 
 // The line for the call for a C program, with the output as it was lent.
@@ -249,7 +234,7 @@ fn tool_line(problem: &[u8], low: &[u8], high: &[u8], output: &mut [u8], line: &
     text::reports::tool_line(line, number, output)
 }
 
-// Writes that line, where the output is the first n bytes; whether it was written.
+// Writes that line, where the output is the first n bytes.
 fn write_tool(
     out: &impl Print,
     problem: &[u8],
@@ -257,16 +242,13 @@ fn write_tool(
     high: &[u8],
     output: &mut [u8],
     n: usize,
-) -> bool {
-    if output.len() < n {
-        return false;
-    }
-    if 65536 < n {
-        return false;
+) -> io::Result<()> {
+    if output.len() < n || 65536 < n {
+        return Err(io::Error::from(ErrorKind::InvalidData));
     }
     let mut line = [0u8; 131200];
     let len = tool_line(problem, low, high, &mut output[..n], &mut line);
-    out.write_all(text::cut(&line, len)).is_ok()
+    out.write_all(text::cut(&line, len))
 }
 
 // The line for two problems with a pair for each.
@@ -303,24 +285,20 @@ fn office_line(problem: &[u8], certificate: &[u8], buffer: &mut [u8], line: &mut
     text::office_line(line, v, buffer)
 }
 
-// Answers a record of a certificate that may have notes, whose buffer is the first n bytes; whether its line was
-// written.
+// Answers a record of a certificate that may have notes, whose buffer is the first n bytes.
 fn answer_office(
     out: &impl Print,
     problem: &[u8],
     certificate: &[u8],
     buffer: &mut [u8],
     n: usize,
-) -> bool {
-    if buffer.len() < n {
-        return false;
-    }
-    if 65536 < n {
-        return false;
+) -> io::Result<()> {
+    if buffer.len() < n || 65536 < n {
+        return Err(io::Error::from(ErrorKind::InvalidData));
     }
     let mut line = [0u8; 131328];
     let len = office_line(problem, certificate, &mut buffer[..n], &mut line);
-    out.write_all(text::cut(&line, len)).is_ok()
+    out.write_all(text::cut(&line, len))
 }
 
 // The length that four bytes of a record's head give.
@@ -331,15 +309,14 @@ fn length_at(head: &[u8; 13], at: usize) -> usize
     operand_reader::number_at(head, at, 4) as usize
 }
 
-// The next n bytes of the input; whether there is room for them and they are there.
-fn fill(input: &mut impl Read, bytes: &mut [u8], n: usize) -> bool
-    ensures { result ≡ true → n ≤ length bytes.new }
+// The next n bytes of the input, where there is room for them.
+fn fill(input: &mut impl Read, bytes: &mut [u8], n: usize) -> io::Result<()>
+    ensures { OnOk result (n ≤ length bytes.new) }
 {
-    if n <= bytes.len() {
-        input.read_exact(&mut bytes[..n]).is_ok()
-    } else {
-        false
+    if bytes.len() < n {
+        return Err(io::Error::from(ErrorKind::InvalidData));
     }
+    input.read_exact(&mut bytes[..n])
 }
 
 // The same for three runs, one after the other.
@@ -351,34 +328,29 @@ fn fill_three(
     b: usize,
     third: &mut [u8],
     c: usize,
-) -> bool {
-    if !fill(input, first, a) {
-        return false;
-    }
-    if !fill(input, second, b) {
-        return false;
-    }
+) -> io::Result<()> {
+    fill(input, first, a)?;
+    fill(input, second, b)?;
     fill(input, third, c)
 }
 
-// Answers a record of the call for a C program, of which three lengths are read and one more follows; whether it was
-// whole and its line was written.
-fn answer_tool(input: &mut impl Read, out: &impl Print, a: usize, b: usize, c: usize) -> bool {
+// Answers a record of the call for a C program, of which three lengths are read and one more follows.
+fn answer_tool(
+    input: &mut impl Read,
+    out: &impl Print,
+    a: usize,
+    b: usize,
+    c: usize,
+) -> io::Result<()> {
     let mut more = [0u8; 4];
-    if !fill(input, &mut more, 4) {
-        return false;
-    }
+    fill(input, &mut more, 4)?;
     let d = operand_reader::number_at(&more, 0, 4) as usize;
     let mut problem = [0u8; 65536];
     let mut low = [0u8; 65536];
     let mut high = [0u8; 65536];
     let mut output = [0u8; 65536];
-    if !fill_three(input, &mut problem, a, &mut low, b, &mut high, c) {
-        return false;
-    }
-    if !fill(input, &mut output, d) {
-        return false;
-    }
+    fill_three(input, &mut problem, a, &mut low, b, &mut high, c)?;
+    fill(input, &mut output, d)?;
     write_tool(
         out,
         text::cut(&problem, a),
@@ -389,27 +361,24 @@ fn answer_tool(input: &mut impl Read, out: &impl Print, a: usize, b: usize, c: u
     )
 }
 
-// Writes a text, which is empty where a record's kind is unknown; whether it was written.
-fn write(out: &impl Print, t: Text) -> bool {
+// Writes a text, which is empty where a record's kind is unknown.
+fn write(out: &impl Print, t: Text) -> io::Result<()> {
     if t.len == 0 {
-        return false;
+        return Err(io::Error::from(ErrorKind::InvalidData));
     }
-    out.write_all(text::cut(&t.bytes, t.len)).is_ok()
+    out.write_all(text::cut(&t.bytes, t.len))
 }
 
-// Answers a record of two problems, of which the first three lengths are read; whether it was whole and its line was
-// written.
+// Answers a record of two problems, of which the first three lengths are read.
 fn answer_two_problems(
     input: &mut impl Read,
     out: &impl Print,
     a: usize,
     b: usize,
     c: usize,
-) -> bool {
+) -> io::Result<()> {
     let mut rest = [0u8; 13];
-    if !fill(input, &mut rest, 12) {
-        return false;
-    }
+    fill(input, &mut rest, 12)?;
     let d = length_at(&rest, 0);
     let e = length_at(&rest, 4);
     let f = length_at(&rest, 8);
@@ -419,12 +388,8 @@ fn answer_two_problems(
     let mut problem2 = [0u8; 65536];
     let mut low2 = [0u8; 65536];
     let mut high2 = [0u8; 65536];
-    if !fill_three(input, &mut problem1, a, &mut low1, b, &mut high1, c) {
-        return false;
-    }
-    if !fill_three(input, &mut problem2, d, &mut low2, e, &mut high2, f) {
-        return false;
-    }
+    fill_three(input, &mut problem1, a, &mut low1, b, &mut high1, c)?;
+    fill_three(input, &mut problem2, d, &mut low2, e, &mut high2, f)?;
     write(
         out,
         answer_sum(
@@ -438,60 +403,60 @@ fn answer_two_problems(
     )
 }
 
-// Answers the next record; whether there was a whole one of a known kind, and its line was written.
-fn answer_next(input: &mut impl Read, out: &impl Print) -> bool {
-    let mut head = [0u8; 13];
-    if !fill(input, &mut head, 13) {
-        return false;
-    }
-    let a = length_at(&head, 1);
-    let b = length_at(&head, 5);
-    let c = length_at(&head, 9);
-    if head[0] == b'x' {
-        return answer_tool(input, out, a, b, c);
-    }
-    if head[0] == b'd' {
-        return answer_two_problems(input, out, a, b, c);
-    }
+// Answers a record of three runs, of these lengths.
+fn answer_three(
+    input: &mut impl Read,
+    out: &impl Print,
+    kind: u8,
+    a: usize,
+    b: usize,
+    c: usize,
+) -> io::Result<()> {
     let mut problem = [0u8; 65536];
     let mut first = [0u8; 65536];
     let mut second = [0u8; 65536];
-    if !fill_three(input, &mut problem, a, &mut first, b, &mut second, c) {
-        return false;
-    }
-    if head[0] == b'w' {
-        return answer_window(out, &problem, a);
-    }
-    if head[0] == b't' {
-        return answer_tighter(out, &problem, a, &first, b, &second, c);
-    }
-    if head[0] == b'r' {
-        return answer_report(out, text::cut(&problem, a), &mut first, b);
-    }
-    if head[0] == b'n' {
-        return answer_office(
+    fill_three(input, &mut problem, a, &mut first, b, &mut second, c)?;
+    match kind {
+        b'w' => answer_window(out, &problem, a),
+        b't' => answer_tighter(out, &problem, a, &first, b, &second, c),
+        b'r' => answer_report(out, text::cut(&problem, a), &mut first, b),
+        b'n' => answer_office(
             out,
             text::cut(&problem, a),
             text::cut(&first, b),
             &mut second,
             c,
-        );
-    }
-    write(
-        out,
-        answer_record(
-            head[0],
-            text::cut(&problem, a),
-            text::cut(&first, b),
-            text::cut(&second, c),
         ),
-    )
+        _ => write(
+            out,
+            answer_record(
+                kind,
+                text::cut(&problem, a),
+                text::cut(&first, b),
+                text::cut(&second, c),
+            ),
+        ),
+    }
+}
+
+// Answers the next record. It is an error where there is no whole one of a known kind, or its line is not written.
+fn answer_next(input: &mut impl Read, out: &impl Print) -> io::Result<()> {
+    let mut head = [0u8; 13];
+    fill(input, &mut head, 13)?;
+    let a = length_at(&head, 1);
+    let b = length_at(&head, 5);
+    let c = length_at(&head, 9);
+    match head[0] {
+        b'x' => answer_tool(input, out, a, b, c),
+        b'd' => answer_two_problems(input, out, a, b, c),
+        kind => answer_three(input, out, kind, a, b, c),
+    }
 }
 
 fn main(rt: HostRuntime) {
     let mut input = rt.stdin();
     for _ in 0..u64::MAX {
-        if !answer_next(&mut input, &rt) {
+        if answer_next(&mut input, &rt).is_err() {
             return;
         }
     }

@@ -1,7 +1,7 @@
 -- Laws of the digits of a factor: how large they are, that they give the factor, and so three parts of the products; and the digits in
 -- arrays.
 use mathlib.Core.Path.{◌≡◌, refl, sym, ap, ap₂, ◌∙◌}
-use mathlib.Core.Bool.{Bool, true, false, cond}
+use mathlib.Core.Bool.{Bool, true, false, cond, ◌||◌}
 use mathlib.Core.List.{List, [], ◌∷◌, ◌++◌}
 use mathlib.Core.Logic.{⊎_elim}
 use Prim.Native.Nat.{ℕ, zero, suc, ◌+◌, ◌-◌, ◌^◌, ◌≤◌, ◌<◌}
@@ -219,40 +219,26 @@ module _ {d : ℤ → ℤ} {factors : List ℤ} {count : ℕ} {held : List ℤ} 
   unfolding terms_in
   held_narrow e = narrow_listed (at indices factors) count (q.narrow e)
 
--- the loops: one digit more, where the places before it are as they were
-pub digits_start : {d : ℤ → ℤ} {factors held : List ℤ} → HoldsDigits d factors 0 held false
-digits_start = record { there = λ k b. absurd (omega arith); narrow = λ e k b. absurd (omega arith) }
+pub neither : (a : Bool) {b : Bool} → a || b ≡ false → (a ≡ false) × (b ≡ false)
+neither true e = clash (cc)
+neither false e = (refl, e)
 
+-- the loops: one digit more, where the places before it are as they were
 module _ {d : ℤ → ℤ} {factors : List ℤ} {t : ℕ} {held : List ℤ} {wide : Bool} (q : HoldsDigits d factors t held wide) where
   abbrev l : ℤ
   l = get_or factors t (pos 0)
 
-  digits_more : {held' : List ℤ} {now : Bool} → ((k : ℕ) → k < t → get_or held' k (pos 0) ≡ get_or held k (pos 0)) → get_or held' t (pos 0) ≡ d l
-      → (now ≡ false → (wide ≡ false) × (high_digit l ≡ pos 0)) → HoldsDigits d factors (t + 1) held' now
-  digits_more {held'} before here n =
+  pub digits_more : t < length held → {b : Bool} → (b ≡ false → high_digit l ≡ pos 0) → HoldsDigits d factors (t + 1) (set held t (d l)) (wide || b)
+  digits_more h {b} z =
       record {
-        there = λ k b.
+        there = λ k i.
             ⊎_elim
-            (λ e. rw e here)
-            (λ b. before k b ∙ q.there k b)
+            (λ e. rw e (get_or-set_same held t (d l) (pos 0) h))
+            (λ i. get_or-set_other held t k (d l) (pos 0) (λ e. omega arith) ∙ q.there k i)
             (eq-or-lt_of_le {n = k} {m = t} (omega arith));
-        narrow = λ e k b.
+        narrow = λ e k i.
             ⊎_elim
-            (λ i. rw i (n e).1)
-            (q.narrow (n e).0 k)
+            (λ i. rw i (z (neither wide e).1))
+            (q.narrow (neither wide e).0 k)
             (eq-or-lt_of_le {n = k} {m = t} (omega arith));
       }
-
-  set_more : {now : Bool} → t < length held → (now ≡ false → (wide ≡ false) × (high_digit l ≡ pos 0)) → HoldsDigits d factors (t + 1) (set held t (d l)) now
-  set_more b n = digits_more (λ k h. get_or-set_other held t k (d l) (pos 0) (λ e. omega arith)) (get_or-set_same held t (d l) (pos 0) b) n
-
-  -- of a wide factor, and of one that is not
-  pub digits_wide : t < length held → HoldsDigits d factors (t + 1) (set held t (d l)) true
-  digits_wide b = set_more b (λ e. clash (cc))
-
-  pub digits_narrow : t < length held → high_digit l ≡ pos 0 → HoldsDigits d factors (t + 1) (set held t (d l)) wide
-  digits_narrow b z = set_more b (λ e. (e, z))
-
-  -- in place
-  pub digits_kept : get_or held t (pos 0) ≡ d l → high_digit l ≡ pos 0 → HoldsDigits d factors (t + 1) held wide
-  digits_kept e z = digits_more (λ k b. refl) e (λ n. (n, z))

@@ -6,7 +6,7 @@ ghost use Rattle.std.specs.Prelude.{◌≡◌, ◌≤◌, length};
 ghost use Rattle.row_digits.specs.Digits.{high_digit, low_digit, HoldsDigits};
 
 // The parts of the products: w * l0 * l0', then 2^16 * w * (l0 * h' + h * l0'), then 2^32 * w * h * h'.
-#[derive(Clone, Copy)]
+#[derive(Clone, Copy, Debug, PartialEq, Eq)]
 pub enum Part {
     Low,
     Cross,
@@ -23,30 +23,27 @@ const DIGIT: i64 = 1 << 16;
 fn high_digit(l: i32) -> i32
     ensures { result ≡ high_digit l }
 {
-    (((l as i64) + HALF) >> 16) as i32
+    ((i64::from(l) + HALF) >> 16) as i32
 }
 
 // The lower digit of a factor.
 fn low_digit(l: i32) -> i32
     ensures { result ≡ low_digit l }
 {
-    ((l as i64) - (high_digit(l) as i64) * DIGIT) as i32
+    (i64::from(l) - i64::from(high_digit(l)) * DIGIT) as i32
 }
 
-// Replaces each factor by its lower digit, which a factor of 16 bits is itself; whether one is wide.
+// Replaces each factor by its lower digit, which a factor of 16 bits is itself; whether one is wide. This and `high_digits`
+// are two functions of four lines: one for both would take a closure, and the contract of that closure too.
 pub fn keep_low_digits(factors: &mut [i32; 64], count: usize) -> bool
     requires { (count ≤ 64) × (length factors.old ≡ 64) }
     ensures { HoldsDigits low_digit factors.old count factors.new result }
 {
     let mut wide = false;
-    let mut k = 0;
-    while k < count {
+    for k in 0..count {
         let l = factors[k];
-        if high_digit(l) != 0 {
-            factors[k] = low_digit(l);
-            wide = true;
-        }
-        k += 1;
+        wide |= high_digit(l) != 0;
+        factors[k] = low_digit(l);
     }
     wide
 }
@@ -57,14 +54,10 @@ pub fn high_digits(factors: &[i32; 64], highs: &mut [i32; 64], count: usize) -> 
     ensures { HoldsDigits high_digit factors.now count highs.new result }
 {
     let mut wide = false;
-    let mut k = 0;
-    while k < count {
+    for k in 0..count {
         let h = high_digit(factors[k]);
+        wide |= h != 0;
         highs[k] = h;
-        if h != 0 {
-            wide = true;
-        }
-        k += 1;
     }
     wide
 }

@@ -1,17 +1,14 @@
 -- Folding the table of sums: entries with the same b × b' are summed at one place, and the whole gives the same.
 use mathlib.Core.Path.{◌≡◌, refl, sym, ap, ap₂, ◌∙◌}
-use mathlib.Core.Bool.{true, false}
 use mathlib.Core.List.{List}
 use mathlib.Core.Logic.{⊎_elim}
 use Prim.Native.Nat.{ℕ, zero, suc, ◌+◌, ◌/◌, ◌%◌, ◌^◌, ◌≤◌, ◌<◌}
 use native.Mathlib.Nat.{eq-or-lt_of_le}
 use native.Mathlib.Numerals.{add-one}
 use native.Mathlib.Omega.{arith}
-use borrow.Author.Tests.{leb-true, ltb-false}
-use lib.IntN.{ℤ, pos, negsuc, nat_abs, ◌+ℤ◌, ◌-ℤ◌, ◌*ℤ◌}
+use lib.IntN.{ℤ, pos, nat_abs, ◌+ℤ◌, ◌-ℤ◌, ◌*ℤ◌}
 use lib.ListN.{length, get_or, set, length-set}
 use lib.Seq.{get_or-set_same, get_or-set_other}
-use lib.Signed.{lt_z, le_z}
 use Rattle.integers.proofs.Ranges.{abs_sum}
 use Rattle.integers.proofs.Ring.{view, diffs, ⊖-eq}
 use Rattle.counting.specs.Counting.{listed}
@@ -24,11 +21,6 @@ use Rattle.row_outer.specs.Outer.{gathered_most}
 use Rattle.row_folding.specs.Fold.{folded_most, WithProduct, Folded}
 use Rattle.row_outer.proofs.Prefixes.{sum_more}
 use Rattle.row_outer.proofs.Frames.{framed_entered}
-
--- between −(m + 1) and m + 1
-pub low_abs : (m : ℕ) (z : ℤ) → lt_z z (negsuc m) ≡ false → le_z z (pos (suc m)) ≡ true → nat_abs z ≤ suc m
-low_abs m (pos a) f t = leb-true a (suc m) t
-low_abs m (negsuc a) f t = let l = ltb-false m a f in omega arith
 
 -- ---- the first n places of a table, each times h of it, with one number set
 module _ (h : ℕ → ℤ) where

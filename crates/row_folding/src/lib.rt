@@ -27,22 +27,14 @@ fn is_pair(basis: &[u64], y: usize, key: u64) -> bool
 {
     let i = y / 64;
     let k = y % 64;
-    if i <= k {
-        if k < basis.len() {
-            return basis[i] + basis[k] == key;
-        }
-    }
-    false
+    i <= k && k < basis.len() && basis[i] + basis[k] == key
 }
 
 // At most 2^53 in size, so that there is room for another entry.
 fn is_low(z: i64) -> bool
     ensures { result ≡ true → nat_abs z ≤ 2 ^ 53 }
 {
-    if z < -9007199254740992 {
-        return false;
-    }
-    z <= 9007199254740992
+    z.unsigned_abs() <= 1 << 53
 }
 
 // Where `lasts` names a place with this product b * b'.
@@ -50,13 +42,6 @@ fn hint(key: u64) -> usize
     ensures { result < 1024 }
 {
     (key % 1017) as usize
-}
-
-// A number of 16 bits as a place.
-fn wide(x: u16) -> usize
-    ensures { result ≡ x }
-{
-    x as usize
 }
 
 // Moves the entry at place x to an earlier place with the same product b * b', if `lasts` names one. What it names is
@@ -76,18 +61,13 @@ fn fold_entry(g: &mut [i64], basis: &[u64], lasts: &mut [u16; 1024], x: usize)
     let k = x % 64;
     let key = basis[i] + basis[k];
     let t = hint(key);
-    let y = wide(lasts[t]);
-    if y < x {
-        if is_pair(basis, y, key) {
-            let z = g[y];
-            if is_low(z) {
-                g[y] = z + a;
-                g[x] = 0;
-                return;
-            }
-        }
+    let y = usize::from(lasts[t]);
+    if y < x && is_pair(basis, y, key) && is_low(g[y]) {
+        g[y] += a;
+        g[x] = 0;
+    } else {
+        lasts[t] = x as u16;
     }
-    lasts[t] = x as u16;
 }
 
 // Sums the entries with the same product b * b', so that most products with the multiplier are made once for all of
@@ -100,9 +80,9 @@ pub fn fold(g: &mut [i64], basis: &[u64])
 {
     let mut lasts = [0u16; 1024];
     let size = basis.len();
-    let last = 64 * size;
     let mut x = 0;
-    while x < last {
+    // Not by one: `next_place` passes over what is below the diagonal.
+    while x < 64 * size {
         fold_entry(g, basis, &mut lasts, x);
         x = next_place(x, size);
     }

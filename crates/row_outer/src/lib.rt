@@ -17,9 +17,7 @@ fn add_at(g: &mut [i64], x: usize, a: i64, factor: i32)
         × (nat_abs factor ≤ digit_most) }
     ensures { Raised g.old (λ y. a *ℤ factor *ℤ match y x) g.new }
 {
-    let y = a * (factor as i64);
-    let z = g[x];
-    g[x] = z + y;
+    g[x] += a * i64::from(factor);
 }
 
 // Adds a times each factor of a row from entry `first` on, in the table's row of that entry's index: with itself once,
@@ -40,13 +38,10 @@ fn add_products(
         (λ x. a *ℤ in_row (terms_in count indices.now factors.now) x
         (get_or indices.now first 0)) g.new }
 {
-    let i = indices[first] as usize;
+    let i = usize::from(indices[first]);
     add_at(g, 65 * i, a, factors[first]);
-    let twice = 2 * a;
-    let mut k = first + 1;
-    while k < count {
-        add_at(g, 64 * i + (indices[k] as usize), twice, factors[k]);
-        k += 1;
+    for k in first + 1..count {
+        add_at(g, 64 * i + usize::from(indices[k]), 2 * a, factors[k]);
     }
 }
 
@@ -68,10 +63,7 @@ pub fn add_outer(
         (outer_at w (terms_in count indices.now left.now)
         (terms_in count indices.now right.now)) g.new }
 {
-    let mut k = 0;
-    while k < count {
-        let a = w * (left[k] as i64);
-        add_products(g, indices, right, count, k, a);
-        k += 1;
+    for k in 0..count {
+        add_products(g, indices, right, count, k, w * i64::from(left[k]));
     }
 }

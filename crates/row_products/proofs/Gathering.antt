@@ -1,4 +1,5 @@
 -- The walk over the rows for one basis: the table of sums holds one part of the products of the rows on the basis so far.
+use Rattle.std.proofs.Common.{Option, None, Some, MatchOption, unwrap_or, ◌||◌}
 use mathlib.Core.Path.{◌≡◌, refl, sym, ap, ◌∙◌}
 use mathlib.Core.Bool.{Bool, true, false, cond}
 use mathlib.Core.List.{List, [], ◌∷◌, ◌++◌, append_assoc, append-nil}
@@ -33,7 +34,6 @@ use Rattle.certificate_rows.proofs.Steps.{Step, step_of, step_none, factor_small
 use Rattle.accepting.proofs.Reach.{all_both}
 use Rattle.row_digits.specs.declared.Part.{Part}
 use Rattle.row_digits.specs.declared.Part.TheVariants as P
-use Rattle.row_products.specs.declared.Found.{Found}
 use Rattle.row_outer.specs.Gram.{factor_terms, rows_on}
 use Rattle.row_outer.specs.Frame.{Empty, Below, Framed}
 use Rattle.row_outer.specs.Outer.{weight_most, factor_most, digit_most, outer_unit, row_unit, gathered_most, HasRow, Entries, HoldsEntries, Raised, above, outer_at}
@@ -240,41 +240,38 @@ unfolding parts
 parts_more part [] r x = +ℤ_comm (part_at part r x) (pos 0)
 parts_more part (q ∷ rs) r x = rw (parts_more part rs r x) (sym (+ℤ_assoc (part_at part q x) (parts part rs x) (part_at part r x)))
 
--- ---- the walk for basis j: the table of sums holds one part of the products of the first t rows; `any` says whether one is on it, and
--- `wide` whether one of those has a wide factor
-pub record Gathering (part : Part) (rs : List Row) (j t : ℕ) (g₀ g₁ : List ℤ) (any wide : Bool) : Type 0 where
-  pub within : t ≤ length rs
+-- ---- the walk for basis j: the table of sums holds one part of the products of the first t rows
+pub record Gathering (part : Part) (rs : List Row) (j t : ℕ) (g₀ g₁ : List ℤ) (found : Option Bool) : Type 0 where
   pub holds : (x : ℕ) → get_or g₁ x (pos 0) ≡ parts part (rows_on j (take t rs)) x
   pub below : Below (t * row_unit) g₁
   pub long : length g₁ ≡ length g₀
-  pub none : any ≡ false → rows_on j (take t rs) ≡ []
-  pub narrow : wide ≡ false → All NarrowRow (rows_on j (take t rs))
+  pub wide : MatchOption found (rows_on j (take t rs) ≡ []) (λ w. w ≡ false → All NarrowRow (rows_on j (take t rs)))
 
-pub gathering_start : {part : Part} {rs : List Row} {j : ℕ} {g : List ℤ} → Empty g → Gathering part rs j 0 g g false false
-unfolding parts rows_on All
-gathering_start {g = g} z =
-    record {
-      within = omega arith;
-      holds = z;
-      below = λ x. omega (arith, ap nat_abs (z x));
-      long = refl;
-      none = λ e. refl;
-      narrow = λ e. tt;
-    }
+pub gathering_start : {part : Part} {rs : List Row} {j : ℕ} {g : List ℤ} → Empty g → Gathering part rs j 0 g g None
+unfolding parts rows_on
+gathering_start {g = g} z = record { holds = z; below = λ x. omega (arith, ap nat_abs (z x)); long = refl; wide = refl }
 
-module _ {part : Part} {rs : List Row} {j t : ℕ} {g₀ g : List ℤ} {any wide : Bool} (w : Gathering part rs j t g₀ g any wide) where
-  pub gathering_small : length rs ≤ most_rows → Below gathered_most g
-  gathering_small n x = omega (arith, w.below x, w.within)
+neither : (a : Bool) {b : Bool} → a || b ≡ false → (a ≡ false) × (b ≡ false)
+neither true e = clash (cc)
+neither false e = (refl, e)
 
-  pub gathering_end : length rs ≤ most_rows → length rs ≤ t → Gathered part rs j g₀ g record { any = any; wide = wide }
+-- no row so far has a wide factor
+narrow_so_far : {P Q : Type 0} (found : Option Bool) → MatchOption found P (λ w. w ≡ false → Q) → (P → Q) → unwrap_or found false ≡ false → Q
+narrow_so_far None h f e = f h
+narrow_so_far (Some w) h f e = h e
+
+module _ {part : Part} {rs : List Row} {j t : ℕ} {g₀ g : List ℤ} {found : Option Bool} (w : Gathering part rs j t g₀ g found) where
+  pub gathering_small : t ≤ most_rows → Below gathered_most g
+  gathering_small n x = omega (arith, w.below x)
+
+  pub gathering_end : length rs ≤ most_rows → length rs ≡ t → Gathered part rs j g₀ g found
   gathering_end n f =
-      let e : rows_on j (take t rs) ≡ rows_on j rs = ap (rows_on j) (take_all t rs f) in
+      let e : rows_on j (take t rs) ≡ rows_on j rs = ap (rows_on j) (take_all t rs (omega arith)) in
       record {
         holds = λ x. w.holds x ∙ ap (λ (l : List Row). parts part l x) e;
-        small = gathering_small n;
+        small = gathering_small (omega arith);
         long = w.long;
-        none = λ q. sym e ∙ w.none q;
-        narrow = λ q. rw e at (w.narrow q);
+        wide = rw e at w.wide;
       }
 
   -- one row more
@@ -282,48 +279,38 @@ module _ {part : Part} {rs : List Row} {j t : ℕ} {g₀ g : List ℤ} {any wide
     taken : take (t + 1) rs ≡ take t rs ++ (r ∷ [])
     taken = rw (add-one t, take-suc rs t no_row h, is)
 
-    pub gathering_other : (r.basis ≡ j → ⊥) → Gathering part rs j (t + 1) g₀ g any wide
+    pub gathering_other : (r.basis ≡ j → ⊥) → Gathering part rs j (t + 1) g₀ g found
     gathering_other f =
         let e : rows_on j (take (t + 1) rs) ≡ rows_on j (take t rs) = ap (rows_on j) taken ∙ on_other j (take t rs) r f in
         record {
-          within = omega arith;
           holds = λ x. w.holds x ∙ ap (λ (l : List Row). parts part l x) (sym e);
           below = λ x. omega (arith, w.below x);
           long = w.long;
-          none = λ n. e ∙ w.none n;
-          narrow = λ n. rw e (w.narrow n);
+          wide = rw e w.wide;
         }
 
-    module _ {g₂ : List ℤ} (on : r.basis ≡ j) {b : Bool} (a : RowAdded part r g g₂ b) where
-      one_more : rows_on j (take (t + 1) rs) ≡ rows_on j (take t rs) ++ (r ∷ [])
-      one_more = ap (rows_on j) taken ∙ on_more j (take t rs) r on
-
-      row_more : (now : Bool) → (now ≡ false → (wide ≡ false) × (b ≡ false)) → Gathering part rs j (t + 1) g₀ g₂ true now
-      row_more now f =
-          let d = a.raised in
-          record {
-            within = omega arith;
-            holds = λ x.
-                d.there x
-                ∙ ap (λ (z : ℤ). z +ℤ part_at part r x) (w.holds x)
-                ∙ sym (parts_more part (rows_on j (take t rs)) r x)
-                ∙ ap (λ (l : List Row). parts part l x) (sym one_more);
-            below = λ x.
-                let v = ap nat_abs (d.there x) in
-                omega (arith, abs_sum (get_or g x (pos 0)) (part_at part r x), w.below x, a.small x);
-            long = d.long ∙ w.long;
-            none = λ n. clash (cc);
-            narrow = λ n. rw one_more (unfold All in all_append NarrowRow (rows_on j (take t rs)) (r ∷ []) (w.narrow (f n).0) (a.narrow (f n).1, tt));
-          }
-
-      pub gathering_wide : Gathering part rs j (t + 1) g₀ g₂ true true
-      gathering_wide = row_more true (λ e. clash (cc))
-
-      pub gathering_row : b ≡ false → Gathering part rs j (t + 1) g₀ g₂ true wide
-      gathering_row e = row_more wide (λ n. (n, e))
+    pub gathering_row : {g₂ : List ℤ} → {b : Bool} → r.basis ≡ j → RowAdded part r g g₂ b → Gathering part rs j (t + 1) g₀ g₂ (Some (b || unwrap_or found false))
+    unfolding All
+    gathering_row {b = b} on a =
+        let e : rows_on j (take (t + 1) rs) ≡ rows_on j (take t rs) ++ (r ∷ []) = ap (rows_on j) taken ∙ on_more j (take t rs) r on in
+        let d = a.raised in
+        record {
+          holds = λ x.
+              d.there x
+              ∙ ap (λ (z : ℤ). z +ℤ part_at part r x) (w.holds x)
+              ∙ sym (parts_more part (rows_on j (take t rs)) r x)
+              ∙ ap (λ (l : List Row). parts part l x) (sym e);
+          below = λ x.
+              let v = ap nat_abs (d.there x) in
+              omega (arith, abs_sum (get_or g x (pos 0)) (part_at part r x), w.below x, a.small x);
+          long = d.long ∙ w.long;
+          wide = λ n.
+              let q : All NarrowRow (rows_on j (take t rs)) = narrow_so_far found w.wide (λ z. rw z tt) (neither b n).1 in
+              rw e (all_append NarrowRow (rows_on j (take t rs)) (r ∷ []) q (a.narrow (neither b n).0, tt));
+        }
 
 -- ---- what the walk gives: the table is within the frame of the basis
-module _ {part : Part} {s starts : List ℕ} {rows j : ℕ} {g₀ g : List ℤ} {found : Found} (w : RowsFor s starts rows j (length g₀))
+module _ {part : Part} {s starts : List ℕ} {rows j : ℕ} {g₀ g : List ℤ} {found : Option Bool} (w : RowsFor s starts rows j (length g₀))
     (k : Gathered part (rows_by s starts rows) j g₀ g found) where
   abbrev size : ℕ
   size = length (basis_of w.problem j)
@@ -344,9 +331,9 @@ module _ {part : Part} {s starts : List ℕ} {rows j : ℕ} {g₀ g : List ℤ} 
       }
 
 -- without a row on basis j it stays empty
-pub gathered_none : {part : Part} {rs : List Row} {j : ℕ} {g₀ g : List ℤ} {found : Found} → Gathered part rs j g₀ g found → found.any ≡ false → Empty g
+pub gathered_none : {part : Part} {rs : List Row} {j : ℕ} {g₀ g : List ℤ} → Gathered part rs j g₀ g None → Empty g
 unfolding parts
-gathered_none {part} k e x = k.holds x ∙ ap (λ (l : List Row). parts part l x) (k.none e)
+gathered_none {part} k x = k.holds x ∙ ap (λ (l : List Row). parts part l x) k.wide
 
 -- ---- a row that keeps its limits, in arrays
 module _ {s : List ℕ} {from to room : ℕ} (bytes : Bounded 255 s) (k : LowRow s from to room) where

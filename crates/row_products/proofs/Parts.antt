@@ -1,6 +1,7 @@
 -- The three parts together: what the tables of the parts give, times 1, 2^16 and 2^32, are the squares of the rows.
+use Rattle.std.proofs.Common.{Option, None}
 use mathlib.Core.Path.{◌≡◌, refl, sym, ap, ap₂, ◌∙◌}
-use mathlib.Core.Bool.{false}
+use mathlib.Core.Bool.{Bool}
 use mathlib.Core.List.{List, [], ◌∷◌}
 use mathlib.Core.Logic.{⊎_elim}
 use Prim.Native.Nat.{ℕ, zero, suc, ◌+◌, ◌*◌, ◌/◌, ◌%◌, ◌^◌, ◌<◌}
@@ -23,7 +24,6 @@ use Rattle.format.proofs.ProblemLimits.{basis_few}
 use Rattle.accepting.specs.Identity.{squares}
 use Rattle.row_digits.specs.declared.Part.{Part}
 use Rattle.row_digits.specs.declared.Part.TheVariants as P
-use Rattle.row_products.specs.declared.Found.{Found}
 use Rattle.row_outer.specs.Gram.{factor_terms, outer, gram, times_at, doubled, rows_on}
 use Rattle.row_outer.specs.Frame.{share, spread_at}
 use Rattle.row_outer.specs.Outer.{above, in_row, outer_at}
@@ -110,15 +110,16 @@ module _ (m : ℕ → ℤ) where
       nothing z = rw (view z).eq (simp diffs (⊖-eq _ _ _ _ (omega arith)))
 
 -- ---- (1) the table of a part, once gathered, gives that part
-module _ {part : Part} {rs : List Row} {j : ℕ} {g₀ g : List ℤ} {found : Found} (k : Gathered part rs j g₀ g found) (p : Problem) (m : ℕ) where
+module _ {part : Part} {rs : List Row} {j : ℕ} {g₀ g : List ℤ} {found : Option Bool} (k : Gathered part rs j g₀ g found) (p : Problem) (m : ℕ) where
   pub gathered_spread : spread_at (basis_of p j) (multiplier p j) g m ≡ part_spread p j part (rows_on j rs) m
   unfolding spread_at part_spread
   gathered_spread = ap (sum (share (basis_of p j) (multiplier p j) m)) (listed_same 4096 _ _ (λ x b. ap (term x) (k.holds x)))
 
-  -- without a row, none
-  pub none_spread : found.any ≡ false → part_spread p j part (rows_on j rs) m ≡ pos 0
-  unfolding part_spread parts
-  none_spread e = rw (k.none e) (over_none (share (basis_of p j) (multiplier p j) m) 4096 (λ _. pos 0) (λ x. refl))
+-- without a row, none
+pub none_spread : {part : Part} {rs : List Row} {j : ℕ} {g₀ g : List ℤ} → Gathered part rs j g₀ g None → (p : Problem) (m : ℕ)
+    → part_spread p j part (rows_on j rs) m ≡ pos 0
+unfolding part_spread parts
+none_spread {j = j} k p m = rw k.wide (over_none (share (basis_of p j) (multiplier p j) m) 4096 (λ _. pos 0) (λ x. refl))
 
 -- ---- (2) the three parts are the squares of the rows, of whatever problem the basis and its multiplier are
 pub squares_parts : {s starts : List ℕ} {rows j room : ℕ} → RowsFor s starts rows j room → (p : Problem) (m : ℕ)
@@ -140,10 +141,10 @@ unfolding parts All
 narrow_none u x [] h = refl
 narrow_none u x (r ∷ rs) h = rw (upper_none r.weight x (factor_terms r.entries) h.0 u, narrow_none u x rs h.1)
 
-module _ {part : Part} {rs : List Row} {j : ℕ} {g₀ g : List ℤ} {found : Found} (k : Gathered part rs j g₀ g found) (e : found.wide ≡ false) (p : Problem) (m : ℕ) where
+module _ (rs : List Row) (j : ℕ) (k : All NarrowRow (rows_on j rs)) (p : Problem) (m : ℕ) where
   pub narrow_spread : {upper : Part} → Upper upper → part_spread p j upper (rows_on j rs) m ≡ pos 0
   unfolding part_spread
-  narrow_spread u = over_none (share (basis_of p j) (multiplier p j) m) 4096 _ (λ x. narrow_none u x (rows_on j rs) (k.narrow e))
+  narrow_spread u = over_none (share (basis_of p j) (multiplier p j) m) 4096 _ (λ x. narrow_none u x (rows_on j rs) k)
 
   pub narrow_cross_spread : part_spread p j P.Cross (rows_on j rs) m ≡ pos 0
   narrow_cross_spread = narrow_spread cross_upper

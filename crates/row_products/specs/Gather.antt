@@ -1,5 +1,5 @@
 -- The rows of a stream, and the table of sums that holds the products of those on one basis.
-use Rattle.std.specs.Prelude.{◌≡◌, Bool, false, List, [], ℕ, ◌*◌, ◌≤◌, ℤ, pos, nat_abs, length, get_or}
+use Rattle.std.specs.Prelude.{◌≡◌, Bool, false, Option, MatchOption, List, [], ℕ, ◌*◌, ◌≤◌, ℤ, pos, nat_abs, length, get_or}
 use Rattle.polynomial.specs.Terms.{Term}
 use Rattle.format.specs.ProblemRules.{Problem}
 use Rattle.format.specs.ProblemBases.{basis_of}
@@ -8,7 +8,6 @@ use Rattle.format.specs.CertificateRules.{Entry, Row}
 use Rattle.format.proofs.CertificateLimits.{IndicesRise}
 use Rattle.certificate_rows.specs.Offsets.{row_at, RowStands, SoundRows}
 use Rattle.row_digits.specs.declared.Part.{Part}
-use Rattle.row_products.specs.declared.Found.{Found}
 use Rattle.row_outer.specs.Gram.{factor_terms, rows_on}
 use Rattle.row_outer.specs.Frame.{Below}
 use Rattle.row_outer.specs.Outer.{weight_most, factor_most, row_unit, gathered_most, HasRow, Entries, Raised}
@@ -42,11 +41,10 @@ pub record PartAdded (part : Part) (w : ℤ) (F : List Term) (g₀ g₁ : List �
 abbrev pub RowAdded : Part → Row → List ℤ → List ℤ → Bool → Type 0
 RowAdded part r g₀ g₁ wide = PartAdded part r.weight (factor_terms r.entries) g₀ g₁ wide
 
--- the table of sums, empty before, holds one part of the products of those of some rows that are on basis j; `any` says
--- whether there is one, and `wide` whether one has a wide factor
-pub record Gathered (part : Part) (rs : List Row) (j : ℕ) (g₀ g₁ : List ℤ) (found : Found) : Type 0 where
+-- the table of sums, empty before, holds one part of the products of those of some rows that are on basis j; `found` says
+-- whether one of those has a wide factor, or that there is none
+pub record Gathered (part : Part) (rs : List Row) (j : ℕ) (g₀ g₁ : List ℤ) (found : Option Bool) : Type 0 where
   pub holds : (x : ℕ) → get_or g₁ x (pos 0) ≡ parts part (rows_on j rs) x
   pub small : Below gathered_most g₁
   pub long : length g₁ ≡ length g₀
-  pub none : found.any ≡ false → rows_on j rs ≡ []
-  pub narrow : found.wide ≡ false → All NarrowRow (rows_on j rs)
+  pub wide : MatchOption found (rows_on j rs ≡ []) (λ w. w ≡ false → All NarrowRow (rows_on j rs))

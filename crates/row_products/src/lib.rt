@@ -10,6 +10,7 @@ ghost use Rattle.row_outer.specs.Outer.{gathered_most, HoldsEntries};
 ghost use Rattle.row_digits.specs.declared.Part.TheVariants as P;
 ghost use Rattle.row_products.specs.Gather.{RowsFor, LowRow, RowHeld, PartAdded, RowAdded, Gathered};
 
+use certificate_rows::Rows;
 use row_digits::Part;
 
 // The entries of the row between two offsets, put into arrays; how many they are.
@@ -28,6 +29,7 @@ fn read_row(
 {
     let mut n = 0;
     let mut x = from + 4;
+    // By offset: an entry's command says how far the next one is.
     while x < to {
         indices[n] = certificate_rows::index_at(s, x);
         factors[n] = certificate_rows::factor_at(s, x);
@@ -100,38 +102,23 @@ fn add_row(g: &mut [i64], s: &[u8], from: usize, to: usize, part: Part) -> bool
     }
 }
 
-// What is found among the rows on a basis: whether there is one, and whether one has a wide factor.
-#[derive(Drop)]
-pub struct Found {
-    pub any: bool,
-    pub wide: bool,
-}
-
 // Adds one part of the products of the rows on basis j to the table of sums, which is empty. Other rows are stepped
-// over.
-pub fn add_basis_rows(
-    g: &mut [i64],
-    s: &[u8],
-    starts: &[usize; 129],
-    rows: usize,
-    j: usize,
-    part: Part,
-) -> Found
-    requires { Empty g.old × RowsFor s.now starts.now rows j (length g.old) }
-    ensures { Gathered part (rows_by s.now starts.now rows) j g.old g.new result }
+// over. Whether a row on it has a wide factor, and None where no row is on it.
+pub fn add_basis_rows(g: &mut [i64], rows: Rows, j: usize, part: Part) -> Option<bool>
+    requires { Empty g.old
+        × RowsFor rows.stream.now rows.starts.now rows.count j (length g.old)
+        × (length rows.starts.now ≡ 129) }
+    ensures { Gathered part
+        (rows_by rows.entry.stream.now rows.entry.starts.now rows.entry.count)
+        j g.old g.new result }
 {
-    let mut any = false;
-    let mut wide = false;
-    let mut r = 0;
-    while r < rows {
-        let at = starts[r];
-        if certificate_rows::basis_at(s, at) == j {
-            any = true;
-            if add_row(g, s, at, starts[r + 1], part) {
-                wide = true;
-            }
+    let mut found = None;
+    for r in 0..rows.count {
+        let at = rows.starts[r];
+        if certificate_rows::basis_at(rows.stream, at) == j {
+            let wide = add_row(g, rows.stream, at, rows.starts[r + 1], part);
+            found = Some(wide | found.unwrap_or(false));
         }
-        r += 1;
     }
-    Found { any, wide }
+    found
 }

@@ -1,11 +1,11 @@
 -- Laws of masks that are listed at the front of zeros.
-use mathlib.Core.Path.{◌≡◌, refl, sym, ap, ◌∙◌}
+use mathlib.Core.Path.{◌≡◌, refl, sym, ◌∙◌}
 use mathlib.Core.Bool.{Bool, true, false}
 use mathlib.Core.List.{List, [], ◌∷◌, ◌++◌, append_assoc}
 use Prim.Native.Nat.{ℕ, suc, ◌+◌, ◌-◌, ◌<◌}
 use native.Mathlib.Omega.{arith}
-use lib.ListN.{length, drop, set, replicate, length-append, length-replicate}
-use lib.Seq.{set_at, drop_at}
+use lib.ListN.{length, drop, set, replicate, length-append}
+use lib.Seq.{set_at}
 use Rattle.calls.specs.Symmetries.{passing, mask_bytes}
 use Rattle.calls.proofs.Masks.{passing_taken, passing_left}
 
@@ -15,10 +15,6 @@ in_place : (m rest xs : List ℕ) (n v : ℕ) → length m ≡ n → n < 256 →
 in_place m rest xs n v h g e =
     let k : 256 - n ≡ suc (256 - (n + 1)) = omega arith in
     rw (e, k) (set_at m 0 (replicate (256 - (n + 1)) 0 ++ rest) v n h ∙ sym (append_assoc m (v ∷ []) (replicate (256 - (n + 1)) 0 ++ rest)))
-
--- what stands behind 256 zeros
-pub behind_zeros : (x rest : List ℕ) → x ≡ replicate 256 0 ++ rest → drop 256 x ≡ rest
-behind_zeros x rest e = ap (drop 256) e ∙ drop_at (replicate 256 0) rest 256 (length-replicate {A = ℕ} 256 0)
 
 -- the numbers below r that pass the test, zeros behind them up to 256, and then what stays
 pub record Written (test : ℕ → Bool) (r count : ℕ) (out rest : List ℕ) : Type 0 where

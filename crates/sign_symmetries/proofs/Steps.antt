@@ -2,12 +2,10 @@
 use mathlib.Core.Path.{◌≡◌, refl, ap, ◌∙◌}
 use mathlib.Core.Bool.{Bool, true}
 use mathlib.Core.List.{List}
-use mathlib.Core.Logic.{◌⊎◌, inl, inr}
 use Prim.Native.Nat.{ℕ, ◌≤◌, ◌<◌}
-use native.Mathlib.Omega.{arith}
 use lib.IntN.{ℤ}
 use lib.ListN.{length}
-use Rattle.counting.proofs.Cases.{clash, lt_or_le}
+use Rattle.counting.proofs.Cases.{clash}
 use Rattle.format.specs.ProblemRules.{Problem}
 use Rattle.calls.specs.Tables.{Tables, tables_short}
 use Rattle.calls.specs.Outcome.{Outcome, given, ◌then◌, told}
@@ -20,7 +18,8 @@ use Rattle.calls.specs.declared.BlocksVerdict.{BlocksVerdict}
 use Rattle.calls.specs.declared.SymmetriesVerdict.{SymmetriesVerdict}
 use Rattle.calls.proofs.Refusing.{problem_by, problem_within}
 use Rattle.problem_reader.specs.Storing.{GivenFlat, ReadFlat}
-use Rattle.problem_reader.specs.declared.Reading.{Reading}
+use Rattle.std.proofs.Common.{Result, Ok, Err}
+use Rattle.faults.specs.declared.Misread.{Misread}
 use Rattle.work_tables.proofs.Tables.{lent_short, lent_long}
 use Rattle.sign_symmetries.specs.Parities.{GivesProblem}
 
@@ -59,10 +58,7 @@ module _ (short : Bool) (s out : List ℕ) where
       rw (problem_within short s p w, g, h) (refl, k)
 
 -- ---- a stream that gives a problem leaves it in the arrays
-pub gives_flat : {s : List ℕ} {r : Reading} {keys : List ℕ} {coefficients : List ℤ} {sizes : List ℕ} → ReadFlat s r keys coefficients sizes
+pub gives_flat : {s : List ℕ} {r : Result (Unit {0}) Misread} {keys : List ℕ} {coefficients : List ℤ} {sizes : List ℕ} → ReadFlat s r keys coefficients sizes
     → GivesProblem s → GivenFlat s keys coefficients sizes
-gives_flat {s} {r} {keys} {coefficients} {sizes} e g = go (lt_or_le 0 r.number)
-  where
-    go : (0 < r.number) ⊎ (r.number ≤ 0) → GivenFlat s keys coefficients sizes
-    go (inl h) = let a = e.refuses h in let b = g.read in clash (cc)
-    go (inr h) = e.gives (omega arith)
+gives_flat {r = Ok _} e g = e.gives
+gives_flat {r = Err m} e g = let a = e.refuses in let b = g.read in clash (cc)

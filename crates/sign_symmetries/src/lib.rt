@@ -25,12 +25,10 @@ fn parity_byte(key: u64) -> u8
     let mut byte: u64 = 0;
     let mut place: u64 = 1;
     let mut rest = key;
-    let mut i: usize = 0;
-    while i < 8 {
+    for _i in 0..8usize {
         byte += rest % 2 * place;
         place *= 2;
         rest /= 256;
-        i += 1;
     }
     byte as u8
 }
@@ -47,12 +45,10 @@ fn is_even(mask: u8, byte: u8) -> bool
 fn is_even_with_all(mask: u8, bytes: &[u8]) -> bool
     ensures { result ≡ even_all mask bytes.now }
 {
-    let mut i = 0;
-    while i < bytes.len() {
-        if !is_even(mask, bytes[i]) {
+    for &byte in bytes {
+        if !is_even(mask, byte) {
             return false;
         }
-        i += 1;
     }
     true
 }
@@ -64,12 +60,10 @@ fn put_parities(bytes: &mut [u8; 512], n: usize, keys: &[u64]) -> usize
         × (take result bytes.new ≡ take n bytes.old ++ map parity_byte keys.now)
         × (length bytes.new ≡ 512) }
 {
-    let mut i = 0;
-    while i < keys.len() {
-        bytes[n + i] = parity_byte(keys[i]);
-        i += 1;
+    for (i, &key) in keys.iter().enumerate() {
+        bytes[n + i] = parity_byte(key);
     }
-    n + i
+    n + keys.len()
 }
 
 // The parity bytes of all exponents of the problem in the arrays: of the objective, then of the conditions.
@@ -79,11 +73,9 @@ fn gather(keys: &[u64], sizes: &[usize], bytes: &mut [u8; 512]) -> usize
 {
     let objective = flat::exponents(keys, sizes, flat::OBJECTIVE);
     let mut n = put_parities(bytes, 0, objective);
-    let mut j = 1;
-    while j < 9 {
+    for j in 1..9 {
         let condition = flat::exponents(keys, sizes, j);
         n = put_parities(bytes, n, condition);
-        j += 1;
     }
     n
 }
@@ -95,16 +87,14 @@ fn list(bytes: &[u8], limit: usize, out: &mut [u8]) -> usize
     ensures count { result ≡ length (passing (λ m. even_all m bytes.now) limit) }
     ensures bytes { out.new ≡ mask_bytes (passing (λ m. even_all m bytes.now) limit) out.old }
 {
-    work_tables::clear_bytes(out, 256);
+    out[..256].fill(0);
     let mut count = 0;
-    let mut r = 0;
-    while r < limit {
+    for r in 0..limit {
         let mask = r as u8;
         if is_even_with_all(mask, bytes) {
             out[count] = mask;
             count += 1;
         }
-        r += 1;
     }
     count
 }
@@ -131,7 +121,7 @@ fn answer(problem: &[u8], out: &mut [u8]) -> usize
     let mut keys = [0u64; 1120];
     let mut coefficients = [0i32; 544];
     let mut sizes = [0usize; 31];
-    problem_reader::read(problem, &mut keys, &mut coefficients, &mut sizes);
+    let _ = problem_reader::read(problem, &mut keys, &mut coefficients, &mut sizes);
     let n = problem[1] as usize;
     write(&keys, &sizes, n, out)
 }

@@ -13,15 +13,18 @@ ghost use Rattle.calls.specs.Superseding.{SupersedingNumbered, ZeroExactly, Chos
 ghost use Rattle.calls.specs.Superseding.{TighterBack, AloneBack, FirstRefusal, ElevenExactly, TighterKept};
 
 use calls::{CheckVerdict, Chosen, Fraction, Refusal, SupersedingVerdict};
+use certificate_judge::NO_REFUSAL;
 
 // Whether a bound is tighter than another of the same side: the larger lower bound or the smaller upper bound.
+#[tactic(auto, unfolding(calls::specs::Superseding::is_tighter))]
 fn is_tighter(side: usize, f: Fraction, g: Fraction) -> bool
     ensures { result ≡ is_tighter side f g }
 {
     if side == 0 {
-        return fractions::less(g, f);
+        fractions::less(g, f)
+    } else {
+        fractions::less(f, g)
     }
-    fractions::less(f, g)
 }
 
 // A certificate comes back.
@@ -29,12 +32,7 @@ fn comes_back(chosen: Chosen) -> SupersedingVerdict
     ensures { result ≡ comes_back chosen }
 {
     SupersedingVerdict {
-        refusal: Refusal {
-            number: 0,
-            stream: 0,
-            place: 0,
-            key: 0,
-        },
+        refusal: NO_REFUSAL,
         chosen,
     }
 }
@@ -50,40 +48,32 @@ fn none_back(refusal: Refusal) -> SupersedingVerdict
 }
 
 // Two that are accepted: the tighter one, the first when equal; or refusal 11.
+#[tactic(auto, unfolding(calls::specs::Superseding::tighter_of))]
 fn tighter_of(a: CheckVerdict, b: CheckVerdict) -> SupersedingVerdict
     ensures { result ≡ tighter_of a b }
 {
     if a.side != b.side {
-        return none_back(Refusal {
-            number: 11,
-            stream: 2,
-            place: 0,
-            key: 0,
-        });
+        return none_back(certificate_judge::certificate_refusal(2, 11, 0, 0));
     }
     let second = is_tighter(a.side, b.bound, a.bound);
-    if second {
-        return comes_back(Chosen::Second);
-    }
-    comes_back(Chosen::First)
+    comes_back(if second {
+        Chosen::Second
+    } else {
+        Chosen::First
+    })
 }
 
 // What becomes of two certificates, by what the check says of each.
+#[tactic(auto, unfolding(calls::specs::Superseding::superseding_of))]
 fn decide(a: CheckVerdict, b: CheckVerdict) -> SupersedingVerdict
     ensures { result ≡ superseding_of a b }
 {
-    let f = a.refusal;
-    let g = b.refusal;
-    if f.number == 0 {
-        if g.number == 0 {
-            return tighter_of(a, b);
-        }
-        return comes_back(Chosen::First);
+    match (a.refusal.number, b.refusal.number) {
+        (0, 0) => tighter_of(a, b),
+        (0, _) => comes_back(Chosen::First),
+        (_, 0) => comes_back(Chosen::Second),
+        _ => none_back(a.refusal),
     }
-    if g.number == 0 {
-        return comes_back(Chosen::Second);
-    }
-    none_back(f)
 }
 
 // Which of two certificates for one problem comes back. The four numbers receive the refusal; `keys`, `high` and `low`
@@ -115,9 +105,7 @@ pub fn choose(
         ChosenZeros f result }
 {
     let two = checker::check_two(problem, first, second, keys, high, low);
-    let a = two.first;
-    let b = two.second;
-    let v = decide(a, b);
+    let v = decide(two.first, two.second);
     let f = v.refusal;
     *number = f.number as u64;
     *stream = f.stream as u64;

@@ -24,12 +24,9 @@ pub fn append(out: &mut [u8], at: usize, text: &[u8]) -> usize
     requires { at + length text.now ≤ length out.old }
     ensures { Appended out.old at text.now out.new result }
 {
-    let mut i = 0;
-    while i < text.len() {
-        out[at + i] = text[i];
-        i += 1;
-    }
-    at + i
+    let end = at + text.len();
+    out[at..end].copy_from_slice(text);
+    end
 }
 
 // A number in base ten.
@@ -99,13 +96,10 @@ fn append_hexadecimal(out: &mut [u8], at: usize, bytes: &[u8]) -> usize
         × (result ≤ at + 2 * length bytes.now) }
 {
     let mut end = at;
-    let mut i = 0;
-    while i < bytes.len() {
-        let b = bytes[i];
+    for &b in bytes {
         out[end] = digit(b / 16);
         out[end + 1] = digit(b % 16);
         end += 2;
-        i += 1;
     }
     end
 }

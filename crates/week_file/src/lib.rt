@@ -15,9 +15,16 @@ ghost use Rattle.file_reader.specs.Reads.{Fitting};
 ghost use Rattle.week_file.specs.Lines.{lines_to};
 ghost use Rattle.week_file.specs.Starts.{Answering};
 
-use file_reader::{Start as Read, arguments};
+use file_reader::{Start, Wording, arguments};
 use std::io::Print;
 use std::rt::{Env, Files};
+
+// What messages say of a file.
+const WORDING: Wording<'static> = Wording {
+    program: b"weekcheck",
+    limit: b"7,340,032",
+    so: b"there are no records",
+};
 
 // How many bytes of the text's buffer are the answer, and how many of the other were the records.
 #[derive(Drop)]
@@ -32,12 +39,10 @@ fn put_records(text: &mut [u8], out: &[u8], count: usize) -> usize
     ensures { Appended text.old 0 (lines_to count out.now) text.new result × (result ≤ 119 * count) }
 {
     let mut at = 0;
-    let mut i = 0;
-    while i < count {
+    for i in 0..count {
         let start = 32 * i;
         let end = start + 32;
         at = text::reports::append_record(text, at, i as u64 + 1, &out[start..end]);
-        i += 1;
     }
     at
 }
@@ -80,37 +85,22 @@ fn answer_first(bytes: &[u8], n: usize, text: &mut [u8; 8192]) -> Answered
     }
 }
 
-// The start of the file. A missing file is a week without records, and so is one that cannot be read; standard error
-// says which.
-fn start_of<R: Files>(rt: &R, err: &impl Print, path: &[u8], bytes: &mut [u8]) -> Read<R::File>
-    ensures { Fitting (length bytes.new) result }
-{
-    file_reader::read_start(rt, err, b"weekcheck", path, b"there are no records", bytes)
-}
-
-// The start of the file that the first argument names, or of week.bin where there is none.
-fn read_start<R: Env + Files>(rt: &R, err: &impl Print, bytes: &mut [u8]) -> Read<R::File>
+// The start of the file that the first argument names, or of week.bin where there is none. A missing file is a week
+// without records, and so is one that cannot be read; standard error says which.
+fn read_start<R: Env + Files>(rt: &R, err: &impl Print, bytes: &mut [u8]) -> Start<usize, R::File>
     ensures { Fitting (length bytes.new) result }
 {
     if !arguments::is_given(rt, 1) {
-        return start_of(rt, err, b"week.bin", bytes);
+        return file_reader::read_start(rt, err, WORDING, b"week.bin", bytes);
     }
     let mut path = [0u8; 4096];
     match arguments::take(rt, 1, &mut path) {
-        Ok(n) => start_of(rt, err, text::cut(&path, n), bytes),
+        Ok(n) => file_reader::read_start(rt, err, WORDING, text::cut(&path, n), bytes),
         Err(e) => {
             messages::no_path(err, &e);
-            Read::Whole(0)
+            Start::Whole(0)
         }
     }
-}
-
-// What the start of a file comes to: the text for all of it; or the buffer is full, and this file, still open, goes on,
-// if it does.
-#[derive(Drop)]
-pub enum Start<F> {
-    Whole(Answered),
-    Full(F),
 }
 
 // The text for a file of fewer bytes than the buffer, into which it is read: the text for the bytes at its start as it
@@ -121,45 +111,29 @@ pub fn answer_start<R: Env + Files>(
     err: &impl Print,
     records: &mut [u8; 262144],
     text: &mut [u8; 8192],
-) -> Start<R::File>
+) -> Start<Answered, R::File>
     ensures { Answering records.new text.new result }
 {
     if arguments::is_given(rt, 2) {
         messages::more_arguments(err);
     }
-    let start = read_start(rt, err, records);
-    match start {
-        Read::Whole(n) => Start::Whole(answer_first(records, n, text)),
-        Read::Full(file) => Start::Full(file),
+    match read_start(rt, err, records) {
+        Start::Whole(n) => Start::Whole(answer_first(records, n, text)),
+        Start::Full(file) => Start::Full(file),
     }
 }
 
-// The bytes of a file, at the start of the buffer, and how many. A missing file is a week without records, and so is
-// one that cannot be read; standard error says which.
-fn read_file<R: Files>(rt: &R, err: &impl Print, path: &[u8], bytes: &mut [u8]) -> usize
-    ensures { result ≤ length bytes.new }
-{
-    file_reader::read_file(
-        rt,
-        err,
-        b"weekcheck",
-        path,
-        b"7,340,032",
-        b"there are no records",
-        bytes,
-    )
-}
-
-// The bytes of the file that the first argument names, or of week.bin where there is none.
+// The bytes of the file that the first argument names, or of week.bin where there is none, and how many. A missing file
+// is a week without records, and so is one that cannot be read; standard error says which.
 fn read_week<R: Env + Files>(rt: &R, err: &impl Print, bytes: &mut [u8]) -> usize
     ensures { result ≤ length bytes.new }
 {
     if !arguments::is_given(rt, 1) {
-        return read_file(rt, err, b"week.bin", bytes);
+        return file_reader::read_file(rt, err, WORDING, b"week.bin", bytes);
     }
     let mut path = [0u8; 4096];
     match arguments::take(rt, 1, &mut path) {
-        Ok(n) => read_file(rt, err, text::cut(&path, n), bytes),
+        Ok(n) => file_reader::read_file(rt, err, WORDING, text::cut(&path, n), bytes),
         Err(e) => {
             messages::no_path(err, &e);
             0
@@ -199,15 +173,6 @@ pub fn answer_rest<F: std::io::Read + Drop>(
     ensures lengths { (result.records ≤ 7340032) × (length text.new ≡ 8192) }
 {
     records[..262144].copy_from_slice(start);
-    let n = file_reader::read_rest(
-        file,
-        err,
-        b"weekcheck",
-        path,
-        b"7,340,032",
-        b"there are no records",
-        records,
-        262144,
-    );
+    let n = file_reader::read_rest(file, err, WORDING, path, records, 262144);
     answer_first(records, n, text)
 }

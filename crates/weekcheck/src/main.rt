@@ -1,11 +1,10 @@
 // weekcheck: a week's pairs in one report, a line for each and one for all. Its run is a week of five pairs.
 #![tactic(auto)]
 
-use file_reader::{arguments, messages};
+use file_reader::{Start, arguments, messages};
 use std::io;
 use std::io::Print;
 use std::rt::{Env, Files};
-use week_file::Start;
 
 // What `--version` asks for; whether it was written.
 fn write_version(out: &impl Print) -> io::Result<()> {
@@ -109,6 +108,6 @@ fn main(rt: HostRuntime) {
         }
     };
     if let Err(e) = written {
-        messages::fail(&err, b"weekcheck: standard output cannot be written", &e);
+        messages::fail(&err, "weekcheck: standard output cannot be written", &e);
     }
 }

@@ -6,7 +6,7 @@ use mathlib.Core.Bool.{Bool, true, false, cond}
 use mathlib.Core.List.{List, [], ◌∷◌, ◌++◌, flat_map}
 use Prim.Native.Nat.{ℕ, zero, suc, ◌+◌, ◌-◌, ◌*◌, ◌≤◌, ◌<◌}
 use lib.Dec.{ltb}
-use borrow.Author.Tests.{le-ltb}
+use borrow.Author.Tests.{ltb-true, ltb-false}
 use lib.ListN.{length, get_or, take, drop, length-drop}
 use lib.Seq.{take_all}
 use borrow.Rule.Slice.PartMut.{mid_of, put_mid}
@@ -15,7 +15,7 @@ use Rattle.format.specs.Commands.{given}
 use Rattle.calls.specs.Tables.{Tables, TablesLeft}
 use Rattle.calls.specs.declared.PairVerdict.{PairVerdict}
 use Rattle.calls.specs.declared.ReportVerdict.{ReportVerdict}
-use Rattle.calls.specs.Report.{Runs, record_end, is_cut, runs_at, records_from, records_of, pair_on, record_bytes}
+use Rattle.calls.specs.Report.{Runs, record_end, runs_at, records_from, records_of, pair_on, record_bytes}
 use Rattle.calls.specs.Report.{record_length, entry, output_left, none_accepted, with_accepted, with_verdict, result_of, no_runs}
 use Rattle.calls.proofs.Records.{records_over, Taken, taken}
 use Rattle.calls.proofs.Reports.{entry_length}
@@ -100,14 +100,7 @@ module _ (s out₀ : List ℕ) (lent : Tables) (out : List ℕ) (now : Tables) (
   module _ (v : PairVerdict) (is : v ≡ pair_on (runs_at s at)) (ys : List ℕ)
       (put : ys ≡ record_bytes v ++ drop record_length (mid_of (record_length * i) (length out - record_length * i) out))
       (next-tables : Tables) (left : TablesLeft false now next-tables) (end : ℕ)
-      (ends : end ≡ cond (is_cut s at) 0 (record_end s at)) where
-    ends_at : end ≡ record_end s at
-    ends_at = ends ∙ rw (le-ltb (length s) (record_end s at) one_whole) refl
-
-    -- what is left gets shorter
-    pub ends_later : length s - end < length s - at
-    ends_later = omega (arith, ends_at, one_whole)
-
+      (ends_at : end ≡ record_end s at) where
     runs_are : get_or a.records i no_runs ≡ runs_at s at
     runs_are = (drop_next a.records i (runs_at s at) no_runs one.rest one.list_is).0
 
@@ -152,6 +145,16 @@ module _ (s out₀ : List ℕ) (lent : Tables) (out : List ℕ) (now : Tables) (
         }
 
 -- ---- when nothing is left
+module _ (s out₀ : List ℕ) (lent : Tables) (out : List ℕ) (now : Tables) (t : ReportVerdict) (at i : ℕ)
+    (a : Answering s out₀ lent out now t at i) where
+  -- no record stands there
+  pub at_end : length s < record_end s at → length s ≤ at
+  at_end k = go (ltb at (length s)) refl
+    where
+      go : (b : Bool) → ltb at (length s) ≡ b → length s ≤ at
+      go true e = absurd (omega (arith, k, one_whole s out₀ lent out now t at i a (ltb-true at (length s) e)))
+      go false e = ltb-false at (length s) e
+
 module _ (s out₀ : List ℕ) (lent : Tables) (out : List ℕ) (now : Tables) (t : ReportVerdict) (at i : ℕ)
     (a : Answering s out₀ lent out now t at i) (h : length s ≤ at) where
   none_left : [] ≡ drop i a.records

@@ -7,7 +7,7 @@ use lib.ListN.{length}
 use Rattle.format.specs.Commands.{Outcome, refused, given}
 use Rattle.calls.specs.Report.{Runs, record_end, runs_at, with_runs, records_from, records_of}
 use Rattle.calls.proofs.Records.{records_over, records_past, records_cut, records_one}
-use Rattle.weekly_report.specs.declared.Counted.TheVariants.{Whole, Cut}
+use Rattle.std.specs.Prelude.{Ok, Err}
 use Rattle.weekly_report.specs.Steps.{count_outcome, count_from}
 
 with_one : (r : Runs) (done : ℕ) (o : Outcome (List Runs)) → count_from done (with_runs r o) ≡ count_from (done + 1) o
@@ -25,13 +25,13 @@ unfolding records_of
 counting_none s = record { within = omega arith; few = omega arith; is = refl }
 
 module _ (s : List ℕ) (at count : ℕ) (c : Counting s at count) where
-  pub counted_past : at < length s → count ≡ 64 → count_outcome (Cut at) ≡ count_from 0 (records_of s)
+  pub counted_past : at < length s → count ≡ 64 → count_outcome (Err at) ≡ count_from 0 (records_of s)
   counted_past h e = sym (c.is ∙ rw e (ap (count_from 64) (records_past s at h)))
 
-  pub counted_cut : at < length s → length s < record_end s at → count_outcome (Cut at) ≡ count_from 0 (records_of s)
+  pub counted_cut : at < length s → length s < record_end s at → count_outcome (Err at) ≡ count_from 0 (records_of s)
   counted_cut h k = sym (c.is ∙ ap (count_from count) (records_cut s at h (64 - count) k))
 
-  pub counted_all : length s ≤ at → count_outcome (Whole count) ≡ count_from 0 (records_of s)
+  pub counted_all : length s ≤ at → count_outcome (Ok count) ≡ count_from 0 (records_of s)
   counted_all h =
       sym (c.is ∙ ap (count_from count) (records_over s at (64 - count) h) ∙ ap given (omega arith))
 

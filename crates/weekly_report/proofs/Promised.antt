@@ -15,8 +15,7 @@ use Rattle.calls.specs.Report.{Runs, records_of, record_length, checked_records,
 use Rattle.calls.specs.Report.{report_verdict}
 use Rattle.calls.proofs.Reports.{ReportClauses, report_clauses}
 use Rattle.work_tables.proofs.Tables.{tables_kept}
-use Rattle.weekly_report.specs.declared.Counted.{Counted}
-use Rattle.weekly_report.specs.declared.Counted.TheVariants.{Whole, Cut}
+use Rattle.std.specs.Prelude.{Result, Ok, Err}
 use Rattle.weekly_report.specs.Steps.{count_outcome, count_from, Roomy, Answered}
 
 abbrev pub Promised : List ℕ → List ℕ → Tables → ReportVerdict → List ℕ → Tables → Type 0
@@ -50,16 +49,16 @@ module _ (s out : List ℕ) (lent : Tables) (bytes : Bounded 255 s) where
   unfolding checked_records report_verdict output_left
   tables_short_lem h v e = by_outcome (refused 1 0) (rw h refl) v out lent e refl (tables_kept lent)
 
-  module _ (long : tables_short lent ≡ false) (counted : Counted) (c : count_outcome counted ≡ count_from 0 (records_of s)) where
+  module _ (long : tables_short lent ≡ false) (counted : Result ℕ ℕ) (c : count_outcome counted ≡ count_from 0 (records_of s)) where
     -- "then 12"
-    pub records_cut : (place : ℕ) → counted ≡ Cut place → (v : ReportVerdict) (left : Tables)
+    pub records_cut : (place : ℕ) → counted ≡ Err place → (v : ReportVerdict) (left : Tables)
         → v ≡ refused_report 12 place → TablesLeft false lent left → Promised s out lent v out left
     unfolding checked_records report_verdict output_left
     records_cut place k v left e t =
         let r = counted_cut (records_of s) place (sym (ap count_outcome k) ∙ c) in
         by_outcome (refused 12 place) (rw (long, r) refl) v out left e refl t
 
-    module _ (count : ℕ) (k : counted ≡ Whole count) where
+    module _ (count : ℕ) (k : counted ≡ Ok count) where
       -- "then 1 for an output below 32 bytes per record"
       pub output_short : length out / 32 < count → (v : ReportVerdict) → v ≡ refused_report 1 0 → Promised s out lent v out lent
       unfolding checked_records report_verdict output_left

@@ -1,16 +1,14 @@
 -- The steps of a report: the records counted, and then answered.
-use Rattle.std.specs.Prelude.{◌≡◌, List, ℕ, ◌+◌, ◌*◌, ◌≤◌, length}
+use Rattle.std.specs.Prelude.{◌≡◌, List, ℕ, ◌+◌, ◌*◌, ◌≤◌, length, Result, Ok, Err}
 use Rattle.format.specs.Commands.{Outcome, refused, given}
 use Rattle.calls.specs.Report.{Runs, records_of, record_length, output_left, none_accepted, result_of}
 use Rattle.calls.specs.declared.ReportVerdict.{ReportVerdict}
-use Rattle.weekly_report.specs.declared.Counted.{Counted}
-use Rattle.weekly_report.specs.declared.Counted.TheVariants.{Whole, Cut}
 
 -- what each case of the count says in the document's numbers: refusal 12, "for a record cut short or a byte after the
 -- 64th, at that record's or byte's offset", or how many records there are
-abbrev pub count_outcome : Counted → Outcome ℕ
-count_outcome (Whole count) = given count
-count_outcome (Cut place) = refused 12 place
+abbrev pub count_outcome : Result ℕ ℕ → Outcome ℕ
+count_outcome (Ok count) = given count
+count_outcome (Err place) = refused 12 place
 
 -- how many records there are in all, where those that are left come after some
 abbrev pub count_from : ℕ → Outcome (List Runs) → Outcome ℕ

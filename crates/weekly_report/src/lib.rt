@@ -2,7 +2,7 @@
 // answers each by the pair.
 #![tactic(auto)]
 
-ghost use Rattle.std.specs.Prelude.{◌≡◌, false, cond, ◌||◌, ℕ, ◌+◌, ◌^◌, ◌≤◌, ◌<◌, eqb, length};
+ghost use Rattle.std.specs.Prelude.{◌≡◌, false, cond, ◌||◌, ℕ, ◌+◌, ◌^◌, ◌≤◌, ◌<◌, eqb, length, None, Some};
 ghost use Rattle.format.specs.Commands.{refused};
 ghost use Rattle.format.specs.Operands.{number};
 ghost use Rattle.calls.specs.Tables.{tables, tables_short, TablesLeft};
@@ -16,14 +16,8 @@ ghost use Rattle.calls.specs.RowOrder.{ReportAnyOrder};
 ghost use Rattle.work_tables.specs.Tables.{Long};
 ghost use Rattle.weekly_report.specs.Steps.{count_outcome, count_from, Roomy, Answered};
 
-use calls::{Fraction, PairVerdict, Refusal, ReportVerdict};
-
-// What the input holds: whole records, and how many; or a record that is cut or a byte after the 64th, and where.
-#[derive(Clone, Copy)]
-enum Counted {
-    Whole(usize),
-    Cut(usize),
-}
+use calls::{Fraction, PairVerdict, ReportVerdict};
+use certificate_judge::NO_REFUSAL;
 
 // One of the three lengths of a record.
 fn length_at(s: &[u8], at: usize) -> usize
@@ -33,40 +27,37 @@ fn length_at(s: &[u8], at: usize) -> usize
     operand_reader::number_at(s, at, 2) as usize
 }
 
-// Where the record at an offset ends, or 0 where it is cut short.
-fn end_at(s: &[u8], at: usize) -> usize
+// Where the record at an offset ends, unless it is cut short.
+fn end_at(s: &[u8], at: usize) -> Option<usize>
     requires { at ≤ length s.now }
-    ensures { result ≡ cond (is_cut s.now at) 0 (record_end s.now at) }
+    ensures { result ≡ cond (is_cut s.now at) None (Some (record_end s.now at)) }
 {
     let left = s.len() - at;
     if left < 6 {
-        return 0;
+        return None;
     }
     let runs = length_at(s, at) + length_at(s, at + 2) + length_at(s, at + 4);
     if left - 6 < runs {
-        return 0;
+        return None;
     }
-    at + 6 + runs
+    Some(at + 6 + runs)
 }
 
-// The records of the input.
-fn count_records(s: &[u8]) -> Counted
+// How many records the input holds; or the offset of a record that is cut or of a byte after the 64th.
+fn count_records(s: &[u8]) -> Result<usize, usize>
     ensures { count_outcome result ≡ count_from 0 (records_of s.now) }
 {
     let mut at = 0;
     let mut count = 0;
+    // By steps: a record says how long it is.
     while at < s.len() {
         if count == 64 {
-            return Counted::Cut(at);
+            return Err(at);
         }
-        let end = end_at(s, at);
-        if end == 0 {
-            return Counted::Cut(at);
-        }
-        at = end;
+        at = end_at(s, at).ok_or(at)?;
         count += 1;
     }
-    Counted::Whole(count)
+    Ok(count)
 }
 
 // How many records the input holds; none where one is cut.
@@ -74,10 +65,7 @@ pub fn record_count(records: &[u8]) -> usize
     ensures count { result ≡ record_count (records_of records.now) }
     ensures zeros { (place : ℕ) → records_of records.now ≡ refused 12 place → result ≡ 0 }
 {
-    match count_records(records) {
-        Counted::Whole(count) => count,
-        Counted::Cut(_) => 0,
-    }
+    count_records(records).unwrap_or(0)
 }
 
 // The pair on the three runs of the record at an offset.
@@ -98,13 +86,11 @@ fn pair_at(s: &[u8], at: usize, keys: &mut [u64], high: &mut [i64], low: &mut [i
 fn chosen(accepted: usize, ahead: bool, next: Fraction, standing: Fraction) -> Fraction
     ensures { result ≡ cond (eqb accepted 0 || ahead) next standing }
 {
-    if accepted == 0 {
-        return next;
+    if accepted == 0 || ahead {
+        next
+    } else {
+        standing
     }
-    if ahead {
-        return next;
-    }
-    standing
 }
 
 // The result with one more record that is accepted.
@@ -115,12 +101,7 @@ fn with_accepted(t: ReportVerdict, v: PairVerdict) -> ReportVerdict
     let smaller = fractions::less(v.lower, t.lower);
     let larger = fractions::less(t.upper, v.upper);
     ReportVerdict {
-        refusal: Refusal {
-            number: 0,
-            stream: 0,
-            place: 0,
-            key: 0,
-        },
+        refusal: NO_REFUSAL,
         accepted: t.accepted + 1,
         lower: chosen(t.accepted, smaller, v.lower, t.lower),
         upper: chosen(t.accepted, larger, v.upper, t.upper),
@@ -128,15 +109,16 @@ fn with_accepted(t: ReportVerdict, v: PairVerdict) -> ReportVerdict
 }
 
 // The result with one more record.
+#[tactic(auto, unfolding(calls::specs::Report::with_verdict))]
 fn with_verdict(t: ReportVerdict, v: PairVerdict) -> ReportVerdict
     requires { t.accepted < 64 }
     ensures { result ≡ with_verdict t v }
 {
-    let refusal = v.refusal;
-    if 0 < refusal.number {
-        return t;
+    if v.refusal.number > 0 {
+        t
+    } else {
+        with_accepted(t, v)
     }
-    with_accepted(t, v)
 }
 
 // A refusal of the call. With number 0 it is the result of no records.
@@ -144,15 +126,10 @@ fn refuse(number: u8, place: usize) -> ReportVerdict
     ensures { result ≡ refused_report number place }
 {
     ReportVerdict {
-        refusal: Refusal {
-            number,
-            stream: 0,
-            place,
-            key: 0,
-        },
+        refusal: certificate_judge::problem_refusal(number, place),
         accepted: 0,
-        lower: fractions::no_fraction(),
-        upper: fractions::no_fraction(),
+        lower: fractions::NONE,
+        upper: fractions::NONE,
     }
 }
 
@@ -173,12 +150,13 @@ fn answer_records(
     let mut t = refuse(0, 0);
     let mut at = 0;
     let mut i = 0;
-    while at < s.len() {
+    // By steps: a record says where it ends.
+    while let Some(end) = end_at(s, at) {
         let v = pair_at(s, at, keys, high, low);
         let position = 32 * i;
         record_writer::put_record(&mut out[position..], v);
         t = with_verdict(t, v);
-        at = end_at(s, at);
+        at = end;
         i += 1;
     }
     if i == 0 {
@@ -222,13 +200,13 @@ pub fn report(
         return refuse(1, 0);
     }
     match count_records(records) {
-        Counted::Whole(count) => {
+        Ok(count) => {
             if out.len() / 32 < count {
                 return refuse(1, 0);
             }
             answer_records(records, out, keys, high, low)
         }
-        Counted::Cut(place) => {
+        Err(place) => {
             work_tables::clear_tables(keys, high, low);
             refuse(12, place)
         }

@@ -20,7 +20,7 @@ const STEP: i64 = 1 << 16;
 const RATIO: i64 = BASE / STEP;
 
 // The halves of a number: high * 2^27 + low.
-#[derive(Clone, Copy)]
+#[derive(Clone, Copy, Debug, PartialEq, Eq)]
 pub struct Halves {
     pub high: i64,
     pub low: i64,
@@ -42,12 +42,8 @@ pub fn add(hi: &mut [i64], lo: &mut [i64], at: usize, x: Halves, c: i64)
     ensures { (hi.new ≡ added_at hi.old at (x.high *ℤ c))
         × (lo.new ≡ added_at lo.old at (x.low *ℤ c)) }
 {
-    let high = x.high * c;
-    let low = x.low * c;
-    let h = hi[at];
-    let l = lo[at];
-    hi[at] = h + high;
-    lo[at] = l + low;
+    hi[at] += x.high * c;
+    lo[at] += x.low * c;
 }
 
 // Whether the sum at a place is 0: the low half is cut, and what is above the base is carried.
@@ -56,10 +52,7 @@ pub fn is_zero(hi: &[i64], lo: &[i64], at: usize) -> bool
     ensures { ZeroAt hi.now lo.now at result }
 {
     let l = cut(lo[at]);
-    if l.low != 0 {
-        return false;
-    }
-    hi[at] == 0 - l.high
+    l.low == 0 && hi[at] == -l.high
 }
 
 // A number cut at 2^16, rounding down.
@@ -80,9 +73,7 @@ pub fn divide(hi: &mut [i64], lo: &mut [i64], at: usize) -> bool
     let l = cut(lo[at]);
     let h = cut_step(hi[at] + l.high);
     let r = cut_step(l.low);
-    let high = h.high;
-    let low = h.low * RATIO + r.high;
-    hi[at] = high;
-    lo[at] = low;
+    hi[at] = h.high;
+    lo[at] = h.low * RATIO + r.high;
     r.low == 0
 }

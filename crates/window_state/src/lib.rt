@@ -2,31 +2,20 @@
 #![tactic(auto)]
 
 ghost use Rattle.std.specs.Prelude.{◌≡◌, ◌++◌, ◌+◌, ◌*◌, ◌≤◌, ◌<◌, length, take, drop, false};
-ghost use Rattle.format.specs.Operands.{signed};
 ghost use Rattle.calls.specs.Window.{push_verdict};
 ghost use Rattle.verdict_numbers.specs.Numbers.{with_fraction};
 ghost use Rattle.verdict_numbers.specs.States.{gap_in, window_in, state_length, state_left};
 
 use calls::{Fraction, GapWindow, WindowVerdict};
 
-// The signed number that 64 bits stand for, in two's complement.
-pub fn signed64(x: u64) -> i64
-    ensures { result ≡ signed 63 x }
-{
-    if x < 9223372036854775808 {
-        return x as i64;
-    }
-    -1 - ((18446744073709551615 - x) as i64)
-}
-
 // The gap of an age.
+#[tactic(auto, unfolding(verdict_numbers::specs::States::gap_in))]
 fn gap_in(state: &[u64], age: usize) -> Fraction
     requires { 2 * age + 1 < length state.now }
     ensures { result ≡ gap_in state.now age }
 {
-    let at = 2 * age;
-    let num = signed64(state[at]);
-    let den = state[at + 1];
+    let num = operand_reader::signed64(state[2 * age]);
+    let den = state[2 * age + 1];
     Fraction { num, den }
 }
 
@@ -36,28 +25,20 @@ fn window_in(state: &[u64]) -> GapWindow
     ensures { result ≡ window_in state.now }
 {
     let mut gaps = [fractions::NONE; 32];
-    let mut i = 0;
-    while i < 32 {
-        let gap = gap_in(state, i);
-        gaps[i] = gap;
-        i += 1;
+    for age in 0..32 {
+        gaps[age] = gap_in(state, age);
     }
     let count = state[64] as usize;
     GapWindow { gaps, count }
 }
 
-// The new gap stands first, and the others a place later: the oldest is pushed out. From the last on, so that nothing is
-// written over before it is moved.
+// The new gap stands first, and the others a place later: the oldest comes round to the front, and is written over.
 fn put_newest(state: &mut [u64], newest: Fraction)
     requires { state_length ≤ length state.old }
     ensures { let s = state.old in
         state.new ≡ with_fraction newest (take 62 s ++ drop 64 s) }
 {
-    let mut i = 64;
-    while 2 < i {
-        i -= 1;
-        state[i] = state[i - 2];
-    }
+    state[..64].rotate_right(2);
     state[0] = record_writer::bits(newest.num);
     state[1] = newest.den;
 }

@@ -1,3 +1,2 @@
-pub mod Fills
 pub mod Tables
 pub mod Again

@@ -1,57 +1,18 @@
-// The work tables that every call borrows: whether one is too short, and clearing. Also the clearing of lent bytes.
+// The work tables that every call borrows: whether one is too short, and clearing.
 #![tactic(auto)]
 
-ghost use Rattle.std.specs.Prelude.{◌≡◌, false, ◌||◌, ◌++◌, ◌≤◌, ltb, pos, length, drop, replicate};
+ghost use Rattle.std.specs.Prelude.{◌≡◌, false, ◌||◌, ltb};
 ghost use Rattle.calls.specs.Tables.{table_length, tables, TablesLeft};
 ghost use Rattle.work_tables.specs.Tables.{Long};
 
-// A work table's first n numbers set to zero.
-pub fn clear(t: &mut [u64], n: usize)
-    requires { n ≤ length t.old }
-    ensures { t.new ≡ replicate n 0 ++ drop n t.old }
-{
-    let mut i = 0;
-    while i < n {
-        t[i] = 0;
-        i += 1;
-    }
-}
-
-// The same of the table of signed numbers.
-pub fn clear_signed(t: &mut [i64], n: usize)
-    requires { n ≤ length t.old }
-    ensures { t.new ≡ replicate n (pos 0) ++ drop n t.old }
-{
-    let mut i = 0;
-    while i < n {
-        t[i] = 0;
-        i += 1;
-    }
-}
-
-// The same of bytes.
-pub fn clear_bytes(t: &mut [u8], n: usize)
-    requires { n ≤ length t.old }
-    ensures { t.new ≡ replicate n 0 ++ drop n t.old }
-{
-    let mut i = 0;
-    while i < n {
-        t[i] = 0;
-        i += 1;
-    }
-}
+// As many places of each table as a call uses.
+const LENGTH: usize = 2048;
 
 // Whether a work table is too short, by their lengths.
 pub fn is_short(keys: usize, high: usize, low: usize) -> bool
     ensures { result ≡ (ltb keys table_length || (ltb high table_length || ltb low table_length)) }
 {
-    if keys < 2048 {
-        return true;
-    }
-    if high < 2048 {
-        return true;
-    }
-    low < 2048
+    keys < LENGTH || high < LENGTH || low < LENGTH
 }
 
 // The work tables as every call leaves them that has used them.
@@ -60,7 +21,7 @@ pub fn clear_tables(keys: &mut [u64], high: &mut [i64], low: &mut [i64])
     ensures { let lent = tables keys.old high.old low.old in
         TablesLeft false lent (tables keys.new high.new low.new) }
 {
-    clear(keys, 2048);
-    clear_signed(high, 2048);
-    clear_signed(low, 2048);
+    keys[..LENGTH].fill(0);
+    high[..LENGTH].fill(0);
+    low[..LENGTH].fill(0);
 }

@@ -1,10 +1,6 @@
 -- `divide_sums`: after k turns the first k sums are divided.
-use Prim.Native.Nat.{◌-◌, ◌≤◌}
 use Rattle.identity_check.specs.Compare.{DividedSums}
 use Rattle.identity_check.proofs.divide_sums.Given as goal
 
 abbrev pub invariant-loop-k : goal.invariant-loop-k
-invariant-loop-k l = (l.k ≤ l.n) × DividedSums l.table l.n l.k l.found l.initial.hi l.initial.lo l.hi l.lo l.r
-
-abbrev pub decreases-loop-k : goal.decreases-loop-k
-decreases-loop-k l = l.n - l.k
+invariant-loop-k l = DividedSums l.keys.table.now l.k l.fn.found l.initial.hi l.initial.lo l.hi l.lo l.least

@@ -4,20 +4,17 @@ use Rattle.identity_check.proofs.smallest.Goals as goal
 use Rattle.identity_check.proofs.smallest.Goals.{then-not-is_zero, else-not-is_zero}
 
 pub loop-i-init : goal.loop-i-init
-loop-i-init c = (omega arith, smallest_start)
+loop-i-init c = smallest_start
 
 pub loop-i-preserved : goal.loop-i-preserved
 loop-i-preserved c =
-    let v = c.loop-i.invariant.1 in
-    let t = c.loop-i-test.true in (
-      omega (arith, t),
-      elim c.if-not-is_zero.branch [
-        | then-not-is_zero w ↦ rw w.r-is (smallest_more v t (c.is_zero.ensures.no w.if-not-is_zero.true) w.smaller-r.ensures)
-        | else-not-is_zero w ↦ rw w.r-is (smallest_not v (λ f. f (c.is_zero.ensures.yes w.if-not-is_zero.false)))
-      ],
-    )
+    let v = c.loop-i.invariant in
+    elim c.if-not-is_zero.branch [
+      | then-not-is_zero w ↦ rw (w.least-is, w.smaller.ensures) (smallest_more v (c.is_zero.ensures.no w.if-not-is_zero.true))
+      | else-not-is_zero w ↦ rw w.least-is (smallest_not v (λ f. f (c.is_zero.ensures.yes w.if-not-is_zero.false)))
+    ]
 
 pub returns : goal.returns
 returns c =
-    let e : c.loop-i.i ≡ c.args.n = omega (arith, c.loop-i.invariant.0, c.loop-i-test.false) in
-    rw e at c.loop-i.invariant.1
+    let e : c.loop-i.i ≡ c.args.keys.count = omega arith in
+    rw e at c.loop-i.invariant

@@ -1,10 +1,6 @@
 -- `smallest`: after i turns the first i places are tested.
-use Prim.Native.Nat.{◌-◌, ◌≤◌}
 use Rattle.identity_check.specs.Compare.{Nonzero, Smallest}
 use Rattle.identity_check.proofs.smallest.Given as goal
 
 abbrev pub invariant-loop-i : goal.invariant-loop-i
-invariant-loop-i l = (l.i ≤ l.n) × Smallest (Nonzero l.hi l.lo) l.table l.n l.i l.found l.r
-
-abbrev pub decreases-loop-i : goal.decreases-loop-i
-decreases-loop-i l = l.n - l.i
+invariant-loop-i l = Smallest (Nonzero l.hi l.lo) l.keys.table.now l.i l.fn.found l.least

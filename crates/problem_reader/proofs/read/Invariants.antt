@@ -5,7 +5,7 @@ use Rattle.problem_reader.proofs.Steps.{Going}
 use Rattle.problem_reader.proofs.read.Given as goal
 
 abbrev pub invariant-loop-at : goal.invariant-loop-at
-invariant-loop-at l = Going l.s l.keys l.coefficients l.sizes l.variables l.last l.count l.number l.at
+invariant-loop-at l = Going l.s l.keys l.coefficients l.sizes l.draft.variables l.draft.last l.draft.count l.at
 
 abbrev pub decreases-loop-at : goal.decreases-loop-at
 decreases-loop-at l = length l.s - l.at

@@ -1,4 +1,4 @@
-use Rattle.std.proofs.Common.{◌≡◌, ◌+◌, ◌*◌, ◌/◌, ◌-◌, ◌≤◌, length}
+use Rattle.std.proofs.Common.{◌≡◌, ◌+◌, ◌*◌, ◌/◌, ◌≤◌, length}
 use Rattle.replay.proofs.Written.{Written}
 use Rattle.replay.proofs.window_line.Given as goal
 
@@ -10,6 +10,3 @@ invariant-loop-i l = record {
   same_length : length l.out ≡ length l.initial.out;
   written : Written l.run l.out l.at l.window l.i;
 }
-
-abbrev pub decreases-loop-i : goal.decreases-loop-i
-decreases-loop-i l = length l.run / 16 - l.i

@@ -1,9 +1,9 @@
 use Rattle.std.proofs.Common.{arith, ◌∙◌, sym}
 use Rattle.format.specs.CertificateRules.{no_row}
 use Rattle.certificate_rows.proofs.Offsets.{stand_low, rows_length, row_by}
-use Rattle.row_products.proofs.Gathering.{gathering_start, gathering_small, gathering_end, gathering_wide, gathering_row, gathering_other, walked_low}
+use Rattle.row_products.proofs.Gathering.{gathering_start, gathering_small, gathering_end, gathering_row, gathering_other, walked_low}
 use Rattle.row_products.proofs.add_basis_rows.Goals as goal
-use Rattle.row_products.proofs.add_basis_rows.Goals.{then-basis_at-j+then-add_row, then-basis_at-j+else-add_row, else-basis_at-j}
+use Rattle.row_products.proofs.add_basis_rows.Goals.{then-basis_at-j, else-basis_at-j}
 
 pub loop-r-init : goal.loop-r-init
 loop-r-init c = gathering_start c.requires.0
@@ -13,11 +13,10 @@ basis_at-requires c =
     let stands = c.requires.1.rows_sound.stand.each c.loop-r.r c.loop-r-test.true in
     omega (arith, stand_low stands.entries, stands.inside)
 
-pub add_row-requires : goal.add_row-requires
-add_row-requires c =
-    let v = c.loop-r.invariant in
-    let count = rows_length c.args.s.now c.args.starts.now c.args.rows in (
-      gathering_small v (omega (arith, c.requires.1.rows_sound.stand.few, count)),
+pub add_row-wide-requires : goal.add_row-wide-requires
+add_row-wide-requires c =
+    let v = c.loop-r.invariant in (
+      gathering_small v (omega (arith, c.requires.1.rows_sound.stand.few)),
       rw v.long (walked_low c.requires.1 c.loop-r.r c.loop-r-test.true (sym c.basis_at.ensures ∙ c.if-basis_at-j.true)),
     )
 
@@ -25,18 +24,19 @@ pub loop-r-preserved : goal.loop-r-preserved
 loop-r-preserved c =
     let v = c.loop-r.invariant in
     let h = c.loop-r-test.true in
-    let count = rows_length c.args.s.now c.args.starts.now c.args.rows in
-    let is = row_by c.args.s.now c.args.starts.now c.args.rows c.loop-r.r no_row h in
+    let rows = c.args.rows in
+    let count = rows_length rows.stream.now rows.starts.now rows.count in
+    let is = row_by rows.stream.now rows.starts.now rows.count c.loop-r.r no_row h in
     elim c.if-basis_at-j.branch [
-      | then-basis_at-j+then-add_row w ↦
-          rw (w.g-is, w.any-is, w.wide-is) (gathering_wide v (omega (arith, count)) _ is (sym c.basis_at.ensures ∙ w.if-basis_at-j.true) w.add_row.ensures)
-      | then-basis_at-j+else-add_row w ↦
-          rw (w.g-is, w.any-is, w.wide-is) (gathering_row v (omega (arith, count)) _ is (sym c.basis_at.ensures ∙ w.if-basis_at-j.true) w.add_row.ensures w.if-add_row.false)
+      | then-basis_at-j w ↦
+          rw (w.g-is, w.found-is, w.unwrap_or.ensures)
+          (gathering_row v (omega (arith, count)) _ is (sym c.basis_at.ensures ∙ w.if-basis_at-j.true) w.add_row-wide.ensures)
       | else-basis_at-j w ↦
-          rw (w.g-is, w.any-is, w.wide-is) (gathering_other v (omega (arith, count)) _ is (λ e. w.if-basis_at-j.false (c.basis_at.ensures ∙ e)))
+          rw (w.g-is, w.found-is) (gathering_other v (omega (arith, count)) _ is (λ e. w.if-basis_at-j.false (c.basis_at.ensures ∙ e)))
     ]
 
 pub returns : goal.returns
 returns c =
-    let n = rows_length c.args.s.now c.args.starts.now c.args.rows in
+    let rows = c.args.rows in
+    let n = rows_length rows.stream.now rows.starts.now rows.count in
     gathering_end c.loop-r.invariant (omega (arith, c.requires.1.rows_sound.stand.few)) (omega (arith, c.loop-r-test.false))

@@ -1,8 +1,7 @@
 -- `tighter`: the part by what was chosen, and the clauses from the equations.
 use borrow.Author.Rules.{rules}
-use mathlib.Core.Path.{◌≡◌, refl, sym, ◌∙◌}
+use mathlib.Core.Path.{refl, sym, ◌∙◌}
 use Rattle.calls.specs.declared.Chosen.{Chosen}
-use Rattle.calls.specs.declared.Chosen.TheVariants as Chosen
 use Rattle.calls.proofs.SupersedingKept.{left_clauses}
 use Rattle.superseding.proofs.Parts.{part_by, not_both}
 use Rattle.superseding.proofs.tighter.Statement.{statement}

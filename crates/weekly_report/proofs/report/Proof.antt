@@ -59,7 +59,7 @@ returns-2 c =
     let k = i in
     let n = k in
     let e = n in
-    output_short _ _ _ (bytes e.before.before.before.before) (not_short e.before.before.before.before) _ n.count_records.ensures _ k.in-Whole.is i.if-out-count.true _ c.refuse-then-out-count.ensures
+    output_short _ _ _ (bytes e.before.before.before.before) (not_short e.before.before.before.before) _ n.count_records.ensures _ k.in-Ok.is i.if-out-count.true _ c.refuse-then-out-count.ensures
 
 answer-records-requires : tie.Need-answer_records-requires
 answer-records-requires c κs =
@@ -67,7 +67,7 @@ answer-records-requires c κs =
     let k = i in
     let n = k in
     let e = n in
-    (roomy _ _ (lent (start e.before.before.before.before.before.before.before)) (bytes e.before.before.before.before.before.before.before) (not_short e.before.before.before.before.before.before.before) _ n.count_records.ensures _ k.in-Whole.is i.if-out-count.false, long e.before.before.before.before.before.before.before)
+    (roomy _ _ (lent (start e.before.before.before.before.before.before.before)) (bytes e.before.before.before.before.before.before.before) (not_short e.before.before.before.before.before.before.before) _ n.count_records.ensures _ k.in-Ok.is i.if-out-count.false, long e.before.before.before.before.before.before.before)
 
 enum-known-place : tie.Need-enum_known-place
 enum-known-place c = search rules
@@ -75,7 +75,7 @@ enum-known-place c = search rules
 clear-tables-requires : tie.Need-clear_tables-requires
 clear-tables-requires c κs = long c.before.before.before.before.before
 
-refuse-requires-3 : tie.Need-refuse-requires-in-Cut
+refuse-requires-3 : tie.Need-refuse-requires-in-Err
 refuse-requires-3 c κs = search rules
 
 same_length : tie.Need-shape_of-out
@@ -103,31 +103,31 @@ returns-3 c =
     let k = i in
     let n = k in
     let e = n in
-    all_answered _ _ _ (bytes e.before.before.before.before.before.before.before.before.before.before.before.before.before.before) (not_short e.before.before.before.before.before.before.before.before.before.before.before.before.before.before) _ n.count_records.ensures _ k.in-Whole.is i.if-out-count.false _ _ _
+    all_answered _ _ _ (bytes e.before.before.before.before.before.before.before.before.before.before.before.before.before.before) (not_short e.before.before.before.before.before.before.before.before.before.before.before.before.before.before) _ n.count_records.ensures _ k.in-Ok.is i.if-out-count.false _ _ _
     a.answer_records.ensures.0 a.answer_records.ensures.1
 
-same-length-5 : tie.Need-shape_of-keys-in-Cut
+same-length-5 : tie.Need-shape_of-keys-in-Err
 same-length-5 c =
     let t = c in
     (cleared_same (long t.before.before.before.before.before.before.before.before.before.before.before) t.clear_tables.ensures).keys
 
-same-length-6 : tie.Need-shape_of-high-in-Cut
+same-length-6 : tie.Need-shape_of-high-in-Err
 same-length-6 c =
     let t = c in
     (cleared_same (long t.before.before.before.before.before.before.before.before.before.before.before) t.clear_tables.ensures).high
 
-same-length-7 : tie.Need-shape_of-low-in-Cut
+same-length-7 : tie.Need-shape_of-low-in-Err
 same-length-7 c =
     let t = c in
     (cleared_same (long t.before.before.before.before.before.before.before.before.before.before.before) t.clear_tables.ensures).low
 
-returns-4 : tie.Need-returns-in-Cut
+returns-4 : tie.Need-returns-in-Err
 returns-4 c =
     let t = c in
     let p = t in
     let n = p in
     let e = n in
-    records_cut _ _ _ (bytes e.before.before.before.before.before.before.before.before.before.before.before) (not_short e.before.before.before.before.before.before.before.before.before.before.before) _ n.count_records.ensures _ p.in-Cut.is _ _ c.refuse-in-Cut.ensures
+    records_cut _ _ _ (bytes e.before.before.before.before.before.before.before.before.before.before.before) (not_short e.before.before.before.before.before.before.before.before.before.before.before) _ n.count_records.ensures _ p.in-Err.is _ _ c.refuse-in-Err.ensures
     t.clear_tables.ensures
 
 pub report_spec : {M : Type 1} → statement M

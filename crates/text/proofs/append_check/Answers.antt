@@ -1,0 +1,20 @@
+-- `append_check`: the pieces, one after the other.
+use native.Mathlib.Omega.{arith}
+use Rattle.lines.specs.Lines.{check_words}
+use Rattle.text.proofs.Appending.{appended_text}
+use Rattle.text.proofs.append_check.Goals as goal
+
+pub returns : goal.returns
+unfolding check_words
+returns c =
+    let two = appended_text c.append_with_number-a.ensures.0 c.append_with_ratio-b.ensures.0 in
+    let three = appended_text two c.append_with_number-c.ensures.0 in (
+      appended_text three c.append_with_number.ensures.0,
+      omega (
+        arith,
+        c.append_with_number-a.ensures.1,
+        c.append_with_ratio-b.ensures.1,
+        c.append_with_number-c.ensures.1,
+        c.append_with_number.ensures.1,
+      ),
+    )

@@ -1,0 +1,17 @@
+-- `report_line`: the line of the refusal, or the pieces, one after the other.
+use borrow.Author.Tests.{lt-ltb, le-ltb}
+use Rattle.lines.specs.ReportLines.{report_line}
+use Rattle.text.proofs.Appending.{appended_text}
+use Rattle.text.proofs.reports.report_line.Goals as goal
+
+pub returns-then-r-gt0 : goal.returns-then-r-gt0
+unfolding report_line
+returns-then-r-gt0 c =
+    rw (lt-ltb 0 c.args.v.refusal.number c.if-r-gt0.true) c.put_refusal.ensures
+
+pub returns : goal.returns
+unfolding report_line
+returns c =
+    let two = appended_text c.append_with_number-a.ensures.0 c.append_bounds-b.ensures.0 in
+    let four = appended_text (appended_text two c.append-c.ensures) c.append_hexadecimal-d.ensures.0 in
+    rw (le-ltb 0 c.args.v.refusal.number c.if-r-gt0.false) (appended_text four c.append.ensures).bytes

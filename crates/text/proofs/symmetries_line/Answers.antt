@@ -1,0 +1,16 @@
+-- `symmetries_line`: the line of the refusal, or the pieces, one after the other.
+use borrow.Author.Tests.{lt-ltb, le-ltb}
+use Rattle.lines.specs.Lines.{symmetries_line}
+use Rattle.text.proofs.Appending.{appended_text}
+use Rattle.text.proofs.symmetries_line.Goals as goal
+
+pub returns-then-r-gt0 : goal.returns-then-r-gt0
+unfolding symmetries_line
+returns-then-r-gt0 c =
+    rw (lt-ltb 0 c.args.v.refusal.number c.if-r-gt0.true) c.refusal_line.ensures
+
+pub returns : goal.returns
+unfolding symmetries_line
+returns c =
+    let three = appended_text (appended_text c.append_with_number-a.ensures.0 c.append-b.ensures) c.append_hexadecimal-c.ensures.0 in
+    rw (le-ltb 0 c.args.v.refusal.number c.if-r-gt0.false) (appended_text three c.append-len.ensures).bytes
