@@ -132,9 +132,9 @@ fn is_entry(s: &[u8], at: usize) -> bool
 
 // Where a run of entries ends, and the progress there.
 #[derive(Clone, Copy)]
-struct Run {
-    at: usize,
-    progress: Progress,
+pub struct Run {
+    pub at: usize,
+    pub progress: Progress,
 }
 
 // The entries by command 12 from an offset on, up to the first that a check refuses, or another command. Most commands

@@ -77,6 +77,7 @@ fn less_products(n: u64, d: u64, m: u64, e: u64) -> bool
 // Whether the first is less than the other, by cross products: for bounds, gaps and any other fractions. A product's
 // sign is that of its numerator, or it is 0. A function and no `PartialOrd`: 0/0 is neither less nor greater than any, so this
 // is no order.
+#[tactic(auto, using(crate::proofs::Order::both_below, crate::proofs::Order::across, crate::proofs::Order::from_zero, crate::proofs::Order::not_across, crate::proofs::Order::neither_below))]
 pub fn less(first: Fraction, other: Fraction) -> bool
     ensures { result ≡ is_less first other }
 {
@@ -118,6 +119,7 @@ pub fn sum(first: Fraction, other: Fraction) -> Fraction
 }
 
 // Whether a gap is below 0. One of 0 is not.
+#[tactic(auto, using(crate::proofs::Order::below_zero))]
 pub fn is_negative(f: Fraction) -> bool
     ensures { result ≡ is_negative f }
 {

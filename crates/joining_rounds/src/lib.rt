@@ -62,7 +62,9 @@ fn run(
     })
 }
 
-// The rounds, with the index of the pairs.
+// The rounds, with the index of the pairs. That takes 112,320 bytes, so this is never made part of its caller: the frames of
+// the calls on problems with small bases do without it.
+#[inline(never)]
 fn run_indexed(
     labels: &mut [u8],
     follow: &mut [u8],

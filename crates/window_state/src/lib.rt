@@ -32,13 +32,16 @@ fn window_in(state: &[u64]) -> GapWindow
     GapWindow { gaps, count }
 }
 
-// The new gap stands first, and the others a place later: the oldest comes round to the front, and is written over.
+// The new gap stands first, and the others a place later: the oldest is pushed out. From the last on, so that nothing is
+// written over before it is moved. Not by std's `rotate_right`: that moves them through a room of 4 KB on the stack.
 fn put_newest(state: &mut [u64], newest: Fraction)
     requires { state_length ≤ length state.old }
     ensures { let s = state.old in
         state.new ≡ with_fraction newest (take 62 s ++ drop 64 s) }
 {
-    state[..64].rotate_right(2);
+    for i in (2..64).rev() {
+        state[i] = state[i - 2];
+    }
     state[0] = record_writer::bits(newest.num);
     state[1] = newest.den;
 }
