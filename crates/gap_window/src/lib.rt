@@ -35,7 +35,7 @@ fn with_newest(window: GapWindow, newest: Fraction) -> GapWindow
     ensures { result ≡ with_newest window newest }
 {
     let mut gaps = [newest; 32];
-    gaps[1..].copy_from_slice(&window.gaps[..31]);
+    gaps[1..HELD].copy_from_slice(&window.gaps[..HELD - 1]);
     let count = window.count.min(HELD - 1) + 1;
     GapWindow { gaps, count }
 }
