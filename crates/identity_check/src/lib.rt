@@ -108,9 +108,7 @@ fn add_squares(
 }
 
 // Compares the claim with the weighted squares, at the compared keys, with a table of sums by indices of N places: minus
-// the claim and all squares are added up at each key, and a sum that is not 0 is a difference. Never part of its caller: the
-// frame with 4,096 places has 32 KB, and most calls do not pass here.
-#[inline(never)]
+// the claim and all squares are added up at each key, and a sum that is not 0 is a difference.
 fn compare_in<const N: usize>(
     rows: Rows,
     header: Header,
