@@ -49,19 +49,20 @@ impl fmt::Display for Reason<'_> {
     }
 }
 
+// Puts bytes on standard error: the words of a program, which need be no text.
+pub fn say(err: &impl Print, bytes: &[u8]) {
+    let _ = err.write_all(bytes);
+}
+
 // Says what failed, as the caller names it, and the reason.
-pub fn fail(err: &impl Print, what: impl fmt::Display + Drop, e: &Error) {
-    let _ = println!(err; "{what}: {}", Reason(e));
+pub fn fail(err: &impl Print, what: &[u8], e: &Error) {
+    say(err, what);
+    let _ = println!(err; ": {}", Reason(e));
 }
 
 // Whether a name looks like an option, which the programs take only as their first and only argument.
 fn is_dashed(path: &[u8]) -> bool {
     path.first() == Some(&b'-')
-}
-
-// Puts bytes on standard error: the words of a program, which need be no text.
-fn say(err: &impl Print, bytes: &[u8]) {
-    let _ = err.write_all(bytes);
 }
 
 // A message begins with the program's name and the file's.

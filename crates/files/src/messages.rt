@@ -5,11 +5,8 @@ use std::io::{Error, Print};
 
 // An argument that is too long to be a path.
 pub(crate) fn no_path(err: &impl Print, i: usize, e: &Error) {
-    fail(
-        err,
-        format_args!("gapcheck: argument {i}: cannot be taken, so its stream is empty"),
-        e,
-    );
+    let _ = print!(err; "gapcheck: argument {i}");
+    fail(err, b": cannot be taken, so its stream is empty", e);
 }
 
 // An argument that is not there, beside one that is.

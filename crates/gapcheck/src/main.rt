@@ -72,6 +72,6 @@ fn main(rt: HostRuntime) {
         write_answer(&rt, &err)
     };
     if let Err(e) = written {
-        messages::fail(&err, "gapcheck: standard output cannot be written", &e);
+        messages::fail(&err, b"gapcheck: standard output cannot be written", &e);
     }
 }

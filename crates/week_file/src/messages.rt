@@ -7,7 +7,7 @@ use std::io::{Error, Print};
 pub(crate) fn no_path(err: &impl Print, e: &Error) {
     fail(
         err,
-        "weekcheck: argument 1: cannot be taken, so there are no records",
+        b"weekcheck: argument 1: cannot be taken, so there are no records",
         e,
     );
 }

@@ -108,6 +108,6 @@ fn main(rt: HostRuntime) {
         }
     };
     if let Err(e) = written {
-        messages::fail(&err, "weekcheck: standard output cannot be written", &e);
+        messages::fail(&err, b"weekcheck: standard output cannot be written", &e);
     }
 }
