@@ -78,9 +78,9 @@ enum zamiachisel_length {
 };
 
 /* Bytes of stack that are enough for any call. What a call of the library that this folder builds needs at most is computed from
-   its frames (tools/stack): blocks 139,408; check 139,904; check_two 139,952; choose 140,064; lines 194,160; moved_bound 151,280;
-   office 189,680; pair 139,904; record 189,072; record_count 8; report 140,048; sum 162,752; symmetries 139,392; tighter 140,016;
-   window_push 5,024. */
+   its frames (tools/stack): blocks 139,776; check 140,272; check_two 140,320; choose 140,432; lines 194,528; moved_bound 151,648;
+   office 190,048; pair 140,272; record 189,440; record_count 8; report 140,416; sum 163,120; symmetries 139,760; tighter 140,384;
+   window_push 880. */
 enum zamiachisel_stack { ZAMIACHISEL_STACK_BYTES = 262144 };
 
 /* Where the fields of a record stand, each of four bytes with the lowest first. With a refusal p, q, P and Q are 0, otherwise stream,
